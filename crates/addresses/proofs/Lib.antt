@@ -1,0 +1,12 @@
+pub mod Differences
+pub mod Orders
+pub mod Relations
+pub mod Extensions
+pub mod Branches
+pub mod Extremes
+pub mod Sorted
+pub mod Blocks
+pub mod Dags
+pub mod Intervals
+pub mod Segments
+pub mod Examples
