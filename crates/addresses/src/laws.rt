@@ -5,8 +5,8 @@ ghost use Rattle.addresses.specs.Address.{Address, english, hebrew, english_befo
 ghost use Rattle.addresses.specs.Laws.{IsStrictTotalOrder, IsPartialOrder, SidesAreReached, ReachIsBothOrders, ParallelIsDisagreement, ExtremesDecide, BranchesArePeers, NamesDecide, SpawnKeepsOrders, OpeningKeepsOrders, PlacesAreOrder, ViewsAreIntervals, BranchesAreIntervals, JoinsCombineViews, JoinsFollowEnds, PathsAreReach};
 
 /// Both orders of addresses are strict and total, and the English one is that of a serial run: an address comes
-/// first that reaches the other, or that is on the child's side of a spawn while the other is on that of its
-/// continuation. The child of that spawn reaches the one alone, and the continuation the other alone.
+/// first that reaches the other, or that is on the child's side of a spawn whose continuation's side has the
+/// other. The child of that spawn reaches the one alone, and the continuation the other alone.
 pub fn order_law()
     ensures english { IsStrictTotalOrder english_before }
     ensures hebrew { IsStrictTotalOrder hebrew_before }
@@ -31,7 +31,7 @@ pub fn extremes_law()
 {}
 
 /// A branch, which is an address without the joins at its end, decides the peers of a strand among any strands
-/// that come with the other side of each spawn. Names tell branches apart if a join takes over its opener's and no
+/// that come with the other side of each spawn. Names tell branches apart where a join takes over its opener's and no
 /// two branches have the same one.
 pub fn branch_law()
     ensures peers { BranchesArePeers }
