@@ -1,0 +1,4 @@
+pub mod Tables
+pub mod Events
+pub mod Queries
+pub mod Examples

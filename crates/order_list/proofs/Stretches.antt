@@ -1,0 +1,49 @@
+-- Stretches of a ring as they grow, and as they are given new labels.
+use Rattle.std.proofs.Common.{◌≡◌, ℕ, ◌+◌, ◌<◌, ◌≤◌, List, length, get_or, set, ap, sym, ◌∙◌, arith, ⊎_elim}
+use Rattle.std.proofs.lemmas.Bool.{cases_lt}
+use Rattle.std.proofs.lemmas.List.{get_or_past}
+use Rattle.order_list.specs.Order.{place_of, most_items}
+use Rattle.order_list.specs.Ring.{IsRing}
+use Rattle.order_list.specs.Labels.{labels_along, last_label, IsStretch, IsRoom}
+use Rattle.order_list.proofs.Places.{place_of-le}
+use Rattle.order_list.proofs.Rings.{apart, past_end}
+use Rattle.order_list.proofs.Rises.{label_at, label_past, labels_along-set, length-labels_along}
+use Rattle.order_list.proofs.Spreads.{IsSpread, spread-more}
+
+module _ {next previous items : List ℕ} (ring : IsRing next previous items) where
+  -- the label at a position that item 0 follows, or another item
+  pub label-end : (labels : List ℕ) (place : ℕ) → 0 < place → place ≤ length items → get_or items place 0 ≡ 0 → get_or (labels_along labels items) place 0 ≡ last_label
+  label-end labels place positive within none = rw (past_end ring place positive within none) (label_past labels items)
+
+  pub label-inner : (labels : List ℕ) (place item : ℕ) → 0 < item → item ≡ get_or items place 0 → get_or (labels_along labels items) place 0 ≡ get_or labels item 0
+  label-inner labels place item some is = grind (arith, label_at labels items place, get_or_past items place 0)
+
+  -- all items
+  pub stretch-whole : (item : ℕ) → item < length items → IsStretch items (record { item = item; first = 0; end = 0; count = length items })
+  stretch-whole item known =
+      let first : place_of 0 items ≡ 0 = omega (arith, place_of-le 0 items 0 ring.begins) in
+      record {
+        first_known = ring.not_empty;
+        end_is = sym (get_or_past items (place_of 0 items + length items) 0 (omega arith));
+        within = omega (arith, first);
+        from = omega (arith, first);
+        to = omega (arith, ring.listing item known);
+      }
+
+  -- and all labels
+  pub room-whole : (labels : List ℕ) (item : ℕ) → length items ≤ most_items → IsRoom labels items (record { item = item; first = 0; end = 0; count = length items }) (record { low = 0; high = last_label; free = 0 })
+  room-whole labels item few =
+      let first : place_of 0 items ≡ 0 = omega (arith, place_of-le 0 items 0 ring.begins) in
+      let end : place_of 0 items + length items ≡ length items = omega (arith, first) in
+      record {
+        before = λ place e. absurd (omega (arith, first, e));
+        behind = rw end (omega (arith, label_past labels items));
+        fits = omega (arith, few);
+      }
+
+  -- the next item of a stretch is given the next label
+  pub spread-step : (old labels : List ℕ) (start count low bound further item : ℕ) → IsSpread (labels_along old items) (labels_along labels items) start count low bound → length labels ≡ length items → start + count < length items → item ≡ get_or items (start + count) 0 → bound + 2 ≤ further → IsSpread (labels_along old items) (labels_along (set labels item bound) items) start (count + 1) low further
+  spread-step old labels start count low bound further item spread len within is more =
+      let place = start + count in
+      rw (is, labels_along-set labels items place bound within len ring.numbered (λ other known e. apart ring other place known within e))
+      (spread-more _ _ start count low bound further spread (omega (arith, length-labels_along labels items)) more)

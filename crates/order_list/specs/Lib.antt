@@ -1,0 +1,4 @@
+pub mod Order
+pub mod Ring
+pub mod Items
+pub mod Labels

@@ -1,0 +1,16 @@
+pub mod Text
+pub mod Limits
+pub mod Values
+pub mod Names
+pub mod Lines
+pub mod Grammar
+pub mod Faults
+pub mod Cells
+pub mod Index
+pub mod Outcome
+pub mod Items
+pub mod Drafts
+pub mod Traces
+pub mod Laws
+pub mod Shapes
+pub mod Printing

@@ -1,0 +1,36 @@
+//! Texts of traces, read into values: a line for each declaration and for each request of a strand, in two versions of the format.
+//!
+//! The grammar stands in `specs/` as a relation between the lines of a text and what they mean, with a case for each kind of line, and
+//! beside it, for every other text, the first faulty line and the lowest cause in it. [`Trace::parse`] carries the theorem that the code
+//! meets it: an answer `Ok` is what the text means, a fault `At` is the first faulty line with the lowest cause in it, and `Memory` comes
+//! only where a growth was refused. The laws [`one_meaning`], [`meaning_or_fault`] and [`one_fault`] say that a text has one meaning or
+//! one fault at most. [`Trace::print`] gives the plain text, which means the trace and, by these laws, no other; [`plain_meaning`] says the
+//! same over the definitions alone. A [`Trace`] keeps that some text means it, that its cells are numbered without a gap, and that its requests name
+//! cells and reducers that there are. [`Trace::shape`] and [`cell_name`] are exact.
+#![tactic(auto)]
+
+mod cell;
+mod fault;
+mod keyword;
+mod laws;
+mod line;
+mod name;
+mod names;
+mod number;
+mod place;
+mod print;
+mod trace;
+mod value;
+mod words;
+
+pub use cell::cell_name;
+pub use fault::{Cause, TextFault};
+pub use laws::{meaning_or_fault, one_fault, one_meaning, plain_meaning};
+pub use name::Name;
+pub use trace::Trace;
+pub use value::{
+    Act, Lines, Mem, Mems, Monoid, Monoids, Reducer, Reducers, Request, Shape, TraceLine, Version,
+};
+
+#[cfg(test)]
+mod tests;

@@ -1,0 +1,5 @@
+use Rattle.reducer_values.proofs.Law.{counted_law}
+use Rattle.reducer_values.proofs.laws.counted_law.Goals as goal
+
+pub returns : goal.returns
+returns c = counted_law

@@ -1,0 +1,5 @@
+use Rattle.reducer_values.proofs.Items.{projection_law}
+use Rattle.reducer_values.proofs.laws.projection_law.Goals as goal
+
+pub returns : goal.returns
+returns c = projection_law

@@ -1,0 +1,42 @@
+-- Histories with the accesses of one reducer.
+use Rattle.std.specs.Prelude.{ℕ, List, [], ◌∷◌}
+use Rattle.control_history.specs.History.{Event, History}
+use Rattle.control_history.specs.Strands.{Running}
+use Rattle.control_history.specs.Legal.{Allowed}
+
+-- What an entry of a history is to one reducer: an event of control, a granted update or put of the reducer, or any other access, granted or not.
+pub data Item : Type 0 where
+  control : (event : Event) → Item
+  update : (strand value : ℕ) → Item
+  put : (strand value : ℕ) → Item
+  other : (strand : ℕ) → Item
+
+-- The items so far, the newest first. An item's number is its place from 1 on, the oldest first.
+abbrev pub Items : Type 0
+Items = List Item
+
+-- the events among them
+abbrev pub control_part : Items → History
+control_part [] = []
+control_part (control event ∷ items) = event ∷ control_part items
+control_part (_ ∷ items) = control_part items
+
+-- the item may come next: the event is allowed, or the strand that makes the access runs
+abbrev pub IsAllowed : History → Item → Type 0
+IsAllowed history (control event) = Allowed history event
+IsAllowed history (update strand value) = Running history strand
+IsAllowed history (put strand value) = Running history strand
+IsAllowed history (other strand) = Running history strand
+
+-- each item was allowed when it came
+abbrev pub IsLegal : Items → Type 0
+IsLegal [] = Unit {0}
+IsLegal (item ∷ items) = IsLegal items × IsAllowed (control_part items) item
+
+-- The item without its value: what it is to another reducer, but for that one's own updates and puts. The histories that all reducers make of one
+-- history differ in nothing else.
+abbrev pub as_other : Item → Item
+as_other (control event) = control event
+as_other (update strand value) = other strand
+as_other (put strand value) = other strand
+as_other (other strand) = other strand

@@ -1,0 +1,6 @@
+pub mod Added
+pub mod Parallel
+pub mod Witnesses
+pub mod SameKinds
+pub mod Later
+pub mod Remembers

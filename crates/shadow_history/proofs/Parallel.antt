@@ -1,0 +1,38 @@
+-- A running strand leads to no other, so what is later than it in either order is parallel to it.
+use Rattle.std.proofs.Common.{◌≡◌, ◌≢◌, ◌⊎◌, inl, inr, ℕ, Bool, true, false, refl, sym, ap, ◌∙◌}
+use Rattle.addresses.specs.Address.{disagree, reaches, parallel, english, hebrew, english_before, hebrew_before}
+use Rattle.addresses.proofs.Relations.{parallel-orders, parallel-comm}
+use Rattle.addresses.proofs.Extremes.{before-different, english-parallel, hebrew-parallel}
+use Rattle.control_history.specs.History.{History}
+use Rattle.control_history.specs.Strands.{Running, Begun}
+use Rattle.control_history.specs.Legal.{Legal}
+use Rattle.control_history.specs.Dag.{IsParallel}
+use Rattle.control_history.specs.Addresses.{address, IsEnglishBefore, IsHebrewBefore}
+use Rattle.control_history.proofs.Sinks.{running_address_law}
+use Rattle.control_history.proofs.Orders.{parallel_iff}
+
+module _ (history : History) (legal : Legal history) (strand : ℕ) (runs : Running history strand) (other : ℕ) (begun : Begun history other) where
+  leads-nowhere : address history strand ≢ address history other → reaches (address history strand) (address history other) ≡ false
+  leads-nowhere apart = running_address_law history legal strand other runs begun (λ e. apart (ap (address history) e))
+
+  of_addresses : parallel (address history strand) (address history other) ≡ true → IsParallel history other strand
+  of_addresses h = (parallel_iff history legal other strand begun (inl runs)).1 (parallel-comm (address history other) (address history strand) ∙ h)
+
+  pub parallel-english : IsEnglishBefore history strand other → IsParallel history other strand
+  parallel-english h =
+      of_addresses (english-parallel (address history strand) (address history other)
+      (leads-nowhere (before-different english (address history strand) (address history other) h)) h)
+
+  pub parallel-hebrew : IsHebrewBefore history strand other → IsParallel history other strand
+  parallel-hebrew h =
+      of_addresses (hebrew-parallel (address history strand) (address history other)
+      (leads-nowhere (before-different hebrew (address history strand) (address history other) h)) h)
+
+  pub parallel-later : IsParallel history other strand → IsEnglishBefore history strand other ⊎ IsHebrewBefore history strand other
+  parallel-later h = go (english_before (address history strand) (address history other)) (hebrew_before (address history strand) (address history other))
+      (sym (parallel-orders (address history strand) (address history other)) ∙ (parallel-comm (address history strand) (address history other) ∙
+      (parallel_iff history legal other strand begun (inl runs)).0 h))
+    where
+      go : (s t : Bool) → disagree s t ≡ true → (s ≡ true) ⊎ (t ≡ true)
+      go true t e = inl refl
+      go false t e = inr e

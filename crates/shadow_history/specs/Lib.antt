@@ -1,0 +1,4 @@
+pub mod Accesses
+pub mod Witnesses
+pub mod Shadow
+pub mod Laws

@@ -1,0 +1,147 @@
+ghost use Rattle.std.specs.Prelude.{◌≡◌, ◌≢◌, ◌++◌, ◌∷◌, [], List, ℕ, IsTrue, Some, None, MatchOption};
+ghost use Rattle.access_table.specs.declared.kind.Kind.{Kind};
+ghost use Rattle.access_table.specs.Table.{is_memory_kind};
+ghost use Rattle.control_history.specs.History.{History};
+ghost use Rattle.sp_labels.specs.Roster.{Follows, HasBegun};
+ghost use Rattle.shadow_history.specs.Accesses.{Access, HaveAllBegun};
+ghost use Rattle.shadow_history.specs.Witnesses.{witness_of, NoneIsParallel, IsLatestParallel};
+ghost use Rattle.shadow_history.specs.Shadow.{extremes_of, access_of, AreExtremes, AreKept, HaveBegun, Runs};
+
+use crate::witness::Witness;
+use access_table::Kind;
+use sp_labels::Strands;
+use std::alloc::Allocator;
+
+/// A strand that is the last one in an order, with its earliest entry.
+#[derive(Clone, Copy)]
+pub struct Extreme {
+    pub strand: u32,
+    pub entry: u32,
+}
+
+/// Of the strands with accesses of one kind, the last ones in the two orders.
+#[derive(Clone, Copy)]
+pub struct Extremes {
+    pub english: Extreme,
+    pub hebrew: Extreme,
+}
+
+impl Extremes {
+    /// The strand of the two, the English-last first, that is parallel to a running one.
+    fn parallel_to<A: Allocator>(self, strands: &Strands<A>, strand: u32) -> Option<Extreme>
+        requires runs { Runs strands.now strand }
+        requires begun { HaveBegun strands.now (Some self) }
+        ensures { (history : History) (accesses : List Access) (location : ℕ) (kind : Kind) → Follows strands.now history → HaveAllBegun history accesses → AreExtremes history accesses location kind self → MatchOption result (NoneIsParallel history accesses location kind strand) (λ extreme. IsLatestParallel history accesses strand (access_of location kind extreme)) }
+    {
+        // A running strand leads to no other: one that is after it in either order is parallel to it.
+        if strands.english_before(strand, self.english.strand) {
+            return Some(self.english);
+        }
+        if !strands.hebrew_before(strand, self.hebrew.strand) {
+            return None;
+        }
+        if strands.hebrew_before(strand, self.english.strand) {
+            Some(self.english)
+        } else {
+            Some(self.hebrew)
+        }
+    }
+
+    /// The last ones of these and a new one.
+    fn with<A: Allocator>(self, strands: &Strands<A>, new: Extreme) -> Extremes
+        requires new_begun { HasBegun strands.now new.strand }
+        requires begun { HaveBegun strands.now (Some self) }
+        ensures { (history : History) (accesses : List Access) (location : ℕ) (kind : Kind) → Follows strands.now history → AreExtremes history accesses location kind self → AreExtremes history (accesses ++ access_of location kind new ∷ []) location kind result }
+    {
+        let english = if strands.english_before(self.english.strand, new.strand) {
+            new
+        } else {
+            self.english
+        };
+        let hebrew = if strands.hebrew_before(self.hebrew.strand, new.strand) {
+            new
+        } else {
+            self.hebrew
+        };
+        Extremes { english, hebrew }
+    }
+}
+
+/// The accesses of one location, by their kinds. It fits into a cache line.
+#[derive(Clone, Copy)]
+pub struct Cell {
+    pub write: Option<Extremes>,
+    pub bump: Option<Extremes>,
+    pub read: Option<Extremes>,
+}
+
+impl Cell {
+    /// A location without accesses.
+    pub const EMPTY: Cell = Cell {
+        write: None,
+        bump: None,
+        read: None,
+    };
+
+    fn extremes(&self, kind: Kind) -> Option<Extremes>
+        ensures { result ≡ extremes_of self.now kind }
+    {
+        match kind {
+            Kind::Write => self.write,
+            Kind::Bump => self.bump,
+            Kind::Read => self.read,
+            Kind::Update | Kind::Put | Kind::Get => None,
+        }
+    }
+
+    fn keep(&mut self, kind: Kind, extremes: Extremes)
+        requires { IsTrue (is_memory_kind kind) }
+        ensures kept { extremes_of self.new kind ≡ Some extremes }
+        ensures others { (other : Kind) → other ≢ kind → extremes_of self.new other ≡ extremes_of self.old other }
+    {
+        match kind {
+            Kind::Write => self.write = Some(extremes),
+            Kind::Bump => self.bump = Some(extremes),
+            Kind::Read => self.read = Some(extremes),
+            Kind::Update | Kind::Put | Kind::Get => {}
+        }
+    }
+
+    /// The access of one earlier kind that is the witness for a running strand, if any is parallel to it.
+    pub fn find<A: Allocator>(
+        &self,
+        strands: &Strands<A>,
+        earlier: Kind,
+        strand: u32,
+    ) -> Option<Witness>
+        requires runs { Runs strands.now strand }
+        requires begun { HaveBegun strands.now (extremes_of self.now earlier) }
+        ensures { (history : History) (accesses : List Access) (location : ℕ) → Follows strands.now history → HaveAllBegun history accesses → AreKept history accesses location earlier (extremes_of self.now earlier) → MatchOption result (NoneIsParallel history accesses location earlier strand) (λ witness. (witness.kind ≡ earlier) × IsLatestParallel history accesses strand (witness_of location witness)) }
+    {
+        let found = self.extremes(earlier)?.parallel_to(strands, strand)?;
+        Some(Witness {
+            entry: found.entry,
+            strand: found.strand,
+            kind: earlier,
+        })
+    }
+
+    /// Takes in an access of one kind.
+    pub fn add<A: Allocator>(&mut self, strands: &Strands<A>, kind: Kind, strand: u32, entry: u32)
+        requires memory { IsTrue (is_memory_kind kind) }
+        requires new_begun { HasBegun strands.now strand }
+        requires begun { HaveBegun strands.now (extremes_of self.old kind) }
+        ensures added { (history : History) (accesses : List Access) (location : ℕ) → Follows strands.now history → AreKept history accesses location kind (extremes_of self.old kind) → AreKept history (accesses ++ record { strand = strand; kind = kind; location = location; entry = entry } ∷ []) location kind (extremes_of self.new kind) }
+        ensures others { (other : Kind) → other ≢ kind → extremes_of self.new other ≡ extremes_of self.old other }
+    {
+        let new = Extreme { strand, entry };
+        let extremes = match self.extremes(kind) {
+            Some(extremes) => extremes.with(strands, new),
+            None => Extremes {
+                english: new,
+                hebrew: new,
+            },
+        };
+        self.keep(kind, extremes);
+    }
+}

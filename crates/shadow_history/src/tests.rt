@@ -1,0 +1,355 @@
+ghost use Rattle.std.specs.Prelude.{◌≡◌, ◌<◌, ◌≤◌, IfOk, length};
+ghost use Rattle.shadow_history.specs.Shadow.{StandsOn};
+
+use super::*;
+use access_table::{Kind, Rule, is_memory, rule};
+use sp_labels::Strands;
+use std::alloc::{AllocError, Global};
+use std::process::Abort;
+use std::test::Fail;
+
+/// What a strand does: the accesses are to location 0 or 1.
+#[derive(Clone, Copy, Debug)]
+enum Act {
+    Spawn,
+    Sync,
+    Return,
+    Access(Kind, u32),
+}
+
+use Act::{Access, Return, Spawn, Sync};
+
+/// Strand 0, before it has done anything.
+fn opening(alloc: Global, locations: u32) -> Result<(Strands<Global>, Shadow<Global>), AllocError>
+    ensures stands { IfOk result (λ both. StandsOn both.1 both.0) }
+    ensures locations { IfOk result (λ both. length both.1 ≡ locations) }
+{
+    let strands = Strands::new(alloc)?;
+    let shadow = Shadow::new(alloc, locations)?;
+    Ok((strands, shadow))
+}
+
+/// Does an act, if it is legal, and takes an access in where no earlier one races with it.
+fn step(
+    strands: &mut Strands<Global>,
+    shadow: &mut Shadow<Global>,
+    entry: u32,
+    strand: u32,
+    act: Act,
+) -> Option<Witness>
+    requires stands { StandsOn shadow.old strands.old }
+    requires locations { 2 ≤ length shadow.old }
+    ensures stands { StandsOn shadow.new strands.new }
+    ensures locations { length shadow.new ≡ length shadow.old }
+{
+    match act {
+        Spawn => {
+            let _ = strands.spawn(strand);
+            None
+        }
+        Sync => {
+            let _ = strands.sync(strand);
+            None
+        }
+        Return => {
+            let _ = strands.ret(strand);
+            None
+        }
+        Access(kind, location) => {
+            if location > 1 || !is_memory(kind) || !strands.is_running(strand) {
+                return None;
+            }
+            let found = shadow.find(strands, location, kind, strand);
+            if found.is_none() {
+                shadow.add(strands, location, kind, strand, entry);
+            }
+            found
+        }
+    }
+}
+
+fn witness(entry: u32, strand: u32, kind: Kind) -> Option<Witness> {
+    Some(Witness {
+        entry,
+        strand,
+        kind,
+    })
+}
+
+/// Each act, by its strand, finds the witness beside it.
+fn check(rt: &impl Abort, alloc: Global, acts: &[(u32, Act, Option<Witness>)]) -> Result<(), Fail> {
+    let (mut strands, mut shadow) = opening(alloc, 2)?;
+    let mut entry = 0u32;
+    for (strand, asked, expected) in acts {
+        entry = entry.wrapping_add(1);
+        let found = step(&mut strands, &mut shadow, entry, *strand, *asked);
+        assert_eq!(rt; found, *expected, "{asked:?} by {strand}");
+    }
+    Ok(())
+}
+
+#[test]
+fn a_write_races_with_the_child_that_read(rt: HostRuntime) -> Result<(), Fail> {
+    check(
+        &rt,
+        rt.alloc(),
+        &[
+            (0, Spawn, None),
+            (1, Access(Kind::Read, 0), None),
+            (2, Access(Kind::Read, 0), None),
+            (2, Access(Kind::Write, 0), witness(2, 1, Kind::Read)),
+        ],
+    )?;
+    check(
+        &rt,
+        rt.alloc(),
+        &[
+            (0, Spawn, None),
+            (2, Access(Kind::Read, 0), None),
+            (1, Access(Kind::Write, 0), witness(2, 2, Kind::Read)),
+        ],
+    )?;
+    check(
+        &rt,
+        rt.alloc(),
+        &[
+            (0, Spawn, None),
+            (2, Access(Kind::Read, 0), None),
+            (1, Access(Kind::Read, 0), None),
+            (1, Access(Kind::Write, 0), witness(2, 2, Kind::Read)),
+        ],
+    )
+}
+
+#[test]
+fn a_refused_write_is_not_kept(rt: HostRuntime) -> Result<(), Fail> {
+    check(
+        &rt,
+        rt.alloc(),
+        &[
+            (0, Spawn, None),
+            (1, Access(Kind::Write, 0), None),
+            (2, Access(Kind::Write, 0), witness(2, 1, Kind::Write)),
+            (1, Access(Kind::Read, 0), None),
+        ],
+    )
+}
+
+#[test]
+fn a_join_comes_behind_its_block(rt: HostRuntime) -> Result<(), Fail> {
+    check(
+        &rt,
+        rt.alloc(),
+        &[
+            (0, Spawn, None),
+            (1, Access(Kind::Read, 0), None),
+            (2, Sync, None),
+            (1, Return, None),
+            (3, Access(Kind::Write, 0), None),
+        ],
+    )
+}
+
+#[test]
+fn bumps_race_with_reads_and_writes_alone(rt: HostRuntime) -> Result<(), Fail> {
+    for (earlier, new, races) in [
+        (Kind::Bump, Kind::Bump, false),
+        (Kind::Bump, Kind::Write, true),
+        (Kind::Write, Kind::Bump, true),
+        (Kind::Read, Kind::Bump, true),
+        (Kind::Bump, Kind::Read, true),
+        (Kind::Read, Kind::Read, false),
+    ] {
+        let found = if races { witness(2, 1, earlier) } else { None };
+        check(
+            &rt,
+            rt.alloc(),
+            &[
+                (0, Spawn, None),
+                (1, Access(earlier, 0), None),
+                (2, Access(new, 0), found),
+                (2, Access(new, 1), None),
+            ],
+        )?;
+    }
+    Ok(())
+}
+
+#[test]
+fn the_first_kind_and_its_earliest_entry_count(rt: HostRuntime) -> Result<(), Fail> {
+    check(
+        &rt,
+        rt.alloc(),
+        &[
+            (0, Spawn, None),
+            (1, Access(Kind::Read, 0), None),
+            (1, Access(Kind::Bump, 0), None),
+            (1, Access(Kind::Bump, 0), None),
+            (2, Access(Kind::Write, 0), witness(3, 1, Kind::Bump)),
+            (2, Access(Kind::Bump, 0), witness(2, 1, Kind::Read)),
+            (2, Access(Kind::Read, 0), witness(3, 1, Kind::Bump)),
+        ],
+    )
+}
+
+#[test]
+fn many_locations_take_one_allocation(rt: HostRuntime) -> Result<(), Fail> {
+    let (mut strands, mut shadow) = opening(rt.alloc(), 1_000_000)?;
+    for kind in [Kind::Write, Kind::Read] {
+        let found = step(&mut strands, &mut shadow, 1, 0, Access(kind, 1));
+        assert_eq!(rt; found, None);
+    }
+    assert!(rt; size_of::<cell::Cell>() <= 64);
+    laws::later_law();
+    laws::place_law();
+    Ok(())
+}
+
+/// Whether a strand is before another in the English or in the Hebrew order.
+fn is_before(strands: &Strands<Global>, english: bool, a: u32, b: u32) -> bool {
+    strands.is_begun(a)
+        && strands.is_begun(b)
+        && if english {
+            strands.english_before(a, b)
+        } else {
+            strands.hebrew_before(a, b)
+        }
+}
+
+fn is_parallel(strands: &Strands<Global>, a: u32, b: u32) -> bool {
+    strands.is_begun(a) && strands.is_begun(b) && strands.parallel(a, b)
+}
+
+/// The first of the last accesses of one kind in one of the orders.
+fn last(
+    strands: &Strands<Global>,
+    granted: &[(u32, Witness)],
+    location: u32,
+    kind: Kind,
+    english: bool,
+) -> Option<Witness> {
+    let mut last: Option<Witness> = None;
+    for (place, access) in granted {
+        if *place == location && access.kind == kind {
+            last = match last {
+                Some(other) if !is_before(strands, english, other.strand, access.strand) => {
+                    Some(other)
+                }
+                _ => Some(*access),
+            };
+        }
+    }
+    last
+}
+
+/// The witness, by a scan of all granted accesses: the slow way.
+fn scan(
+    strands: &Strands<Global>,
+    granted: &[(u32, Witness)],
+    location: u32,
+    new: Kind,
+    strand: u32,
+) -> Option<Witness> {
+    for earlier in [Kind::Write, Kind::Bump, Kind::Read] {
+        if rule(earlier, new) == Rule::Race {
+            for english in [true, false] {
+                if let Some(found) = last(strands, granted, location, earlier, english) {
+                    if is_parallel(strands, found.strand, strand) {
+                        return Some(found);
+                    }
+                }
+            }
+        }
+    }
+    None
+}
+
+/// Whether any granted access races.
+fn races(
+    strands: &Strands<Global>,
+    granted: &[(u32, Witness)],
+    location: u32,
+    new: Kind,
+    strand: u32,
+) -> bool {
+    for (place, access) in granted {
+        if *place == location
+            && rule(access.kind, new) == Rule::Race
+            && is_parallel(strands, access.strand, strand)
+        {
+            return true;
+        }
+    }
+    false
+}
+
+/// A number below the bound, and the next state of the generator.
+fn draw(state: u64, bound: u32) -> (u32, u64)
+    requires { 0 < bound }
+    ensures { result.0 < bound }
+{
+    let next = state
+        .wrapping_mul(6_364_136_223_846_793_005)
+        .wrapping_add(1_442_695_040_888_963_407);
+    (((next >> 33) % bound as u64) as u32, next)
+}
+
+fn drawn_act(choice: u32, location: u32) -> Act {
+    match choice {
+        0..=2 => Spawn,
+        3 => Sync,
+        4 => Return,
+        5 => Access(Kind::Write, location),
+        6..=7 => Access(Kind::Bump, location),
+        _ => Access(Kind::Read, location),
+    }
+}
+
+/// The greatest number of a running strand that is not above another, or 0.
+fn running_below(strands: &Strands<Global>, most: u32) -> u32 {
+    for strand in (0..most).rev() {
+        if strands.is_running(strand) {
+            return strand;
+        }
+    }
+    0
+}
+
+#[test]
+fn random_runs_agree_with_the_scan(rt: HostRuntime) -> Result<(), Fail> {
+    for seed in 0..300u64 {
+        let mut state = seed;
+        let (mut strands, mut shadow) = opening(rt.alloc(), 2)?;
+        let mut granted = Vec::new(rt.alloc());
+        for entry in 1..80u32 {
+            let (most, state_then) = draw(state, 60);
+            let (choice, state_last) = draw(state_then, 12);
+            let (location, state_next) = draw(state_last, 2);
+            state = state_next;
+            let strand = running_below(&strands, most);
+            let asked = drawn_act(choice, location);
+            let runs = strands.is_running(strand);
+            let (expected, is_race) = match asked {
+                Access(kind, location) if runs => (
+                    scan(&strands, &granted, location, kind, strand),
+                    races(&strands, &granted, location, kind, strand),
+                ),
+                _ => (None, false),
+            };
+            let found = step(&mut strands, &mut shadow, entry, strand, asked);
+            assert_eq!(rt; found, expected, "{asked:?} by {strand} in {seed}");
+            assert_eq!(rt; found.is_some(), is_race, "{asked:?} by {strand} in {seed}");
+            if let Access(kind, location) = asked {
+                if runs && found.is_none() {
+                    let access = Witness {
+                        entry,
+                        strand,
+                        kind,
+                    };
+                    granted.push((location, access))?;
+                }
+            }
+        }
+    }
+    Ok(())
+}

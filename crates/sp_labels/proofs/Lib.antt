@@ -1,0 +1,9 @@
+pub mod Placed
+pub mod Puts
+pub mod Scopes
+pub mod Counts
+pub mod Queries
+pub mod Acting
+pub mod Opening
+pub mod Quiet
+pub mod Splits

@@ -1,0 +1,57 @@
+use Rattle.std.proofs.Common.{◌∷◌, sym, subst, refl}
+use Rattle.control_history.specs.Strands.{Running}
+use Rattle.control_history.specs.History.{resumed, finished}
+use Rattle.control_history.specs.Blocks.{IsSynced}
+use Rattle.sp_labels.specs.Roster.{Follows}
+use Rattle.sp_labels.proofs.Puts.{standing-put}
+use Rattle.sp_labels.proofs.Acting.{acting-known, in-root, in-child, in-call}
+use Rattle.sp_labels.proofs.Quiet.{follows-resumed, follows-finished}
+use Rattle.sp_labels.proofs.roster.Strands.ret.Goals as goal
+
+pub record_of-kept-requires : goal.record_of-kept-requires
+record_of-kept-requires g c = acting-known _ _ _ _ c.self.view_is c.self.invariant.0 c.is_running.ensures.running c.if-not-is_running.false
+
+pub remove-scope-requires : goal.remove-scope-requires
+remove-scope-requires g c =
+    let (history, f) = c.self.invariant.0 in
+    let run : Running history c.args.strand = (c.is_running.ensures.running history (subst (λ r. Follows r history) c.self.view_is f)).0 c.if-not-is_running.false in
+    rw (in-call _ history f c.args.strand c.in-Call.caller _ run c.record_of-kept.ensures c.in-Call.is).caller_is refl
+
+pub returns-in-Call-clause-ok : goal.returns-in-Call-clause-ok
+returns-in-Call-clause-ok g c history now =
+    let f = subst (λ r. Follows r history) (sym c.self.view_is) now in
+    let run : Running history c.args.strand = (c.is_running.ensures.running history now).0 c.if-not-is_running.false in
+    follows-resumed _ history c.args.strand c.in-Call.caller _ _ _ _ f run c.record_of-kept.ensures c.put.ensures.put (in-call _ history f c.args.strand c.in-Call.caller _ run c.record_of-kept.ensures c.in-Call.is)
+    c.remove-scope.ensures.value c.remove-scope.ensures.updates.others
+
+pub invariant_of-self : goal.invariant_of-self
+invariant_of-self g c =
+    let (history, f) = c.self.invariant.0 in
+    ((resumed c.args.strand ∷ history, returns-in-Call-clause-ok g c history (subst (λ r. Follows r history) c.self.view_is f)), (λ e. absurd (cc)))
+
+pub set_standing-requires : goal.set_standing-requires
+set_standing-requires g c = acting-known _ _ _ _ c.self.view_is c.self.invariant.0 c.is_running.ensures.running c.if-not-is_running.false
+
+pub returns-in-Root-clause-ok : goal.returns-in-Root-clause-ok
+returns-in-Root-clause-ok g c history now =
+    let f = subst (λ r. Follows r history) (sym c.self.view_is) now in
+    let run : Running history c.args.strand = (c.is_running.ensures.running history now).0 c.if-not-is_running.false in
+    follows-finished _ history c.args.strand _ _ f run (in-root _ history f c.args.strand _ run c.record_of-kept.ensures c.in-Root.is) c.record_of-kept.ensures (standing-put _ _ _ _ _ c.record_of-kept.ensures c.set_standing.ensures.put)
+
+pub invariant_of-self-in-Root : goal.invariant_of-self-in-Root
+invariant_of-self-in-Root g c =
+    let (history, f) = c.self.invariant.0 in
+    ((finished c.args.strand ∷ history, returns-in-Root-clause-ok g c history (subst (λ r. Follows r history) c.self.view_is f)), (λ e. absurd (cc)))
+
+pub end_child-requires-clause-child : goal.end_child-requires-clause-child
+end_child-requires-clause-child g c history now =
+    let f = subst (λ r. Follows r history) (sym c.self.view_is) now in
+    let run : Running history c.args.strand = (c.is_running.ensures.running history now).0 c.if-not-is_running.false in
+    in-child _ history f c.args.strand c.in-Child.block _ run c.record_of-kept.ensures c.in-Child.is
+
+pub returns-in-Root-clause-unsynced : goal.returns-in-Root-clause-unsynced
+returns-in-Root-clause-unsynced g c history now =
+    let f = subst (λ r. Follows r history) (sym c.self.view_is) now in
+    let run : Running history c.args.strand = (c.is_running.ensures.running history now).0 c.if-not-is_running.false in
+    let at = in-root _ history f c.args.strand _ run c.record_of-kept.ensures c.in-Root.is in
+    ((λ t. absurd (cc)), (λ t. absurd (t.1 (subst IsSynced (sym at) tt))))

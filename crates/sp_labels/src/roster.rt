@@ -1,0 +1,509 @@
+//! The strands of one fork-join program.
+
+ghost use Rattle.std.specs.Prelude.{◌≡◌, ◌≢◌, ◌⊎◌, ◌↔◌, ℕ, [], ◌∷◌, true, false, IsTrue, IfOk, IfErr, OnOk, OnErr, IsErrOf};
+ghost use Rattle.control_history.specs.History.{History, call};
+ghost use Rattle.control_history.specs.Strands.{Running, Begun};
+ghost use Rattle.control_history.specs.Blocks.{IsSynced, Stack, spawned, block, stack};
+ghost use Rattle.control_history.specs.Dag.{Reaches, IsParallel};
+ghost use Rattle.control_history.specs.Addresses.{IsEnglishBefore, IsHebrewBefore};
+ghost use Rattle.sp_labels.specs.Roster.{Follows, HasBegun, HasFewLeft, event_of_spawn, event_of_sync, event_of_return};
+
+use crate::answer::{Returned, SpFault, Spawned, Synced};
+use crate::record::{Record, Scope, Standing, put, record_of, set_standing};
+use order_list::{OrderFault, OrderList};
+use slab::Slab;
+use std::alloc::{AllocError, Allocator};
+use std::marker::Model;
+
+/// The strands of one fork-join program.
+#[derive(Drop)]
+pub struct Strands<A: Allocator> {
+    records: Vec<Record, A>,
+    /// The scope in which each called function was called, until it returns.
+    callers: Slab<Scope, A>,
+    english: OrderList<A>,
+    hebrew: OrderList<A>,
+    has_room: bool,
+}
+
+impl<A: Allocator> Model for Strands<A> {
+    ghost use Rattle.std.specs.Prelude.{vec_len, vec_capacity};
+    ghost use Rattle.slab.specs.Slab.{slab_len};
+    ghost use Rattle.sp_labels.specs.Roster.{Roster, FollowsSome, IsReady};
+
+    ghost Value = { Roster };
+
+    ghost view = { λ v. record { records = v.records.items; callers = v.callers.slots; english = v.english.items; hebrew = v.hebrew.items; has_room = v.has_room } };
+
+    ghost invariant = { λ v. FollowsSome (record { records = v.records.items; callers = v.callers.slots; english = v.english.items; hebrew = v.hebrew.items; has_room = v.has_room }) × IsReady v.has_room (vec_len v.records) (vec_capacity v.records) (slab_len v.callers) v.callers.capacity v.english.reserved v.hebrew.reserved };
+}
+
+impl<A: Allocator> Strands<A> {
+    /// Strand 0 runs in the root function.
+    pub fn new(alloc: A) -> Result<Strands<A>, AllocError>
+    where
+        A: Clone,
+        ensures opening { IfOk result (λ strands. Follows strands []) }
+        ensures room { IfOk result (λ strands. strands.has_room ≡ false) }
+    {
+        let mut records = Vec::new(alloc.clone()?);
+        let callers = Slab::new(alloc.clone()?);
+        let english = OrderList::new(alloc.clone()?)?;
+        let hebrew = OrderList::new(alloc)?;
+        records.push(Record::running(Scope::Root))?;
+        Ok(Strands {
+            records,
+            callers,
+            english,
+            hebrew,
+            has_room: false,
+        })
+    }
+
+    /// Makes room for one event, so that the next one takes no memory. A refusal changes nothing.
+    pub fn reserve_event(&mut self) -> Result<(), SpFault>
+        ensures ok { OnOk result (self.new ≡ record self.old { has_room = true }) }
+        ensures err { OnErr result (self.new ≡ self.old) }
+        ensures causes { IfErr result (λ fault. (fault ≡ SpFault.Full) ⊎ (fault ≡ SpFault.Memory)) }
+        ensures full { (history : History) → Follows self.old history → IsErrOf result SpFault.Full ↔ (self.old.has_room ≡ false) × HasFewLeft history }
+        ensures memory { IsErrOf result SpFault.Memory → self.old.has_room ≡ false }
+    {
+        if self.has_room {
+            return Ok(());
+        }
+        match self.english.reserve(3) {
+            Ok(()) => {}
+            Err(OrderFault::Full) => return Err(SpFault::Full),
+            Err(OrderFault::Memory) => return Err(SpFault::Memory),
+        }
+        match self.hebrew.reserve(3) {
+            Ok(()) => {}
+            Err(OrderFault::Full) => return Err(SpFault::Full),
+            Err(OrderFault::Memory) => return Err(SpFault::Memory),
+        }
+        self.records.reserve(3)?;
+        self.callers.reserve(1)?;
+        self.has_room = true;
+        Ok(())
+    }
+
+    /// Whether there is room for one event.
+    pub fn has_room(&self) -> bool
+        ensures { result ≡ self.now.has_room }
+    {
+        self.has_room
+    }
+
+    /// Whether `strand` has begun and not ended.
+    pub fn is_running(&self, strand: u32) -> bool
+        ensures running { (history : History) → Follows self.now history → IsTrue result ↔ Running history strand }
+        ensures begun { IsTrue result → HasBegun self.now strand }
+    {
+        (strand as usize) < self.records.len()
+            && matches!(record_of(&self.records, strand).standing, Standing::Running)
+    }
+
+    /// Whether `strand` has begun, and perhaps ended.
+    pub fn is_begun(&self, strand: u32) -> bool
+        ensures each { (history : History) → Follows self.now history → IsTrue result ↔ Begun history strand }
+        ensures begun { IsTrue result ↔ HasBegun self.now strand }
+    {
+        (strand as usize) < self.records.len()
+            && matches!(
+                record_of(&self.records, strand).standing,
+                Standing::Running | Standing::Over
+            )
+    }
+
+    /// `strand` spawns a function: the child runs in it, and next goes on after the spawn.
+    pub fn spawn(&mut self, strand: u32) -> Result<Spawned, SpFault>
+        ensures ok { IfOk result (λ spawned. (history : History) → Follows self.old history → Follows self.new (event_of_spawn strand spawned ∷ history)) }
+        ensures room { OnOk result (self.new.has_room ≡ false) }
+        ensures err { OnErr result (self.new ≡ self.old) }
+
+        ensures not_running { (history : History) → Follows self.old history → IsErrOf result SpFault.NotRunning ↔ (Running history strand → ⊥) }
+        ensures not_unsynced { result ≢ Err SpFault.Unsynced }
+        ensures full { (history : History) → Follows self.old history → IsErrOf result SpFault.Full ↔ Running history strand × (self.old.has_room ≡ false) × HasFewLeft history }
+        ensures memory { IsErrOf result SpFault.Memory → self.old.has_room ≡ false }
+    {
+        if !self.is_running(strand) {
+            return Err(SpFault::NotRunning);
+        }
+        self.reserve_event()?;
+        match record_of(&self.records, strand).scope {
+            Scope::Block { join } => Ok(self.spawn_in_block(strand, join)),
+            _ => Ok(self.spawn_first(strand)),
+        }
+    }
+
+    /// A spawn that opens a block.
+    fn spawn_first(&mut self, strand: u32) -> Spawned
+        requires room { self.old.has_room ≡ true }
+        requires running { (history : History) → Follows self.old history → Running history strand }
+        requires synced { (history : History) → Follows self.old history → IsSynced (stack history strand) }
+        ensures spawned { (history : History) → Follows self.old history → Follows self.new (event_of_spawn strand result ∷ history) }
+        ensures room { self.new.has_room ≡ false }
+    {
+        self.has_room = false;
+        let child = self.english.insert_reserved(strand);
+        let next = self.english.insert_reserved(child);
+        let join = self.english.insert_reserved(next);
+        self.hebrew.insert_reserved(strand);
+        self.hebrew.insert_reserved(strand);
+        self.hebrew.insert_reserved(child);
+
+        let scope = record_of(&self.records, strand).scope;
+        set_standing(&mut self.records, strand, Standing::Over);
+        self.records
+            .push_reserved(Record::running(Scope::Child { block: join }));
+        self.records
+            .push_reserved(Record::running(Scope::Block { join }));
+        self.records.push_reserved(Record {
+            standing: Standing::Reserved,
+            scope,
+            children_left: 1,
+        });
+        Spawned {
+            child,
+            next,
+            join,
+            first: true,
+        }
+    }
+
+    /// A later spawn of the block with this join.
+    fn spawn_in_block(&mut self, strand: u32, join: u32) -> Spawned
+        requires room { self.old.has_room ≡ true }
+        requires running { (history : History) → Follows self.old history → Running history strand }
+        requires in_block { (history : History) → Follows self.old history → (below : Stack) × (stack history strand ≡ block join below) }
+        ensures spawned { (history : History) → Follows self.old history → Follows self.new (event_of_spawn strand result ∷ history) }
+        ensures room { self.new.has_room ≡ false }
+    {
+        self.has_room = false;
+        let child = self.english.insert_reserved(strand);
+        let next = self.english.insert_reserved(child);
+        self.hebrew.insert_reserved(strand);
+        self.hebrew.insert_reserved(strand);
+
+        set_standing(&mut self.records, strand, Standing::Over);
+        let joining = record_of(&self.records, join);
+        put(
+            &mut self.records,
+            join,
+            Record {
+                children_left: joining.children_left + 1,
+                ..joining
+            },
+        );
+        self.records
+            .push_reserved(Record::running(Scope::Child { block: join }));
+        self.records
+            .push_reserved(Record::running(Scope::Block { join }));
+        Spawned {
+            child,
+            next,
+            join,
+            first: false,
+        }
+    }
+
+    /// `strand` syncs in its innermost function.
+    pub fn sync(&mut self, strand: u32) -> Result<Synced, SpFault>
+        ensures ok { IfOk result (λ synced. (history : History) → Follows self.old history → Follows self.new (event_of_sync strand synced ∷ history)) }
+        ensures room { OnOk result (self.new.has_room ≡ false) }
+        ensures err { OnErr result (self.new ≡ self.old) }
+        ensures not_running { (history : History) → Follows self.old history → IsErrOf result SpFault.NotRunning ↔ (Running history strand → ⊥) }
+        ensures causes { IfErr result (λ fault. fault ≡ SpFault.NotRunning) }
+    {
+        if !self.is_running(strand) {
+            return Err(SpFault::NotRunning);
+        }
+        self.has_room = false;
+        match record_of(&self.records, strand).scope {
+            Scope::Block { join } => {
+                set_standing(&mut self.records, strand, Standing::Over);
+                if record_of(&self.records, join).children_left == 0 {
+                    set_standing(&mut self.records, join, Standing::Running);
+                    Ok(Synced::Joined(join))
+                } else {
+                    set_standing(&mut self.records, join, Standing::Awaited);
+                    Ok(Synced::Waits)
+                }
+            }
+            _ => Ok(Synced::Same),
+        }
+    }
+
+    /// `strand` calls a function, and goes on in it.
+    pub fn call(&mut self, strand: u32) -> Result<(), SpFault>
+        ensures ok { OnOk result ((history : History) → Follows self.old history → Follows self.new (call strand ∷ history)) }
+        ensures room { OnOk result (self.new.has_room ≡ false) }
+        ensures err { OnErr result (self.new ≡ self.old) }
+
+        ensures not_running { (history : History) → Follows self.old history → IsErrOf result SpFault.NotRunning ↔ (Running history strand → ⊥) }
+        ensures causes { IfErr result (λ fault. (fault ≡ SpFault.NotRunning) ⊎ (fault ≡ SpFault.Memory)) }
+        ensures memory { IsErrOf result SpFault.Memory → self.old.has_room ≡ false }
+    {
+        if !self.is_running(strand) {
+            return Err(SpFault::NotRunning);
+        }
+        self.callers.reserve(1)?;
+        self.has_room = false;
+        let kept = record_of(&self.records, strand);
+        let caller = self.callers.insert_reserved(kept.scope);
+        put(
+            &mut self.records,
+            strand,
+            Record {
+                scope: Scope::Call { caller },
+                ..kept
+            },
+        );
+        Ok(())
+    }
+
+    /// The innermost function of `strand` returns.
+    pub fn ret(&mut self, strand: u32) -> Result<Returned, SpFault>
+        ensures ok { IfOk result (λ returned. (history : History) → Follows self.old history → Follows self.new (event_of_return strand returned ∷ history)) }
+        ensures room { OnOk result (self.new.has_room ≡ false) }
+        ensures err { OnErr result (self.new ≡ self.old) }
+
+        ensures not_running { (history : History) → Follows self.old history → IsErrOf result SpFault.NotRunning ↔ (Running history strand → ⊥) }
+        ensures unsynced { (history : History) → Follows self.old history → IsErrOf result SpFault.Unsynced ↔ Running history strand × (IsSynced (stack history strand) → ⊥) }
+        ensures causes { IfErr result (λ fault. (fault ≡ SpFault.NotRunning) ⊎ (fault ≡ SpFault.Unsynced)) }
+    {
+        if !self.is_running(strand) {
+            return Err(SpFault::NotRunning);
+        }
+        let kept = record_of(&self.records, strand);
+        match kept.scope {
+            Scope::Block { join: _ } => Err(SpFault::Unsynced),
+            Scope::Call { caller } => {
+                self.has_room = false;
+                let scope = self.callers.remove(caller);
+                put(&mut self.records, strand, Record { scope, ..kept });
+                Ok(Returned::Resumed)
+            }
+            Scope::Root => {
+                self.has_room = false;
+                set_standing(&mut self.records, strand, Standing::Over);
+                Ok(Returned::Finished)
+            }
+            Scope::Child { block } => Ok(self.end_child(strand, block)),
+        }
+    }
+
+    /// A spawned function, child of the block with this join, returns.
+    fn end_child(&mut self, strand: u32, join: u32) -> Returned
+        requires running { (history : History) → Follows self.old history → Running history strand }
+        requires child { (history : History) → Follows self.old history → (number : ℕ) × (stack history strand ≡ spawned number join) }
+        ensures returned { (history : History) → Follows self.old history → Follows self.new (event_of_return strand result ∷ history) }
+        ensures room { self.new.has_room ≡ false }
+    {
+        self.has_room = false;
+        set_standing(&mut self.records, strand, Standing::Over);
+        let joining = record_of(&self.records, join);
+        let children_left = joining.children_left - 1;
+        if children_left == 0 && matches!(joining.standing, Standing::Awaited) {
+            put(
+                &mut self.records,
+                join,
+                Record {
+                    standing: Standing::Running,
+                    children_left,
+                    ..joining
+                },
+            );
+            Returned::EndedJoined(join)
+        } else {
+            put(
+                &mut self.records,
+                join,
+                Record {
+                    children_left,
+                    ..joining
+                },
+            );
+            Returned::Ended
+        }
+    }
+
+    /// Whether `a` stands before `b` in the English order, which is the serial order. False for `a = b`.
+    pub fn english_before(&self, a: u32, b: u32) -> bool
+        requires a_begun { HasBegun self.now a }
+        requires b_begun { HasBegun self.now b }
+        ensures { (history : History) → Follows self.now history → IsTrue result ↔ IsEnglishBefore history a b }
+    {
+        self.english.is_before(a, b)
+    }
+
+    /// Whether `a` stands before `b` in the Hebrew order, which takes next before child. False for `a = b`.
+    pub fn hebrew_before(&self, a: u32, b: u32) -> bool
+        requires a_begun { HasBegun self.now a }
+        requires b_begun { HasBegun self.now b }
+        ensures { (history : History) → Follows self.now history → IsTrue result ↔ IsHebrewBefore history a b }
+    {
+        self.hebrew.is_before(a, b)
+    }
+
+    /// Whether there is a path from `a` to another strand `b`.
+    pub fn precedes(&self, a: u32, b: u32) -> bool
+        requires a_begun { HasBegun self.now a }
+        requires b_begun { HasBegun self.now b }
+        ensures { (history : History) → Follows self.now history → IsTrue result ↔ Reaches history a b × (a ≢ b) }
+    {
+        self.english_before(a, b) && self.hebrew_before(a, b)
+    }
+
+    /// Whether there is no path between `a` and `b`, either way.
+    pub fn parallel(&self, a: u32, b: u32) -> bool
+        requires a_begun { HasBegun self.now a }
+        requires b_begun { HasBegun self.now b }
+        ensures { (history : History) → Follows self.now history → IsTrue result ↔ IsParallel history a b }
+    {
+        self.english_before(a, b) != self.hebrew_before(a, b)
+    }
+}
+
+#[cfg(test)]
+mod tests {
+    use super::*;
+    use std::alloc::Global;
+    use std::test::Fail;
+
+    fn split(child: u32, next: u32, join: u32, first: bool) -> Result<Spawned, SpFault> {
+        Ok(Spawned {
+            child,
+            next,
+            join,
+            first,
+        })
+    }
+
+    #[derive(Debug, Clone, Copy, PartialEq)]
+    struct Relation {
+        english: bool,
+        hebrew: bool,
+        precedes: bool,
+        parallel: bool,
+    }
+
+    const PARALLEL: Relation = Relation {
+        english: true,
+        hebrew: false,
+        precedes: false,
+        parallel: true,
+    };
+
+    const PATH: Relation = Relation {
+        english: true,
+        hebrew: true,
+        precedes: true,
+        parallel: false,
+    };
+
+    fn compare(strands: &Strands<Global>, a: u32, b: u32) -> Option<Relation> {
+        if !strands.is_begun(a) || !strands.is_begun(b) {
+            return None;
+        }
+        Some(Relation {
+            english: strands.english_before(a, b),
+            hebrew: strands.hebrew_before(a, b),
+            precedes: strands.precedes(a, b),
+            parallel: strands.parallel(a, b),
+        })
+    }
+
+    #[test]
+    fn tells_parallel_strands(rt: HostRuntime) -> Result<(), Fail> {
+        let mut strands = Strands::new(rt.alloc())?;
+        assert_eq!(rt; strands.spawn(0), split(1, 2, 3, true));
+        assert_eq!(rt; compare(&strands, 1, 2), Some(PARALLEL));
+        assert_eq!(rt;
+            compare(&strands, 2, 1),
+            Some(Relation {
+                english: false,
+                hebrew: true,
+                ..PARALLEL
+            })
+        );
+        assert_eq!(rt;
+            compare(&strands, 0, 0),
+            Some(Relation {
+                parallel: false,
+                english: false,
+                ..PARALLEL
+            })
+        );
+        assert_eq!(rt; compare(&strands, 0, 1), Some(PATH));
+        assert_eq!(rt; compare(&strands, 0, 3), None);
+        assert_eq!(rt; strands.ret(0), Err(SpFault::NotRunning));
+        assert_eq!(rt; strands.ret(2), Err(SpFault::Unsynced));
+        assert_eq!(rt; strands.sync(2), Ok(Synced::Waits));
+        assert_eq!(rt; strands.ret(1), Ok(Returned::EndedJoined(3)));
+        assert_eq!(rt; compare(&strands, 1, 3), Some(PATH));
+        assert!(rt; strands.is_running(3) && strands.is_begun(1) && !strands.is_running(1));
+        Ok(())
+    }
+
+    #[test]
+    fn syncs_the_block_of_its_own_function(rt: HostRuntime) -> Result<(), Fail> {
+        let mut strands = Strands::new(rt.alloc())?;
+        assert_eq!(rt; strands.spawn(0), split(1, 2, 3, true));
+        assert_eq!(rt; strands.call(2), Ok(()));
+        assert_eq!(rt; strands.spawn(2), split(4, 5, 6, true));
+        assert_eq!(rt; strands.ret(4), Ok(Returned::Ended));
+        assert_eq!(rt; strands.sync(5), Ok(Synced::Joined(6)));
+        assert_eq!(rt; strands.ret(6), Ok(Returned::Resumed));
+        assert_eq!(rt; strands.sync(6), Ok(Synced::Waits));
+        assert_eq!(rt; strands.ret(1), Ok(Returned::EndedJoined(3)));
+        assert_eq!(rt; strands.ret(3), Ok(Returned::Finished));
+        Ok(())
+    }
+
+    #[test]
+    fn spawns_in_a_long_loop(rt: HostRuntime) -> Result<(), Fail> {
+        let mut strands = Strands::new(rt.alloc())?;
+        let mut newest = 0;
+        for k in 1..10_001u32 {
+            let child = if k == 1 { 1 } else { 2 * k };
+            assert_eq!(rt; strands.spawn(newest), split(child, child + 1, 3, k == 1));
+            assert_eq!(rt; strands.ret(child), Ok(Returned::Ended));
+            newest = child + 1;
+        }
+        assert_eq!(rt; strands.sync(20_001), Ok(Synced::Joined(3)));
+        assert_eq!(rt; strands.ret(3), Ok(Returned::Finished));
+        Ok(())
+    }
+
+    #[test]
+    fn keeps_room_until_the_next_event(rt: HostRuntime) -> Result<(), Fail> {
+        let mut strands = Strands::new(rt.alloc())?;
+        assert!(rt; !strands.has_room());
+        assert_eq!(rt; strands.reserve_event(), Ok(()));
+        assert_eq!(rt; strands.sync(1), Err(SpFault::NotRunning));
+        assert!(rt; strands.has_room());
+        assert_eq!(rt; strands.sync(0), Ok(Synced::Same));
+        assert!(rt; !strands.has_room());
+        Ok(())
+    }
+
+    #[test]
+    fn is_full_after_a_million_first_spawns(rt: HostRuntime) -> Result<(), Fail> {
+        let mut strands = Strands::new(rt.alloc())?;
+        let mut newest = 0;
+        for k in 0..1_000_000u32 {
+            assert_eq!(rt;
+                strands.spawn(newest),
+                split(3 * k + 1, 3 * k + 2, 3 * k + 3, true)
+            );
+            newest = 3 * k + 1;
+        }
+        assert_eq!(rt; strands.reserve_event(), Err(SpFault::Full));
+        assert_eq!(rt; strands.spawn(newest), Err(SpFault::Full));
+        assert_eq!(rt; strands.spawn(0), Err(SpFault::NotRunning));
+        assert_eq!(rt; strands.call(newest), Ok(()));
+        assert_eq!(rt; strands.ret(newest), Ok(Returned::Resumed));
+        Ok(())
+    }
+}
