@@ -1,4 +1,4 @@
--- Items that are tied to their neighbors.
+-- Items that are tied to their neighbours.
 use Rattle.std.specs.Prelude.{◌≡◌, ℕ, zero, suc, ◌+◌, ◌<◌, List, [], ◌∷◌, length, slice_index}
 use Rattle.order_list.specs.Order.{IsNumbered, IsListing, place_of}
 
@@ -11,7 +11,7 @@ walk next (suc count) item = item ∷ walk next count (slice_index next item)
 unfoldable pub order_of : List ℕ → List ℕ
 order_of next = walk next (length next) 0
 
--- The neighbors make a ring that item 0 begins: the last item stands before item 0.
+-- The neighbours make a ring that item 0 begins: the last item stands before item 0.
 -- Past its end, `slice_index items` is 0, the item that follows the last one.
 pub record IsRing (next previous items : List ℕ) : Type 0 where
   pub begins : slice_index items 0 ≡ 0

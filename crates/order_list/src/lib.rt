@@ -6,7 +6,7 @@
 //!
 //! Each item has a label of 64 bits, and the labels rise along the list (Dietz and Sleator 1987). Where an insertion finds
 //! no label between two, the smallest sparse enough stretch of items around is given new ones (Bender, Cole, Demaine,
-//! Farach-Colton and Zito 2002), in place. The items are numbered as they were made, and tied to their neighbors in a ring.
+//! Farach-Colton and Zito 2002), in place. The items are numbered as they were made, and tied to their neighbours in a ring.
 #![tactic(auto)]
 
 ghost use Rattle.std.specs.Prelude.{◌≡◌, [], ◌∷◌, ◌+◌, ◌<◌, ◌≤◌, ◌↔◌, length, max, insert, vec_len, vec_capacity, IsTrue, IfOk, IsErrOf, OnOk, OnErr};

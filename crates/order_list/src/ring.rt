@@ -73,7 +73,7 @@ impl<A: Allocator> Ring<A> {
         self.previous[item as usize]
     }
 
-    /// Makes room for `count` more items, where there may be so many.
+    /// Makes room for `count` more items, which the caller knows to be within the limit.
     pub fn reserve(&mut self, count: u32) -> Result<(), AllocError>
         requires { length (items_of self.old) + count ≤ most_items }
         ensures items { items_of self.new ≡ items_of self.old }

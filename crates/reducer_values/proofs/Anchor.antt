@@ -31,7 +31,7 @@ use Rattle.reducer_values.specs.Entries.{Entry, update_entry, put_entry, number_
 use Rattle.reducer_values.specs.Logs.{logs_after, log}
 use Rattle.reducer_values.specs.GetValues.{IsLastPut}
 use Rattle.reducer_values.proofs.Lists.{in_flat}
-use Rattle.reducer_values.proofs.Steps.{legal_control, Step, split_step, join_step, quiet_step, step_of, put_begun, put_numbered, member_begun}
+use Rattle.reducer_values.proofs.Steps.{legal_control, LogStep, split_step, join_step, quiet_step, step_of, put_begun, put_numbered, member_begun}
 use Rattle.reducer_values.proofs.Since.{IsSince, newest_put}
 
 -- two addresses that are not parallel
@@ -124,7 +124,7 @@ arriving_below h l a z to ba sz d p = elim (begins_or_reaches (branch_of_address
         let e : z ≡ a = sink_end h z a sz (precedes_reach h l z a sz.0 ba r) in
         subst (IsBelow h a) (sym e) (reaches-self (address h a), branch_prefix (address h a))
 
-holds_step : (h : History) (e : Event) (f : ℕ → List Entry) (a : ℕ) (P : Entry → Type 0) → Legal h → Legal (e ∷ h) → Step h f e → Begun h a →
+holds_step : (h : History) (e : Event) (f : ℕ → List Entry) (a : ℕ) (P : Entry → Type 0) → Legal h → Legal (e ∷ h) → LogStep h f e → Begun h a →
     ((x : ℕ) (u : Entry) → Present u (f x) → Begun h (strand_of u)) → HoldsOnly h f a P → HoldsOnly (e ∷ h) (logs_after h e f) a P
 holds_step h (split s c n j first) f a P l l' (split_step w) ba wrote old x u b below i =
     updated_case (λ ys. Present u ys → IsHeld (split s c n j first ∷ h) a P u) (updated f c (f s)) n [] x (λ e i. absurd i)

@@ -1,15 +1,15 @@
 -- The worked histories: their gets are granted, and their views are these.
-use Rattle.std.proofs.Common.{◌≡◌, inl, inr, ℕ, List, [], ◌∷◌, Some, refl, sym, ap, ◌∙◌, subst, arith}
+use Rattle.std.proofs.Common.{◌≡◌, inl, inr, ℕ, List, map, [], ◌∷◌, Some, refl, sym, ap, ◌∙◌, subst, arith}
 use Rattle.control_history.specs.Updated.{updated}
 use Rattle.control_history.specs.Blocks.{root, spawned, Outstanding}
 use Rattle.control_history.specs.Legal.{open_split, next_split, sync_joined, sync_waits, child_return, last_return}
 use Rattle.reducer_values.specs.Items.{Items, control_part, IsLegal}
-use Rattle.reducer_values.specs.Entries.{Entry, update_entry, put_entry, number_of}
+use Rattle.reducer_values.specs.Entries.{Entry, update_entry, put_entry, number_of, value_of}
 use Rattle.reducer_values.specs.Logs.{log}
-use Rattle.reducer_values.specs.Views.{view}
-use Rattle.reducer_values.specs.GetValues.{IsGranted, AreCounted, IsValue}
+use Rattle.reducer_values.specs.Views.{Reducer, product, view}
+use Rattle.reducer_values.specs.GetValues.{IsGranted, AreCounted}
 use Rattle.reducer_values.specs.Examples.{last, digits, two_children, early_continuation, waiting_sync, early_update}
-use Rattle.reducer_values.specs.Laws.{ExamplesLaw}
+use Rattle.reducer_values.specs.Laws.{IsWorked, ExamplesLaw}
 use Rattle.reducer_values.proofs.Law.{log_law}
 
 tails : (p q : Entry) (us ws : List Entry) → p ∷ us ≡ q ∷ ws → us ≡ ws
@@ -20,6 +20,16 @@ counted_in_log : (h : Items) (s : ℕ) (p : Entry) (us : List Entry) → IsGrant
 counted_in_log h s p us g e =
     let found = log_law h s p g in
     subst (AreCounted h p s) (tails p p found.0 us (sym found.2 ∙ e)) found.1
+
+worked : {View : Type 0} (reducer : Reducer View) (h : Items) (s : ℕ) (p : Entry) (us : List Entry) (value : View) → IsGranted h s p → log h s ≡ p ∷ us →
+    view reducer h s ≡ value → value ≡ reducer.combine (reducer.of_put (value_of p)) (product reducer (map (λ u. reducer.of_update (value_of u)) us)) →
+    IsWorked reducer h s p us value
+worked reducer h s p us value g in_log is_view combined = record {
+  granted = g;
+  counts = counted_in_log h s p us g in_log;
+  value_is = record { put = p; last = g.last; counted = us; counts = counted_in_log h s p us g in_log; combined = combined };
+  view_is = is_view;
+}
 
 two_children_legal : IsLegal two_children
 unfolding updated
@@ -168,39 +178,16 @@ early_update_view : view last early_update 0 ≡ Some 4
 unfolding updated
 early_update_view = refl
 
-two_children_counts : AreCounted two_children (put_entry 1 0 1) 3 (update_entry 4 1 5 ∷ update_entry 5 4 7 ∷ [])
-two_children_counts = counted_in_log two_children 3 (put_entry 1 0 1) (update_entry 4 1 5 ∷ update_entry 5 4 7 ∷ []) two_children_granted two_children_log
-
-two_children_value : IsValue last two_children 3 (Some 7)
-two_children_value = record { put = put_entry 1 0 1; last = two_children_granted.last; counted = update_entry 4 1 5 ∷ update_entry 5 4 7 ∷ []; counts = two_children_counts; combined = refl }
-
-early_continuation_counts : AreCounted early_continuation (put_entry 1 0 0) 3 (update_entry 4 1 1 ∷ update_entry 3 2 2 ∷ [])
-early_continuation_counts = counted_in_log early_continuation 3 (put_entry 1 0 0) (update_entry 4 1 1 ∷ update_entry 3 2 2 ∷ []) early_continuation_granted early_continuation_log
-
-early_continuation_value : IsValue digits early_continuation 3 (961, 33)
-early_continuation_value = record { put = put_entry 1 0 0; last = early_continuation_granted.last; counted = update_entry 4 1 1 ∷ update_entry 3 2 2 ∷ []; counts = early_continuation_counts; combined = refl }
-
-waiting_sync_counts : AreCounted waiting_sync (put_entry 1 0 0) 3 (update_entry 5 1 1 ∷ update_entry 3 2 2 ∷ [])
-waiting_sync_counts = counted_in_log waiting_sync 3 (put_entry 1 0 0) (update_entry 5 1 1 ∷ update_entry 3 2 2 ∷ []) waiting_sync_granted waiting_sync_log
-
-waiting_sync_value : IsValue digits waiting_sync 3 (961, 33)
-waiting_sync_value = record { put = put_entry 1 0 0; last = waiting_sync_granted.last; counted = update_entry 5 1 1 ∷ update_entry 3 2 2 ∷ []; counts = waiting_sync_counts; combined = refl }
-
-early_update_counts : AreCounted early_update (put_entry 3 0 4) 0 ([])
-early_update_counts = counted_in_log early_update 0 (put_entry 3 0 4) ([]) early_update_granted early_update_log
-
-early_update_value : IsValue last early_update 0 (Some 4)
-early_update_value = record { put = put_entry 3 0 4; last = early_update_granted.last; counted = []; counts = early_update_counts; combined = refl }
-
 pub examples_law : ExamplesLaw
 examples_law = record {
-  spawning_order = record { granted = two_children_granted; counts = two_children_counts; value_is = two_children_value; view_is = two_children_view };
-  serial_order = record {
-    granted = early_continuation_granted;
-    counts = early_continuation_counts;
-    value_is = early_continuation_value;
-    view_is = early_continuation_view;
-  };
-  waited_for = record { granted = waiting_sync_granted; counts = waiting_sync_counts; value_is = waiting_sync_value; view_is = waiting_sync_view };
-  last_put = record { granted = early_update_granted; counts = early_update_counts; value_is = early_update_value; view_is = early_update_view };
+  spawning_order =
+      worked last two_children 3 (put_entry 1 0 1) (update_entry 4 1 5 ∷ update_entry 5 4 7 ∷ []) (Some 7)
+      two_children_granted two_children_log two_children_view refl;
+  serial_order =
+      worked digits early_continuation 3 (put_entry 1 0 0) (update_entry 4 1 1 ∷ update_entry 3 2 2 ∷ []) (961, 33)
+      early_continuation_granted early_continuation_log early_continuation_view refl;
+  waited_for =
+      worked digits waiting_sync 3 (put_entry 1 0 0) (update_entry 5 1 1 ∷ update_entry 3 2 2 ∷ []) (961, 33)
+      waiting_sync_granted waiting_sync_log waiting_sync_view refl;
+  last_put = worked last early_update 0 (put_entry 3 0 4) [] (Some 4) early_update_granted early_update_log early_update_view refl;
 }

@@ -8,5 +8,6 @@ pub mod Anchor
 pub mod Law
 pub mod Products
 pub mod Values
-pub mod Items
+pub mod Stays
+pub mod Accesses
 pub mod Examples

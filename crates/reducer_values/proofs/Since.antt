@@ -19,7 +19,7 @@ use Rattle.reducer_values.specs.Entries.{Entry, update_entry, put_entry, number_
 use Rattle.reducer_values.specs.Logs.{logs_after, log}
 use Rattle.reducer_values.specs.GetValues.{IsLastPut}
 use Rattle.reducer_values.proofs.Lists.{in_left, in_right, flat_in}
-use Rattle.reducer_values.proofs.Steps.{legal_control, Step, split_step, join_step, quiet_step, step_of, update_begun, put_begun, update_numbered, put_numbered}
+use Rattle.reducer_values.proofs.Steps.{legal_control, LogStep, split_step, join_step, quiet_step, step_of, update_begun, put_begun, update_numbered, put_numbered}
 
 -- the put itself, and the updates after it
 abbrev pub IsSince : Items → Entry → Entry → Type 0
@@ -42,7 +42,7 @@ since_begun h l p t u (inr k) = update_begun h l u k.0
 abbrev pub Keeps : History → (ℕ → List Entry) → (Entry → Type 0) → Type 0
 Keeps history logs IsOne = (viewer : ℕ) (entry : Entry) → Begun history viewer → IsOne entry → Covers history viewer (strand_of entry) → Present entry (logs viewer)
 
-keeps_step : (h : History) (e : Event) (f : ℕ → List Entry) (P : Entry → Type 0) → Legal h → Step h f e → ((u : Entry) → P u → Begun h (strand_of u)) →
+keeps_step : (h : History) (e : Event) (f : ℕ → List Entry) (P : Entry → Type 0) → Legal h → LogStep h f e → ((u : Entry) → P u → Begun h (strand_of u)) →
     Keeps h f P → Keeps (e ∷ h) (logs_after h e f) P
 keeps_step h (split s c n j first) f P l (split_step w) known old x u b p (inl (e, inl g)) =
     absurd (let t : strand_of u < unused h = begun_below h (ranges l) (strand_of u) (known u p) in omega (arith, g, w.numbers.child_is))

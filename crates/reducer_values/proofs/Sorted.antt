@@ -20,7 +20,7 @@ use Rattle.reducer_values.specs.Items.{control, update, put, other, Items, contr
 use Rattle.reducer_values.specs.Entries.{Entry, update_entry, put_entry, number_of, strand_of}
 use Rattle.reducer_values.specs.Logs.{logs_after, log}
 use Rattle.reducer_values.proofs.Lists.{pairs_flat}
-use Rattle.reducer_values.proofs.Steps.{legal_control, Step, split_step, join_step, quiet_step, step_of, Covered, covered, member_numbered}
+use Rattle.reducer_values.proofs.Steps.{legal_control, LogStep, split_step, join_step, quiet_step, step_of, Covered, covered, member_numbered}
 
 -- the serial order of entries, by the English order of their strands
 abbrev pub IsEarlier : History → Entry → Entry → Type 0
@@ -46,7 +46,7 @@ sorted_stays h e f l l' c old x b =
     (λ u v i k a. serial_stays h e l' u v ((view_law h l).within x (strand_of u) b (c x u b i)).0 ((view_law h l).within x (strand_of v) b (c x v b k)).0 a)
     (old x b)
 
-sorted_step : (h : History) (e : Event) (f : ℕ → List Entry) → Legal h → Legal (e ∷ h) → Step h f e → Covered h f → Sorted h f → Sorted (e ∷ h) (logs_after h e f)
+sorted_step : (h : History) (e : Event) (f : ℕ → List Entry) → Legal h → Legal (e ∷ h) → LogStep h f e → Covered h f → Sorted h f → Sorted (e ∷ h) (logs_after h e f)
 sorted_step h (split s c n j first) f l l' (split_step w) cov old x b =
     updated_case (AllPairs (IsEarlier (split s c n j first ∷ h))) (updated f c (f s)) n [] x (λ e. pairs-nil (IsEarlier (split s c n j first ∷ h)))
     (λ nn. updated_case (AllPairs (IsEarlier (split s c n j first ∷ h))) f c (f s) x

@@ -34,14 +34,14 @@ pub record Gathering (history : History) (join : ℕ) : Type 0 where
   pub ordered : AllPairs (IsEnglishBefore history) (gathered history join)
 
 -- what an event does to logs
-pub data Step (history : History) (logs : ℕ → List Entry) : Event → Type 0 where
+pub data LogStep (history : History) (logs : ℕ → List Entry) : Event → Type 0 where
   split_step : {strand child next join : ℕ} {first : Bool} → Splitting history strand child next join first →
-      Step history logs (split strand child next join first)
+      LogStep history logs (split strand child next join first)
   join_step : {event : Event} (strand join : ℕ) → Joining history event strand join → Gathering (event ∷ history) join →
       ((number : ℕ) → logs_after history event logs number ≡ updated logs join (flat_map logs (gathered (event ∷ history) join)) number) →
-      Step history logs event
+      LogStep history logs event
   quiet_step : {event : Event} → Quiet history event → ((number : ℕ) → logs_after history event logs number ≡ logs number) →
-      Step history logs event
+      LogStep history logs event
 
 gathering_joined : (h : History) (s j : ℕ) → Legal (joined s j ∷ h) → Gathering (joined s j ∷ h) j
 gathering_joined h s j l = let g = gathering_law h (joined s j) j l refl in record {
@@ -61,7 +61,7 @@ gathering_ended h s j l = let g = gathering_law h (ended_joined s j) j l refl in
   ordered = g.1;
 }
 
-pub step_of : (h : History) (f : ℕ → List Entry) (e : Event) → Legal h → Allowed h e → Step h f e
+pub step_of : (h : History) (f : ℕ → List Entry) (e : Event) → Legal h → Allowed h e → LogStep h f e
 step_of h f (split s c n j first) l a = split_step (splitting h s c n j first (ranges l) (holders l) a)
 step_of h f (joined s j) l (sync_joined {below = below} run st none) =
     let k : Legal (joined s j ∷ h) = then l (sync_joined {below = below} run st none) in
@@ -83,7 +83,7 @@ step_of h f (resumed s) l a = quiet_step (quiet_resumed h s l (then l a)) (λ x.
 abbrev pub Covered : History → (ℕ → List Entry) → Type 0
 Covered history logs = (viewer : ℕ) (entry : Entry) → Begun history viewer → Present entry (logs viewer) → Covers history viewer (strand_of entry)
 
-covered_step : (h : History) (e : Event) (f : ℕ → List Entry) → Step h f e → Covered h f → Covered (e ∷ h) (logs_after h e f)
+covered_step : (h : History) (e : Event) (f : ℕ → List Entry) → LogStep h f e → Covered h f → Covered (e ∷ h) (logs_after h e f)
 covered_step h (split s c n j first) f (split_step w) old x u b i =
     updated_case (λ ys. Present u ys → Covers (split s c n j first ∷ h) x (strand_of u)) (updated f c (f s)) n [] x (λ e i. absurd i)
     (λ nn. updated_case (λ ys. Present u ys → Covers (split s c n j first ∷ h) x (strand_of u)) f c (f s) x

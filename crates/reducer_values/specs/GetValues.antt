@@ -10,7 +10,7 @@ use Rattle.reducer_values.specs.Views.{Reducer, product}
 abbrev pub IsLastPut : Items → Entry → Type 0
 IsLastPut items last = HasPut items last × ((put : Entry) → HasPut items put → number_of put ≤ number_of last)
 
--- a get by the strand would be granted, and this is the last put before it, which is of the strand's branch
+-- what a granted get by the strand has before it: a legal history in which the strand runs, and a last put, which is of the strand's branch
 pub record IsGranted (items : Items) (strand : ℕ) (put : Entry) : Type 0 where
   pub legal : IsLegal items
   pub runs : Running (control_part items) strand

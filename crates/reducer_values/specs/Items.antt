@@ -32,11 +32,3 @@ IsAllowed history (other strand) = Running history strand
 abbrev pub IsLegal : Items → Type 0
 IsLegal [] = Unit {0}
 IsLegal (item ∷ items) = IsLegal items × IsAllowed (control_part items) item
-
--- The item without its value: what it is to another reducer, but for that one's own updates and puts. The histories that all reducers make of one
--- history differ in nothing else.
-abbrev pub as_other : Item → Item
-as_other (control event) = control event
-as_other (update strand value) = other strand
-as_other (put strand value) = other strand
-as_other (other strand) = other strand

@@ -1,6 +1,7 @@
 -- What a strand's view is at a granted get.
-use Rattle.std.specs.Prelude.{◌≡◌, ◌↔◌, ℕ, Bool, List, [], ◌∷◌, map, Some, IsTrue}
-use Rattle.reducer_values.specs.Items.{Item, Items, control_part, IsLegal, as_other}
+use Rattle.std.specs.Prelude.{◌≡◌, ◌↔◌, ℕ, Bool, List, [], ◌∷◌, Some, IsTrue}
+use Rattle.reducer_values.specs.Items.{Item, Items, control_part, IsLegal}
+use Rattle.reducer_values.specs.Accesses.{Steps, control_steps, AreLegal, items_of}
 use Rattle.reducer_values.specs.Entries.{Entry, update_entry, put_entry}
 use Rattle.reducer_values.specs.Logs.{log}
 use Rattle.reducer_values.specs.Views.{Reducer, view, Changes, IsMonoidOn, EntriesFit}
@@ -35,12 +36,14 @@ StayLaw View =
     (reducer : Reducer View) (items : Items) (item : Item) (strand : ℕ) → (Changes item strand → ⊥) →
     view reducer (item ∷ items) strand ≡ view reducer items strand
 
--- what is control, and what is legal, is the same to all reducers
+-- each reducer sees all events, and what it sees is legal exactly where the whole is
 abbrev pub ProjectionLaw : Type 0
-ProjectionLaw = (items : Items) → (control_part (map as_other items) ≡ control_part items) × (IsLegal (map as_other items) ↔ IsLegal items)
+ProjectionLaw =
+    (reducer : ℕ) (steps : Steps) → (control_part (items_of reducer steps) ≡ control_steps steps) × (IsLegal (items_of reducer steps) ↔ AreLegal steps)
 
 -- the get by the strand is granted, these are the updates that count at it, and this is its value and the strand's view
-pub record IsWorked {View : Type 0} (reducer : Reducer View) (items : Items) (strand : ℕ) (put : Entry) (counted : List Entry) (value : View) : Type 0 where
+pub record IsWorked {View : Type 0} (reducer : Reducer View) (items : Items) (strand : ℕ) (put : Entry) (counted : List Entry)
+    (value : View) : Type 0 where
   pub granted : IsGranted items strand put
   pub counts : AreCounted items put strand counted
   pub value_is : IsValue reducer items strand value
@@ -52,6 +55,7 @@ pub record WorkedHistories : Type 0 where
   pub spawning_order : IsWorked last two_children 3 (put_entry 1 0 1) (update_entry 4 1 5 ∷ update_entry 5 4 7 ∷ []) (Some 7)
   -- the child's update counts first, though the continuation's was made before it
   pub serial_order : IsWorked digits early_continuation 3 (put_entry 1 0 0) (update_entry 4 1 1 ∷ update_entry 3 2 2 ∷ []) (961, 33)
+  -- also where the sync waits for the child
   pub waited_for : IsWorked digits waiting_sync 3 (put_entry 1 0 0) (update_entry 5 1 1 ∷ update_entry 3 2 2 ∷ []) (961, 33)
   -- an update before the put does not count
   pub last_put : IsWorked last early_update 0 (put_entry 3 0 4) [] (Some 4)

@@ -1,4 +1,5 @@
 pub mod Items
+pub mod Accesses
 pub mod Entries
 pub mod Logs
 pub mod Views

@@ -27,7 +27,7 @@ pub fn stay_law()
     ensures pairs { StayLaw (ℕ × ℕ) }
 {}
 
-/// Whether a history is legal depends on its events and on the strands of its accesses alone.
+/// Each reducer sees all events of a history with the accesses of all of them, and what it sees is legal exactly where the whole is.
 pub fn projection_law()
     ensures { ProjectionLaw }
 {}

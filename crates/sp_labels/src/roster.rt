@@ -115,6 +115,17 @@ impl<A: Allocator> Strands<A> {
             )
     }
 
+    /// Whether the innermost function of a running strand has no open block.
+    pub fn is_synced(&self, strand: u32) -> bool
+        requires { (history : History) → Follows self.now history → Running history strand }
+        ensures { (history : History) → Follows self.now history → IsTrue result ↔ IsSynced (stack history strand) }
+    {
+        !matches!(
+            record_of(&self.records, strand).scope,
+            Scope::Block { join: _ }
+        )
+    }
+
     /// `strand` spawns a function: the child runs in it, and next goes on after the spawn.
     pub fn spawn(&mut self, strand: u32) -> Result<Spawned, SpFault>
         ensures ok { IfOk result (λ spawned. (history : History) → Follows self.old history → Follows self.new (event_of_spawn strand spawned ∷ history)) }

@@ -1,4 +1,4 @@
-use Rattle.reducer_values.proofs.Items.{projection_law}
+use Rattle.reducer_values.proofs.Accesses.{projection_law}
 use Rattle.reducer_values.proofs.laws.projection_law.Goals as goal
 
 pub returns : goal.returns

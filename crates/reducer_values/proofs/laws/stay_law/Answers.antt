@@ -1,5 +1,5 @@
 use Rattle.std.proofs.Common.{ℕ, Option}
-use Rattle.reducer_values.proofs.Items.{stay_law}
+use Rattle.reducer_values.proofs.Stays.{stay_law}
 use Rattle.reducer_values.proofs.laws.stay_law.Goals as goal
 
 pub returns : goal.returns

@@ -1,0 +1,9 @@
+pub mod Effects
+pub mod Numbers
+pub mod Entering
+pub mod Opening
+pub mod Followed
+pub mod Lists
+pub mod Races
+pub mod Values
+pub mod Examples

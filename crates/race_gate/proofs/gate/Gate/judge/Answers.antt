@@ -1,0 +1,62 @@
+use Rattle.std.proofs.Common.{◌≡◌, ◌+◌, ◌∙◌, suc, length, reverse, sym, subst, arith}
+use Rattle.std.proofs.lemmas.List.{length-reverse}
+use Rattle.std.specs.Prelude.{slice_index}
+use Rattle.race_gate.specs.Memory.{effect}
+use Rattle.race_gate.specs.Verdicts.{IfValue}
+use Rattle.race_gate.specs.Faults.{IsFaultless}
+use Rattle.race_gate.specs.Steps.{TakesPlace}
+use Rattle.race_gate.proofs.Followed.{running-in-each, synced-in-each, few-in-each}
+use Rattle.race_gate.proofs.Numbers.{not_few}
+use Rattle.race_gate.proofs.Entering.{in-cells, entered-access, entered-control, kept-pushed, written_back}
+use Rattle.race_gate.proofs.gate.Gate.judge.Goals as goal
+use Rattle.race_gate.proofs.gate.Gate.judge.Goals.{in-Some, in-None+in_ok-answer-in-None}
+
+pub judge_access-answer-requires-clause-runs : goal.judge_access-answer-requires-clause-runs
+judge_access-answer-requires-clause-runs g c history follows =
+    let faultless = subst (λ state. IsFaultless state c.args.request) (sym c.self.view_is) c.in_ok-check.ensures in
+    running-in-each _ _ history c.self.invariant.follows follows c.args.request.strand faultless.runs
+
+pub control-requires-clause-runs : goal.control-requires-clause-runs
+control-requires-clause-runs g c history follows =
+    let faultless = subst (λ state. IsFaultless state c.args.request) (sym c.self.view_is) c.in_ok-check.ensures in
+    running-in-each _ _ history c.self.invariant.follows follows c.args.request.strand faultless.runs
+
+pub control-requires-clause-synced : goal.control-requires-clause-synced
+control-requires-clause-synced g c returns history follows =
+    let faultless = subst (λ state. IsFaultless state c.args.request) (sym c.self.view_is) c.in_ok-check.ensures in
+    synced-in-each _ _ history c.self.invariant.follows follows c.args.request.strand faultless.runs (faultless.synced returns)
+
+pub control-requires-clause-numbers : goal.control-requires-clause-numbers
+control-requires-clause-numbers g c history follows few =
+    let faultless = subst (λ state. IsFaultless state c.args.request) (sym c.self.view_is) c.in_ok-check.ensures in
+    not_few _ _ faultless.below c.self.invariant.limited (few-in-each _ _ history c.self.invariant.follows follows few)
+
+pub invariant_of-self-2 : goal.invariant_of-self-2
+invariant_of-self-2 g c =
+    let faultless = subst (λ state. IsFaultless state c.args.request) (sym c.self.view_is) c.in_ok-check.ensures in
+    let numbered : c.len.result + 1 ≡ suc (length (reverse c.self.inside.history.items)) =
+    omega (arith, length-reverse c.self.inside.history.items, c.len.ensures, c.in_ok-reserve.ensures.len, c.self.inside.history.ok) in
+    elim c.match-access_of.branch [
+      | in-Some w ↦
+          let pushed = rw (w.self-inside-is, w.answer-is, c.in_ok-reserve.ensures.items) at c.push_reserved.ensures.items in
+          let takes = subst (λ xs. TakesPlace (effect c.args.request.act w.judge_access-answer.result) xs w.judge_access-answer.new.memory) w.as_mut_slice.ensures.value w.judge_access-answer.ensures.memory in
+          let is = sym c.access_of.ensures ∙ w.in-Some.is in
+          rw w.self-inside-is (kept-pushed _ _ _ _ _ _ _ _ _ pushed
+          (entered-access _ _ _ c.self.invariant _ faultless w.in-Some.access _ _ _ numbered is (in-cells _ _ _ is faultless.in_range) w.judge_access-answer.ensures.belongs
+          (w.judge_access-answer.ensures.judged _ _ c.self.invariant.follows c.self.invariant.remembers)
+          (subst (λ xs. IfValue w.judge_access-answer.result (λ value. value ≡ slice_index xs w.in-Some.access.location)) w.as_mut_slice.ensures.value w.judge_access-answer.ensures.value)
+          (subst (λ xs. TakesPlace (effect c.args.request.act w.judge_access-answer.result) c.self.inside.memory.items xs)
+          (sym (written_back c.self.inside.memory.items w.judge_access-answer.new.memory c.self.inside.memory.len (sym c.self.inside.memory.ok.0) takes.len)) takes)
+          w.judge_access-answer.ensures.locations))
+      | in-None+in_ok-answer-in-None w ↦
+          let pushed = rw (w.self-inside-is, w.answer-is, c.in_ok-reserve.ensures.items) at c.push_reserved.ensures.items in
+          rw w.self-inside-is (kept-pushed _ _ _ _ _ _ _ _ _ pushed
+          (entered-control _ _ _ c.self.invariant _ faultless _ (sym c.access_of.ensures ∙ w.in-None.is)
+          (w.in_ok-answer-in-None.ensures.ok _ c.self.invariant.follows)))
+    ]
+
+pub returns-clause-judged : goal.returns-clause-judged
+returns-clause-judged g c = (invariant_of-self-2 g c).right.judged
+
+pub returns-clause-values : goal.returns-clause-values
+returns-clause-values g c = (invariant_of-self-2 g c).right.memory

@@ -1,0 +1,14 @@
+use Rattle.std.proofs.Common.{◌∙◌, arith}
+use Rattle.std.proofs.lemmas.List.{take_more}
+use Rattle.race_gate.proofs.Lists.{JudgesAll-more}
+use Rattle.race_gate.proofs.replies.judge_all.Goals as goal
+
+pub loop-request-preserved : goal.loop-request-preserved
+loop-request-preserved g c = record {
+  replied = JudgesAll-more _ _ _ _ _ _ _ _ _ (take_more c.args.requests.now c.loop-request.request-index _ c.loop-request-test.true) c.push_reserved.ensures.items
+      c.loop-request.invariant.replied c.reply_to.ensures.replies;
+  count = omega (arith, c.push_reserved.ensures.len, c.loop-request.invariant.count);
+  room = c.push_reserved.ensures.capacity ∙ c.loop-request.invariant.room;
+  judged = c.reply_to.ensures.judged;
+  values = c.reply_to.ensures.values;
+}

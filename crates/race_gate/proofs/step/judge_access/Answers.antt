@@ -1,0 +1,63 @@
+use Rattle.std.proofs.Common.{◌≡◌, ◌↔◌, None, true, sym, subst}
+use Rattle.std.specs.Option.{IsSome}
+use Rattle.std.proofs.lemmas.List.{append-nil}
+use Rattle.access_table.specs.declared.kind.Rule.{Rule}
+use Rattle.shadow_history.specs.declared.witness.Witness.{Witness}
+use Rattle.shadow_history.specs.Shadow.{Remembers}
+use Rattle.shadow_history.specs.Witnesses.{witness_of}
+use Rattle.race_gate.specs.declared.answer.Answer.{Answer}
+use Rattle.race_gate.specs.declared.answer.Answer.TheVariants.{Split, Same, Joined, Waits, Resumed, Ended, EndedJoined, Finished, Granted, Value, Refused, Unset}
+use Rattle.race_gate.specs.Accesses.{is_granted}
+use Rattle.race_gate.specs.Verdicts.{IsRefused, IfRefused}
+use Rattle.race_gate.proofs.step.judge_access.Goals as goal
+
+-- what was granted was not refused
+not_refused : (answer : Answer) → is_granted answer ≡ true → IsRefused answer → ⊥
+not_refused (Refused rule witness) granted refused = absurd (cc)
+not_refused (Split spawned) granted refused = refused
+not_refused Same granted refused = refused
+not_refused (Joined join) granted refused = refused
+not_refused Waits granted refused = refused
+not_refused Resumed granted refused = refused
+not_refused Ended granted refused = refused
+not_refused (EndedJoined join) granted refused = refused
+not_refused Finished granted refused = refused
+not_refused Granted granted refused = refused
+not_refused (Value value) granted refused = refused
+not_refused Unset granted refused = refused
+
+names_nothing : (answer : Answer) (Names : Rule → Witness → Type 0) → (IsRefused answer → ⊥) → IfRefused answer Names
+names_nothing (Refused rule witness) Names not = absurd (not tt)
+names_nothing (Split spawned) Names not = tt
+names_nothing Same Names not = tt
+names_nothing (Joined join) Names not = tt
+names_nothing Waits Names not = tt
+names_nothing Resumed Names not = tt
+names_nothing Ended Names not = tt
+names_nothing (EndedJoined join) Names not = tt
+names_nothing Finished Names not = tt
+names_nothing Granted Names not = tt
+names_nothing (Value value) Names not = tt
+names_nothing Unset Names not = tt
+
+no_race : (Race : Type 0) → (IsSome {T = Witness} None ↔ Race) → Race → ⊥
+no_race Race tells race = let some = tells.1 race in absurd (cc)
+
+pub returns-in-Some-clause-judged : goal.returns-in-Some-clause-judged
+returns-in-Some-clause-judged g c history accesses follows remembers =
+    let found = c.in-Some.ensures.witness history accesses follows remembers in
+    record {
+      refused = ((λ t. (witness_of c.args.access.location c.in-Some.witness, found.races)), (λ race. tt));
+      witness = (found.races, c.rule.ensures.value);
+      remembers = subst (λ xs. Remembers c.args.shadow.now history xs) (sym (append-nil accesses)) remembers;
+    }
+
+pub returns-clause-judged : goal.returns-clause-judged
+returns-clause-judged g c history accesses follows remembers =
+    let exact = c.in_default.ensures.exact history accesses follows remembers in
+    let not = not_refused c.perform.result c.perform.ensures.granted in
+    record {
+      refused = ((λ t. absurd (not t)), (λ race. absurd (no_race _ exact race)));
+      witness = names_nothing c.perform.result _ not;
+      remembers = rw c.perform.ensures.granted (c.add.ensures.added history accesses follows remembers);
+    }

@@ -1,0 +1,37 @@
+-- The accesses of memory that were granted.
+use Rattle.std.specs.Prelude.{ℕ, suc, List, [], ◌∷◌, ◌++◌, length, Option, Some, None, Bool, true, false, if◌then◌else◌}
+use Rattle.std.specs.Option.{option_map, option_to_list}
+use Rattle.access_table.specs.declared.kind.Kind.TheVariants as kind
+use Rattle.trace_text.specs.declared.value.Act.{Act}
+use Rattle.trace_text.specs.declared.value.Act.TheVariants.{Read, Write, Bump}
+use Rattle.shadow_history.specs.Accesses.{Access}
+use Rattle.race_gate.specs.declared.access.CellAccess.{CellAccess}
+use Rattle.race_gate.specs.declared.answer.Answer.{Answer}
+use Rattle.race_gate.specs.declared.answer.Answer.TheVariants.{Granted, Value}
+use Rattle.race_gate.specs.declared.answer.Entry.{Entry}
+use Rattle.race_gate.specs.Entries.{Entries}
+
+-- what access of a cell an act is, where it is one
+abbrev pub cell_access : Act → Option CellAccess
+cell_access (Read location) = Some (record { kind = kind.Read; location = location })
+cell_access (Write location value) = Some (record { kind = kind.Write; location = location })
+cell_access (Bump location value) = Some (record { kind = kind.Bump; location = location })
+cell_access act = None
+
+-- an access with this answer was done
+abbrev pub is_granted : Answer → Bool
+is_granted Granted = true
+is_granted (Value value) = true
+is_granted answer = false
+
+-- the granted access of a cell that an entry with this number is, where it is one
+abbrev pub access_at : ℕ → Entry → Option Access
+access_at number entry =
+    if is_granted entry.answer
+    then option_map (λ access. record { strand = entry.request.strand; kind = access.kind; location = access.location; entry = number }) (cell_access entry.request.act)
+    else None
+
+-- the granted accesses of cells, the oldest first
+abbrev pub granted : Entries → List Access
+granted [] = []
+granted (entry ∷ entries) = granted entries ++ option_to_list (access_at (suc (length entries)) entry)

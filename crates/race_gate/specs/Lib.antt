@@ -1,0 +1,16 @@
+pub mod Entries
+pub mod Shapes
+pub mod Legal
+pub mod Accesses
+pub mod Races
+pub mod Memory
+pub mod Verdicts
+pub mod Judged
+pub mod Extensions
+pub mod States
+pub mod Kept
+pub mod Steps
+pub mod Faults
+pub mod Replies
+pub mod Examples
+pub mod Laws

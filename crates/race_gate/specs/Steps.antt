@@ -1,0 +1,55 @@
+-- What the gate's steps do to the strands, to the shadow history and to memory.
+use Rattle.std.specs.Prelude.{◌≡◌, ◌↔◌, ◌<◌, ◌+◌, ◌%◌, ◌^◌, ◌==◌, ℕ, List, ◌∷◌, ◌++◌, length, slice_index, Some, None, Option, if◌then◌else◌}
+use Rattle.std.specs.Option.{option_to_list}
+use Rattle.trace_text.specs.declared.value.Act.{Act}
+use Rattle.trace_text.specs.declared.value.Act.TheVariants.{Spawn, Sync, Call, Return}
+use Rattle.control_history.specs.History.{Event, History}
+use Rattle.sp_labels.specs.Roster.{Roster, Follows}
+use Rattle.shadow_history.specs.declared.cell.Cell.{Cell}
+use Rattle.shadow_history.specs.Accesses.{Access}
+use Rattle.shadow_history.specs.Shadow.{Remembers}
+use Rattle.race_gate.specs.declared.access.CellAccess.{CellAccess}
+use Rattle.race_gate.specs.declared.answer.Answer.{Answer}
+use Rattle.race_gate.specs.Entries.{event_between}
+use Rattle.race_gate.specs.Legal.{Belongs}
+use Rattle.race_gate.specs.Accesses.{is_granted}
+use Rattle.race_gate.specs.Races.{HasRace, IsTrueWitness}
+use Rattle.race_gate.specs.Memory.{Effect, sets, adds, leaves}
+use Rattle.race_gate.specs.Verdicts.{IsRefused, IfRefused}
+
+-- the acts of control
+abbrev pub IsControl : Act → Type 0
+IsControl Spawn = Unit {0}
+IsControl Sync = Unit {0}
+IsControl Call = Unit {0}
+IsControl Return = Unit {0}
+IsControl act = ⊥
+
+-- the act and its answer are an event, with which the history goes on
+pub record GoesOn (history : History) (strand : ℕ) (act : Act) (answer : Answer) (strands : Roster) : Type 0 where
+  pub belongs : Belongs act answer
+  pub event : Event
+  pub is : event_between strand act answer ≡ Some event
+  pub follows : Follows strands (event ∷ history)
+
+-- the access, if it was granted
+abbrev pub if_granted : Answer → Access → Option Access
+if_granted answer access = if is_granted answer then Some access else None
+
+-- the answer is right by these accesses, and they go on with this one if it was granted
+pub record IsJudgedBy (history : History) (accesses : List Access) (strand : ℕ) (access : CellAccess) (number : ℕ) (answer : Answer) (shadow : List Cell) : Type 0 where
+  pub refused : IsRefused answer ↔ HasRace history accesses strand access
+  pub witness : IfRefused answer (IsTrueWitness history accesses strand access)
+  pub remembers : Remembers shadow history
+      (accesses ++ option_to_list (if_granted answer (record { strand = strand; kind = access.kind; location = access.location; entry = number })))
+
+-- what a cell holds after an effect, by what it held before
+abbrev pub after : Effect → ℕ → ℕ → ℕ
+after (sets location value) cell held = if location == cell then value % 2 ^ 64 else held
+after (adds location value) cell held = if location == cell then (held + value) % 2 ^ 64 else held
+after leaves cell held = held
+
+-- the effect took place
+pub record TakesPlace (effect : Effect) (old new : List ℕ) : Type 0 where
+  pub len : length new ≡ length old
+  pub each : (cell : ℕ) → cell < length old → slice_index new cell ≡ after effect cell (slice_index old cell)

@@ -1,0 +1,184 @@
+//! The gate.
+
+ghost use Rattle.std.specs.Prelude.{◌≡◌, ◌≤◌, ◌↔◌, [], true, reverse, IsTrue, IfOk, MatchResult};
+ghost use Rattle.race_gate.specs.Shapes.{shape_of, most_cells, most_entries};
+ghost use Rattle.race_gate.specs.Memory.{IsMemory};
+ghost use Rattle.race_gate.specs.Judged.{IsJudged};
+ghost use Rattle.race_gate.specs.Extensions.{IsFinished};
+ghost use Rattle.race_gate.specs.States.{opening};
+ghost use Rattle.race_gate.specs.Faults.{IsFaultless, IsFirstFault};
+ghost use Rattle.race_gate.specs.Replies.{Judges, reply_of};
+
+use crate::access::access_of;
+use crate::answer::{Answer, Entry, Receipt};
+use crate::fault::GateFault;
+use crate::step::{control, is_in_range, judge_access};
+use trace_text::{Act, Monoids, Request, Shape};
+use shadow_history::Shadow;
+use sp_labels::Strands;
+use std::alloc::{AllocError, Allocator};
+use std::marker::Model;
+
+/// A gate: it judges requests one after another and keeps the history of its answers. Contracts see its shape, its limit, whether it
+/// was stopped, its history, the newest entry first, and what its cells hold.
+#[derive(Drop)]
+pub struct Gate<A: Allocator> {
+    shape: Shape<A>,
+    limit: u32,
+    stopped: bool,
+    history: Vec<Entry, A>,
+    memory: Vec<u64, A>,
+    strands: Strands<A>,
+    shadow: Shadow<A>,
+}
+
+impl<A: Allocator> Model for Gate<A> {
+    ghost use Rattle.std.specs.Prelude.{reverse};
+    ghost use Rattle.race_gate.specs.Shapes.{shape_of};
+    ghost use Rattle.race_gate.specs.States.{State};
+
+    ghost Value = { State };
+
+    ghost use Rattle.race_gate.specs.Kept.{IsKept};
+
+    ghost view = { λ gate. record { shape = shape_of gate.shape; limit = gate.limit; stopped = gate.stopped; history = reverse gate.history.items; memory = gate.memory.items } };
+
+    ghost invariant = { λ gate. IsKept (record { shape = shape_of gate.shape; limit = gate.limit; stopped = gate.stopped; history = reverse gate.history.items; memory = gate.memory.items }) gate.strands gate.shadow };
+}
+
+impl<A: Allocator> Gate<A> {
+    /// A gate without entries, over these cells, whose history takes so many entries; 0 is a limit too. Each cell holds 0. It judges no
+    /// reducers yet, so the shape may have none.
+    pub fn new<B: Allocator>(alloc: A, shape: &Shape<B>, limit: u32) -> Result<Gate<A>, AllocError>
+    where
+        A: Clone,
+        requires cells { shape.now.cells ≤ most_cells }
+        requires entries { limit ≤ most_entries }
+        requires no_reducers { shape.now.monoids ≡ [] }
+        ensures { IfOk result (λ gate. gate ≡ opening (shape_of shape.now) limit) }
+    {
+        let cells = shape.cells;
+        let monoids = Vec::from_slice(alloc.clone()?, shape.monoids.as_slice())?;
+        let memory = vec![in alloc.clone()?; 0; cells as usize]?;
+        let strands = Strands::new(alloc.clone()?)?;
+        let shadow = Shadow::new(alloc.clone()?, cells)?;
+        Ok(Gate {
+            shape: Shape {
+                cells,
+                monoids: Monoids::new(monoids),
+            },
+            limit,
+            stopped: false,
+            history: Vec::new(alloc),
+            memory,
+            strands,
+            shadow,
+        })
+    }
+
+    /// How many cells there are, and the monoids of the reducers, as handed to `new`.
+    pub fn shape(&self) -> &Shape<A>
+        ensures { shape_of result.now ≡ self.now.shape }
+    {
+        &self.shape
+    }
+
+    /// The entries so far, the oldest first.
+    pub fn history(&self) -> &[Entry]
+        ensures entries { reverse result.now ≡ self.now.history }
+        ensures judged { IsJudged self.now.shape self.now.history }
+    {
+        self.history.as_slice()
+    }
+
+    /// What the cells hold.
+    pub fn memory(&self) -> &[u64]
+        ensures cells { result.now ≡ self.now.memory }
+        ensures values { IsMemory self.now.shape.cells self.now.history self.now.memory }
+    {
+        self.memory.as_slice()
+    }
+
+    /// Whether the root function has returned.
+    pub fn is_finished(&self) -> bool
+        ensures { IsTrue result ↔ IsFinished self.now.history }
+    {
+        match self.history.as_slice().last() {
+            Some(entry) => matches!(entry.answer, Answer::Finished),
+            None => false,
+        }
+    }
+
+    /// Whether the gate was stopped.
+    pub fn is_stopped(&self) -> bool
+        ensures { result ≡ self.now.stopped }
+    {
+        self.stopped
+    }
+
+    /// How many entries the history may have.
+    pub fn limit(&self) -> u32
+        ensures { result ≡ self.now.limit }
+    {
+        self.limit
+    }
+
+    /// Stops the gate: from now on it judges no request.
+    pub fn stop(&mut self)
+        ensures { self.new ≡ record self.old { stopped = true } }
+    {
+        self.stopped = true;
+    }
+
+    /// The first fault of a request that can be told without memory.
+    fn check(&self, request: Request) -> Result<(), GateFault>
+        ensures { MatchResult result (λ _. IsFaultless self.now request) (IsFirstFault self.now request) }
+    {
+        if self.stopped {
+            return Err(GateFault::Stopped);
+        }
+        if self.history.len() >= self.limit as usize {
+            return Err(GateFault::Limit);
+        }
+        if !self.strands.is_running(request.strand) {
+            return Err(GateFault::NotRunning);
+        }
+        if !is_in_range(&self.shape, request.act) {
+            return Err(GateFault::BadName);
+        }
+        if request.act == Act::Return && !self.strands.is_synced(request.strand) {
+            return Err(GateFault::Unsynced);
+        }
+        Ok(())
+    }
+
+    /// Answers a request of a strand, does what was granted, and enters both in the history. A fault is the first one, in the order of
+    /// [`GateFault`], that has its cause. It changes nothing, and none but the last depends on memory.
+    pub fn judge(&mut self, request: Request) -> Result<Receipt, GateFault>
+        ensures replies { Judges self.old request (reply_of result) self.new }
+        ensures judged { IsJudged self.new.shape self.new.history }
+        ensures values { IsMemory self.new.shape.cells self.new.history self.new.memory }
+    {
+        self.check(request)?;
+        self.history.reserve(1)?;
+        let number = self.history.len() as u32 + 1;
+        let answer = match access_of(request.act) {
+            Some(access) => judge_access(
+                &self.strands,
+                &mut self.shadow,
+                self.memory.as_mut_slice(),
+                number,
+                request.strand,
+                request.act,
+                access,
+            ),
+            None => control(&mut self.strands, request.strand, request.act)?,
+        };
+        self.history.push_reserved(Entry { request, answer });
+        Ok(Receipt {
+            number,
+            request,
+            answer,
+        })
+    }
+}

@@ -1,0 +1,24 @@
+//! The laws of judged histories, each as the contract of a function that does nothing.
+
+ghost use Rattle.race_gate.specs.Examples.{WorkedHistories};
+ghost use Rattle.race_gate.specs.Laws.{RaceLaw, VerdictLaw, ValueLaw};
+
+/// Later entries change no race.
+pub fn race_law()
+    ensures { RaceLaw }
+{}
+
+/// The verdicts of a judged history are those of its whole dag, so those of a finished history are those of the finished dag.
+pub fn verdict_law()
+    ensures { VerdictLaw }
+{}
+
+/// A cell holds the value of its last granted write, or 0, and the granted bumps since.
+pub fn value_law()
+    ensures { ValueLaw }
+{}
+
+/// The worked histories are judged, and the wrong answers in them are not.
+pub fn examples_law()
+    ensures { WorkedHistories }
+{}

@@ -1,0 +1,26 @@
+//! The gate of a race detector: it judges the requests of a fork-join program's strands, one after another, and keeps the history of
+//! its answers.
+//!
+//! Which histories are right is said in `specs/` of the dag of the strands and of the whole list of granted accesses: a history is
+//! judged where it is legal and where each access of memory is refused exactly when an earlier granted access of a logically parallel
+//! strand conflicts with it (the determinacy races of Feng and Leiserson 1997), each refusal names its rule and a true witness, and
+//! each value that was read is that of the last granted write and the granted bumps since. [`judge_all`] carries the theorem in its
+//! contract: whatever the requests are, the history that the gate keeps is judged, and there is one reply to each request.
+//! [`Gate::judge`] says the same of one request. The laws of the definitions are in the module `laws`.
+#![tactic(auto)]
+
+mod access;
+mod answer;
+mod fault;
+mod gate;
+pub mod laws;
+mod replies;
+mod step;
+
+pub use answer::{Answer, Entry, Receipt, Reply};
+pub use fault::GateFault;
+pub use gate::Gate;
+pub use replies::judge_all;
+
+#[cfg(test)]
+mod tests;

@@ -1,0 +1,184 @@
+//! The steps that the gate makes at a request.
+
+ghost use Rattle.std.specs.Prelude.{◌≡◌, ◌<◌, ◌↔◌, ℕ, List, length, slice_index, true, IsTrue, IsSome, IfOk, IfErr};
+ghost use Rattle.access_table.specs.Table.{is_memory_kind};
+ghost use Rattle.control_history.specs.History.{History};
+ghost use Rattle.control_history.specs.Blocks.{stack, IsSynced};
+ghost use Rattle.sp_labels.specs.Roster.{Follows, FollowsSome, HasFewLeft};
+ghost use Rattle.shadow_history.specs.Accesses.{Access};
+ghost use Rattle.shadow_history.specs.Shadow.{Remembers, StandsOn, Runs};
+ghost use Rattle.race_gate.specs.Shapes.{shape_of, IsInRange};
+ghost use Rattle.race_gate.specs.Legal.{Belongs};
+ghost use Rattle.race_gate.specs.Accesses.{cell_access, is_granted};
+ghost use Rattle.race_gate.specs.Memory.{effect};
+ghost use Rattle.race_gate.specs.Verdicts.{IfValue};
+ghost use Rattle.race_gate.specs.Steps.{IsControl, GoesOn, IsJudgedBy, TakesPlace};
+
+use crate::access::CellAccess;
+use crate::answer::Answer;
+use crate::fault::GateFault;
+use access_table::{access_table, rule};
+use trace_text::{Act, Shape};
+use shadow_history::Shadow;
+use sp_labels::{Returned, SpFault, Strands, Synced};
+use std::alloc::Allocator;
+
+/// Whether the cell or reducer that an act names is there.
+pub fn is_in_range<A: Allocator>(shape: &Shape<A>, act: Act) -> bool
+    ensures { IsTrue result ↔ IsInRange (shape_of shape.now) act }
+{
+    macro_rules! range {
+        (memory $place:ident) => {
+            $place < shape.cells
+        };
+        (reducer $place:ident) => {
+            ($place as usize) < shape.monoids.as_slice().len()
+        };
+    }
+    macro_rules! ranges {
+        ([] $({ $kind:ident $word:literal $sort:ident $($conflict:tt)* })*) => {
+            match act {
+                $(Act::$kind(place, ..) => range!($sort place),)*
+                _ => true,
+            }
+        };
+    }
+    access_table!(ranges [])
+}
+
+/// Lets a running strand spawn, sync, call or return. Room for the event is made first, and where it is refused nothing changes.
+pub fn control<A: Allocator>(
+    strands: &mut Strands<A>,
+    strand: u32,
+    act: Act,
+) -> Result<Answer, GateFault>
+    requires control { IsControl act }
+    requires follows { FollowsSome strands.old }
+    requires runs { Runs strands.old strand }
+    requires synced { act ≡ Act.Return → (history : History) → Follows strands.old history → IsSynced (stack history strand) }
+    requires numbers { (history : History) → Follows strands.old history → HasFewLeft history → ⊥ }
+    ensures ok { IfOk result (λ answer. (history : History) → Follows strands.old history → GoesOn history strand act answer strands.new) }
+    ensures err { IfErr result (λ fault. (fault ≡ GateFault.Memory) × (strands.new ≡ strands.old)) }
+{
+    if let Err(fault) = strands.reserve_event() {
+        match fault {
+            SpFault::Memory => return Err(GateFault::Memory),
+            _ => unreachable!(),
+        }
+    }
+    Ok(match act {
+        Act::Spawn => spawn(strands, strand),
+        Act::Sync => sync(strands, strand),
+        Act::Call => call(strands, strand),
+        Act::Return => ret(strands, strand),
+        _ => unreachable!(),
+    })
+}
+
+fn spawn<A: Allocator>(strands: &mut Strands<A>, strand: u32) -> Answer
+    requires room { strands.old.has_room ≡ true }
+    requires follows { FollowsSome strands.old }
+    requires runs { Runs strands.old strand }
+    ensures { (history : History) → Follows strands.old history → GoesOn history strand Act.Spawn result strands.new }
+{
+    match strands.spawn(strand) {
+        Ok(spawned) => Answer::Split(spawned),
+        Err(_) => unreachable!(),
+    }
+}
+
+fn sync<A: Allocator>(strands: &mut Strands<A>, strand: u32) -> Answer
+    requires follows { FollowsSome strands.old }
+    requires runs { Runs strands.old strand }
+    ensures { (history : History) → Follows strands.old history → GoesOn history strand Act.Sync result strands.new }
+{
+    match strands.sync(strand) {
+        Ok(Synced::Same) => Answer::Same,
+        Ok(Synced::Joined(join)) => Answer::Joined(join),
+        Ok(Synced::Waits) => Answer::Waits,
+        Err(_) => unreachable!(),
+    }
+}
+
+fn call<A: Allocator>(strands: &mut Strands<A>, strand: u32) -> Answer
+    requires room { strands.old.has_room ≡ true }
+    requires follows { FollowsSome strands.old }
+    requires runs { Runs strands.old strand }
+    ensures { (history : History) → Follows strands.old history → GoesOn history strand Act.Call result strands.new }
+{
+    match strands.call(strand) {
+        Ok(()) => Answer::Same,
+        Err(_) => unreachable!(),
+    }
+}
+
+fn ret<A: Allocator>(strands: &mut Strands<A>, strand: u32) -> Answer
+    requires follows { FollowsSome strands.old }
+    requires runs { Runs strands.old strand }
+    requires synced { (history : History) → Follows strands.old history → IsSynced (stack history strand) }
+    ensures { (history : History) → Follows strands.old history → GoesOn history strand Act.Return result strands.new }
+{
+    match strands.ret(strand) {
+        Ok(Returned::Resumed) => Answer::Resumed,
+        Ok(Returned::Ended) => Answer::Ended,
+        Ok(Returned::EndedJoined(join)) => Answer::EndedJoined(join),
+        Ok(Returned::Finished) => Answer::Finished,
+        Err(_) => unreachable!(),
+    }
+}
+
+/// Judges an access of a cell by a running strand, and does it where it is granted. `number` is that of its entry.
+pub fn judge_access<A: Allocator>(
+    strands: &Strands<A>,
+    shadow: &mut Shadow<A>,
+    memory: &mut [u64],
+    number: u32,
+    strand: u32,
+    act: Act,
+    access: CellAccess,
+) -> Answer
+    requires is { cell_access act ≡ Some access }
+    requires runs { Runs strands.now strand }
+    requires stands { StandsOn shadow.old strands.now }
+    requires in_shadow { access.location < length shadow.old }
+    requires in_memory { access.location < length memory.old }
+    ensures belongs { Belongs act result }
+    ensures judged { (history : History) (accesses : List Access) → Follows strands.now history → Remembers shadow.old history accesses → IsJudgedBy history accesses strand access number result shadow.new }
+    ensures locations { length shadow.new ≡ length shadow.old }
+    ensures value { IfValue result (λ value. value ≡ slice_index memory.old access.location) }
+    ensures memory { TakesPlace (effect act result) memory.old memory.new }
+{
+    let CellAccess { kind, location } = access;
+    if let Some(witness) = shadow.find(strands, location, kind, strand) {
+        return Answer::Refused {
+            rule: rule(witness.kind, kind),
+            witness,
+        };
+    }
+    shadow.add(strands, location, kind, strand, number);
+    perform(memory, act)
+}
+
+/// Does an access of a cell.
+fn perform(memory: &mut [u64], act: Act) -> Answer
+    requires in_memory { (access : CellAccess) → cell_access act ≡ Some access → access.location < length memory.old }
+    requires access { IsSome (cell_access act) }
+    ensures belongs { Belongs act result }
+    ensures granted { is_granted result ≡ true }
+    ensures value { (access : CellAccess) → cell_access act ≡ Some access → IfValue result (λ value. value ≡ slice_index memory.old access.location) }
+    ensures memory { TakesPlace (effect act result) memory.old memory.new }
+{
+    match act {
+        Act::Read(location) => Answer::Value(memory[location as usize]),
+        Act::Write(location, value) => {
+            memory[location as usize] = value;
+            Answer::Granted
+        }
+        Act::Bump(location, value) => {
+            let cell = &mut memory[location as usize];
+            *cell = cell.wrapping_add(value);
+            Answer::Granted
+        }
+        _ => unreachable!(),
+    }
+}

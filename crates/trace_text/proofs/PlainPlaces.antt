@@ -1,0 +1,286 @@
+-- Values in their places, printed and read again.
+use Rattle.std.proofs.Common.{◌≡◌, ℕ, suc, ◌+◌, ◌-◌, ◌<◌, ◌≤◌, ◌∷◌, ◌++◌, [], List, map, true, false, Bool, cond, arith, refl, sym, ap, subst, ◌∙◌, get_or, inl, inr}
+use Rattle.std.specs.Prelude.{Option, Some, None, ◌==◌, ◌⊎◌, IsTrue, codes, option_map}
+use Rattle.std.specs.List.{All, AllByRecursion, find, position_from}
+use Rattle.std.specs.Str.{bytes_eq}
+use Rattle.std.specs.Cmp.Lexicographic.{bytes_decides}
+use Rattle.std.specs.Fmt.{decimal}
+use Rattle.std.proofs.lemmas.Bool.Decides.{nat_tests}
+use Rattle.access_table.specs.declared.kind.Kind.TheVariants as kind
+use Rattle.trace_text.specs.declared.keyword.Keyword.{Keyword}
+use Rattle.trace_text.specs.declared.keyword.Keyword.TheVariants.{Mem as MemWord, Reducer as ReducerWord, Spawn, Call, Sync, Return, Access}
+use Rattle.trace_text.specs.declared.value.Mem.{Mem}
+use Rattle.trace_text.specs.declared.value.Reducer.{Reducer}
+use Rattle.trace_text.specs.declared.value.Monoid.{Monoid}
+use Rattle.trace_text.specs.declared.value.Monoid.TheVariants.{Sum, Min, Max, Last, Digits}
+use Rattle.trace_text.specs.Text.{words, IsTextLine, IsName}
+use Rattle.trace_text.specs.Limits.{max_strand, max_value}
+use Rattle.trace_text.specs.Values.{Known, monoid_spelling}
+use Rattle.trace_text.specs.Names.{CellMeans, SingleMeans, ElementMeans, memory_named, reducer_named, element_word, IsFresh}
+use Rattle.trace_text.specs.Lines.{Place, FreshName, Number, Cell, ReducerName, MonoidWord, Mark, Placed, placed, Value, OfName, OfNumber, OfMonoid, WordMeans, WordsMean, Says, spelling, wanted, optional}
+use Rattle.trace_text.specs.Shapes.{is_numbered, has_cell, name_in, name_found, name_of_cell}
+use Rattle.trace_text.specs.Printing.{plain_word, plain_words, plain_line, name_of_reducer}
+use Rattle.trace_text.proofs.Kept.{both_true, first_is}
+use Rattle.std.proofs.lemmas.List.{append-nil}
+use Rattle.std.proofs.Common.{length-append}
+use Rattle.trace_text.proofs.CellWords.{found_of_all, flat}
+use Rattle.trace_text.proofs.PlainWords.{IsPlain, ArePlain, is_word_byte, rec_append, decimal_number, decimal_plain, name_plain, words_spaced, text_spaced}
+
+-- ---- places
+
+abbrev IsSmall : Place → Type 0
+IsSmall (Number low high) = high ≤ max_value
+IsSmall place = Unit {0}
+
+abbrev AreSmall : List Place → Type 0
+AreSmall [] = Unit {0}
+AreSmall (place ∷ places) = IsSmall place × AreSmall places
+
+abbrev IsSmallLast : Option Place → Type 0
+IsSmallLast None = Unit {0}
+IsSmallLast (Some place) = IsSmall place
+
+strand_small : 4294967295 ≤ max_value
+strand_small = omega arith
+
+value_small : max_value ≤ max_value
+value_small = omega arith
+
+small_wanted : (keyword : Keyword) → AreSmall (wanted keyword)
+small_wanted MemWord = (tt, tt)
+small_wanted ReducerWord = (tt, (tt, tt))
+small_wanted (Access kind.Write) = (strand_small, (tt, (value_small, tt)))
+small_wanted (Access kind.Bump) = (strand_small, (tt, (value_small, tt)))
+small_wanted (Access kind.Read) = (strand_small, (tt, tt))
+small_wanted (Access kind.Update) = (strand_small, (tt, (value_small, tt)))
+small_wanted (Access kind.Put) = (strand_small, (tt, (value_small, tt)))
+small_wanted (Access kind.Get) = (strand_small, (tt, tt))
+small_wanted keyword = (strand_small, tt)
+
+small_optional : (keyword : Keyword) → IsSmallLast (optional keyword)
+small_optional MemWord = omega arith
+small_optional keyword = tt
+
+spelling_plain : (keyword : Keyword) → IsPlain (spelling keyword)
+spelling_plain MemWord = (omega arith, (refl, (refl, (refl, tt))))
+spelling_plain ReducerWord = (omega arith, (refl, (refl, (refl, (refl, (refl, (refl, (refl, tt))))))))
+spelling_plain Spawn = (omega arith, (refl, (refl, (refl, (refl, (refl, tt))))))
+spelling_plain Call = (omega arith, (refl, (refl, (refl, (refl, tt)))))
+spelling_plain Sync = (omega arith, (refl, (refl, (refl, (refl, tt)))))
+spelling_plain Return = (omega arith, (refl, (refl, (refl, (refl, (refl, (refl, tt)))))))
+spelling_plain (Access kind.Write) = (omega arith, (refl, (refl, (refl, (refl, (refl, tt))))))
+spelling_plain (Access kind.Bump) = (omega arith, (refl, (refl, (refl, (refl, tt)))))
+spelling_plain (Access kind.Read) = (omega arith, (refl, (refl, (refl, (refl, tt)))))
+spelling_plain (Access kind.Update) = (omega arith, (refl, (refl, (refl, (refl, (refl, (refl, tt)))))))
+spelling_plain (Access kind.Put) = (omega arith, (refl, (refl, (refl, tt))))
+spelling_plain (Access kind.Get) = (omega arith, (refl, (refl, (refl, tt))))
+
+-- ---- the memory of a cell
+
+named_found : (here : Bool) (x mem : Mem) (rest : Option Mem) → cond here (Some x) rest ≡ Some mem → ((here ≡ true) × (x ≡ mem)) ⊎ ((here ≡ false) × (rest ≡ Some mem))
+named_found true x mem rest e = inl (refl, cc)
+named_found false x mem rest e = inr (refl, e)
+
+starts_past : (from : ℕ) (mems : List Mem) (test : Mem → Bool) (mem : Mem) → IsTrue (is_numbered from mems) → find test mems ≡ Some mem → from ≤ mem.first
+starts_past from [] test mem h e = cc
+starts_past from (x ∷ mems) test mem h e =
+    let parts = both_true (x.first == from) (is_numbered (from + x.cells) mems) h in
+    elim (named_found (test x) x mem (find test mems) e) [
+      | inl f ↦ (let same : x.first ≡ mem.first = ap (λ (m : Mem). m.first) f.1 in let start = first_is x from parts.0 in omega arith)
+      | inr f ↦ (let later = starts_past (from + x.cells) mems test mem parts.1 f.1 in omega arith)
+    ]
+
+has_its_cell : (mem : Mem) (i : ℕ) → i < mem.cells → has_cell (mem.first + i) mem ≡ true
+has_its_cell mem i l = grind (arith, nat_tests)
+
+not_earlier : (x : Mem) (from cell : ℕ) → x.first ≡ from → from + x.cells ≤ cell → has_cell cell x ≡ false
+not_earlier x from cell e l = grind (arith, nat_tests)
+
+-- the memory that a name finds is the one that its cells find
+pub same_memory : (from : ℕ) (mems : List Mem) (test : Mem → Bool) (mem : Mem) (i : ℕ) → IsTrue (is_numbered from mems) → find test mems ≡ Some mem → i < mem.cells
+    → find (has_cell (mem.first + i)) mems ≡ Some mem
+same_memory from [] test mem i h e l = cc
+same_memory from (x ∷ mems) test mem i h e l =
+    let parts = both_true (x.first == from) (is_numbered (from + x.cells) mems) h in
+    elim (named_found (test x) x mem (find test mems) e) [
+      | inl f ↦ (let here : has_cell (mem.first + i) x ≡ true = ap (has_cell (mem.first + i)) f.1 ∙ has_its_cell mem i l in
+          ap (λ (b : Bool). cond b (Some x) (find (has_cell (mem.first + i)) mems)) here ∙ ap Some f.1)
+      | inr f ↦ (let later = starts_past (from + x.cells) mems test mem parts.1 f.1 in
+          let none : has_cell (mem.first + i) x ≡ false = not_earlier x from (mem.first + i) (first_is x from parts.0) (omega arith) in
+          ap (λ (b : Bool). cond b (Some x) (find (has_cell (mem.first + i)) mems)) none ∙ same_memory (from + x.cells) mems test mem i parts.1 f.1 l)
+    ]
+
+found_name : (mems : List Mem) (name : List ℕ) (mem : Mem) → memory_named mems name ≡ Some mem → name ≡ mem.name
+found_name [] name mem e = cc
+found_name (x ∷ mems) name mem e =
+    elim (named_found (bytes_eq name x.name) x mem (memory_named mems name) e) [
+      | inl f ↦ (bytes_decides name x.name).0 f.0 ∙ ap (λ (m : Mem). m.name) f.1
+      | inr f ↦ found_name mems name mem f.1
+    ]
+
+in_array : (mem : Mem) (index : ℕ) → mem.array ≡ true → name_in mem index ≡ element_word mem.name (decimal index)
+in_array mem index a =
+    ap (λ (b : Bool). mem.name ++ cond b (codes "[" ++ decimal index ++ codes "]") []) a ∙ sym (flat mem.name (decimal index))
+
+alone : (mem : Mem) (index : ℕ) → mem.array ≡ false → name_in mem index ≡ mem.name
+alone mem index a = ap (λ (b : Bool). mem.name ++ cond b (codes "[" ++ decimal index ++ codes "]") []) a ∙ append-nil mem.name
+
+named_at : (mems : List Mem) (cell : ℕ) (mem : Mem) (i : ℕ) → find (has_cell (mem.first + i)) mems ≡ Some mem → cell ≡ mem.first + i → name_of_cell mems cell ≡ name_in mem i
+named_at mems cell mem i e c =
+    ap (name_of_cell mems) c ∙ (ap (name_found (mem.first + i)) e ∙ ap (name_in mem) (let d : mem.first + i - mem.first ≡ i = omega arith in d))
+
+-- ---- words
+
+single_plain : (mems : List Mem) (word : List ℕ) (cell : ℕ) → IsTrue (is_numbered 0 mems) → All (λ (mem : Mem). 1 ≤ mem.cells) mems
+    → SingleMeans mems word cell → (name_of_cell mems cell ≡ word)
+single_plain mems word cell numbered some m =
+    let mem = m.1 in
+    let one : 1 ≤ mem.cells = found_of_all (λ (x : Mem). 1 ≤ x.cells) _ mems mem some m.2.0 in
+    let found = same_memory 0 mems (λ (x : Mem). bytes_eq word x.name) mem 0 numbered m.2.0 (omega arith) in
+    named_at mems cell mem 0 found (m.3 ∙ (let z : mem.first ≡ mem.first + 0 = omega arith in z)) ∙ (alone mem 0 m.2.1 ∙ sym (found_name mems word mem m.2.0))
+
+element_plain : (mems : List Mem) (name index : List ℕ) (cell : ℕ) → IsTrue (is_numbered 0 mems)
+    → ElementMeans mems name index cell → (i : ℕ) × (name_of_cell mems cell ≡ element_word name (decimal i)) × ElementMeans mems name (decimal i) cell × (i ≤ max_value)
+element_plain mems name index cell numbered m =
+    let mem = m.1 in
+    let i = m.2 in
+    let found = same_memory 0 mems (λ (x : Mem). bytes_eq name x.name) mem i numbered m.3.0 m.5 in
+    let same : mem.name ≡ name = sym (found_name mems name mem m.3.0) in (
+      i,
+      named_at mems cell mem i found m.6 ∙ (in_array mem i m.3.1 ∙ ap (λ (n : List ℕ). element_word n (decimal i)) same),
+      (m.0, mem, i, m.3, (decimal_number i m.4.2, m.4.1, m.4.2), m.5, m.6),
+      m.4.2,
+    )
+
+brackets : (name digits : List ℕ) → IsPlain name → IsPlain digits → IsPlain (element_word name digits)
+brackets name digits n d =
+    let all : AllByRecursion (λ byte. IsTrue (is_word_byte byte)) (name ++ 91 ∷ (digits ++ 93 ∷ [])) =
+    rec_append _ name (91 ∷ (digits ++ 93 ∷ [])) n.1 (refl, rec_append _ digits (93 ∷ []) d.1 (refl, tt)) in
+    subst IsPlain (sym (flat name digits)) (omega (arith, n.0, length-append name (91 ∷ (digits ++ 93 ∷ []))), all)
+
+monoid_plain : (monoid : Monoid) → IsPlain (monoid_spelling monoid)
+monoid_plain Sum = (omega arith, (refl, (refl, (refl, tt))))
+monoid_plain Min = (omega arith, (refl, (refl, (refl, tt))))
+monoid_plain Max = (omega arith, (refl, (refl, (refl, tt))))
+monoid_plain Last = (omega arith, (refl, (refl, (refl, (refl, tt)))))
+monoid_plain Digits = (omega arith, (refl, (refl, (refl, (refl, (refl, (refl, tt)))))))
+
+-- the number of a reducer names it
+reducer_by : (here : Bool) (from number : ℕ) (rest : Option ℕ) → cond here (Some from) rest ≡ Some number → ((here ≡ true) × (from ≡ number)) ⊎ ((here ≡ false) × (rest ≡ Some number))
+reducer_by true from number rest e = inl (refl, cc)
+reducer_by false from number rest e = inr (refl, e)
+
+position_from_le : (reducers : List Reducer) (word : List ℕ) (from number : ℕ) → position_from (λ (r : Reducer). bytes_eq word r.name) from reducers ≡ Some number → from ≤ number
+position_from_le [] word from number e = cc
+position_from_le (r ∷ reducers) word from number e =
+    elim (reducer_by (bytes_eq word r.name) from number (position_from (λ (x : Reducer). bytes_eq word x.name) (from + 1) reducers) e) [
+      | inl f ↦ omega (arith, f.1)
+      | inr f ↦ (let later = position_from_le reducers word (from + 1) number f.1 in omega arith)
+    ]
+
+reducer_at_by : (reducers : List Reducer) (word : List ℕ) (from number : ℕ) → position_from (λ (r : Reducer). bytes_eq word r.name) from reducers ≡ Some number
+    → get_or (map (λ (r : Reducer). r.name) reducers) (number - from) [] ≡ word
+reducer_at_by [] word from number e = cc
+reducer_at_by (r ∷ reducers) word from number e =
+    elim (reducer_by (bytes_eq word r.name) from number (position_from (λ (x : Reducer). bytes_eq word x.name) (from + 1) reducers) e) [
+      | inl f ↦ (let d : number - from ≡ 0 = omega (arith, f.1) in
+          ap (λ (n : ℕ). get_or (r.name ∷ map (λ (x : Reducer). x.name) reducers) n []) d ∙ sym ((bytes_decides word r.name).0 f.0))
+      | inr f ↦ (let later = position_from_le reducers word (from + 1) number f.1 in
+          let d : number - from ≡ suc (number - (from + 1)) = omega arith in
+          ap (λ (n : ℕ). get_or (r.name ∷ map (λ (x : Reducer). x.name) reducers) n []) d ∙ reducer_at_by reducers word (from + 1) number f.1)
+    ]
+
+module _ (known : Known) (numbered : IsTrue (is_numbered 0 known.mems)) (some : All (λ (mem : Mem). 1 ≤ mem.cells) known.mems) where
+  cell_plain : (word : List ℕ) (cell : ℕ) → CellMeans known.mems word cell → CellMeans known.mems (name_of_cell known.mems cell) cell × IsPlain (name_of_cell known.mems cell)
+  cell_plain word cell (inl m) =
+      let same = single_plain known.mems word cell numbered some m in
+      (inl (subst (λ (w : List ℕ). SingleMeans known.mems w cell) (sym same) m), subst IsPlain (sym same) (name_plain word m.0))
+  cell_plain word cell (inr m) =
+      let e = element_plain known.mems m.0 m.1 cell numbered m.3 in
+      (inr (m.0, decimal e.0, e.1, e.2), subst IsPlain (sym e.1) (brackets m.0 (decimal e.0) (name_plain m.0 m.3.0) (decimal_plain e.0 e.3)))
+
+  reducer_plain : (word : List ℕ) (number : ℕ) → reducer_named known.reducers word ≡ Some number → name_of_reducer known.reducers number ≡ word
+  reducer_plain word number e =
+      ap (λ (n : ℕ). get_or (map (λ (r : Reducer). r.name) known.reducers) n []) (let d : number ≡ number - 0 = omega arith in d) ∙ reducer_at_by known.reducers word 0 number e
+
+  -- what a word means, the plain word for it means
+  word_plain : (place : Place) (word : List ℕ) (value : Value) → IsSmall place → WordMeans known place word value
+      → WordMeans known place (plain_word known place value) value × IsPlain (plain_word known place value)
+  word_plain FreshName word (OfName name) s m =
+      let named : IsName name = subst IsName (sym m.0) m.1 in
+      ((refl, named, subst (λ (w : List ℕ). IsFresh known w) (sym m.0) m.2), name_plain name named)
+  word_plain (Number low high) word (OfNumber n) s m =
+      let small : n ≤ max_value = omega (arith, m.2) in
+      ((decimal_number n small, m.1, m.2), decimal_plain n small)
+  word_plain Cell word (OfNumber cell) s m = cell_plain word cell m
+  word_plain ReducerName word (OfNumber number) s m =
+      let same = reducer_plain word number m.1 in
+      ((subst IsName (sym same) m.0, ap (reducer_named known.reducers) same ∙ m.1), subst IsPlain (sym same) (name_plain word m.0))
+  word_plain MonoidWord word (OfMonoid monoid) s m = ((m.0, refl), monoid_plain monoid)
+  word_plain Mark word (OfNumber n) s m =
+      let bound : n ≤ max_strand = m.2.2 in
+      let small : n ≤ max_value = omega arith in
+      let plain = decimal_plain n small in
+      ((decimal n, refl, (decimal_number n small, m.2.1, m.2.2)), (omega (arith, plain.0), (refl, plain.1)))
+  word_plain place word value s m = absurd m
+
+  -- ---- words in their places
+
+  abbrev ArePrinted : List Place → Option Place → List Value → Type 0
+  ArePrinted places last values =
+      (more : List Placed) × (placed places last (plain_words known places last values) ≡ Some more) × WordsMean known more values × ArePlain (plain_words known places last values)
+
+  one_printed : (place : Place) (word : List ℕ) (values : List Value) → IsSmall place → WordsMean known ((place, word) ∷ []) values → ArePrinted [] (Some place) values
+  one_printed place word [] s m = absurd m
+  one_printed place word (value ∷ []) s m =
+      let p = word_plain place word value s m.0 in
+      ((place, plain_word known place value) ∷ [], refl, (p.0, tt), (p.1, tt))
+  one_printed place word (value ∷ more ∷ values) s m = absurd m.1
+
+  none_printed : (last : Option Place) (values : List Value) → WordsMean known [] values → ArePrinted [] last values
+  none_printed last [] m = ([], refl, tt, tt)
+  none_printed last (value ∷ values) m = absurd m
+
+  next_printed : (place : Place) (places : List Place) (last : Option Place) (word : List ℕ) (rest : List Placed) (values : List Value) → IsSmall place
+      → ((vs : List Value) → WordsMean known rest vs → ArePrinted places last vs) → WordsMean known ((place, word) ∷ rest) values → ArePrinted (place ∷ places) last values
+  next_printed place places last word rest [] s f m = absurd m
+  next_printed place places last word rest (value ∷ values) s f m =
+      let p = word_plain place word value s m.0 in
+      let others = f values m.1 in
+      ((place, plain_word known place value) ∷ others.0, ap (option_map (λ ps. (place, plain_word known place value) ∷ ps)) others.1, (p.0, others.2), (p.1, others.3))
+
+  split_option : (place : Place) (word : List ℕ) (o : Option (List Placed)) (pairs : List Placed) → option_map (λ ps. (place, word) ∷ ps) o ≡ Some pairs
+      → (rest : List Placed) × (o ≡ Some rest) × (pairs ≡ (place, word) ∷ rest)
+  split_option place word None pairs e = cc
+  split_option place word (Some rest) pairs e = (rest, refl, cc)
+
+  printed : (places : List Place) (last : Option Place) (arguments : List (List ℕ)) (pairs : List Placed) (values : List Value) → AreSmall places → IsSmallLast last
+      → placed places last arguments ≡ Some pairs → WordsMean known pairs values → ArePrinted places last values
+  printed [] last [] pairs values s t e m = none_printed last values (subst (λ (ps : List Placed). WordsMean known ps values) (let same : pairs ≡ [] = cc in same) m)
+  printed [] None (word ∷ arguments) pairs values s t e m = cc
+  printed [] (Some place) (word ∷ []) pairs values s t e m =
+      one_printed place word values t (subst (λ (ps : List Placed). WordsMean known ps values) (let same : pairs ≡ (place, word) ∷ [] = cc in same) m)
+  printed [] (Some place) (word ∷ next ∷ arguments) pairs values s t e m = cc
+  printed (place ∷ places) last [] pairs values s t e m = cc
+  printed (place ∷ places) last (word ∷ arguments) pairs values s t e m =
+      let parts = split_option place word (placed places last arguments) pairs e in
+      next_printed place places last word parts.0 values s.0 (λ vs n. printed places last arguments parts.0 vs s.1 t parts.1 n)
+      (subst (λ (ps : List Placed). WordsMean known ps values) parts.2 m)
+
+  -- ---- lines
+
+  abbrev pub PlainSays : Keyword → List Value → Type 0
+  PlainSays keyword values = IsTextLine (plain_line known keyword values) × (Says known (words (plain_line known keyword values)) keyword values)
+
+  -- what words say, their plain line says
+  pub says_plain : (ws : List (List ℕ)) (keyword : Keyword) (values : List Value) → Says known ws keyword values → PlainSays keyword values
+  says_plain ws keyword values says =
+      let p = printed (wanted keyword) (optional keyword) says.1.0 says.0 values (small_wanted keyword) (small_optional keyword) says.1.3 says.2 in
+      let plain : ArePlain (spelling keyword ∷ plain_words known (wanted keyword) (optional keyword) values) = (spelling_plain keyword, p.3) in (
+        text_spaced (spelling keyword ∷ plain_words known (wanted keyword) (optional keyword) values) plain,
+        (
+          p.0,
+          (plain_words known (wanted keyword) (optional keyword) values, words_spaced (spelling keyword) (plain_words known (wanted keyword) (optional keyword) values) plain, says.1.2, p.1),
+          p.2,
+        ),
+      )

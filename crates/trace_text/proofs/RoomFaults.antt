@@ -1,0 +1,162 @@
+-- A line that says something, and has no room or no right place.
+use Rattle.std.proofs.Common.{◌≡◌, ◌≢◌, ℕ, ◌<◌, ◌∷◌, [], List, true, false, arith, refl, sym, ◌∙◌, subst, ap, ◌+◌, inl, inr}
+use Rattle.std.specs.Prelude.{◌⊎◌, Result, Ok, Err, MatchResult, map}
+use Rattle.trace_text.specs.declared.fault.Cause.{Cause}
+use Rattle.trace_text.specs.declared.fault.Cause.TheVariants.{NotText, BadNesting, NoMain, TooMany}
+use Rattle.trace_text.specs.declared.keyword.Keyword.{Keyword}
+use Rattle.trace_text.specs.declared.keyword.Keyword.TheVariants.{Mem as MemWord, Reducer as ReducerWord}
+use Rattle.trace_text.specs.declared.value.Act.{Act}
+use Rattle.trace_text.specs.declared.value.Act.TheVariants as act
+use Rattle.trace_text.specs.declared.value.Version.{Version}
+use Rattle.trace_text.specs.declared.fault.TextFault.{TextFault}
+use Rattle.trace_text.specs.declared.fault.TextFault.TheVariants.{At, Memory}
+use Rattle.std.specs.Str.Lines.{strip_carriage_return}
+use Rattle.trace_text.specs.Text.{words, lines, pieces, IsTextLine}
+use Rattle.trace_text.specs.Values.{Known, Contents}
+use Rattle.trace_text.specs.Lines.{Place, Placed, IsArranged, asks, declares, spelling}
+use Rattle.trace_text.specs.Grammar.{Item, Blank, Declared, Reduces, Asked, ItemMeans, IsInOrder, HasRoom, extended, nothing, LineMeans, LinesMean, LinesOfTrace, TextMeans, IsHeader}
+use Rattle.trace_text.specs.Faults.{IsLowest, LineFault, LinesFault, FaultOfLines, WordFault, SomeFault, WordsFault, cause_number}
+use Rattle.trace_text.specs.declared.value.Mem.{Mem}
+use Rattle.trace_text.specs.declared.value.Reducer.{Reducer}
+use Rattle.trace_text.specs.declared.value.TraceLine.{TraceLine}
+use Rattle.trace_text.specs.Drafts.{so_far, IsRoomCause, Extends, IsRoomFault, IsLineFault, IsBodyFault, IsTextFault}
+use Rattle.trace_text.proofs.LineFaults.{arranged_once}
+
+-- an act's keyword declares nothing
+asks_no_declaration : (a : Act) → declares (asks a) ≡ false
+asks_no_declaration act.Spawn = refl
+asks_no_declaration act.Sync = refl
+asks_no_declaration act.Call = refl
+asks_no_declaration act.Return = refl
+asks_no_declaration (act.Read cell) = refl
+asks_no_declaration (act.Write cell value) = refl
+asks_no_declaration (act.Bump cell value) = refl
+asks_no_declaration (act.Update reducer value) = refl
+asks_no_declaration (act.Put reducer value) = refl
+asks_no_declaration (act.Get reducer) = refl
+
+-- a line that a declaration's keyword begins declares something
+pub out_of_order : (at : ℕ) (before : Contents) (ws : List (List ℕ)) (item : Item) (keyword : Keyword) (pairs : List Placed) → ItemMeans at before.known ws item
+    → IsArranged before.known.version ws keyword pairs → declares keyword ≡ true → before.lines ≢ [] → IsInOrder before item → ⊥
+out_of_order at before ws Blank keyword pairs m arranged d some order = let e : [] ≡ spelling keyword ∷ arranged.0 = sym m ∙ arranged.1 in cc
+out_of_order at before ws (Declared name length) keyword pairs m arranged d some order = some order
+out_of_order at before ws (Reduces name monoid) keyword pairs m arranged d some order = some order
+out_of_order at before ws (Asked line) keyword pairs m arranged d some order =
+    let same : keyword ≡ asks line.request.act = (arranged_once before.known.version ws keyword (asks line.request.act) pairs m.1.0 arranged m.1.1).0 in
+    let clash : true ≡ false = sym d ∙ (ap declares same ∙ asks_no_declaration line.request.act) in
+    cc
+
+module _ (at : ℕ) (before : Contents) (line : List ℕ) (item : Item) (text : IsTextLine line) (m : ItemMeans at before.known (words line) item)
+    (clean : (cause : Cause) → WordsFault before.known (words line) cause → ⊥) where
+  below_nesting : (lower : Cause) → cause_number lower < 7 → LineFault at before line lower → ⊥
+  below_nesting NotText l f = f text
+  below_nesting BadNesting l f = absurd (omega arith)
+  below_nesting TooMany l f = absurd (omega arith)
+  below_nesting cause l f = clean cause f
+
+  below_too_many : IsInOrder before item → (lower : Cause) → cause_number lower < 9 → LineFault at before line lower → ⊥
+  below_too_many order NotText l f = f text
+  below_too_many order BadNesting l f = out_of_order at before (words line) item f.0 f.1 m f.2 f.3 f.4 order
+  below_too_many order TooMany l f = absurd (omega arith)
+  below_too_many order cause l f = clean cause f
+
+  nesting : (i : Item) → ItemMeans at before.known (words line) i → (IsInOrder before i → ⊥) → LineFault at before line BadNesting
+  nesting Blank n f = absurd (f tt)
+  nesting (Declared name length) n f = (MemWord, n.0, n.1, refl, f)
+  nesting (Reduces name monoid) n f = (ReducerWord, n.0, n.1, refl, f)
+  nesting (Asked asked) n f = absurd (f tt)
+
+  too_many : ((4000000 < at) ⊎ (HasRoom before item → ⊥)) → LineFault at before line TooMany
+  too_many (inl f) = inl f
+  too_many (inr f) = inr (item, m, f)
+
+  pub lowest_of_room : (cause : Cause) → IsRoomCause at before item cause → IsLowest (LineFault at before line) cause
+  lowest_of_room BadNesting f = (nesting item m f, below_nesting)
+  lowest_of_room TooMany f = (too_many f.1, below_too_many f.0)
+  lowest_of_room cause f = absurd f
+
+-- ---- a line whose words have a fault
+
+nowhere : (known : Known) (pairs : List Placed) (cause : Cause) → ((place : Place) (word : List ℕ) → WordFault known place word cause → ⊥)
+    → SomeFault known pairs cause → ⊥
+nowhere known [] cause h f = f
+nowhere known (pair ∷ pairs) cause h (inl f) = h pair.0 pair.1 f
+nowhere known (pair ∷ pairs) cause h (inr f) = nowhere known pairs cause h f
+
+module _ (at : ℕ) (before : Contents) (line : List ℕ) (text : IsTextLine line) where
+  lower_line : (cause : Cause) → cause_number cause < 7 → IsLowest (WordsFault before.known (words line)) cause
+      → (lower : Cause) → cause_number lower < cause_number cause → LineFault at before line lower → ⊥
+  lower_line cause small f NotText l g = g text
+  lower_line cause small f BadNesting l g = absurd (omega arith)
+  lower_line cause small f NoMain l g = absurd (omega arith)
+  lower_line cause small f TooMany l g = absurd (omega arith)
+  lower_line cause small f lower l g = f.1 lower l g
+
+  pub lowest_of_words : (cause : Cause) → IsLowest (WordsFault before.known (words line)) cause → IsLowest (LineFault at before line) cause
+  lowest_of_words NotText f = absurd (nowhere before.known f.0.1 NotText (λ place word g. g) f.0.3)
+  lowest_of_words BadNesting f = absurd (nowhere before.known f.0.1 BadNesting (λ place word g. g) f.0.3)
+  lowest_of_words NoMain f = absurd (nowhere before.known f.0.1 NoMain (λ place word g. g) f.0.3)
+  lowest_of_words TooMany f = absurd (nowhere before.known f.0.1 TooMany (λ place word g. g) f.0.3)
+  lowest_of_words cause f = (f.0, lower_line cause (omega arith) f)
+
+-- ---- one line
+
+pub line_taken : {U : Type 0} (at : ℕ) (before after : Contents) (line : List ℕ) (item : Item) (r : Result U TextFault) → IsTextLine line
+    → ItemMeans at before.known (words line) item → ((cause : Cause) → WordsFault before.known (words line) cause → ⊥)
+    → MatchResult r (λ _. Extends at before item after) (IsRoomFault at before item)
+    → MatchResult r (λ _. (x : Item) × LineMeans at before line x × (after ≡ extended at before x)) (IsLineFault at before line)
+line_taken at before after line item (Ok u) text m clean e = (item, (e.0, text, m, e.1, e.2), e.3)
+line_taken at before after line item (Err (At bad why)) text m clean e = (e.0, lowest_of_room at before line item text m clean why e.1)
+line_taken at before after line item (Err Memory) text m clean e = tt
+
+-- ---- the lines behind the header
+
+module _ (n : ℕ) (before : Contents) (rest line after : List ℕ) (split : lines rest ≡ line ∷ lines after) where
+  pub fault_here : (version : Version) (fault : TextFault) (text : List ℕ) → IsLineFault n before line fault
+      → ((bad : ℕ) (cause : Cause) → LinesFault n before (lines rest) bad cause → LinesFault 2 (nothing version) (lines text) bad cause) → IsBodyFault version text fault
+  fault_here version (At bad why) text f h = h bad why (subst (λ (t : List (List ℕ)). LinesFault n before t bad why) (sym split) (inl f))
+  fault_here version Memory text f h = tt
+
+-- the first line of a text and the others
+pub lines_split : (text line rest : List ℕ) → pieces text ≡ line ∷ pieces rest → lines text ≡ strip_carriage_return line ∷ lines rest
+lines_split text line rest e = ap (map strip_carriage_return) e
+
+body_fault : (version : Version) (text first rest : List ℕ) (fault : TextFault) → lines text ≡ first ∷ lines rest → IsHeader first version → IsBodyFault version rest fault
+    → IsTextFault text fault
+body_fault version text first rest (At bad why) e h f = subst (λ (t : List (List ℕ)). FaultOfLines t bad why) (sym e) (inr (version, h, f))
+body_fault version text first rest Memory e h f = tt
+
+-- the version of what was read is that of the header
+version_extended : (at : ℕ) (before : Contents) (item : Item) → (extended at before item).known.version ≡ before.known.version
+version_extended at before Blank = refl
+version_extended at before (Declared name length) = refl
+version_extended at before (Reduces name monoid) = refl
+version_extended at before (Asked line) = refl
+
+version_kept : (at : ℕ) (before : Contents) (ls : List (List ℕ)) (contents : Contents) → LinesMean at before ls contents → contents.known.version ≡ before.known.version
+version_kept at before [] contents m = ap (λ (c : Contents). c.known.version) m
+version_kept at before (line ∷ ls) contents m = version_kept (at + 1) (extended at before m.0) ls contents m.2 ∙ version_extended at before m.0
+
+text_means : (version : Version) (text first rest : List ℕ) (contents : Contents) → lines text ≡ first ∷ lines rest → IsHeader first version
+    → LinesMean 2 (nothing version) (lines rest) contents → TextMeans text contents
+text_means version text first rest contents e h m =
+    let same : contents.known.version ≡ version = version_kept 2 (nothing version) (lines rest) contents m in
+    let header : IsHeader first contents.known.version = subst (λ (v : Version). IsHeader first v) (sym same) h in
+    let behind : LinesMean 2 (nothing contents.known.version) (lines rest) contents = subst (λ (v : Version). LinesMean 2 (nothing v) (lines rest) contents) (sym same) m in
+    subst (λ (t : List (List ℕ)). LinesOfTrace t contents) (sym e) (header, behind)
+
+-- what the lines behind the header come to, the text comes to
+pub whole_read : {D : Type 0} (view : D → Contents) (version : Version) (text first rest : List ℕ) (r : Result D TextFault) → lines text ≡ first ∷ lines rest → IsHeader first version
+    → MatchResult r (λ d. LinesMean 2 (nothing version) (lines rest) (view d)) (IsBodyFault version rest) → MatchResult r (λ d. TextMeans text (view d)) (IsTextFault text)
+whole_read view version text first rest (Ok d) e h m = text_means version text first rest (view d) e h m
+whole_read view version text first rest (Err fault) e h f = body_fault version text first rest fault e h f
+
+-- what is read, in the parts of a trace
+pub assembled : (text : List ℕ) (known : Known) (requests : List TraceLine) (version : Version) (ms mems : List Mem) (rs reducers : List Reducer) (lines : List TraceLine)
+    → known ≡ record { version = version; mems = ms; reducers = rs } → mems ≡ ms → reducers ≡ rs → lines ≡ requests → TextMeans text (so_far known requests)
+    → TextMeans text (so_far (record { version = version; mems = mems; reducers = reducers }) lines)
+assembled text known requests version ms mems rs reducers lines e f g h m =
+    subst (λ (t : List Mem). TextMeans text (so_far (record { version = version; mems = t; reducers = reducers }) lines)) (sym f)
+    (subst (λ (t : List Reducer). TextMeans text (so_far (record { version = version; mems = ms; reducers = t }) lines)) (sym g)
+    (subst (λ (t : List TraceLine). TextMeans text (so_far (record { version = version; mems = ms; reducers = rs }) t)) (sym h)
+    (subst (λ (k : Known). TextMeans text (so_far k requests)) e m)))

@@ -1,0 +1,19 @@
+use Rattle.std.proofs.Common.{ℕ, ◌+◌, ◌≤◌, length}
+use Rattle.trace_text.specs.declared.fault.Cause.{Cause}
+use Rattle.trace_text.specs.Values.{Contents}
+use Rattle.trace_text.specs.Text.{lines}
+use Rattle.trace_text.specs.Grammar.{LinesMean, nothing}
+use Rattle.trace_text.specs.Faults.{LinesFault}
+use Rattle.trace_text.specs.Drafts.{so_far}
+use Rattle.trace_text.proofs.trace.body.Given as goal
+
+-- What the lines that are left mean, the whole means; and their first fault is that of the whole.
+abbrev pub invariant-loop-rest : goal.invariant-loop-rest
+invariant-loop-rest g l = record {
+  few : l.at ≤ 4000000;
+  means : (contents : Contents) → LinesMean (l.at + 1) (so_far l.draft.names l.draft.lines.items) (lines l.rest) contents → LinesMean 2 (nothing l.fn.version) (lines l.text) contents;
+  faults : (bad : ℕ) (cause : Cause) → LinesFault (l.at + 1) (so_far l.draft.names l.draft.lines.items) (lines l.rest) bad cause → LinesFault 2 (nothing l.fn.version) (lines l.text) bad cause;
+}
+
+abbrev pub decreases-loop-rest : goal.decreases-loop-rest
+decreases-loop-rest g l = length l.rest

@@ -1,0 +1,53 @@
+-- What was read so far, and what one more line makes of it.
+use Rattle.std.specs.Prelude.{◌≡◌, ℕ, ◌<◌, ◌≤◌, ◌⊎◌, List}
+use Rattle.trace_text.specs.declared.fault.Cause.{Cause}
+use Rattle.trace_text.specs.declared.fault.Cause.TheVariants.{BadNesting, TooMany}
+use Rattle.trace_text.specs.declared.fault.TextFault.{TextFault}
+use Rattle.trace_text.specs.declared.fault.TextFault.TheVariants.{At, Memory}
+use Rattle.trace_text.specs.declared.value.Version.{Version}
+use Rattle.trace_text.specs.declared.value.TraceLine.{TraceLine}
+use Rattle.trace_text.specs.Text.{lines}
+use Rattle.trace_text.specs.Limits.{max_lines}
+use Rattle.trace_text.specs.Values.{Known, Contents}
+use Rattle.trace_text.specs.Grammar.{Item, ItemMeans, IsInOrder, HasRoom, extended, nothing}
+use Rattle.trace_text.specs.Faults.{IsLowest, LineFault, HeaderFault, LinesFault, TextFaults}
+
+abbrev pub so_far : Known → List TraceLine → Contents
+so_far known lines = record { known = known; lines = lines }
+
+-- Some words say this behind the declarations.
+abbrev pub SaysSo : ℕ → Known → Item → Type 0
+SaysSo at known item = (words : List (List ℕ)) × ItemMeans at known words item
+
+-- The item fits, and next is what was read with it.
+abbrev pub Extends : ℕ → Contents → Item → Contents → Type 0
+Extends at before item next = (at ≤ max_lines) × IsInOrder before item × HasRoom before item × (next ≡ extended at before item)
+
+abbrev pub IsRoomCause : ℕ → Contents → Item → Cause → Type 0
+IsRoomCause at before item BadNesting = IsInOrder before item → ⊥
+IsRoomCause at before item TooMany = IsInOrder before item × ((max_lines < at) ⊎ (HasRoom before item → ⊥))
+IsRoomCause at before item cause = ⊥
+
+-- The fault is of the line with the number `at`, and its cause is so; or memory ran out.
+abbrev pub IsFaultOf : (Cause → Type 0) → ℕ → TextFault → Type 0
+IsFaultOf Holds at (At line why) = (line ≡ at) × Holds why
+IsFaultOf Holds at Memory = Unit {0}
+
+abbrev pub IsRoomFault : ℕ → Contents → Item → TextFault → Type 0
+IsRoomFault at before item fault = IsFaultOf (IsRoomCause at before item) at fault
+
+abbrev pub IsLineFault : ℕ → Contents → List ℕ → TextFault → Type 0
+IsLineFault at before line fault = IsFaultOf (IsLowest (LineFault at before line)) at fault
+
+abbrev pub IsHeaderFault : List ℕ → TextFault → Type 0
+IsHeaderFault line fault = IsFaultOf (IsLowest (HeaderFault line)) 1 fault
+
+-- The fault is the first of the lines behind the header.
+abbrev pub IsBodyFault : Version → List ℕ → TextFault → Type 0
+IsBodyFault version text (At line why) = LinesFault 2 (nothing version) (lines text) line why
+IsBodyFault version text Memory = Unit {0}
+
+-- The fault is that of the text; or memory ran out.
+abbrev pub IsTextFault : List ℕ → TextFault → Type 0
+IsTextFault text (At line why) = TextFaults text line why
+IsTextFault text Memory = Unit {0}

@@ -1,0 +1,34 @@
+-- What the code's places read: a value, or the lowest cause.
+use Rattle.std.specs.Prelude.{◌≡◌, ℕ, Option, Some, Result, Ok, Err, List, [], ◌∷◌, nat_lt, cond, MatchOption, MatchResult}
+use Rattle.trace_text.specs.declared.fault.Cause.{Cause}
+use Rattle.trace_text.specs.declared.fault.Cause.TheVariants.{BadWord}
+use Rattle.trace_text.specs.Values.{Known}
+use Rattle.trace_text.specs.Lines.{Place, Placed, Value, placed, WordMeans, WordsMean}
+use Rattle.trace_text.specs.Faults.{WordFault, SomeFault, IsLowest, cause_number}
+
+-- Both values, or the lower cause.
+abbrev pub both_of : {A B : Type 0} → Result A Cause → Result B Cause → Result (A × B) Cause
+both_of (Ok x) (Ok y) = Ok (x, y)
+both_of (Ok x) (Err d) = Err d
+both_of (Err c) (Ok y) = Err c
+both_of (Err c) (Err d) = cond (nat_lt (cause_number c) (cause_number d)) (Err c) (Err d)
+
+-- The answer is what the word means in its place, or the lowest cause why it means nothing.
+abbrev pub Reads : {A : Type 0} → Known → Place → List ℕ → Result A Cause → (A → Value) → Type 0
+Reads known place word answer value = MatchResult answer (λ x. WordMeans known place word (value x)) (λ cause. IsLowest (WordFault known place word) cause)
+
+-- The first word is taken, and the answer is what it means in its place; or there is none.
+abbrev pub TakesWord : {A : Type 0} → Known → Place → List (List ℕ) → List (List ℕ) → Result A Cause → (A → Value) → Type 0
+TakesWord known place [] after answer value = (after ≡ []) × (answer ≡ Err BadWord)
+TakesWord known place (word ∷ words) after answer value = (after ≡ words) × Reads known place word answer value
+
+-- The lowest cause of words in their places. Where there are too few or too many, they are of another shape.
+abbrev pub IsPlacedFault : Known → Option (List Placed) → Cause → Type 0
+IsPlacedFault known pairs cause = MatchOption pairs (cause ≡ BadWord) (λ some. IsLowest (SomeFault known some) cause)
+
+-- The words fit the places, and the answer is what they mean; or it is the lowest cause.
+abbrev pub Fits : {A : Type 0} → Known → List Place → Option Place → List (List ℕ) → Result A Cause → (A → List Value) → Type 0
+Fits known places last words answer values =
+    MatchResult answer
+    (λ x. (pairs : List Placed) × (placed places last words ≡ Some pairs) × WordsMean known pairs (values x))
+    (λ cause. IsPlacedFault known (placed places last words) cause)

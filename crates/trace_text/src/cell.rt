@@ -1,0 +1,44 @@
+//! Names of cells.
+
+ghost use Rattle.std.specs.Prelude.{◌≡◌, ◌<◌, ◌-◌, IfOk, IsTrue, IsSome, option_copied, string_bytes};
+ghost use Rattle.std.specs.List.{find};
+ghost use Rattle.trace_text.specs.Grammar.{cells_of};
+ghost use Rattle.trace_text.specs.Shapes.{is_numbered, has_cell, name_in, name_of_cell};
+
+use crate::value::Mem;
+use std::alloc::{AllocError, Allocator};
+use std::fmt::Write;
+
+/// The memory that has the cell with this number.
+pub fn memory_of(mems: &[Mem], location: u32) -> Option<&Mem>
+    ensures { option_copied result ≡ find (has_cell location) mems.now }
+{
+    mems.iter().find(|mem| mem.first <= location && location - mem.first < mem.cells)
+}
+
+/// The name of a memory's cell with this index.
+fn name_at<A: Allocator>(alloc: A, mem: &Mem, index: u32) -> Result<String<A>, AllocError>
+    ensures { IfOk result (λ name. string_bytes name ≡ name_in mem.now index) }
+{
+    let mut name = String::from_str(alloc, mem.name.as_str())?;
+    if mem.array {
+        write!(name, "[{index}]")?;
+    }
+    Ok(name)
+}
+
+/// The name of the cell with this number, as `x` or `a[3]`. The memories are those of a trace or a program, or the first of them.
+pub fn cell_name<A: Allocator>(
+    alloc: A,
+    mems: &[Mem],
+    location: u32,
+) -> Result<String<A>, AllocError>
+    requires numbered { IsTrue (is_numbered 0 mems.now) }
+    requires within { location < cells_of mems.now }
+    ensures { IfOk result (λ name. string_bytes name ≡ name_of_cell mems.now location) }
+{
+    match memory_of(mems, location) {
+        Some(mem) => name_at(alloc, mem, location - mem.first),
+        None => unreachable!(),
+    }
+}

@@ -1,0 +1,119 @@
+//! The first words of lines, and the words of versions and monoids.
+
+ghost use Rattle.std.specs.Prelude.{◌≡◌, ◌↔◌, Some};
+ghost use Rattle.trace_text.specs.declared.keyword.Keyword.{Keyword};
+ghost use Rattle.trace_text.specs.declared.value.Monoid.{Monoid};
+ghost use Rattle.trace_text.specs.Names.{MonoidMeans};
+ghost use Rattle.trace_text.specs.Lines.{spelling, asks, HasKeyword};
+ghost use Rattle.trace_text.specs.Values.{version_spelling, monoid_spelling};
+
+use crate::value::{Act, Monoid, Version};
+use access_table::{Kind, kind_of, word};
+
+/// The first word of a line.
+#[derive(Clone, Copy, Debug)]
+pub enum Keyword {
+    /// Declares a memory.
+    Mem,
+    /// Declares a reducer.
+    Reducer,
+    /// Asks for a spawn.
+    Spawn,
+    /// Asks for a call.
+    Call,
+    /// Asks for a sync.
+    Sync,
+    /// Asks for a return.
+    Return,
+    /// Asks for an access.
+    Access(Kind),
+}
+
+/// The keyword of the version that a word is.
+pub fn keyword_of(version: Version, word: &str) -> Option<Keyword>
+    ensures { (keyword : Keyword) → (result ≡ Some keyword) ↔ (HasKeyword version keyword × (word.now ≡ spelling keyword)) }
+{
+    match word {
+        "mem" => Some(Keyword::Mem),
+        "reducer" => Some(Keyword::Reducer),
+        "spawn" => Some(Keyword::Spawn),
+        "call" => Some(Keyword::Call),
+        "sync" => Some(Keyword::Sync),
+        "return" => Some(Keyword::Return),
+        _ => match kind_of(word) {
+            Some(Kind::Bump) if version == Version::One => None,
+            Some(kind) => Some(Keyword::Access(kind)),
+            None => None,
+        },
+    }
+}
+
+/// The monoid of the version that a word is.
+pub fn monoid_of(version: Version, name: &str) -> Option<Monoid>
+    ensures { (monoid : Monoid) → (result ≡ Some monoid) ↔ MonoidMeans version name.now monoid }
+{
+    match name {
+        "sum" => Some(Monoid::Sum),
+        "min" => Some(Monoid::Min),
+        "max" => Some(Monoid::Max),
+        "last" => Some(Monoid::Last),
+        "digits" if version == Version::Two => Some(Monoid::Digits),
+        _ => None,
+    }
+}
+
+/// The word of a monoid.
+pub fn monoid_word(monoid: Monoid) -> &'static str
+    ensures { result.now ≡ monoid_spelling monoid }
+{
+    match monoid {
+        Monoid::Sum => "sum",
+        Monoid::Min => "min",
+        Monoid::Max => "max",
+        Monoid::Last => "last",
+        Monoid::Digits => "digits",
+    }
+}
+
+/// The word of a version.
+pub fn version_word(version: Version) -> &'static str
+    ensures { result.now ≡ version_spelling version }
+{
+    match version {
+        Version::One => "1",
+        Version::Two => "2",
+    }
+}
+
+/// The word of a keyword.
+pub fn keyword_word(keyword: Keyword) -> &'static str
+    ensures { result.now ≡ spelling keyword }
+{
+    match keyword {
+        Keyword::Mem => "mem",
+        Keyword::Reducer => "reducer",
+        Keyword::Spawn => "spawn",
+        Keyword::Call => "call",
+        Keyword::Sync => "sync",
+        Keyword::Return => "return",
+        Keyword::Access(kind) => word(kind),
+    }
+}
+
+/// The keyword of an act.
+pub fn keyword_for(act: Act) -> Keyword
+    ensures { result ≡ asks act }
+{
+    match act {
+        Act::Spawn => Keyword::Spawn,
+        Act::Sync => Keyword::Sync,
+        Act::Call => Keyword::Call,
+        Act::Return => Keyword::Return,
+        Act::Read(_) => Keyword::Access(Kind::Read),
+        Act::Write(_, _) => Keyword::Access(Kind::Write),
+        Act::Bump(_, _) => Keyword::Access(Kind::Bump),
+        Act::Update(_, _) => Keyword::Access(Kind::Update),
+        Act::Put(_, _) => Keyword::Access(Kind::Put),
+        Act::Get(_) => Keyword::Access(Kind::Get),
+    }
+}

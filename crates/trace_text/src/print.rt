@@ -1,0 +1,300 @@
+//! A trace as text.
+
+ghost use Rattle.std.specs.Prelude.{◌≡◌, ◌++◌, ◌∷◌, ◌+◌, ◌-◌, ◌<◌, ◌≤◌, ℕ, [], List, OnOk, IfOk, replicate, string_bytes, cond, map};
+ghost use Rattle.std.specs.Fmt.{decimal};
+ghost use Rattle.trace_text.specs.declared.value.Version.{Version};
+ghost use Rattle.trace_text.specs.declared.value.Reducer.{Reducer};
+ghost use Rattle.trace_text.specs.Values.{Known};
+ghost use Rattle.trace_text.specs.Shapes.{name_of_cell};
+ghost use Rattle.trace_text.specs.Printing.{Entry, OfMemory, OfReducer, OfRequest, declarations, entry_text, name_of_reducer, operand_text, known_of, text_from, PrintsEntry, StartsPast, TakesReducers};
+
+use crate::cell::memory_of;
+use crate::keyword::{keyword_for, keyword_word, monoid_word, version_word};
+use crate::trace::Trace;
+use crate::value::{Act, Mem, Reducer, TraceLine};
+use std::alloc::{AllocError, Allocator};
+use std::fmt::Write;
+
+/// Appends a space and a number.
+fn put_number<A: Allocator>(out: &mut String<A>, number: u64) -> Result<(), AllocError>
+    ensures { OnOk result (string_bytes out.new ≡ string_bytes out.old ++ 32 ∷ decimal number) }
+{
+    write!(out, " {number}")?;
+    Ok(())
+}
+
+/// Appends a space and a word.
+fn put_word<A: Allocator>(out: &mut String<A>, word: &str) -> Result<(), AllocError>
+    ensures { OnOk result (string_bytes out.new ≡ string_bytes out.old ++ 32 ∷ word.now) }
+{
+    out.push_str(" ")?;
+    out.push_str(word)?;
+    Ok(())
+}
+
+/// Appends a space and the name of a cell.
+fn put_cell<A: Allocator>(
+    out: &mut String<A>,
+    mems: &[Mem],
+    location: u32,
+) -> Result<(), AllocError>
+    ensures { OnOk result (string_bytes out.new ≡ string_bytes out.old ++ 32 ∷ name_of_cell mems.now location) }
+{
+    match memory_of(mems, location) {
+        Some(mem) => {
+            put_word(out, mem.name.as_str())?;
+            if mem.array {
+                let index = location - mem.first;
+                write!(out, "[{index}]")?;
+            }
+            Ok(())
+        }
+        None => put_word(out, ""),
+    }
+}
+
+/// The name of the reducer with that number.
+fn reducer_name(reducers: &[Reducer], number: u32) -> &str
+    ensures { result.now ≡ name_of_reducer reducers.now number }
+{
+    match reducers.get(number as usize) {
+        Some(reducer) => reducer.name.as_str(),
+        None => "",
+    }
+}
+
+/// Appends what stands between the strand and the mark.
+fn put_operands<A: Allocator>(
+    out: &mut String<A>,
+    mems: &[Mem],
+    reducers: &[Reducer],
+    act: Act,
+) -> Result<(), AllocError>
+    ensures { (version : Version) → OnOk result (string_bytes out.new ≡ string_bytes out.old ++ operand_text (known_of version mems.now reducers.now) act) }
+{
+    match act {
+        Act::Spawn => Ok(()),
+        Act::Sync => Ok(()),
+        Act::Call => Ok(()),
+        Act::Return => Ok(()),
+        Act::Read(location) => put_cell(out, mems, location),
+        Act::Write(location, value) => {
+            put_cell(out, mems, location)?;
+            put_number(out, value)
+        }
+        Act::Bump(location, value) => {
+            put_cell(out, mems, location)?;
+            put_number(out, value)
+        }
+        Act::Update(reducer, value) => {
+            put_word(out, reducer_name(reducers, reducer))?;
+            put_number(out, value)
+        }
+        Act::Put(reducer, value) => {
+            put_word(out, reducer_name(reducers, reducer))?;
+            put_number(out, value)
+        }
+        Act::Get(reducer) => put_word(out, reducer_name(reducers, reducer)),
+    }
+}
+
+/// Appends the mark of a request.
+fn put_mark<A: Allocator>(out: &mut String<A>, line: &TraceLine) -> Result<(), AllocError>
+    ensures { OnOk result (string_bytes out.new ≡ string_bytes out.old ++ cond line.now.marked (32 ∷ 64 ∷ decimal line.now.request.line) []) }
+{
+    if line.marked {
+        let mark = line.request.line;
+        write!(out, " @{mark}")?;
+    }
+    Ok(())
+}
+
+/// Appends a request.
+fn put_request<A: Allocator>(
+    out: &mut String<A>,
+    mems: &[Mem],
+    reducers: &[Reducer],
+    line: &TraceLine,
+) -> Result<(), AllocError>
+    ensures { (version : Version) → OnOk result (string_bytes out.new ≡ string_bytes out.old ++ entry_text (known_of version mems.now reducers.now) (OfRequest line.now)) }
+{
+    out.push_str(keyword_word(keyword_for(line.request.act)))?;
+    put_number(out, u64::from(line.request.strand))?;
+    put_operands(out, mems, reducers, line.request.act)?;
+    put_mark(out, line)?;
+    Ok(())
+}
+
+/// Appends the declaration of a memory.
+fn put_memory<A: Allocator>(out: &mut String<A>, mem: &Mem) -> Result<(), AllocError>
+    ensures { (known : Known) → OnOk result (string_bytes out.new ≡ string_bytes out.old ++ entry_text known (OfMemory mem.now)) }
+{
+    out.push_str("mem")?;
+    put_word(out, mem.name.as_str())?;
+    if mem.array {
+        put_number(out, u64::from(mem.cells))?;
+    }
+    Ok(())
+}
+
+/// Appends the declaration of a reducer.
+fn put_reducer<A: Allocator>(out: &mut String<A>, reducer: &Reducer) -> Result<(), AllocError>
+    ensures { (known : Known) → OnOk result (string_bytes out.new ≡ string_bytes out.old ++ entry_text known (OfReducer reducer.now)) }
+{
+    out.push_str("reducer")?;
+    put_word(out, reducer.name.as_str())?;
+    put_word(out, monoid_word(reducer.monoid))
+}
+
+#[tactic(auto, using(crate::proofs::Printed::one_more_feed))]
+/// Appends a line feed for each line from the number `from` up to that before the number `to`.
+fn put_feeds<A: Allocator>(out: &mut String<A>, from: u64, to: u64) -> Result<(), AllocError>
+    ensures { OnOk result (string_bytes out.new ≡ string_bytes out.old ++ replicate (to - from) 10) }
+{
+    for _ in from..to {
+        out.push_str("\n")?;
+    }
+    Ok(())
+}
+
+/// Appends the line of a memory, where the next line has the number `at`, and gives the number of the line behind it.
+fn put_memory_line<A: Allocator>(out: &mut String<A>, at: u64, mem: &Mem) -> Result<u64, AllocError>
+    ensures { (known : Known) → IfOk result (λ next. PrintsEntry known (string_bytes out.old) at (OfMemory mem.now) (string_bytes out.new) next) }
+{
+    put_feeds(out, at, u64::from(mem.line))?;
+    put_memory(out, mem)?;
+    out.push_str("\n")?;
+    Ok(u64::from(mem.line) + 1)
+}
+
+/// Appends the line of a reducer in the same way.
+fn put_reducer_line<A: Allocator>(
+    out: &mut String<A>,
+    at: u64,
+    reducer: &Reducer,
+) -> Result<u64, AllocError>
+    ensures { (known : Known) → IfOk result (λ next. PrintsEntry known (string_bytes out.old) at (OfReducer reducer.now) (string_bytes out.new) next) }
+{
+    put_feeds(out, at, u64::from(reducer.line))?;
+    put_reducer(out, reducer)?;
+    out.push_str("\n")?;
+    Ok(u64::from(reducer.line) + 1)
+}
+
+/// Appends the line of a request in the same way.
+fn put_request_line<A: Allocator>(
+    out: &mut String<A>,
+    at: u64,
+    mems: &[Mem],
+    reducers: &[Reducer],
+    line: &TraceLine,
+) -> Result<u64, AllocError>
+    ensures { (version : Version) → IfOk result (λ next. PrintsEntry (known_of version mems.now reducers.now) (string_bytes out.old) at (OfRequest line.now) (string_bytes out.new) next) }
+{
+    put_feeds(out, at, u64::from(line.at))?;
+    put_request(out, mems, reducers, line)?;
+    out.push_str("\n")?;
+    Ok(u64::from(line.at) + 1)
+}
+
+/// Appends the lines of the reducers up to the line `bound`, where the next line has the number `from`. It gives the number of the line
+/// behind them, and the reducers that are left.
+fn put_reducers_until<'a, A: Allocator>(
+    out: &mut String<A>,
+    from: u64,
+    bound: u64,
+    reducers: &'a [Reducer],
+) -> Result<(u64, &'a [Reducer]), AllocError>
+    ensures past { IfOk result (λ r. StartsPast bound r.1.now) }
+    ensures prints { (known : Known) (merged : List Reducer → List Entry) → TakesReducers bound merged → IfOk result (λ r. string_bytes out.new ++ text_from known r.0 (merged r.1.now) ≡ string_bytes out.old ++ text_from known from (merged reducers.now)) }
+{
+    let mut at = from;
+    let mut rest = reducers;
+    while let Some((reducer, behind)) = rest.split_first() {
+        if bound < u64::from(reducer.line) {
+            return Ok((at, rest));
+        }
+        at = put_reducer_line(out, at, reducer)?;
+        rest = behind;
+    }
+    Ok((at, rest))
+}
+
+/// Appends the lines of the reducers, and gives the number of the line behind them.
+fn put_reducers<A: Allocator>(
+    out: &mut String<A>,
+    from: u64,
+    reducers: &[Reducer],
+) -> Result<u64, AllocError>
+    ensures { (known : Known) (requests : List Entry) → IfOk result (λ next. string_bytes out.new ++ text_from known next requests ≡ string_bytes out.old ++ text_from known from (map OfReducer reducers.now ++ requests)) }
+{
+    let mut at = from;
+    for reducer in reducers {
+        at = put_reducer_line(out, at, reducer)?;
+    }
+    Ok(at)
+}
+
+/// Appends the lines of the declarations, and gives the number of the line behind them.
+fn put_declarations<A: Allocator>(
+    out: &mut String<A>,
+    mems: &[Mem],
+    reducers: &[Reducer],
+) -> Result<u64, AllocError>
+    ensures { (known : Known) (requests : List Entry) → IfOk result (λ next. string_bytes out.new ++ text_from known next requests ≡ string_bytes out.old ++ text_from known 2 (declarations mems.now reducers.now ++ requests)) }
+{
+    let mut at = 2;
+    let mut rest = reducers;
+    for mem in mems {
+        let (next, left) = put_reducers_until(out, at, u64::from(mem.line), rest)?;
+        at = put_memory_line(out, next, mem)?;
+        rest = left;
+    }
+    put_reducers(out, at, rest)
+}
+
+/// Appends the lines of the requests.
+fn put_requests<A: Allocator>(
+    out: &mut String<A>,
+    from: u64,
+    mems: &[Mem],
+    reducers: &[Reducer],
+    lines: &[TraceLine],
+) -> Result<(), AllocError>
+    ensures { (version : Version) → OnOk result (string_bytes out.new ≡ string_bytes out.old ++ text_from (known_of version mems.now reducers.now) from (map OfRequest lines.now)) }
+{
+    let mut at = from;
+    for line in lines {
+        at = put_request_line(out, at, mems, reducers, line)?;
+    }
+    Ok(())
+}
+
+impl<A: Allocator> Trace<A> {
+    ghost use Rattle.trace_text.specs.Grammar.{TextMeans};
+    ghost use Rattle.trace_text.specs.Traces.{contents};
+    ghost use Rattle.trace_text.specs.Printing.{plain_text};
+
+    fn text<B: Allocator>(&self, alloc: B) -> Result<Vec<u8, B>, AllocError>
+        ensures { IfOk result (λ text. text.items ≡ plain_text (contents self.now)) }
+    {
+        let mut out = String::from_str(alloc, "cilk")?;
+        put_word(&mut out, version_word(self.version))?;
+        out.push_str("\n")?;
+        let mems = self.mems.as_slice();
+        let reducers = self.reducers.as_slice();
+        let at = put_declarations(&mut out, mems, reducers)?;
+        put_requests(&mut out, at, mems, reducers, self.lines.as_slice())?;
+        Ok(out.into_bytes())
+    }
+
+    /// The plain text of the trace, which means this trace and no other: each item stands on its own line, with blank lines between
+    /// them, words are separated by one space, numbers have no leading zeros, and a line feed ends each line.
+    pub fn print<B: Allocator>(&self, alloc: B) -> Result<Vec<u8, B>, AllocError>
+        ensures plain { IfOk result (λ text. text.items ≡ plain_text (contents self.now)) }
+        ensures means { IfOk result (λ text. ∥ TextMeans text.items (contents self.now) ∥₁) }
+    {
+        let text = self.text(alloc)?;
+        Ok(text)
+    }
+}

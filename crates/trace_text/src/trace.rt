@@ -1,0 +1,240 @@
+//! A trace from its text.
+
+ghost use Rattle.std.specs.Prelude.{◌≡◌, ◌≤◌, ℕ, List, length, IsTrue, IfOk, map, MatchResult};
+ghost use Rattle.std.specs.List.{All};
+ghost use Rattle.trace_text.specs.Limits.{max_cells, max_reducers, max_requests};
+ghost use Rattle.trace_text.specs.Shapes.{is_numbered, IsWithin};
+ghost use Rattle.trace_text.specs.Text.{lines};
+ghost use Rattle.trace_text.specs.Grammar.{Item as SpecItem, Declared, Reduces, Asked, LineMeans, LinesMean, TextMeans, extended, nothing, IsHeader, cells_of};
+ghost use Rattle.trace_text.specs.Items.{item_of};
+ghost use Rattle.trace_text.specs.Drafts.{so_far, Extends, IsRoomFault, IsLineFault, IsHeaderFault, IsBodyFault, IsTextFault, SaysSo};
+
+use crate::fault::{Cause, TextFault};
+use crate::line::{Item, read_line};
+use crate::names::Names;
+use crate::place::CELLS;
+use crate::value::{Lines, Mems, Monoid, Monoids, Reducers, Shape, TraceLine, Version};
+use crate::words::{Words, as_text, split_line, without_return};
+use std::alloc::{AllocError, Allocator};
+
+/// The most lines of a text.
+pub const LINES: u32 = 4_000_000;
+/// The most requests of a trace.
+pub const REQUESTS: usize = 2_000_000;
+/// The most reducers of a text.
+pub const REDUCERS: usize = 256;
+
+/// What was read so far.
+#[derive(Drop)]
+struct Draft<'a, A: Allocator> {
+    names: Names<'a, A>,
+    lines: Vec<TraceLine, A>,
+}
+
+fn fault(line: u32, why: Cause) -> TextFault
+    ensures { result ≡ TextFault.At line why }
+{
+    TextFault::At { line, why }
+}
+
+impl<'a, A: Allocator + Copy> Draft<'a, A> {
+    /// Adds a memory.
+    fn declare(&mut self, at: u32, name: &'a str, length: Option<u32>) -> Result<(), TextFault>
+        requires { SaysSo at self.old.names (Declared name.now length) }
+        ensures { MatchResult result
+            (λ _. Extends at (so_far self.old.names self.old.lines.items) (Declared name.now length) (so_far self.new.names self.new.lines.items))
+            (IsRoomFault at (so_far self.old.names self.old.lines.items) (Declared name.now length)) }
+    {
+        if !self.lines.is_empty() {
+            return Err(fault(at, Cause::BadNesting));
+        }
+        if at > LINES || u64::from(self.names.cells()) + u64::from(length.unwrap_or(1)) > CELLS {
+            return Err(fault(at, Cause::TooMany));
+        }
+        self.names.add_memory(at, name, length)?;
+        Ok(())
+    }
+
+    /// Adds a reducer.
+    fn reduce(&mut self, at: u32, name: &'a str, monoid: Monoid) -> Result<(), TextFault>
+        requires { SaysSo at self.old.names (Reduces name.now monoid) }
+        ensures { MatchResult result
+            (λ _. Extends at (so_far self.old.names self.old.lines.items) (Reduces name.now monoid) (so_far self.new.names self.new.lines.items))
+            (IsRoomFault at (so_far self.old.names self.old.lines.items) (Reduces name.now monoid)) }
+    {
+        if !self.lines.is_empty() {
+            return Err(fault(at, Cause::BadNesting));
+        }
+        if at > LINES || self.names.reducer_count() >= REDUCERS {
+            return Err(fault(at, Cause::TooMany));
+        }
+        self.names.add_reducer(at, name, monoid)?;
+        Ok(())
+    }
+
+    /// Adds a request.
+    fn ask(&mut self, at: u32, line: TraceLine) -> Result<(), TextFault>
+        ensures { MatchResult result
+            (λ _. Extends at (so_far self.old.names self.old.lines.items) (Asked line) (so_far self.new.names self.new.lines.items))
+            (IsRoomFault at (so_far self.old.names self.old.lines.items) (Asked line)) }
+    {
+        if at > LINES || self.lines.len() >= REQUESTS {
+            return Err(fault(at, Cause::TooMany));
+        }
+        self.lines.push(line)?;
+        Ok(())
+    }
+
+    /// Adds what the line with the number `at` says.
+    fn add(&mut self, at: u32, item: Item<'a>) -> Result<(), TextFault>
+        requires { SaysSo at self.old.names (item_of item) }
+        ensures { MatchResult result
+            (λ _. Extends at (so_far self.old.names self.old.lines.items) (item_of item.entry) (so_far self.new.names self.new.lines.items))
+            (IsRoomFault at (so_far self.old.names self.old.lines.items) (item_of item.entry)) }
+    {
+        match item {
+            Item::Blank => {
+                if at > LINES {
+                    Err(fault(at, Cause::TooMany))
+                } else {
+                    Ok(())
+                }
+            }
+            Item::Declared { name, length } => self.declare(at, name, length),
+            Item::Reduces { name, monoid } => self.reduce(at, name, monoid),
+            Item::Asked(line) => self.ask(at, line),
+        }
+    }
+
+    /// Reads the line with the number `at`.
+    fn take(&mut self, at: u32, line: &'a [u8]) -> Result<(), TextFault>
+        ensures { MatchResult result
+            (λ _. (item : SpecItem) × LineMeans at (so_far self.old.names self.old.lines.items) line.now item
+            × (so_far self.new.names self.new.lines.items ≡ extended at (so_far self.old.names self.old.lines.items) item))
+            (IsLineFault at (so_far self.old.names self.old.lines.items) line.now) }
+    {
+        let Some(text) = as_text(line) else {
+            return Err(fault(at, Cause::NotText));
+        };
+        match read_line(at, &self.names, &mut Words::of_line(text)) {
+            Ok(item) => self.add(at, item),
+            Err(why) => Err(fault(at, why)),
+        }
+    }
+}
+
+/// Reads the first line.
+fn header(line: &[u8]) -> Result<Version, TextFault>
+    ensures { MatchResult result (IsHeader line.now) (IsHeaderFault line.now) }
+{
+    let Some(text) = as_text(line) else {
+        return Err(fault(1, Cause::NotText));
+    };
+    let mut words = Words::of_line(text);
+    match (words.take(), words.take(), words.take()) {
+        (Some("cilk"), Some("1"), None) => Ok(Version::One),
+        (Some("cilk"), Some("2"), None) => Ok(Version::Two),
+        _ => Err(fault(1, Cause::BadHeader)),
+    }
+}
+
+/// Reads the lines behind the first.
+fn body<'a, A: Allocator + Copy>(
+    alloc: A,
+    version: Version,
+    text: &'a [u8],
+) -> Result<Draft<'a, A>, TextFault>
+    ensures { MatchResult result
+        (λ draft. LinesMean 2 (nothing version) (lines text.now) (so_far draft.names draft.lines.items))
+        (IsBodyFault version text.now) }
+{
+    let mut draft = Draft {
+        names: Names::new(alloc, version),
+        lines: Vec::new(alloc),
+    };
+    let mut rest = text;
+    let mut at = 1;
+    while !rest.is_empty() {
+        let (line, after) = split_line(rest);
+        at += 1;
+        if let Err(fault) = draft.take(at, without_return(line)) {
+            return Err(fault);
+        }
+        rest = after;
+    }
+    Ok(draft)
+}
+
+/// Reads a text.
+fn whole<'a, A: Allocator + Copy>(alloc: A, bytes: &'a [u8]) -> Result<Draft<'a, A>, TextFault>
+    ensures { MatchResult result (λ draft. TextMeans bytes.now (so_far draft.names draft.lines.items)) (IsTextFault bytes.now) }
+{
+    if bytes.is_empty() {
+        return Err(fault(1, Cause::BadHeader));
+    }
+    let (first, rest) = split_line(bytes);
+    let version = match header(without_return(first)) {
+        Ok(version) => version,
+        Err(fault) => return Err(fault),
+    };
+    body(alloc, version, rest)
+}
+
+/// The meaning of a text, made by [`Trace::parse`] alone. Some text means it, its cells are numbered without a gap, and its requests
+/// name cells and reducers that there are.
+#[derive(Drop)]
+pub struct Trace<A: Allocator> {
+    /// The version that the first line names.
+    pub version: Version,
+    /// The declared memories.
+    pub mems: Mems<A>,
+    /// The declared reducers.
+    pub reducers: Reducers<A>,
+    /// The requests.
+    pub lines: Lines<A>,
+    ghost meant: { ∥ ((text : List ℕ) × TextMeans text (record { known = record { version = version; mems = mems; reducers = reducers }; lines = lines })) ∥₁ },
+    ghost numbered: { IsTrue (is_numbered 0 mems) },
+    ghost few_cells: { cells_of mems ≤ max_cells },
+    ghost few_reducers: { length reducers ≤ max_reducers },
+    ghost few_lines: { length lines ≤ max_requests },
+    ghost within: { All (IsWithin (cells_of mems) (length reducers)) lines },
+}
+
+impl<A: Allocator + Copy> Trace<A> {
+    ghost use Rattle.trace_text.specs.Traces.{contents};
+
+    /// The trace that the bytes mean. Otherwise it answers the first faulty line with the lowest cause in it, or
+    /// [`TextFault::Memory`] where a growth was refused.
+    pub fn parse(alloc: A, bytes: &[u8]) -> Result<Trace<A>, TextFault>
+        ensures { MatchResult result (λ trace. TextMeans bytes.now (contents trace)) (IsTextFault bytes.now) }
+    {
+        match whole(alloc, bytes) {
+            Ok(Draft { names, lines }) => {
+                let (version, mems, reducers) = names.into_parts();
+                Ok(Trace {
+                    version,
+                    mems: Mems::new(mems),
+                    reducers: Reducers::new(reducers),
+                    lines: Lines::new(lines),
+                })
+            }
+            Err(fault) => Err(fault),
+        }
+    }
+
+    /// How many cells the trace declares, and the monoids of its reducers.
+    pub fn shape<B: Allocator>(&self, alloc: B) -> Result<Shape<B>, AllocError>
+        ensures cells { IfOk result (λ shape. shape.cells ≡ cells_of self.now.mems) }
+        ensures monoids { IfOk result (λ shape. shape.monoids ≡ map (λ reducer. reducer.monoid) self.now.reducers) }
+    {
+        let cells = self.mems.as_slice().iter().map(|mem| mem.cells).sum();
+        let mut monoids = Vec::new(alloc);
+        for reducer in self.reducers.as_slice() {
+            monoids.push(reducer.monoid)?;
+        }
+        Ok(Shape {
+            cells,
+            monoids: Monoids::new(monoids),
+        })
+    }
+}
