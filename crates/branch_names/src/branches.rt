@@ -34,7 +34,7 @@ impl Name {
     }
 }
 
-/// The branches of the strands of one fork-join program.
+/// The branches of the strands of one spawn-sync program.
 ///
 /// The number of strand 0 is 0, that of a child or a next strand is its strand number, and that of a join is the number of
 /// the strand that opened its block.

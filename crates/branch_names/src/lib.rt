@@ -1,4 +1,4 @@
-//! The branches of a fork-join program's strands, by which strands with the same peers are told (peer sets are those of
+//! The branches of a spawn-sync program's strands, by which strands with the same peers are told (peer sets are those of
 //! Lee and Schardl 2015; that a branch, given when the strand begins, decides its peers for good is this project's own claim).
 //!
 //! A [`Branches`] is told of each spawn and of each join that begins, and keeps one number for each strand. [`Branches::same`]

@@ -1,4 +1,4 @@
-//! The gate of a race detector: it judges the requests of a fork-join program's strands, one after another, and keeps the history of
+//! The gate of a race detector: it judges the requests of a spawn-sync program's strands, one after another, and keeps the history of
 //! its answers.
 //!
 //! Which histories are right is said in `specs/` of the dag of the strands and of the whole list of granted accesses: a history is

@@ -1,10 +1,14 @@
 ghost use Rattle.std.specs.Prelude.{◌≡◌, ◌<◌, ◌≤◌, IfOk, length};
 ghost use Rattle.shadow_history.specs.Shadow.{StandsOn};
 
+mod dag;
+
 use super::*;
 use access_table::{Kind, Rule, is_memory, rule};
+use dag::Dag;
+use linked_list_allocator::LocalHeap;
 use sp_labels::Strands;
-use std::alloc::{AllocError, Global};
+use std::alloc::{AllocError, Allocator, Global};
 use std::process::Abort;
 use std::test::Fail;
 
@@ -13,26 +17,31 @@ use std::test::Fail;
 enum Act {
     Spawn,
     Sync,
+    Call,
     Return,
     Access(Kind, u32),
 }
 
-use Act::{Access, Return, Spawn, Sync};
+use Act::{Access, Call, Return, Spawn, Sync};
 
 /// Strand 0, before it has done anything.
-fn opening(alloc: Global, locations: u32) -> Result<(Strands<Global>, Shadow<Global>), AllocError>
+fn opening<A: Allocator>(
+    alloc: Global,
+    cells: A,
+    locations: u32,
+) -> Result<(Strands<Global>, Shadow<A>), AllocError>
     ensures stands { IfOk result (λ both. StandsOn both.1 both.0) }
     ensures locations { IfOk result (λ both. length both.1 ≡ locations) }
 {
     let strands = Strands::new(alloc)?;
-    let shadow = Shadow::new(alloc, locations)?;
+    let shadow = Shadow::new(cells, locations)?;
     Ok((strands, shadow))
 }
 
 /// Does an act, if it is legal, and takes an access in where no earlier one races with it.
-fn step(
+fn step<A: Allocator>(
     strands: &mut Strands<Global>,
-    shadow: &mut Shadow<Global>,
+    shadow: &mut Shadow<A>,
     entry: u32,
     strand: u32,
     act: Act,
@@ -49,6 +58,10 @@ fn step(
         }
         Sync => {
             let _ = strands.sync(strand);
+            None
+        }
+        Call => {
+            let _ = strands.call(strand);
             None
         }
         Return => {
@@ -78,7 +91,7 @@ fn witness(entry: u32, strand: u32, kind: Kind) -> Option<Witness> {
 
 /// Each act, by its strand, finds the witness beside it.
 fn check(rt: &impl Abort, alloc: Global, acts: &[(u32, Act, Option<Witness>)]) -> Result<(), Fail> {
-    let (mut strands, mut shadow) = opening(alloc, 2)?;
+    let (mut strands, mut shadow) = opening(alloc, alloc, 2)?;
     let mut entry = 0u32;
     for (strand, asked, expected) in acts {
         entry = entry.wrapping_add(1);
@@ -192,95 +205,93 @@ fn the_first_kind_and_its_earliest_entry_count(rt: HostRuntime) -> Result<(), Fa
     )
 }
 
+// A heap of just the cells' bytes: it has no room for a second allocation, and a heap that is smaller has none for the cells.
 #[test]
 fn many_locations_take_one_allocation(rt: HostRuntime) -> Result<(), Fail> {
-    let (mut strands, mut shadow) = opening(rt.alloc(), 1_000_000)?;
+    assert!(rt; size_of::<cell::Cell>() <= 64);
+    let bytes = size_of::<cell::Cell>() * 1_000_000;
+    let heap = LocalHeap::new(rt.alloc(), bytes)?;
+    let (mut strands, mut shadow) = opening(rt.alloc(), &heap, 1_000_000)?;
+    assert_eq!(rt; heap.used(), bytes);
+    assert!(rt; Shadow::new(&heap, 1).is_err());
     for kind in [Kind::Write, Kind::Read] {
         let found = step(&mut strands, &mut shadow, 1, 0, Access(kind, 1));
         assert_eq!(rt; found, None);
     }
-    assert!(rt; size_of::<cell::Cell>() <= 64);
+    assert_eq!(rt; heap.used(), bytes);
+    let smaller = LocalHeap::new(rt.alloc(), bytes - 16)?;
+    assert!(rt; Shadow::new(&smaller, 1_000_000).is_err());
     laws::later_law();
     laws::place_law();
     Ok(())
 }
 
-/// Whether a strand is before another in the English or in the Hebrew order.
-fn is_before(strands: &Strands<Global>, english: bool, a: u32, b: u32) -> bool {
-    strands.is_begun(a)
-        && strands.is_begun(b)
-        && if english {
-            strands.english_before(a, b)
-        } else {
-            strands.hebrew_before(a, b)
-        }
-}
-
-fn is_parallel(strands: &Strands<Global>, a: u32, b: u32) -> bool {
-    strands.is_begun(a) && strands.is_begun(b) && strands.parallel(a, b)
-}
-
 /// The first of the last accesses of one kind in one of the orders.
 fn last(
-    strands: &Strands<Global>,
+    dag: &Dag,
     granted: &[(u32, Witness)],
     location: u32,
     kind: Kind,
     english: bool,
-) -> Option<Witness> {
+) -> Result<Option<Witness>, AllocError> {
     let mut last: Option<Witness> = None;
     for (place, access) in granted {
         if *place == location && access.kind == kind {
-            last = match last {
-                Some(other) if !is_before(strands, english, other.strand, access.strand) => {
-                    Some(other)
-                }
-                _ => Some(*access),
+            let is_later = match last {
+                Some(other) => dag.is_before(
+                    english,
+                    other.strand as usize,
+                    access.strand as usize,
+                )?,
+                None => true,
             };
+            if is_later {
+                last = Some(*access);
+            }
         }
     }
-    last
+    Ok(last)
 }
 
-/// The witness, by a scan of all granted accesses: the slow way.
+/// The witness, by a scan of all granted accesses and paths along the dag: the slow way.
 fn scan(
-    strands: &Strands<Global>,
+    dag: &Dag,
     granted: &[(u32, Witness)],
     location: u32,
     new: Kind,
-    strand: u32,
-) -> Option<Witness> {
+    strand: usize,
+) -> Result<Option<Witness>, AllocError> {
     for earlier in [Kind::Write, Kind::Bump, Kind::Read] {
         if rule(earlier, new) == Rule::Race {
             for english in [true, false] {
-                if let Some(found) = last(strands, granted, location, earlier, english) {
-                    if is_parallel(strands, found.strand, strand) {
-                        return Some(found);
+                if let Some(found) = last(dag, granted, location, earlier, english)? {
+                    if dag.parallel(found.strand as usize, strand)? {
+                        return Ok(Some(found));
                     }
                 }
             }
         }
     }
-    None
+    Ok(None)
 }
 
 /// Whether any granted access races.
 fn races(
-    strands: &Strands<Global>,
+    dag: &Dag,
     granted: &[(u32, Witness)],
     location: u32,
     new: Kind,
-    strand: u32,
-) -> bool {
+    strand: usize,
+) -> Result<bool, AllocError> {
     for (place, access) in granted {
         if *place == location
             && rule(access.kind, new) == Rule::Race
-            && is_parallel(strands, access.strand, strand)
+            && dag.parallel(access.strand as usize, strand)?
         {
-            return true;
+            return Ok(true);
         }
     }
-    false
+    Ok(false)
 }
 
 /// A number below the bound, and the next state of the generator.
@@ -296,49 +307,83 @@ fn draw(state: u64, bound: u32) -> (u32, u64)
 
 fn drawn_act(choice: u32, location: u32) -> Act {
     match choice {
-        0..=2 => Spawn,
-        3 => Sync,
-        4 => Return,
-        5 => Access(Kind::Write, location),
-        6..=7 => Access(Kind::Bump, location),
+        0..=3 => Spawn,
+        4 => Sync,
+        5 => Return,
+        6 => Call,
+        7 => Access(Kind::Write, location),
+        8..=9 => Access(Kind::Bump, location),
         _ => Access(Kind::Read, location),
     }
 }
 
 /// The greatest number of a running strand that is not above another, or 0.
-fn running_below(strands: &Strands<Global>, most: u32) -> u32 {
+fn running_below(dag: &Dag, most: u32) -> u32 {
     for strand in (0..most).rev() {
-        if strands.is_running(strand) {
+        if dag.runs(strand as usize) {
             return strand;
         }
     }
     0
 }
 
+/// Does an act in the reference, and says what it finds: the witness, and whether any access races.
+fn expected(
+    dag: &mut Dag,
+    granted: &[(u32, Witness)],
+    strand: usize,
+    asked: Act,
+) -> Result<(Option<Witness>, bool), AllocError> {
+    match asked {
+        Spawn => dag.spawn(strand)?,
+        Sync => dag.sync(strand)?,
+        Call => dag.call(strand)?,
+        Return => dag.ret(strand)?,
+        Access(kind, location) => {
+            if dag.runs(strand) {
+                let found = scan(dag, granted, location, kind, strand)?;
+                return Ok((found, races(dag, granted, location, kind, strand)?));
+            }
+        }
+    }
+    Ok((None, false))
+}
+
+/// Whether the same strands run in both.
+fn run_alike(strands: &Strands<Global>, dag: &Dag) -> bool {
+    for strand in 0..200u32 {
+        if strands.is_running(strand) != dag.runs(strand as usize) {
+            return false;
+        }
+    }
+    true
+}
+
 #[test]
 fn random_runs_agree_with_the_scan(rt: HostRuntime) -> Result<(), Fail> {
-    for seed in 0..300u64 {
+    let mut raced = 0u32;
+    for seed in 0..400u64 {
         let mut state = seed;
-        let (mut strands, mut shadow) = opening(rt.alloc(), 2)?;
+        let (mut strands, mut shadow) = opening(rt.alloc(), rt.alloc(), 2)?;
+        let mut dag = Dag::new(rt.alloc())?;
         let mut granted = Vec::new(rt.alloc());
         for entry in 1..80u32 {
             let (most, state_then) = draw(state, 60);
-            let (choice, state_last) = draw(state_then, 12);
+            let (choice, state_last) = draw(state_then, 14);
             let (location, state_next) = draw(state_last, 2);
             state = state_next;
-            let strand = running_below(&strands, most);
+            let strand = running_below(&dag, most);
             let asked = drawn_act(choice, location);
-            let runs = strands.is_running(strand);
-            let (expected, is_race) = match asked {
-                Access(kind, location) if runs => (
-                    scan(&strands, &granted, location, kind, strand),
-                    races(&strands, &granted, location, kind, strand),
-                ),
-                _ => (None, false),
-            };
+            let runs = dag.runs(strand as usize);
+            let (witness, is_race) = expected(&mut dag, &granted, strand as usize, asked)?;
             let found = step(&mut strands, &mut shadow, entry, strand, asked);
-            assert_eq!(rt; found, expected, "{asked:?} by {strand} in {seed}");
+            assert_eq!(rt; found, witness, "{asked:?} by {strand} in {seed}");
             assert_eq!(rt; found.is_some(), is_race, "{asked:?} by {strand} in {seed}");
+            assert!(rt;
+                run_alike(&strands, &dag),
+                "{asked:?} by {strand} in {seed}"
+            );
+            raced = raced.saturating_add(u32::from(is_race));
             if let Access(kind, location) = asked {
                 if runs && found.is_none() {
                     let access = Witness {
@@ -351,5 +396,6 @@ fn random_runs_agree_with_the_scan(rt: HostRuntime) -> Result<(), Fail> {
             }
         }
     }
+    assert!(rt; raced > 1_000);
     Ok(())
 }

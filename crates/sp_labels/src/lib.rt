@@ -1,4 +1,4 @@
-//! The strands of a fork-join program as it runs, and which of them are parallel (series-parallel maintenance by two order
+//! The strands of a spawn-sync program as it runs, and which of them are parallel (series-parallel maintenance by two order
 //! lists: Bender, Fineman, Gilbert and Leiserson 2004).
 //!
 //! A `Strands` is told of each spawn, sync, call and return, and answers it. The contracts tie the value to the control

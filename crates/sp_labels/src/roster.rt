@@ -1,4 +1,4 @@
-//! The strands of one fork-join program.
+//! The strands of one spawn-sync program.
 
 ghost use Rattle.std.specs.Prelude.{◌≡◌, ◌≢◌, ◌⊎◌, ◌↔◌, ℕ, [], ◌∷◌, true, false, IsTrue, IfOk, IfErr, OnOk, OnErr, IsErrOf};
 ghost use Rattle.control_history.specs.History.{History, call};
@@ -15,7 +15,7 @@ use slab::Slab;
 use std::alloc::{AllocError, Allocator};
 use std::marker::Model;
 
-/// The strands of one fork-join program.
+/// The strands of one spawn-sync program.
 #[derive(Drop)]
 pub struct Strands<A: Allocator> {
     records: Vec<Record, A>,

@@ -1,18 +1,18 @@
-mod Pieces
-mod WordsOfLine
-mod Numbers
-mod Keywords
-mod CellWords
-mod Outcomes
-mod LineFaults
-mod Once
-mod IndexLemmas
-mod RoomFaults
-mod Unique
-mod Requests
-mod Kept
-mod CellNames
-mod PlainWords
-mod PlainPlaces
-mod PlainLines
-mod Printed
+pub mod Pieces
+pub mod WordsOfLine
+pub mod Numbers
+pub mod Keywords
+pub mod CellWords
+pub mod Outcomes
+pub mod LineFaults
+pub mod Once
+pub mod IndexLemmas
+pub mod RoomFaults
+pub mod Unique
+pub mod Requests
+pub mod Kept
+pub mod CellNames
+pub mod PlainWords
+pub mod PlainPlaces
+pub mod PlainLines
+pub mod Printed

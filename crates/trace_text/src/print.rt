@@ -16,7 +16,7 @@ use std::alloc::{AllocError, Allocator};
 use std::fmt::Write;
 
 /// Appends a space and a number.
-fn put_number<A: Allocator>(out: &mut String<A>, number: u64) -> Result<(), AllocError>
+pub fn put_number<A: Allocator>(out: &mut String<A>, number: u64) -> Result<(), AllocError>
     ensures { OnOk result (string_bytes out.new ≡ string_bytes out.old ++ 32 ∷ decimal number) }
 {
     write!(out, " {number}")?;
@@ -24,7 +24,7 @@ fn put_number<A: Allocator>(out: &mut String<A>, number: u64) -> Result<(), Allo
 }
 
 /// Appends a space and a word.
-fn put_word<A: Allocator>(out: &mut String<A>, word: &str) -> Result<(), AllocError>
+pub fn put_word<A: Allocator>(out: &mut String<A>, word: &str) -> Result<(), AllocError>
     ensures { OnOk result (string_bytes out.new ≡ string_bytes out.old ++ 32 ∷ word.now) }
 {
     out.push_str(" ")?;
@@ -126,7 +126,7 @@ fn put_request<A: Allocator>(
 }
 
 /// Appends the declaration of a memory.
-fn put_memory<A: Allocator>(out: &mut String<A>, mem: &Mem) -> Result<(), AllocError>
+pub fn put_memory<A: Allocator>(out: &mut String<A>, mem: &Mem) -> Result<(), AllocError>
     ensures { (known : Known) → OnOk result (string_bytes out.new ≡ string_bytes out.old ++ entry_text known (OfMemory mem.now)) }
 {
     out.push_str("mem")?;
@@ -138,7 +138,7 @@ fn put_memory<A: Allocator>(out: &mut String<A>, mem: &Mem) -> Result<(), AllocE
 }
 
 /// Appends the declaration of a reducer.
-fn put_reducer<A: Allocator>(out: &mut String<A>, reducer: &Reducer) -> Result<(), AllocError>
+pub fn put_reducer<A: Allocator>(out: &mut String<A>, reducer: &Reducer) -> Result<(), AllocError>
     ensures { (known : Known) → OnOk result (string_bytes out.new ≡ string_bytes out.old ++ entry_text known (OfReducer reducer.now)) }
 {
     out.push_str("reducer")?;
@@ -148,7 +148,7 @@ fn put_reducer<A: Allocator>(out: &mut String<A>, reducer: &Reducer) -> Result<(
 
 #[tactic(auto, using(crate::proofs::Printed::one_more_feed))]
 /// Appends a line feed for each line from the number `from` up to that before the number `to`.
-fn put_feeds<A: Allocator>(out: &mut String<A>, from: u64, to: u64) -> Result<(), AllocError>
+pub fn put_feeds<A: Allocator>(out: &mut String<A>, from: u64, to: u64) -> Result<(), AllocError>
     ensures { OnOk result (string_bytes out.new ≡ string_bytes out.old ++ replicate (to - from) 10) }
 {
     for _ in from..to {

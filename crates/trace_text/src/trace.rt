@@ -124,7 +124,7 @@ impl<'a, A: Allocator + Copy> Draft<'a, A> {
 }
 
 /// Reads the first line.
-fn header(line: &[u8]) -> Result<Version, TextFault>
+pub fn header(line: &[u8]) -> Result<Version, TextFault>
     ensures { MatchResult result (IsHeader line.now) (IsHeaderFault line.now) }
 {
     let Some(text) = as_text(line) else {

@@ -106,25 +106,25 @@ pub struct TraceLine {
 /// Memories in order of declaration, which contracts see as a list.
 #[derive(Drop)]
 pub struct Mems<A: Allocator> {
-    items: Vec<Mem, A>,
+    mems: Vec<Mem, A>,
 }
 
 /// Reducers in order of declaration, which contracts see as a list.
 #[derive(Drop)]
 pub struct Reducers<A: Allocator> {
-    items: Vec<Reducer, A>,
+    reducers: Vec<Reducer, A>,
 }
 
 /// The lines of a trace that ask for something, in their order, which contracts see as a list.
 #[derive(Drop)]
 pub struct Lines<A: Allocator> {
-    items: Vec<TraceLine, A>,
+    lines: Vec<TraceLine, A>,
 }
 
 /// The monoids of the reducers in order of declaration, which contracts see as a list.
 #[derive(Drop)]
 pub struct Monoids<A: Allocator> {
-    items: Vec<Monoid, A>,
+    monoids: Vec<Monoid, A>,
 }
 
 /// How many cells a program has, and the monoids of its reducers.
@@ -142,7 +142,7 @@ impl<A: Allocator> Model for Mems<A> {
 
     ghost Value = { List Mem };
 
-    ghost view = { λ mems. mems.items.items };
+    ghost view = { λ mems. mems.mems.items };
 }
 
 impl<A: Allocator> Model for Reducers<A> {
@@ -151,7 +151,7 @@ impl<A: Allocator> Model for Reducers<A> {
 
     ghost Value = { List Reducer };
 
-    ghost view = { λ reducers. reducers.items.items };
+    ghost view = { λ reducers. reducers.reducers.items };
 }
 
 impl<A: Allocator> Model for Lines<A> {
@@ -160,7 +160,7 @@ impl<A: Allocator> Model for Lines<A> {
 
     ghost Value = { List TraceLine };
 
-    ghost view = { λ lines. lines.items.items };
+    ghost view = { λ lines. lines.lines.items };
 }
 
 impl<A: Allocator> Model for Monoids<A> {
@@ -169,69 +169,69 @@ impl<A: Allocator> Model for Monoids<A> {
 
     ghost Value = { List Monoid };
 
-    ghost view = { λ monoids. monoids.items.items };
+    ghost view = { λ monoids. monoids.monoids.items };
 }
 
 impl<A: Allocator> Mems<A> {
     /// These memories.
-    pub fn new(items: Vec<Mem, A>) -> Mems<A>
-        ensures { result ≡ items.items }
+    pub fn new(mems: Vec<Mem, A>) -> Mems<A>
+        ensures { result ≡ mems.items }
     {
-        Mems { items }
+        Mems { mems }
     }
 
     /// The memories as a slice.
     pub fn as_slice(&self) -> &[Mem]
         ensures { result.now ≡ self.now }
     {
-        self.items.as_slice()
+        self.mems.as_slice()
     }
 }
 
 impl<A: Allocator> Reducers<A> {
     /// These reducers.
-    pub fn new(items: Vec<Reducer, A>) -> Reducers<A>
-        ensures { result ≡ items.items }
+    pub fn new(reducers: Vec<Reducer, A>) -> Reducers<A>
+        ensures { result ≡ reducers.items }
     {
-        Reducers { items }
+        Reducers { reducers }
     }
 
     /// The reducers as a slice.
     pub fn as_slice(&self) -> &[Reducer]
         ensures { result.now ≡ self.now }
     {
-        self.items.as_slice()
+        self.reducers.as_slice()
     }
 }
 
 impl<A: Allocator> Lines<A> {
     /// These lines.
-    pub fn new(items: Vec<TraceLine, A>) -> Lines<A>
-        ensures { result ≡ items.items }
+    pub fn new(lines: Vec<TraceLine, A>) -> Lines<A>
+        ensures { result ≡ lines.items }
     {
-        Lines { items }
+        Lines { lines }
     }
 
     /// The lines as a slice.
     pub fn as_slice(&self) -> &[TraceLine]
         ensures { result.now ≡ self.now }
     {
-        self.items.as_slice()
+        self.lines.as_slice()
     }
 }
 
 impl<A: Allocator> Monoids<A> {
     /// These monoids.
-    pub fn new(items: Vec<Monoid, A>) -> Monoids<A>
-        ensures { result ≡ items.items }
+    pub fn new(monoids: Vec<Monoid, A>) -> Monoids<A>
+        ensures { result ≡ monoids.items }
     {
-        Monoids { items }
+        Monoids { monoids }
     }
 
     /// The monoids as a slice.
     pub fn as_slice(&self) -> &[Monoid]
         ensures { result.now ≡ self.now }
     {
-        self.items.as_slice()
+        self.monoids.as_slice()
     }
 }
