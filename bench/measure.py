@@ -65,6 +65,8 @@ def proved(name, uses, source, room):
 
 def plain(name, room):
     """Builds the plain-Rust program beside the script, for the processor that rt builds for, and gives its file."""
+    if not shutil.which("rustc"):
+        sys.exit("the plain-Rust programs want rustc beside the toolchain")
     made = f"{room}/{name}_plain"
     subprocess.run(["rustc", "--edition", "2021", "-O", "-C", "target-cpu=x86-64-v2", "-o", made, f"{HERE}/{name}.rs"], check=True)
     return made

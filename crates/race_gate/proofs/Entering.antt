@@ -1,31 +1,41 @@
 -- What a gate keeps is right after one more entry.
-use Rattle.std.proofs.Common.{◌≡◌, ℕ, suc, ◌<◌, Some, None, List, [], ◌∷◌, ◌++◌, length, reverse, take, drop, true, false, Bool, cond, refl, sym, ◌∙◌, ap, subst, arith}
+use Rattle.std.proofs.Common.{◌≡◌, ℕ, suc, ◌<◌, Option, Some, None, List, [], ◌∷◌, ◌++◌, length, reverse, take, drop, true, false, Bool, cond, refl, sym, ◌∙◌, ap, subst, arith}
 use Rattle.std.specs.Prelude.{MatchOption, slice_index}
 use Rattle.std.specs.Option.{option_to_list}
 use Rattle.std.proofs.lemmas.List.{append-nil, reverse-append}
 use Rattle.std.proofs.lemmas.Grind.{common_steps}
 use Rattle.trace_text.specs.declared.value.Act.{Act}
 use Rattle.trace_text.specs.declared.value.Act.TheVariants.{Spawn, Sync, Call, Return, Read, Write, Bump, Update, Put, Get}
+use Rattle.trace_text.specs.declared.value.Monoid.{Monoid}
 use Rattle.control_history.specs.History.{Event, History}
+use Rattle.control_history.specs.Strands.{Running}
 use Rattle.control_history.specs.Legal.{Allowed, Legal, then}
+use Rattle.reducer_values.specs.Accesses.{other, Steps, control_steps}
+use Rattle.view_read_rule.specs.Reads.{ReducerRead}
 use Rattle.sp_labels.specs.Roster.{Roster, Follows}
 use Rattle.shadow_history.specs.declared.cell.Cell.{Cell}
 use Rattle.shadow_history.specs.Shadow.{Remembers}
 use Rattle.shadow_history.proofs.Later.{later_law}
 use Rattle.race_gate.specs.declared.access.CellAccess.{CellAccess}
+use Rattle.race_gate.specs.declared.access.Sort.TheVariants.{Control, Cell as CellSort, Reducer}
 use Rattle.race_gate.specs.declared.answer.Answer.{Answer}
+use Rattle.race_gate.specs.declared.answer.Answer.TheVariants.{Granted}
 use Rattle.race_gate.specs.declared.answer.Entry.{Entry}
-use Rattle.race_gate.specs.Entries.{Entries, event_between, event_of, control_part}
+use Rattle.race_gate.specs.Entries.{Entries, event_between, event_of, with_event, control_part}
 use Rattle.race_gate.specs.Shapes.{Shape, IsInRange}
 use Rattle.race_gate.specs.Legal.{Belongs}
-use Rattle.race_gate.specs.Accesses.{cell_access, is_granted, access_at, granted}
+use Rattle.race_gate.specs.Accesses.{cell_access, sort_of, is_granted, access_at, granted}
 use Rattle.race_gate.specs.Memory.{leaves, effect}
 use Rattle.race_gate.specs.Verdicts.{IfValue, IsRightVerdict}
+use Rattle.race_gate.specs.Reducers.{step_with, steps_of, read_at, granted_reads}
+use Rattle.race_gate.specs.ReducerVerdicts.{IsRightFor}
+use Rattle.race_gate.specs.Books.{Books, Keeps, OptionKeepsStill, OptionKeepsOn, OptionKeepsSome, OptionKeepsRunning, OptionHasReducer, OptionAnswersAccess}
 use Rattle.race_gate.specs.States.{State}
-use Rattle.race_gate.specs.Kept.{IsKept}
+use Rattle.race_gate.specs.Kept.{AreBooksOf, IsKept}
 use Rattle.race_gate.specs.Faults.{IsFaultless}
-use Rattle.race_gate.specs.Steps.{GoesOn, if_granted, IsJudgedBy, TakesPlace}
+use Rattle.race_gate.specs.Steps.{IsControl, FollowsWith, GoesOn, if_granted, IsJudgedBy, TakesPlace}
 use Rattle.race_gate.proofs.Effects.{memory-after}
+use Rattle.race_gate.proofs.Keeping.{keeps-other}
 
 -- ---- acts of control and accesses
 
@@ -45,18 +55,58 @@ in-cells shape (Update reducer value) access is in_range = absurd (cc)
 in-cells shape (Put reducer value) access is in_range = absurd (cc)
 in-cells shape (Get reducer) access is in_range = absurd (cc)
 
--- an access of a cell is no event
-access-no_event : (strand : ℕ) (act : Act) (access : CellAccess) (answer : Answer) → cell_access act ≡ Some access → event_between strand act answer ≡ None
-access-no_event strand Spawn access answer is = absurd (cc)
-access-no_event strand Sync access answer is = absurd (cc)
-access-no_event strand Call access answer is = absurd (cc)
-access-no_event strand Return access answer is = absurd (cc)
-access-no_event strand (Read location) access answer is = refl
-access-no_event strand (Write location value) access answer is = refl
-access-no_event strand (Bump location value) access answer is = refl
-access-no_event strand (Update reducer value) access answer is = absurd (cc)
-access-no_event strand (Put reducer value) access answer is = absurd (cc)
-access-no_event strand (Get reducer) access answer is = absurd (cc)
+-- what an access of a cell is to the strands and to the reducers: no event, no update or put, and no read
+record IsCellStep (number strand : ℕ) (act : Act) (answer : Answer) : Type 0 where
+  no_event : event_between strand act answer ≡ None
+  step : step_with None strand act answer ≡ other strand
+  no_read : read_at number strand act answer ≡ None
+  right : (monoids : List Monoid) (history : History) (steps : Steps) (earlier : List ReducerRead) → IsRightFor monoids history steps earlier strand act answer
+
+cell-step : (number strand : ℕ) (act : Act) (access : CellAccess) (answer : Answer) → cell_access act ≡ Some access → IsCellStep number strand act answer
+cell-step number strand (Read location) access answer is = record { no_event = refl; step = refl; no_read = refl; right = λ monoids history steps earlier. tt }
+cell-step number strand (Write location value) access answer is = record { no_event = refl; step = refl; no_read = refl; right = λ monoids history steps earlier. tt }
+cell-step number strand (Bump location value) access answer is = record { no_event = refl; step = refl; no_read = refl; right = λ monoids history steps earlier. tt }
+cell-step number strand act access answer is = absurd (cc)
+
+-- what an event of control is to the reducers: no read
+record IsControlStep (number strand : ℕ) (act : Act) (answer : Answer) : Type 0 where
+  no_read : read_at number strand act answer ≡ None
+  right : (monoids : List Monoid) (history : History) (steps : Steps) (earlier : List ReducerRead) → IsRightFor monoids history steps earlier strand act answer
+
+control-step : (number strand : ℕ) (act : Act) (answer : Answer) → IsControl act → IsControlStep number strand act answer
+control-step number strand Spawn answer is = record { no_read = refl; right = λ monoids history steps earlier. tt }
+control-step number strand Sync answer is = record { no_read = refl; right = λ monoids history steps earlier. tt }
+control-step number strand Call answer is = record { no_read = refl; right = λ monoids history steps earlier. tt }
+control-step number strand Return answer is = record { no_read = refl; right = λ monoids history steps earlier. tt }
+control-step number strand act answer is = absurd is
+
+-- an access of a reducer is no event
+reducer-no_event : (strand : ℕ) (act : Act) (answer : Answer) → sort_of act ≡ Reducer → event_between strand act answer ≡ None
+reducer-no_event strand (Update reducer value) answer is = refl
+reducer-no_event strand (Put reducer value) answer is = refl
+reducer-no_event strand (Get reducer) answer is = refl
+reducer-no_event strand act answer is = absurd (cc)
+
+-- ---- what an act asks for
+
+pub sort-cell : (act : Act) (access : CellAccess) → sort_of act ≡ CellSort access → cell_access act ≡ Some access
+sort-cell (Read location) access is = cc
+sort-cell (Write location value) access is = cc
+sort-cell (Bump location value) access is = cc
+sort-cell act access is = absurd (cc)
+
+pub sort-control : (act : Act) → sort_of act ≡ Control → (cell_access act ≡ None) × IsControl act
+sort-control Spawn is = (refl, tt)
+sort-control Sync is = (refl, tt)
+sort-control Call is = (refl, tt)
+sort-control Return is = (refl, tt)
+sort-control act is = absurd (cc)
+
+sort-reducer : (act : Act) → sort_of act ≡ Reducer → cell_access act ≡ None
+sort-reducer (Update reducer value) is = refl
+sort-reducer (Put reducer value) is = refl
+sort-reducer (Get reducer) is = refl
+sort-reducer act is = absurd (cc)
 
 -- what is no access of a cell leaves memory as it is
 no_access-leaves : (act : Act) (answer : Answer) → cell_access act ≡ None → effect act answer ≡ leaves
@@ -90,20 +140,144 @@ access-granted entry entries access is = rw is refl
 value-held : (answer : Answer) (held defined : ℕ) → held ≡ defined → IfValue answer (λ value. value ≡ held) → IfValue answer (λ value. value ≡ defined)
 value-held answer held defined same value = subst (λ n. IfValue answer (λ value. value ≡ n)) same value
 
+-- ---- steps
+
+access-control : (strand : ℕ) (act : Act) (answer : Answer) (steps : Steps) → control_steps (step_with None strand act answer ∷ steps) ≡ control_steps steps
+access-control strand (Update reducer value) Granted steps = refl
+access-control strand (Put reducer value) Granted steps = refl
+access-control strand act answer steps = refl
+
+entry-control : (event : Option Event) (strand : ℕ) (act : Act) (answer : Answer) (steps : Steps) →
+    control_steps (step_with event strand act answer ∷ steps) ≡ with_event event (control_steps steps)
+entry-control (Some event) strand act answer steps = refl
+entry-control None strand act answer steps = access-control strand act answer steps
+
+-- the events among the steps are those of the entries
+pub steps-control : (entries : Entries) → control_steps (steps_of entries) ≡ control_part entries
+steps-control [] = refl
+steps-control (entry ∷ entries) =
+    entry-control (event_of entry) entry.request.strand entry.request.act entry.answer (steps_of entries) ∙
+    ap (with_event (event_of entry)) (steps-control entries)
+
+-- ---- books after one more entry
+
+pub last_allowed : {history : History} {event : Event} → Legal (event ∷ history) → Allowed history event
+last_allowed (then legal allowed) = allowed
+
+module _ (shape : Shape) (entry : Entry) (entries : Entries) where
+  books-event : (old new : Option Books) (event : Event) → event_of entry ≡ Some event → Allowed (control_part entries) event →
+      read_at (suc (length entries)) entry.request.strand entry.request.act entry.answer ≡ None → OptionKeepsOn old new event →
+      AreBooksOf shape entries old → AreBooksOf shape (entry ∷ entries) new
+  books-event None None event is allowed no_read on none = none
+  books-event None (Some new) event is allowed no_read on none = absurd on
+  books-event (Some old) None event is allowed no_read on books = absurd on
+  books-event (Some old) (Some new) event is allowed no_read on books = (
+    on.monoids ∙ books.0,
+    rw (is, no_read, append-nil) (on.keeps (steps_of entries) (granted_reads entries) books.1 (subst (λ h. Allowed h event) (sym (steps-control entries)) allowed)),
+  )
+
+  books-cell : (books : Option Books) → event_of entry ≡ None → step_with None entry.request.strand entry.request.act entry.answer ≡ other entry.request.strand →
+      read_at (suc (length entries)) entry.request.strand entry.request.act entry.answer ≡ None → Running (control_part entries) entry.request.strand →
+      AreBooksOf shape entries books → AreBooksOf shape (entry ∷ entries) books
+  books-cell None none step no_read runs books = books
+  books-cell (Some kept) none step no_read runs books = (
+    books.0,
+    rw (none, step, no_read, append-nil)
+        (keeps-other kept (steps_of entries) (granted_reads entries) entry.request.strand books.1
+        (subst (λ h. Running h entry.request.strand) (sym (steps-control entries)) runs)),
+  )
+
+  -- what an access of a reducer makes of them, and that its answer is right
+  record IsDone (new : Option Books) : Type 0 where
+    belongs : Belongs entry.request.act entry.answer
+    right : IsRightFor shape.monoids (control_part entries) (steps_of entries) (granted_reads entries) entry.request.strand entry.request.act entry.answer
+    books : AreBooksOf shape (entry ∷ entries) new
+
+  books-reducer : (old new : Option Books) (number : ℕ) → number ≡ suc (length entries) → event_of entry ≡ None → Running (control_part entries) entry.request.strand →
+      OptionAnswersAccess old new number entry.request.strand entry.request.act entry.answer → AreBooksOf shape entries old → IsDone new
+  books-reducer None new number numbered none runs answers books = absurd answers
+  books-reducer (Some old) None number numbered none runs answers books = absurd answers
+  books-reducer (Some old) (Some new) number numbered none runs answers books =
+      let done = answers.answered (steps_of entries) (granted_reads entries) books.1 (subst (λ h. Running h entry.request.strand) (sym (steps-control entries)) runs) in
+      let monoids = answers.monoids ∙ books.0 in
+      record {
+        belongs = done.belongs;
+        right = subst (λ h. IsRightFor shape.monoids h (steps_of entries) (granted_reads entries) entry.request.strand entry.request.act entry.answer) (steps-control entries)
+            (subst (λ list. IsRightFor list (control_steps (steps_of entries)) (steps_of entries) (granted_reads entries) entry.request.strand entry.request.act entry.answer)
+            monoids done.right);
+        books = (
+          monoids,
+          rw none (subst (λ n. Keeps new (step_with None entry.request.strand entry.request.act entry.answer ∷ steps_of entries)
+              (granted_reads entries ++ option_to_list (read_at n entry.request.strand entry.request.act entry.answer))) numbered done.keeps),
+        );
+      }
+
+-- ---- what the gate's steps ask for
+
+pub books-known : (shape : Shape) (entries : Entries) (books : Option Books) (act : Act) → AreBooksOf shape entries books → sort_of act ≡ Reducer →
+    IsInRange shape act → OptionHasReducer books act
+books-known shape entries None (Update reducer value) none is in_range = absurd (omega (arith, ap length none))
+books-known shape entries None (Put reducer value) none is in_range = absurd (omega (arith, ap length none))
+books-known shape entries None (Get reducer) none is in_range = absurd (omega (arith, ap length none))
+books-known shape entries (Some books) (Update reducer value) kept is in_range = omega (arith, ap length kept.0)
+books-known shape entries (Some books) (Put reducer value) kept is in_range = omega (arith, ap length kept.0)
+books-known shape entries (Some books) (Get reducer) kept is in_range = omega (arith, ap length kept.0)
+books-known shape entries books act kept is in_range = absurd (cc)
+
+pub books-running : (shape : Shape) (entries : Entries) (books : Option Books) (act : Act) (strand : ℕ) → AreBooksOf shape entries books → sort_of act ≡ Reducer →
+    IsInRange shape act → Running (control_part entries) strand → OptionKeepsRunning books strand
+books-running shape entries None act strand kept is in_range runs = no_books act (books-known shape entries None act kept is in_range)
+  where
+    no_books : (act : Act) → OptionHasReducer None act → ⊥
+    no_books act none = none
+books-running shape entries (Some books) act strand kept is in_range runs =
+    (steps_of entries, granted_reads entries, kept.1, subst (λ h. Running h strand) (sym (steps-control entries)) runs)
+
+books-some : (shape : Shape) (entries : Entries) (books : Option Books) → AreBooksOf shape entries books → OptionKeepsSome books (control_part entries)
+books-some shape entries None kept = tt
+books-some shape entries (Some books) kept = (steps_of entries, granted_reads entries, kept.1, steps-control entries)
+
+-- the strands and the books are of one history
+pub kept-follows : (state : State) (strands : Roster) (shadow : List Cell) (books : Option Books) → IsKept state strands shadow books → FollowsWith strands books
+kept-follows state strands shadow books kept = (control_part state.history, kept.follows, books-some state.shape state.history books kept.reducers)
+
+books-still : (shape : Shape) (entries : Entries) (old new : Option Books) → OptionKeepsStill old new → AreBooksOf shape entries old → AreBooksOf shape entries new
+books-still shape entries None None still kept = kept
+books-still shape entries None (Some new) still kept = absurd still
+books-still shape entries (Some old) None still kept = absurd still
+books-still shape entries (Some old) (Some new) still kept = (still.monoids ∙ kept.0, still.keeps (steps_of entries) (granted_reads entries) kept.1)
+
+-- a refusal of memory changes nothing
+pub kept-still : (state : State) (strands after : Roster) (shadow : List Cell) (old new : Option Books) → IsKept state strands shadow old →
+    ((history : History) → Follows strands history → Follows after history) → OptionKeepsStill old new → IsKept state after shadow new
+kept-still state strands after shadow old new kept follows still = record {
+  right = kept.right;
+  follows = follows (control_part state.history) kept.follows;
+  remembers = kept.remembers;
+  locations = kept.locations;
+  within = kept.within;
+  limited = kept.limited;
+  reducers = books-still state.shape state.history old new still kept.reducers;
+}
+
 -- ---- one more entry
 
-module _ (state : State) (strands : Roster) (shadow : List Cell) (kept : IsKept state strands shadow) (entry : Entry) (faultless : IsFaultless state entry.request) where
-  entered : (after : Roster) (marks : List Cell) (memory : List ℕ) → Belongs entry.request.act entry.answer →
+module _ (state : State) (strands : Roster) (shadow : List Cell) (books : Option Books) (kept : IsKept state strands shadow books) (entry : Entry)
+    (faultless : IsFaultless state entry.request) where
+  entered : (after : Roster) (marks : List Cell) (others : Option Books) (memory : List ℕ) → Belongs entry.request.act entry.answer →
       MatchOption (event_of entry) (Unit {0}) (Allowed (control_part state.history)) →
       MatchOption (cell_access entry.request.act) (Unit {0}) (λ access. IsRightVerdict state.history entry.request.strand access entry.answer) →
+      IsRightFor state.shape.monoids (control_part state.history) (steps_of state.history) (granted_reads state.history) entry.request.strand entry.request.act
+      entry.answer →
       TakesPlace (effect entry.request.act entry.answer) state.memory memory → Follows after (control_part (entry ∷ state.history)) →
       Remembers marks (control_part (entry ∷ state.history)) (granted (entry ∷ state.history)) → length marks ≡ length shadow →
-      IsKept (record state { history = entry ∷ state.history; memory = memory }) after marks
-  entered after marks memory belongs allowed verdict takes follows remembers len = record {
+      AreBooksOf state.shape (entry ∷ state.history) others → IsKept (record state { history = entry ∷ state.history; memory = memory }) after marks others
+  entered after marks others memory belongs allowed verdict right takes follows remembers len reducers = record {
     right = record {
       judged = record {
         legal = (kept.right.judged.legal, record { runs = faultless.runs; in_range = faultless.in_range; belongs = belongs; allowed = allowed });
         memory = (kept.right.judged.memory, verdict);
+        reducers = (kept.right.judged.reducers, right);
       };
       memory = memory-after state.shape.cells entry state.history state.memory memory kept.right.memory takes;
     };
@@ -112,56 +286,74 @@ module _ (state : State) (strands : Roster) (shadow : List Cell) (kept : IsKept 
     locations = len ∙ kept.locations;
     within = let below = faultless.below in omega arith;
     limited = kept.limited;
-    no_reducers = kept.no_reducers;
+    reducers = reducers;
   }
 
   -- an event of control
-  pub entered-control : (after : Roster) → cell_access entry.request.act ≡ None →
+  pub entered-control : (after : Roster) (others : Option Books) → sort_of entry.request.act ≡ Control →
       GoesOn (control_part state.history) entry.request.strand entry.request.act entry.answer after →
-      IsKept (record state { history = entry ∷ state.history }) after shadow
-  entered-control after no_access goes =
+      ((event : Event) → event_of entry ≡ Some event → OptionKeepsOn books others event) →
+      IsKept (record state { history = entry ∷ state.history }) after shadow others
+  entered-control after others sort goes on =
+      let (no_access, is_control) = sort-control entry.request.act sort in
       let part : control_part (entry ∷ state.history) ≡ goes.event ∷ control_part state.history = rw goes.is refl in
       let legal : Legal (goes.event ∷ control_part state.history) = goes.follows.legal in
       let remembers : Remembers shadow (goes.event ∷ control_part state.history) (granted state.history) =
       later_law shadow (granted state.history) (control_part state.history) (goes.event ∷ control_part state.history) (goes.event ∷ [], refl) legal kept.remembers in
-      entered after shadow state.memory goes.belongs (rw goes.is (last_allowed legal)) (rw no_access tt)
+      let step = control-step (suc (length state.history)) entry.request.strand entry.request.act entry.answer is_control in
+      entered after shadow others state.memory goes.belongs (rw goes.is (last_allowed legal)) (rw no_access tt) (step.right _ _ _ _)
       (rw (no_access-leaves entry.request.act entry.answer no_access) (record { len = refl; each = λ cell below. refl }))
       (subst (λ h. Follows after h) (sym part) goes.follows)
       (subst (λ h. Remembers shadow h (granted (entry ∷ state.history))) (sym part)
       (subst (λ xs. Remembers shadow (goes.event ∷ control_part state.history) xs) (sym (no_access-granted entry state.history no_access)) remembers)) refl
-    where
-      last_allowed : {history : History} {event : Event} → Legal (event ∷ history) → Allowed history event
-      last_allowed (then legal allowed) = allowed
+      (books-event state.shape entry state.history books others goes.event goes.is (last_allowed legal) step.no_read (on goes.event goes.is) kept.reducers)
 
   -- an access of a cell
   pub entered-access : (access : CellAccess) (marks : List Cell) (memory : List ℕ) (number : ℕ) → number ≡ suc (length state.history) →
       cell_access entry.request.act ≡ Some access → access.location < state.shape.cells → Belongs entry.request.act entry.answer →
       IsJudgedBy (control_part state.history) (granted state.history) entry.request.strand access number entry.answer marks →
       IfValue entry.answer (λ value. value ≡ slice_index state.memory access.location) → TakesPlace (effect entry.request.act entry.answer) state.memory memory →
-      length marks ≡ length shadow → IsKept (record state { history = entry ∷ state.history; memory = memory }) strands marks
+      length marks ≡ length shadow → IsKept (record state { history = entry ∷ state.history; memory = memory }) strands marks books
   entered-access access marks memory number numbered is in_range belongs judged value takes len =
-      let none = access-no_event entry.request.strand entry.request.act access entry.answer is in
-      let part : control_part (entry ∷ state.history) ≡ control_part state.history = rw none refl in
+      let step = cell-step (suc (length state.history)) entry.request.strand entry.request.act access entry.answer is in
+      let part : control_part (entry ∷ state.history) ≡ control_part state.history = rw step.no_event refl in
       let verdict : IsRightVerdict state.history entry.request.strand access entry.answer = record {
         refused = judged.refused;
         witness = judged.witness;
         value = value-held entry.answer _ _ (kept.right.memory.each access.location in_range) value;
       } in
-      entered strands marks memory belongs (rw none tt) (rw is verdict) takes (subst (λ h. Follows strands h) (sym part) kept.follows)
+      entered strands marks books memory belongs (rw step.no_event tt) (rw is verdict) (step.right _ _ _ _) takes
+      (subst (λ h. Follows strands h) (sym part) kept.follows)
       (subst (λ h. Remembers marks h (granted (entry ∷ state.history))) (sym part)
       (subst (λ xs. Remembers marks (control_part state.history) xs) (sym (access-granted entry state.history access is))
       (subst (λ n. Remembers marks (control_part state.history)
       (granted state.history ++ option_to_list (if_granted entry.answer (record { strand = entry.request.strand; kind = access.kind; location = access.location; entry = n }))))
       numbered judged.remembers))) len
+      (books-cell state.shape entry state.history books step.no_event step.step step.no_read faultless.runs kept.reducers)
+
+  -- an access of a reducer
+  pub entered-reducer : (others : Option Books) (number : ℕ) → number ≡ suc (length state.history) → sort_of entry.request.act ≡ Reducer →
+      OptionAnswersAccess books others number entry.request.strand entry.request.act entry.answer →
+      IsKept (record state { history = entry ∷ state.history }) strands shadow others
+  entered-reducer others number numbered sort answers =
+      let none = reducer-no_event entry.request.strand entry.request.act entry.answer sort in
+      let no_access = sort-reducer entry.request.act sort in
+      let part : control_part (entry ∷ state.history) ≡ control_part state.history = rw none refl in
+      let done = books-reducer state.shape entry state.history books others number numbered none faultless.runs answers kept.reducers in
+      entered strands shadow others state.memory done.belongs (rw none tt) (rw no_access tt) done.right
+      (rw (no_access-leaves entry.request.act entry.answer no_access) (record { len = refl; each = λ cell below. refl }))
+      (subst (λ h. Follows strands h) (sym part) kept.follows)
+      (subst (λ h. Remembers shadow h (granted (entry ∷ state.history))) (sym part)
+      (subst (λ xs. Remembers shadow (control_part state.history) xs) (sym (no_access-granted entry state.history no_access)) kept.remembers)) refl done.books
 
 -- the entry stands behind the others in the list that the gate keeps
-pub kept-pushed : (shape : Shape) (limit : ℕ) (stopped : Bool) (memory : List ℕ) (items pushed : List Entry) (entry : Entry) (strands : Roster) (shadow : List Cell) →
-    pushed ≡ items ++ entry ∷ [] →
-    IsKept (record { shape = shape; limit = limit; stopped = stopped; history = entry ∷ reverse items; memory = memory }) strands shadow →
-    IsKept (record { shape = shape; limit = limit; stopped = stopped; history = reverse pushed; memory = memory }) strands shadow
-kept-pushed shape limit stopped memory items pushed entry strands shadow is kept =
+pub kept-pushed : (shape : Shape) (limit : ℕ) (stopped : Bool) (memory : List ℕ) (items pushed : List Entry) (entry : Entry) (strands : Roster) (shadow : List Cell)
+    (books : Option Books) → pushed ≡ items ++ entry ∷ [] →
+    IsKept (record { shape = shape; limit = limit; stopped = stopped; history = entry ∷ reverse items; memory = memory }) strands shadow books →
+    IsKept (record { shape = shape; limit = limit; stopped = stopped; history = reverse pushed; memory = memory }) strands shadow books
+kept-pushed shape limit stopped memory items pushed entry strands shadow books is kept =
     let same : entry ∷ reverse items ≡ reverse pushed = sym (ap reverse is ∙ reverse-append items (entry ∷ [])) in
-    subst (λ entries. IsKept (record { shape = shape; limit = limit; stopped = stopped; history = entries; memory = memory }) strands shadow) same kept
+    subst (λ entries. IsKept (record { shape = shape; limit = limit; stopped = stopped; history = entries; memory = memory }) strands shadow books) same kept
 
 -- a whole slice that is written back
 pub written_back : (old new : List ℕ) (len : ℕ) → length old ≡ len → length new ≡ length old → take len (new ++ drop (length new) old) ≡ new

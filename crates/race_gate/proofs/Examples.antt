@@ -80,6 +80,7 @@ one_strand_judged =
     record {
       legal = ((tt, writes [] 0 root_runs 5 Granted tt), reads before 0 root_runs 5);
       memory = ((tt, write_right [] 0 root_runs (free-at_first [] _ _)), read_right before 0 root_runs 5 refl (free-of_one [] _ _ _ (λ rule parallel. parallel.0 stay)));
+      reducers = ((tt, tt), tt);
     }
 
 whole_run_judged : IsJudged one_cell whole_run
@@ -90,6 +91,7 @@ whole_run_judged = record {
     record { runs = refl; in_range = tt; belongs = tt; allowed = root_return refl refl },
   );
   memory = ((tt, tt), tt);
+  reducers = ((tt, tt), tt);
 }
 
 parallel_reads_judged : IsJudged one_cell parallel_reads
@@ -101,6 +103,7 @@ parallel_reads_judged =
         ((tt, tt), read_right spawned 1 child_runs 0 refl (free-at_first first_spawn _ _)),
         read_right before 2 next_runs 0 refl (free-of_one first_spawn _ _ _ (λ rule parallel. free_is_no_race rule)),
       );
+      reducers = (((tt, tt), tt), tt);
     }
 
 -- the child's read races with the next's write
@@ -114,6 +117,7 @@ racing_write_judged = record {
     parallel_reads_judged.memory,
     record { refused = ((λ t. (_, read_races)), (λ race. tt)); witness = (read_races, refl); value = tt },
   );
+  reducers = (parallel_reads_judged.reducers, tt);
 }
 
 -- and so does its write
@@ -133,6 +137,7 @@ read_behind_judged =
         ),
         read_right second 1 child_runs 5 refl (free-of_one first_spawn _ _ _ (λ rule parallel. parallel.0 stay)),
       );
+      reducers = ((((tt, tt), tt), tt), tt);
     }
 
 one_strand_clean : IsClean one_strand

@@ -7,3 +7,10 @@ pub mod Lists
 pub mod Races
 pub mod Values
 pub mod Examples
+pub mod Keeping
+pub mod Reading
+pub mod Getting
+pub mod Answered
+pub mod Answering
+pub mod Controlled
+pub mod Finished

@@ -1,5 +1,5 @@
 -- What a gate keeps at first.
-use Rattle.std.proofs.Common.{◌≡◌, ℕ, ◌≤◌, List, [], length, replicate, reverse, false, arith}
+use Rattle.std.proofs.Common.{◌≡◌, ℕ, ◌≤◌, List, [], length, replicate, reverse, false, Option, Some, None, arith}
 use Rattle.std.proofs.lemmas.List.{get_or-replicate}
 use Rattle.std.proofs.Math.ListN.{length-replicate}
 use Rattle.sp_labels.specs.Roster.{Roster, Follows}
@@ -8,13 +8,18 @@ use Rattle.shadow_history.specs.Shadow.{Remembers}
 use Rattle.race_gate.specs.declared.answer.Entry.{Entry}
 use Rattle.race_gate.specs.Shapes.{Shape, most_entries}
 use Rattle.race_gate.specs.States.{opening}
-use Rattle.race_gate.specs.Kept.{IsKept}
+use Rattle.race_gate.specs.Books.{Books, OpensBooks}
+use Rattle.race_gate.specs.Kept.{AreBooksOf, IsKept}
 
-kept-at_first : (shape : Shape) (limit : ℕ) (strands : Roster) (shadow : List Cell) → Follows strands [] → Remembers shadow [] [] → length shadow ≡ shape.cells →
-    limit ≤ most_entries → shape.monoids ≡ [] → IsKept (opening shape limit) strands shadow
-kept-at_first shape limit strands shadow follows remembers len small none = record {
+books-at_first : (shape : Shape) (books : Option Books) → OpensBooks books shape.monoids → AreBooksOf shape [] books
+books-at_first shape None opens = opens
+books-at_first shape (Some books) opens = opens
+
+kept-at_first : (shape : Shape) (limit : ℕ) (strands : Roster) (shadow : List Cell) (books : Option Books) → Follows strands [] → Remembers shadow [] [] → length shadow ≡ shape.cells →
+    limit ≤ most_entries → OpensBooks books shape.monoids → IsKept (opening shape limit) strands shadow books
+kept-at_first shape limit strands shadow books follows remembers len small opens = record {
   right = record {
-    judged = record { legal = tt; memory = tt };
+    judged = record { legal = tt; memory = tt; reducers = tt };
     memory = record { len = length-replicate shape.cells 0; each = λ cell below. get_or-replicate shape.cells cell 0 0 below };
   };
   follows = follows;
@@ -22,11 +27,11 @@ kept-at_first shape limit strands shadow follows remembers len small none = reco
   locations = len;
   within = omega arith;
   limited = small;
-  no_reducers = none;
+  reducers = books-at_first shape books opens;
 }
 
-pub kept-opening : (shape : Shape) (limit : ℕ) (entries : List Entry) (memory : List ℕ) (strands : Roster) (shadow : List Cell) → entries ≡ [] →
+pub kept-opening : (shape : Shape) (limit : ℕ) (entries : List Entry) (memory : List ℕ) (strands : Roster) (shadow : List Cell) (books : Option Books) → entries ≡ [] →
     memory ≡ replicate shape.cells 0 → Follows strands [] → Remembers shadow [] [] → length shadow ≡ shape.cells → limit ≤ most_entries →
-    shape.monoids ≡ [] → IsKept (record { shape = shape; limit = limit; stopped = false; history = reverse entries; memory = memory }) strands shadow
-kept-opening shape limit entries memory strands shadow no_entries zeros follows remembers len small none =
-    rw (no_entries, zeros) (kept-at_first shape limit strands shadow follows remembers len small none)
+    OpensBooks books shape.monoids → IsKept (record { shape = shape; limit = limit; stopped = false; history = reverse entries; memory = memory }) strands shadow books
+kept-opening shape limit entries memory strands shadow books no_entries zeros follows remembers len small opens =
+    rw (no_entries, zeros) (kept-at_first shape limit strands shadow books follows remembers len small opens)

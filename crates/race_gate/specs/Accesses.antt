@@ -3,9 +3,11 @@ use Rattle.std.specs.Prelude.{ℕ, suc, List, [], ◌∷◌, ◌++◌, length, O
 use Rattle.std.specs.Option.{option_map, option_to_list}
 use Rattle.access_table.specs.declared.kind.Kind.TheVariants as kind
 use Rattle.trace_text.specs.declared.value.Act.{Act}
-use Rattle.trace_text.specs.declared.value.Act.TheVariants.{Read, Write, Bump}
+use Rattle.trace_text.specs.declared.value.Act.TheVariants.{Read, Write, Bump, Update, Put, Get}
 use Rattle.shadow_history.specs.Accesses.{Access}
 use Rattle.race_gate.specs.declared.access.CellAccess.{CellAccess}
+use Rattle.race_gate.specs.declared.access.Sort.{Sort}
+use Rattle.race_gate.specs.declared.access.Sort.TheVariants.{Control, Cell, Reducer}
 use Rattle.race_gate.specs.declared.answer.Answer.{Answer}
 use Rattle.race_gate.specs.declared.answer.Answer.TheVariants.{Granted, Value}
 use Rattle.race_gate.specs.declared.answer.Entry.{Entry}
@@ -17,6 +19,16 @@ cell_access (Read location) = Some (record { kind = kind.Read; location = locati
 cell_access (Write location value) = Some (record { kind = kind.Write; location = location })
 cell_access (Bump location value) = Some (record { kind = kind.Bump; location = location })
 cell_access act = None
+
+-- an act of control, an access of a cell, or one of a reducer
+abbrev pub sort_of : Act → Sort
+sort_of (Read location) = Cell (record { kind = kind.Read; location = location })
+sort_of (Write location value) = Cell (record { kind = kind.Write; location = location })
+sort_of (Bump location value) = Cell (record { kind = kind.Bump; location = location })
+sort_of (Update reducer value) = Reducer
+sort_of (Put reducer value) = Reducer
+sort_of (Get reducer) = Reducer
+sort_of act = Control
 
 -- an access with this answer was done
 abbrev pub is_granted : Answer → Bool

@@ -5,9 +5,13 @@ pub mod Accesses
 pub mod Races
 pub mod Memory
 pub mod Verdicts
+pub mod Reducers
+pub mod ViewReads
+pub mod ReducerVerdicts
 pub mod Judged
 pub mod Extensions
 pub mod States
+pub mod Books
 pub mod Kept
 pub mod Steps
 pub mod Faults

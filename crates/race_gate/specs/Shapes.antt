@@ -13,9 +13,12 @@ pub record Shape : Type 0 where
 abbrev pub shape_of : {A : Type 0} → DeclaredShape A → Shape
 shape_of shape = record { cells = shape.cells; monoids = shape.monoids }
 
--- the most cells, and the most entries of a history
+-- the most cells, the most reducers, and the most entries of a history
 abbrev pub most_cells : ℕ
 most_cells = 1_000_000
+
+abbrev pub most_reducers : ℕ
+most_reducers = 256
 
 abbrev pub most_entries : ℕ
 most_entries = 1_000_000

@@ -16,6 +16,7 @@ use Rattle.race_gate.specs.Accesses.{is_granted}
 use Rattle.race_gate.specs.Races.{HasRace, IsTrueWitness}
 use Rattle.race_gate.specs.Memory.{Effect, sets, adds, leaves}
 use Rattle.race_gate.specs.Verdicts.{IsRefused, IfRefused}
+use Rattle.race_gate.specs.Books.{Books, OptionKeepsSome}
 
 -- the acts of control
 abbrev pub IsControl : Act → Type 0
@@ -24,6 +25,10 @@ IsControl Sync = Unit {0}
 IsControl Call = Unit {0}
 IsControl Return = Unit {0}
 IsControl act = ⊥
+
+-- the strands follow some history, and the books are of steps with it
+abbrev pub FollowsWith : Roster → Option Books → Type 0
+FollowsWith strands books = (history : History) × Follows strands history × OptionKeepsSome books history
 
 -- the act and its answer are an event, with which the history goes on
 pub record GoesOn (history : History) (strand : ℕ) (act : Act) (answer : Answer) (strands : Roster) : Type 0 where

@@ -1,7 +1,7 @@
-//! Which acts are accesses of memory.
+//! Which acts are control, accesses of memory, and accesses of reducers.
 
 ghost use Rattle.std.specs.Prelude.{◌≡◌};
-ghost use Rattle.race_gate.specs.Accesses.{cell_access};
+ghost use Rattle.race_gate.specs.Accesses.{sort_of};
 
 use access_table::{Kind, access_table};
 use trace_text::Act;
@@ -15,27 +15,38 @@ pub struct CellAccess {
     pub location: u32,
 }
 
-/// The access of a cell that an act is, if it is one.
-pub fn access_of(act: Act) -> Option<CellAccess>
-    ensures { result ≡ cell_access act }
+/// What an act asks for.
+#[derive(Clone, Copy, Debug, PartialEq, Eq)]
+pub enum Sort {
+    /// Control of the strands.
+    Control,
+    /// An access of a cell.
+    Cell(CellAccess),
+    /// An access of a reducer.
+    Reducer,
+}
+
+/// What the act asks for.
+pub fn sort_of(act: Act) -> Sort
+    ensures { result ≡ sort_of act }
 {
     macro_rules! access {
         (memory $kind:ident $location:ident) => {
-            Some(CellAccess {
+            Sort::Cell(CellAccess {
                 kind: Kind::$kind,
                 location: $location,
             })
         };
         (reducer $kind:ident $location:ident) => {{
             let _ = $location;
-            None
+            Sort::Reducer
         }};
     }
     macro_rules! accesses {
         ([] $({ $kind:ident $word:literal $sort:ident $($conflict:tt)* })*) => {
             match act {
                 $(Act::$kind(place, ..) => access!($sort $kind place),)*
-                _ => None,
+                _ => Sort::Control,
             }
         };
     }

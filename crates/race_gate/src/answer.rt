@@ -2,9 +2,9 @@
 
 use crate::fault::GateFault;
 use access_table::Rule;
-use trace_text::Request;
 use shadow_history::Witness;
 use sp_labels::Spawned;
+use trace_text::Request;
 
 /// What the gate answers to a request.
 #[derive(Clone, Copy, Debug, PartialEq, Eq)]

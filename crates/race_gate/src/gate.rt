@@ -1,7 +1,7 @@
 //! The gate.
 
-ghost use Rattle.std.specs.Prelude.{◌≡◌, ◌≤◌, ◌↔◌, [], true, reverse, IsTrue, IfOk, MatchResult};
-ghost use Rattle.race_gate.specs.Shapes.{shape_of, most_cells, most_entries};
+ghost use Rattle.std.specs.Prelude.{◌≡◌, ◌≤◌, ◌↔◌, true, length, reverse, IsTrue, IfOk, MatchResult};
+ghost use Rattle.race_gate.specs.Shapes.{shape_of, most_cells, most_reducers, most_entries};
 ghost use Rattle.race_gate.specs.Memory.{IsMemory};
 ghost use Rattle.race_gate.specs.Judged.{IsJudged};
 ghost use Rattle.race_gate.specs.Extensions.{IsFinished};
@@ -9,20 +9,21 @@ ghost use Rattle.race_gate.specs.States.{opening};
 ghost use Rattle.race_gate.specs.Faults.{IsFaultless, IsFirstFault};
 ghost use Rattle.race_gate.specs.Replies.{Judges, reply_of};
 
-use crate::access::access_of;
+use crate::access::{Sort, sort_of};
 use crate::answer::{Answer, Entry, Receipt};
 use crate::fault::GateFault;
-use crate::step::{control, is_in_range, judge_access};
-use trace_text::{Act, Monoids, Request, Shape};
+use crate::reducers::{Reducers, opening_reducers};
+use crate::step::{control, is_in_range, judge_access, judge_reducer};
 use shadow_history::Shadow;
 use sp_labels::Strands;
 use std::alloc::{AllocError, Allocator};
 use std::marker::Model;
+use trace_text::{Act, Monoids, Request, Shape};
 
 /// A gate: it judges requests one after another and keeps the history of its answers. Contracts see its shape, its limit, whether it
 /// was stopped, its history, the newest entry first, and what its cells hold.
 #[derive(Drop)]
-pub struct Gate<A: Allocator> {
+pub struct Gate<A: Allocator + Clone> {
     shape: Shape<A>,
     limit: u32,
     stopped: bool,
@@ -30,9 +31,11 @@ pub struct Gate<A: Allocator> {
     memory: Vec<u64, A>,
     strands: Strands<A>,
     shadow: Shadow<A>,
+    /// None where the program has no reducers.
+    reducers: Option<Reducers<A>>,
 }
 
-impl<A: Allocator> Model for Gate<A> {
+impl<A: Allocator + Clone> Model for Gate<A> {
     ghost use Rattle.std.specs.Prelude.{reverse};
     ghost use Rattle.race_gate.specs.Shapes.{shape_of};
     ghost use Rattle.race_gate.specs.States.{State};
@@ -43,18 +46,15 @@ impl<A: Allocator> Model for Gate<A> {
 
     ghost view = { λ gate. record { shape = shape_of gate.shape; limit = gate.limit; stopped = gate.stopped; history = reverse gate.history.items; memory = gate.memory.items } };
 
-    ghost invariant = { λ gate. IsKept (record { shape = shape_of gate.shape; limit = gate.limit; stopped = gate.stopped; history = reverse gate.history.items; memory = gate.memory.items }) gate.strands gate.shadow };
+    ghost invariant = { λ gate. IsKept (record { shape = shape_of gate.shape; limit = gate.limit; stopped = gate.stopped; history = reverse gate.history.items; memory = gate.memory.items }) gate.strands gate.shadow gate.reducers };
 }
 
-impl<A: Allocator> Gate<A> {
-    /// A gate without entries, over these cells, whose history takes so many entries; 0 is a limit too. Each cell holds 0. It judges no
-    /// reducers yet, so the shape may have none.
+impl<A: Allocator + Clone> Gate<A> {
+    /// A gate without entries, over these cells and reducers, whose history takes so many entries; 0 is a limit too. Each cell holds 0.
     pub fn new<B: Allocator>(alloc: A, shape: &Shape<B>, limit: u32) -> Result<Gate<A>, AllocError>
-    where
-        A: Clone,
         requires cells { shape.now.cells ≤ most_cells }
         requires entries { limit ≤ most_entries }
-        requires no_reducers { shape.now.monoids ≡ [] }
+        requires reducers { length shape.now.monoids ≤ most_reducers }
         ensures { IfOk result (λ gate. gate ≡ opening (shape_of shape.now) limit) }
     {
         let cells = shape.cells;
@@ -62,6 +62,7 @@ impl<A: Allocator> Gate<A> {
         let memory = vec![in alloc.clone()?; 0; cells as usize]?;
         let strands = Strands::new(alloc.clone()?)?;
         let shadow = Shadow::new(alloc.clone()?, cells)?;
+        let reducers = opening_reducers(alloc.clone()?, monoids.as_slice())?;
         Ok(Gate {
             shape: Shape {
                 cells,
@@ -73,6 +74,7 @@ impl<A: Allocator> Gate<A> {
             memory,
             strands,
             shadow,
+            reducers,
         })
     }
 
@@ -162,8 +164,8 @@ impl<A: Allocator> Gate<A> {
         self.check(request)?;
         self.history.reserve(1)?;
         let number = self.history.len() as u32 + 1;
-        let answer = match access_of(request.act) {
-            Some(access) => judge_access(
+        let answer = match sort_of(request.act) {
+            Sort::Cell(access) => judge_access(
                 &self.strands,
                 &mut self.shadow,
                 self.memory.as_mut_slice(),
@@ -172,7 +174,15 @@ impl<A: Allocator> Gate<A> {
                 request.act,
                 access,
             ),
-            None => control(&mut self.strands, request.strand, request.act)?,
+            Sort::Reducer => {
+                judge_reducer(&mut self.reducers, number, request.strand, request.act)?
+            }
+            Sort::Control => control(
+                &mut self.strands,
+                &mut self.reducers,
+                request.strand,
+                request.act,
+            )?,
         };
         self.history.push_reserved(Entry { request, answer });
         Ok(Receipt {

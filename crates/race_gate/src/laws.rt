@@ -1,7 +1,7 @@
 //! The laws of judged histories, each as the contract of a function that does nothing.
 
 ghost use Rattle.race_gate.specs.Examples.{WorkedHistories};
-ghost use Rattle.race_gate.specs.Laws.{RaceLaw, VerdictLaw, ValueLaw};
+ghost use Rattle.race_gate.specs.Laws.{RaceLaw, VerdictLaw, ReadLaw, ValueLaw};
 
 /// Later entries change no race.
 pub fn race_law()
@@ -11,6 +11,11 @@ pub fn race_law()
 /// The verdicts of a judged history are those of its whole dag, so those of a finished history are those of the finished dag.
 pub fn verdict_law()
     ensures { VerdictLaw }
+{}
+
+/// The verdicts on puts and gets of a judged history are those of the dag of each of its finished extensions.
+pub fn read_law()
+    ensures { ReadLaw }
 {}
 
 /// A cell holds the value of its last granted write, or 0, and the granted bumps since.

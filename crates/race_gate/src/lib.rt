@@ -2,10 +2,13 @@
 //! its answers.
 //!
 //! Which histories are right is said in `specs/` of the dag of the strands and of the whole list of granted accesses: a history is
-//! judged where it is legal and where each access of memory is refused exactly when an earlier granted access of a logically parallel
-//! strand conflicts with it (the determinacy races of Feng and Leiserson 1997), each refusal names its rule and a true witness, and
-//! each value that was read is that of the last granted write and the granted bumps since. [`judge_all`] carries the theorem in its
-//! contract: whatever the requests are, the history that the gate keeps is judged, and there is one reply to each request.
+//! judged where it is legal, where each access of memory is refused exactly when an earlier granted access of a logically parallel
+//! strand conflicts with it (the determinacy races of Feng and Leiserson 1997), and where each put or get of a reducer is refused
+//! exactly when, in the dag of every finished extension, an earlier granted one is of a strand with other peers (the view-read races
+//! of Lee and Schardl 2015), or is an unset get. Each refusal names its rule and a true witness. Each value that was read from a cell
+//! is that of the last granted write and the granted bumps since, and each value of a get that of the last granted put, combined in
+//! serial order with the granted updates that lie between the two. [`judge_all`] carries the theorem in its contract: whatever the
+//! requests are, the history that the gate keeps is judged, and there is one reply to each request.
 //! [`Gate::judge`] says the same of one request. The laws of the definitions are in the module `laws`.
 #![tactic(auto)]
 
@@ -14,6 +17,7 @@ mod answer;
 mod fault;
 mod gate;
 pub mod laws;
+mod reducers;
 mod replies;
 mod step;
 

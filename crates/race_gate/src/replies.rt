@@ -7,11 +7,11 @@ ghost use Rattle.race_gate.specs.Replies.{Judges, JudgesAll};
 
 use crate::answer::Reply;
 use crate::gate::Gate;
-use trace_text::Request;
 use std::alloc::{AllocError, Allocator};
+use trace_text::Request;
 
 /// Judges a request, and gives the reply to it.
-fn reply_to<A: Allocator>(gate: &mut Gate<A>, request: Request) -> Reply
+fn reply_to<A: Allocator + Clone>(gate: &mut Gate<A>, request: Request) -> Reply
     ensures replies { Judges gate.old request result gate.new }
     ensures judged { IsJudged gate.new.shape gate.new.history }
     ensures values { IsMemory gate.new.shape.cells gate.new.history gate.new.memory }
@@ -24,7 +24,7 @@ fn reply_to<A: Allocator>(gate: &mut Gate<A>, request: Request) -> Reply
 
 /// Judges the requests in their order, and gives one reply to each. Room for all replies is taken first, and where it is refused the
 /// gate is unchanged. A later want of memory is the reply to its request, and the next one is judged.
-pub fn judge_all<A: Allocator, B: Allocator>(
+pub fn judge_all<A: Allocator + Clone, B: Allocator>(
     gate: &mut Gate<A>,
     alloc: B,
     requests: &[Request],

@@ -1,27 +1,30 @@
 //! The steps that the gate makes at a request.
 
-ghost use Rattle.std.specs.Prelude.{◌≡◌, ◌<◌, ◌↔◌, ℕ, List, length, slice_index, true, IsTrue, IsSome, IfOk, IfErr};
+ghost use Rattle.std.specs.Prelude.{◌≡◌, ◌<◌, ◌↔◌, ℕ, List, length, slice_index, true, Some, IsTrue, IsSome, IfOk, IfErr, OnOk, OnErr};
 ghost use Rattle.access_table.specs.Table.{is_memory_kind};
-ghost use Rattle.control_history.specs.History.{History};
+ghost use Rattle.control_history.specs.History.{Event, History};
 ghost use Rattle.control_history.specs.Blocks.{stack, IsSynced};
 ghost use Rattle.sp_labels.specs.Roster.{Follows, FollowsSome, HasFewLeft};
 ghost use Rattle.shadow_history.specs.Accesses.{Access};
 ghost use Rattle.shadow_history.specs.Shadow.{Remembers, StandsOn, Runs};
 ghost use Rattle.race_gate.specs.Shapes.{shape_of, IsInRange};
+ghost use Rattle.race_gate.specs.Entries.{event_between};
 ghost use Rattle.race_gate.specs.Legal.{Belongs};
+ghost use Rattle.race_gate.specs.Books.{OptionKeepsStill, OptionKeepsOn, OptionKeepsRunning, OptionAnswersAccess, OptionHasRoom, OptionHasReducer};
 ghost use Rattle.race_gate.specs.Accesses.{cell_access, is_granted};
 ghost use Rattle.race_gate.specs.Memory.{effect};
 ghost use Rattle.race_gate.specs.Verdicts.{IfValue};
-ghost use Rattle.race_gate.specs.Steps.{IsControl, GoesOn, IsJudgedBy, TakesPlace};
+ghost use Rattle.race_gate.specs.Steps.{IsControl, FollowsWith, GoesOn, IsJudgedBy, TakesPlace};
 
 use crate::access::CellAccess;
 use crate::answer::Answer;
 use crate::fault::GateFault;
+use crate::reducers::Reducers;
 use access_table::{access_table, rule};
-use trace_text::{Act, Shape};
 use shadow_history::Shadow;
 use sp_labels::{Returned, SpFault, Strands, Synced};
 use std::alloc::Allocator;
+use trace_text::{Act, Shape};
 
 /// Whether the cell or reducer that an act names is there.
 pub fn is_in_range<A: Allocator>(shape: &Shape<A>, act: Act) -> bool
@@ -46,19 +49,18 @@ pub fn is_in_range<A: Allocator>(shape: &Shape<A>, act: Act) -> bool
     access_table!(ranges [])
 }
 
-/// Lets a running strand spawn, sync, call or return. Room for the event is made first, and where it is refused nothing changes.
-pub fn control<A: Allocator>(
+/// Makes room for an event of control. Where it is refused, nothing changes.
+fn reserve<A: Allocator + Clone>(
     strands: &mut Strands<A>,
-    strand: u32,
-    act: Act,
-) -> Result<Answer, GateFault>
-    requires control { IsControl act }
+    reducers: &mut Option<Reducers<A>>,
+) -> Result<(), GateFault>
     requires follows { FollowsSome strands.old }
-    requires runs { Runs strands.old strand }
-    requires synced { act ≡ Act.Return → (history : History) → Follows strands.old history → IsSynced (stack history strand) }
     requires numbers { (history : History) → Follows strands.old history → HasFewLeft history → ⊥ }
-    ensures ok { IfOk result (λ answer. (history : History) → Follows strands.old history → GoesOn history strand act answer strands.new) }
-    ensures err { IfErr result (λ fault. (fault ≡ GateFault.Memory) × (strands.new ≡ strands.old)) }
+    ensures room { OnOk result (strands.new.has_room ≡ true) }
+    ensures books_room { OnOk result (OptionHasRoom reducers.new) }
+    ensures follows { (history : History) → Follows strands.old history → Follows strands.new history }
+    ensures books { OptionKeepsStill reducers.old reducers.new }
+    ensures err { IfErr result (λ fault. fault ≡ GateFault.Memory) }
 {
     if let Err(fault) = strands.reserve_event() {
         match fault {
@@ -66,13 +68,54 @@ pub fn control<A: Allocator>(
             _ => unreachable!(),
         }
     }
-    Ok(match act {
+    if let Some(reducers) = reducers {
+        reducers.reserve_event()?;
+    }
+    Ok(())
+}
+
+/// Lets a running strand spawn, sync, call or return. Room for the event is made first, and where it is refused nothing changes.
+pub fn control<A: Allocator + Clone>(
+    strands: &mut Strands<A>,
+    reducers: &mut Option<Reducers<A>>,
+    strand: u32,
+    act: Act,
+) -> Result<Answer, GateFault>
+    requires control { IsControl act }
+    requires follows { FollowsWith strands.old reducers.old }
+    requires runs { Runs strands.old strand }
+    requires synced { act ≡ Act.Return → (history : History) → Follows strands.old history → IsSynced (stack history strand) }
+    requires numbers { (history : History) → Follows strands.old history → HasFewLeft history → ⊥ }
+    ensures ok { IfOk result (λ answer. (history : History) → Follows strands.old history → GoesOn history strand act answer strands.new) }
+    ensures books { IfOk result (λ answer. (event : Event) → event_between strand act answer ≡ Some event → OptionKeepsOn reducers.old reducers.new event) }
+    ensures err { IfErr result (λ fault. fault ≡ GateFault.Memory) }
+    ensures still { OnErr result ((history : History) → Follows strands.old history → Follows strands.new history) }
+    ensures books_still { OnErr result (OptionKeepsStill reducers.old reducers.new) }
+{
+    reserve(strands, reducers)?;
+    let answer = answer_to(strands, strand, act);
+    if let Some(reducers) = reducers {
+        reducers.follow(strand, answer);
+    }
+    Ok(answer)
+}
+
+/// The answer to an act of control, with which the strands go on.
+fn answer_to<A: Allocator>(strands: &mut Strands<A>, strand: u32, act: Act) -> Answer
+    requires control { IsControl act }
+    requires room { strands.old.has_room ≡ true }
+    requires follows { FollowsSome strands.old }
+    requires runs { Runs strands.old strand }
+    requires synced { act ≡ Act.Return → (history : History) → Follows strands.old history → IsSynced (stack history strand) }
+    ensures { (history : History) → Follows strands.old history → GoesOn history strand act result strands.new }
+{
+    match act {
         Act::Spawn => spawn(strands, strand),
         Act::Sync => sync(strands, strand),
         Act::Call => call(strands, strand),
         Act::Return => ret(strands, strand),
         _ => unreachable!(),
-    })
+    }
 }
 
 fn spawn<A: Allocator>(strands: &mut Strands<A>, strand: u32) -> Answer
@@ -181,4 +224,35 @@ fn perform(memory: &mut [u64], act: Act) -> Answer
         }
         _ => unreachable!(),
     }
+}
+
+/// Judges an access of a reducer by a running strand, and does it where it is granted. Room for it is made first, and where it is
+/// refused nothing changes. `number` is that of its entry.
+pub fn judge_reducer<A: Allocator + Clone>(
+    reducers: &mut Option<Reducers<A>>,
+    number: u32,
+    strand: u32,
+    act: Act,
+) -> Result<Answer, GateFault>
+    requires in_range { OptionHasReducer reducers.old act }
+    requires keeps { OptionKeepsRunning reducers.old strand }
+    ensures ok { IfOk result (OptionAnswersAccess reducers.old reducers.new number strand act) }
+    ensures err { IfErr result (λ fault. fault ≡ GateFault.Memory) }
+    ensures still { OnErr result (OptionKeepsStill reducers.old reducers.new) }
+{
+    let Some(reducers) = reducers else {
+        unreachable!()
+    };
+    Ok(match act {
+        Act::Update(reducer, value) => {
+            reducers.reserve_access()?;
+            reducers.update(strand, reducer, value)
+        }
+        Act::Put(reducer, value) => {
+            reducers.reserve_access()?;
+            reducers.put(number, strand, reducer, value)
+        }
+        Act::Get(reducer) => reducers.get(number, strand, reducer),
+        _ => unreachable!(),
+    })
 }

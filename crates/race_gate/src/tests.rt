@@ -1,24 +1,36 @@
-ghost use Rattle.std.specs.Prelude.{◌≤◌};
-ghost use Rattle.race_gate.specs.Shapes.{most_entries};
+ghost use Rattle.std.specs.Prelude.{◌≤◌, length};
+ghost use Rattle.race_gate.specs.Shapes.{most_entries, most_reducers};
+
+mod random;
+mod reducers;
+mod reference;
 
 use super::*;
 use Act::{Bump, Call, Get, Read, Return, Spawn, Sync, Write};
 use Answer::{Ended, EndedJoined, Finished, Granted, Joined, Resumed, Same, Value, Waits};
 use access_table::{Kind, Rule};
-use trace_text::{Act, Monoids, Request, Shape};
 use shadow_history::Witness;
 use sp_labels::Spawned;
 use std::alloc::{AllocError, Global};
 use std::process::Abort;
 use std::test::Fail;
+use trace_text::{Act, Monoid, Monoids, Request, Shape};
 
 /// One cell, x, with the number 0.
 fn opening(alloc: Global, limit: u32) -> Result<Gate<Global>, AllocError>
     requires { limit ≤ most_entries }
 {
+    opening_with(alloc, &[], limit)
+}
+
+/// Three cells beside these reducers, or one where there are none.
+fn opening_with(alloc: Global, monoids: &[Monoid], limit: u32) -> Result<Gate<Global>, AllocError>
+    requires entries { limit ≤ most_entries }
+    requires reducers { length monoids.now ≤ most_reducers }
+{
     let shape = Shape {
-        cells: 1,
-        monoids: Monoids::new(Vec::new(alloc)),
+        cells: if monoids.is_empty() { 1 } else { 3 },
+        monoids: Monoids::new(monoids.to_vec(alloc)?),
     };
     Gate::new(alloc, &shape, limit)
 }
@@ -45,7 +57,19 @@ fn refused(entry: u32, strand: u32, kind: Kind) -> Answer {
 
 /// Each act, by its strand, is answered by what stands beside it.
 fn check(rt: &impl Abort, alloc: Global, acts: &[(u32, Act, Answer)]) -> Result<(), Fail> {
-    let mut gate = opening(alloc, 1_000_000)?;
+    check_with(rt, alloc, &[], acts)
+}
+
+/// The same of a program with these reducers.
+fn check_with(
+    rt: &impl Abort,
+    alloc: Global,
+    monoids: &[Monoid],
+    acts: &[(u32, Act, Answer)],
+) -> Result<(), Fail>
+    requires { length monoids.now ≤ most_reducers }
+{
+    let mut gate = opening_with(alloc, monoids, 1_000_000)?;
     let mut number = 0u32;
     for (strand, act, answer) in acts {
         number = number.wrapping_add(1);
@@ -317,6 +341,7 @@ fn the_root_function_finishes(rt: HostRuntime) -> Result<(), Fail> {
     assert_eq!(rt; gate.history().len(), 2);
     laws::race_law();
     laws::verdict_law();
+    laws::read_law();
     laws::value_law();
     laws::examples_law();
     Ok(())

@@ -1,32 +1,25 @@
-use Rattle.std.proofs.Common.{inl, inr, Err, sym, ap, subst}
-use Rattle.race_gate.proofs.Followed.{follows-reserved}
-use Rattle.race_gate.specs.Steps.{GoesOn}
+use Rattle.race_gate.proofs.Followed.{running-in-each, synced-in-each}
+use Rattle.race_gate.proofs.Controlled.{still-some, takes-event, on-some}
 use Rattle.race_gate.proofs.step.control.Goals as goal
 
-pub unreachable-requires : goal.unreachable-requires
-unreachable-requires g c =
-    let (history, follows) = c.requires.follows in
-    elim c.in-Err.ensures.causes [
-      | inl e ↦ c.requires.numbers history follows ((c.in-Err.ensures.full history follows).0 (ap Err e)).1
-      | inr e ↦ c.in_default-fault.not-Memory e
-    ]
+pub answer_to-answer-requires-clause-runs : goal.answer_to-answer-requires-clause-runs
+answer_to-answer-requires-clause-runs g c history follows =
+    let (first, followed, books) = c.requires.follows in
+    running-in-each _ first history (c.in_ok-reserve.ensures.follows first followed) follows c.args.strand (c.requires.runs first followed)
 
-pub returns-in-Spawn-clause-ok : goal.returns-in-Spawn-clause-ok
-returns-in-Spawn-clause-ok g c history follows =
-    subst (λ act. GoesOn history c.args.strand act c.spawn.result c.spawn.new.strands) (sym c.in-Spawn.is)
-    (c.spawn.ensures history (follows-reserved _ _ history c.in_default.ensures.ok follows))
+pub answer_to-answer-requires-clause-synced : goal.answer_to-answer-requires-clause-synced
+answer_to-answer-requires-clause-synced g c returns history follows =
+    let (first, followed, books) = c.requires.follows in
+    synced-in-each _ first history (c.in_ok-reserve.ensures.follows first followed) follows c.args.strand (c.requires.runs first followed)
+    (c.requires.synced returns first followed)
 
-pub returns-in-Sync-clause-ok : goal.returns-in-Sync-clause-ok
-returns-in-Sync-clause-ok g c history follows =
-    subst (λ act. GoesOn history c.args.strand act c.sync.result c.sync.new.strands) (sym c.in-Sync.is)
-    (c.sync.ensures history (follows-reserved _ _ history c.in_default.ensures.ok follows))
+pub follow-requires-clause-takes : goal.follow-requires-clause-takes
+follow-requires-clause-takes g c =
+    let (first, followed, books) = c.requires.follows in
+    let still = still-some _ _ first c.in_ok-reserve.ensures.books books in
+    takes-event _ _ first c.args.strand c.args.act c.answer_to-answer.result _ c.in-Some.is still
+    (c.answer_to-answer.ensures first (c.in_ok-reserve.ensures.follows first followed))
 
-pub returns-in-Call-clause-ok : goal.returns-in-Call-clause-ok
-returns-in-Call-clause-ok g c history follows =
-    subst (λ act. GoesOn history c.args.strand act c.call.result c.call.new.strands) (sym c.in-Call.is)
-    (c.call.ensures history (follows-reserved _ _ history c.in_default.ensures.ok follows))
-
-pub returns-in-Return-clause-ok : goal.returns-in-Return-clause-ok
-returns-in-Return-clause-ok g c history follows =
-    subst (λ act. GoesOn history c.args.strand act c.ret.result c.ret.new.strands) (sym c.in-Return.is)
-    (c.ret.ensures history (follows-reserved _ _ history c.in_default.ensures.ok follows))
+pub returns-in-Some-clause-books : goal.returns-in-Some-clause-books
+returns-in-Some-clause-books g c event between =
+    on-some _ _ _ _ event c.in_ok-reserve.ensures.books c.in-Some.is (c.follow.ensures.follows c.args.act event between)

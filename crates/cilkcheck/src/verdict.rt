@@ -1,0 +1,142 @@
+//! The verdict lines: a line for each reply of a gate.
+
+ghost use Rattle.std.specs.Prelude.{◌≡◌, ◌++◌, ℕ, List, IfOk, OnOk, IsSome, decimal, unwrap_or};
+ghost use Rattle.std.specs.List.{All};
+ghost use Rattle.cilkcheck.specs.VerdictText.{kind_asked, refusal_word, HasWord, HasWords, answer_word, answer_numbers, answer_text, fault_word as word_of_fault, numbers_text, line_of, verdict_text};
+
+use access_table::{Kind, access_table, rule_word};
+use itoa::Buffer;
+use race_gate::{Answer, GateFault, Reply};
+use std::alloc::{AllocError, Allocator};
+use trace_text::Act;
+
+/// The kind of access that an act is, where it is one.
+fn kind_of_act(act: Act) -> Option<Kind>
+    ensures { result ≡ kind_asked act }
+{
+    macro_rules! kinds {
+        ([] $({ $kind:ident $($rest:tt)* })*) => {
+            match act {
+                $(Act::$kind(..) => Some(Kind::$kind),)*
+                _ => None,
+            }
+        };
+    }
+    access_table!(kinds [])
+}
+
+/// The word of the rule that an act and an earlier access of this kind come under.
+fn rule_of_refusal(act: Act, witness: Kind) -> &'static str
+    requires { IsSome (refusal_word act witness) }
+    ensures { refusal_word act witness ≡ Some result.now }
+{
+    let Some(kind) = kind_of_act(act) else {
+        unreachable!()
+    };
+    match rule_word(witness, kind) {
+        Some(word) => word,
+        None => unreachable!(),
+    }
+}
+
+/// The word of a fault.
+fn fault_word(fault: GateFault) -> &'static str
+    ensures { result.now ≡ word_of_fault fault }
+{
+    match fault {
+        GateFault::Stopped => "stopped",
+        GateFault::Limit => "limit",
+        GateFault::NotRunning => "not-running",
+        GateFault::BadName => "bad-name",
+        GateFault::Unsynced => "unsynced",
+        GateFault::Memory => "memory",
+    }
+}
+
+/// Adds words to a text.
+fn push_words<A: Allocator>(text: &mut Vec<u8, A>, words: &str) -> Result<(), AllocError>
+    ensures { OnOk result (text.new.items ≡ text.old.items ++ words.now) }
+{
+    text.extend_from_slice(words.as_bytes())
+}
+
+/// Adds a number to a text, behind what stands before it.
+fn push_number<A: Allocator>(
+    text: &mut Vec<u8, A>,
+    before: &str,
+    number: u64,
+) -> Result<(), AllocError>
+    ensures { OnOk result (text.new.items ≡ text.old.items ++ before.now ++ decimal number) }
+{
+    push_words(text, before)?;
+    push_words(text, Buffer::new().format(number))
+}
+
+/// Adds what the gate answered to an act.
+fn push_answer<A: Allocator>(
+    text: &mut Vec<u8, A>,
+    act: Act,
+    answer: Answer,
+) -> Result<(), AllocError>
+    requires { HasWord act answer }
+    ensures { OnOk result (text.new.items ≡ text.old.items ++ answer_text act answer) }
+{
+    match answer {
+        Answer::Split(spawned) => {
+            push_number(text, "split ", u64::from(spawned.child))?;
+            push_number(text, " ", u64::from(spawned.next))?;
+            push_number(text, " ", u64::from(spawned.join))
+        }
+        Answer::Same => push_words(text, "same"),
+        Answer::Joined(join) => push_number(text, "joined ", u64::from(join)),
+        Answer::Waits => push_words(text, "waits"),
+        Answer::Resumed => push_words(text, "resumed"),
+        Answer::Ended => push_words(text, "ended"),
+        Answer::EndedJoined(join) => {
+            push_words(text, "ended-joined")?;
+            push_number(text, " ", u64::from(join))
+        }
+        Answer::Finished => push_words(text, "finished"),
+        Answer::Granted => push_words(text, "granted"),
+        Answer::Value(value) => push_number(text, "value ", value),
+        Answer::Refused { witness, .. } => {
+            push_words(text, "refused ")?;
+            push_words(text, rule_of_refusal(act, witness.kind))?;
+            push_number(text, " ", u64::from(witness.entry))
+        }
+        Answer::Unset => push_words(text, "refused unset"),
+    }
+}
+
+/// Adds the line of a reply.
+fn push_line<A: Allocator>(text: &mut Vec<u8, A>, reply: &Reply) -> Result<(), AllocError>
+    requires { HasWords reply.now }
+    ensures { OnOk result (text.new.items ≡ text.old.items ++ line_of reply.now) }
+{
+    match reply {
+        Reply::Done(receipt) => {
+            push_number(text, "", u64::from(receipt.number))?;
+            push_words(text, " ")?;
+            push_answer(text, receipt.request.act, receipt.answer)?;
+        }
+        Reply::Illegal(fault) => {
+            push_words(text, "illegal ")?;
+            push_words(text, fault_word(*fault))?;
+        }
+    }
+    push_words(text, "\n")
+}
+
+/// The verdict lines of replies, a line for each. A Done reply is the entry's number, a space and the answer; an Illegal one is `illegal`
+/// and the word of the fault. The rule of a refusal is told by the kinds of the two accesses, so each refusal among the replies must be
+/// of an access that conflicts with its witness, as those of a gate are.
+pub fn verdict_lines<A: Allocator>(alloc: A, replies: &[Reply]) -> Result<Vec<u8, A>, AllocError>
+    requires { All HasWords replies.now }
+    ensures { IfOk result (λ text. text.items ≡ verdict_text replies.now) }
+{
+    let mut text = Vec::new(alloc);
+    for reply in replies {
+        push_line(&mut text, reply)?;
+    }
+    Ok(text)
+}

@@ -1,0 +1,145 @@
+//! The words of the command line.
+
+ghost use Rattle.std.specs.Prelude.{◌≡◌, ◌≤◌, IfOk, IfErr};
+ghost use Rattle.race_gate.specs.Shapes.{most_entries};
+ghost use Rattle.cilkcheck.specs.Jobs.{IsInRange};
+ghost use Rattle.cilkcheck.specs.Faults.{IsUsageFault};
+
+use crate::fault::CliFault;
+use clap::error::ErrorKind;
+use clap::{Arg, ArgMatches, Command};
+use std::alloc::{AllocError, Global};
+
+/// The most entries that a history may have, and the limit where none is given.
+const MOST_ENTRIES: u32 = 1_000_000;
+
+const ABOUT: &str =
+    "Finds determinacy races and view-read races in the traces of spawn-sync programs";
+
+const EXAMPLE: &str = "For example, a function spawns a child, and both write the cell x:
+
+    printf 'cilk 1\\nmem x\\nspawn 0\\nwrite 1 x 5\\nwrite 2 x 6\\n' | cilkcheck judge
+
+    1 split 1 2 3
+    2 granted
+    3 refused write-write 2
+
+The spawn by strand 0 begins the child 1 and the continuation 2, and reserves the join 3.
+The third request is refused: it races with the write of entry 2.
+
+Exit status:
+  0  no access was refused
+  1  an access was refused
+  2  wrong words, input that can't be read or has a fault, output that failed, or an illegal request
+  3  no memory
+  4  the limit was passed";
+
+const JUDGE_ABOUT: &str =
+    "Judges the requests of a trace on standard input, and writes a verdict line for each";
+
+const JUDGE_EXAMPLE: &str =
+    "Input: a line `cilk 1` or `cilk 2`, declarations, and a request on each line. `#` begins a comment.
+  mem NAME, mem NAME LENGTH          a cell NAME; an array of cells NAME[0], NAME[1] and so on
+  reducer NAME MONOID                MONOID is sum, min, max or last; in `cilk 2` also digits
+  spawn S, call S, sync S, return S  S is the number of a strand; the root function begins as strand 0
+  read S CELL, write S CELL VALUE    in `cilk 2` also bump S CELL VALUE, which adds
+  update S REDUCER VALUE             combines a value into the strand's view
+  put S REDUCER VALUE, get S REDUCER
+
+Output: for each request the number of its entry and what was answered, as `1 split 1 2 3`, `2 value 0`, `3 granted`,
+`4 refused write-write 2` where it races with entry 2, `5 refused view-read 1` where the put or get of entry 1 has other
+peers, or `6 refused unset` for a get with no put or get before it; or `illegal` and the reason.
+
+Exit status: 0 where nothing was refused, 1 where an access was, 2 for a fault of the input or an illegal request,
+3 for want of memory, 4 where the limit was passed.";
+
+/// What the words of the command line ask for.
+#[derive(Debug, Drop)]
+pub enum Job {
+    /// To judge a trace, with this limit on the entries of its history.
+    Judge { limit: u32 },
+    /// To show a text: the help or the version.
+    Show { text: String },
+}
+
+/// The program's commands.
+fn commands<'a>(alloc: Global) -> Result<Command<'a>, AllocError> {
+    let limit = Arg::new(alloc, "limit").long("limit").value_name("N").help(
+        "The most entries of the history, from 0 to 1000000 [default: 1000000]",
+    );
+    let judge = Command::new(alloc, "judge")
+        .about(JUDGE_ABOUT)
+        .after_help(JUDGE_EXAMPLE)
+        .arg(limit)?;
+    Command::new(alloc, "cilkcheck")
+        .bin_name("cilkcheck")?
+        .version("0.1.0")
+        .about(ABOUT)
+        .after_help(EXAMPLE)
+        .subcommand(judge)
+}
+
+/// A usage fault with this text, which stands in one line; or want of memory.
+pub fn usage(alloc: Global, text: &str) -> CliFault
+    ensures { IsUsageFault result }
+{
+    match String::from_str(alloc, text) {
+        Ok(text) => CliFault::Usage(text),
+        Err(_) => CliFault::Memory,
+    }
+}
+
+/// What the parser of the command line answers in place of a job: a text to show, or the first line of what is wrong.
+fn shown(alloc: Global, error: clap::Error) -> Result<Job, CliFault>
+    ensures job { IfOk result IsInRange }
+    ensures fault { IfErr result IsUsageFault }
+{
+    if error.kind() == ErrorKind::OutOfMemory {
+        return Err(CliFault::Memory);
+    }
+    let text = format!(in alloc; "{error}")?;
+    if error.use_stderr() {
+        let line = text.as_str().lines().next().unwrap_or("");
+        Err(usage(alloc, line.strip_prefix("error: ").unwrap_or(line)))
+    } else {
+        Ok(Job::Show { text })
+    }
+}
+
+/// The limit that the words of `judge` give.
+fn limit_of(alloc: Global, matches: &ArgMatches<'_>) -> Result<u32, CliFault>
+    ensures limit { IfOk result (λ limit. limit ≤ most_entries) }
+    ensures fault { IfErr result IsUsageFault }
+{
+    let Some(text) = matches.get_str("limit") else {
+        return Ok(MOST_ENTRIES);
+    };
+    match text.parse::<u32>() {
+        Ok(limit) if limit <= MOST_ENTRIES => Ok(limit),
+        _ => Err(usage(
+            alloc,
+            "invalid value for '--limit <N>': a number from 0 to 1000000 is wanted",
+        )),
+    }
+}
+
+/// Reads the words behind the program's name. A fault is [`CliFault::Usage`] or [`CliFault::Memory`].
+pub fn read_words(alloc: Global, words: &[&str]) -> Result<Job, CliFault>
+    ensures job { IfOk result IsInRange }
+    ensures fault { IfErr result IsUsageFault }
+{
+    let command = match commands(alloc) {
+        Ok(command) => command.no_binary_name(true),
+        Err(_) => return Err(CliFault::Memory),
+    };
+    match command.try_get_matches_from(words) {
+        Ok(matches) => match matches.subcommand() {
+            Some(("judge", matches)) => {
+                let limit = limit_of(alloc, matches)?;
+                Ok(Job::Judge { limit })
+            }
+            _ => Err(usage(alloc, "no command is given; see 'cilkcheck --help'")),
+        },
+        Err(error) => shown(alloc, error),
+    }
+}

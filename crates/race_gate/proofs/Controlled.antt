@@ -1,0 +1,57 @@
+-- Acts of control and accesses, and the books of reducers that there may be.
+use Rattle.std.proofs.Common.{◌≡◌, ℕ, Option, Some, None, refl, sym, ◌∙◌, subst}
+use Rattle.trace_text.specs.declared.value.Act.{Act}
+use Rattle.control_history.specs.History.{Event, History}
+use Rattle.control_history.specs.Strands.{Running}
+use Rattle.control_history.specs.Legal.{Allowed}
+use Rattle.sp_labels.specs.Roster.{Roster, Follows}
+use Rattle.race_gate.specs.declared.answer.Answer.{Answer}
+use Rattle.race_gate.specs.Books.{Books, TakesEvent, KeepsRunning, KeepsStill, KeepsOn, AnswersAccess, OptionKeepsStill, OptionKeepsOn, OptionKeepsSome, OptionKeepsRunning, OptionAnswersAccess}
+use Rattle.race_gate.specs.Steps.{GoesOn}
+use Rattle.race_gate.proofs.Entering.{last_allowed}
+
+pub still-some : (old new : Option Books) (history : History) → OptionKeepsStill old new → OptionKeepsSome old history → OptionKeepsSome new history
+still-some None None history still some = tt
+still-some None (Some new) history still some = absurd still
+still-some (Some old) None history still some = absurd still
+still-some (Some old) (Some new) history still (steps, earlier, kept, same) = (steps, earlier, still.keeps steps earlier kept, same)
+
+-- the answer's event comes next
+pub takes-event : (books : Books) (option : Option Books) (history : History) (strand : ℕ) (act : Act) (answer : Answer) (strands : Roster) → option ≡ Some books →
+    OptionKeepsSome option history → GoesOn history strand act answer strands → TakesEvent books strand answer
+takes-event books None history strand act answer strands is some goes = absurd (cc)
+takes-event books (Some one) history strand act answer strands is (steps, earlier, kept, same) goes =
+    let same_books : one ≡ books = cc in
+    let found : TakesEvent one strand answer =
+    (act, goes.event, goes.is, (steps, earlier, kept, subst (λ h. Allowed h goes.event) (sym same) (last_allowed goes.follows.legal))) in
+    subst (λ b. TakesEvent b strand answer) same_books found
+
+-- the books that there are go on with the event
+pub on-some : (old between : Option Books) (one new : Books) (event : Event) → OptionKeepsStill old between → between ≡ Some one → KeepsOn one new event →
+    OptionKeepsOn old (Some new) event
+on-some None None one new event still is on = absurd (cc)
+on-some None (Some found) one new event still is on = absurd still
+on-some (Some old) None one new event still is on = absurd still
+on-some (Some old) (Some found) one new event still is on =
+    let same : found ≡ one = cc in
+    let stays = subst (λ b. KeepsStill old b) same still in
+    record { monoids = on.monoids ∙ stays.monoids; keeps = λ steps earlier kept allowed. on.keeps steps earlier (stays.keeps steps earlier kept) allowed }
+
+pub running-still : (option : Option Books) (one new : Books) (strand : ℕ) → option ≡ Some one → KeepsStill one new → OptionKeepsRunning option strand → KeepsRunning new strand
+running-still None one new strand is still none = absurd none
+running-still (Some found) one new strand is still (steps, earlier, kept, runs) =
+    let same : one ≡ found = cc in
+    let stays = subst (λ b. KeepsStill b new) same still in
+    (steps, earlier, stays.keeps steps earlier kept, runs)
+
+-- an access after room was made for it
+pub answers-still : (option : Option Books) (one between new : Books) (number strand : ℕ) (act asked : Act) (answer : Answer) → option ≡ Some one → asked ≡ act →
+    KeepsStill one between → AnswersAccess between new number strand act answer → OptionAnswersAccess option (Some new) number strand asked answer
+answers-still None one between new number strand act asked answer is same_act still answers = absurd (cc)
+answers-still (Some found) one between new number strand act asked answer is same_act still answers =
+    let same : one ≡ found = cc in
+    let stays = subst (λ b. KeepsStill b between) same still in
+    subst (λ a. AnswersAccess found new number strand a answer) (sym same_act) (record {
+      monoids = answers.monoids ∙ stays.monoids;
+      answered = λ steps earlier kept runs. answers.answered steps earlier (stays.keeps steps earlier kept) runs;
+    })

@@ -1,0 +1,40 @@
+-- The verdicts on puts and gets are those of each finished extension of the whole history.
+use Rattle.std.proofs.Common.{◌≡◌, ◌↔◌, ◌⊎◌, inl, inr, ℕ, List, [], ◌∷◌, ◌++◌, append_assoc, refl, sym, ◌∙◌, ap, subst}
+use Rattle.access_table.specs.declared.kind.Kind.{Kind}
+use Rattle.trace_text.specs.declared.value.Act.{Act}
+use Rattle.trace_text.specs.declared.value.Act.TheVariants.{Put, Get}
+use Rattle.control_history.specs.History.{History}
+use Rattle.control_history.specs.Extensions.{Extends}
+use Rattle.race_gate.specs.declared.answer.Entry.{Entry}
+use Rattle.race_gate.specs.Entries.{Entries, control_part}
+use Rattle.race_gate.specs.Shapes.{Shape}
+use Rattle.race_gate.specs.Verdicts.{IsRefused}
+use Rattle.race_gate.specs.Reducers.{steps_of, granted_reads}
+use Rattle.race_gate.specs.ViewReads.{Completes, HasViewRace, IsRightRead}
+use Rattle.race_gate.specs.ReducerVerdicts.{IsRightFor, ReducersAreJudged}
+use Rattle.race_gate.specs.Laws.{ReadLaw}
+use Rattle.race_gate.proofs.Races.{extends-part}
+
+-- a finished extension of a history is one of what it begins with
+completes-earlier : (whole longer history : History) → Extends longer history → Completes whole longer → Completes whole history
+completes-earlier whole longer history (middle, is) completes =
+    let (later, same) = completes.extends in
+    record { extends = (later ++ middle, append_assoc later middle history ∙ ap (λ h. later ++ h) is ∙ same); legal = completes.legal; finished = completes.finished }
+
+-- each verdict was right when it came
+read-then : (shape : Shape) (later entries : Entries) (entry : Entry) → ReducersAreJudged shape (later ++ entry ∷ entries) →
+    IsRightFor shape.monoids (control_part entries) (steps_of entries) (granted_reads entries) entry.request.strand entry.request.act entry.answer
+read-then shape [] entries entry judged = judged.1
+read-then shape (newer ∷ later) entries entry judged = read-then shape later entries entry judged.0
+
+pub read_law : ReadLaw
+read_law shape later entries entry reducer value judged is whole completes =
+    let right = read-then shape later entries entry judged.reducers in
+    let longer = later ++ entry ∷ entries in
+    let split : (later ++ entry ∷ []) ++ entries ≡ longer = append_assoc later (entry ∷ []) entries in
+    let extends : Extends (control_part longer) (control_part entries) = subst (λ es. Extends (control_part es) (control_part entries)) split (extends-part (later ++ entry ∷ []) entries) in
+    let before = completes-earlier whole (control_part longer) (control_part entries) extends completes in
+    elim is [
+      | inl e ↦ (let put = rw e at right in put.refused whole before)
+      | inr e ↦ (let get = rw e at right in get.0.refused whole before)
+    ]

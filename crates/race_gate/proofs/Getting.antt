@@ -1,0 +1,87 @@
+-- The view of a strand at a granted get is the value of the definition.
+use Rattle.std.proofs.Common.{◌≡◌, ◌⊎◌, inl, inr, ℕ, suc, ◌≤◌, List, [], ◌∷◌, map, length, Option, Some, None, refl, sym, ◌∙◌, ap, subst, arith}
+use Rattle.trace_text.specs.declared.value.Monoid.{Monoid}
+use Rattle.trace_text.specs.declared.value.Monoid.TheVariants.{Sum, Min, Max, Last, Digits}
+use Rattle.control_history.specs.History.{History}
+use Rattle.control_history.specs.Strands.{Running}
+use Rattle.control_history.specs.Branches.{branch}
+use Rattle.view_read_rule.specs.Reads.{ReducerRead, IsReadOf}
+use Rattle.reducer_values.specs.Items.{Items, control, update, put, other, control_part, IsLegal}
+use Rattle.reducer_values.specs.Entries.{Entry, number_of as entry_number, strand_of, value_of, HasPut}
+use Rattle.reducer_values.specs.Accesses.{Steps, control_steps, AreLegal, items_of}
+use Rattle.reducer_values.specs.Views.{product}
+use Rattle.reducer_values.specs.GetValues.{IsLastPut, IsGranted, IsValue}
+use Rattle.reducer_values.proofs.Accesses.{projection_law}
+use Rattle.reducer_values.proofs.Steps.{put_numbered}
+use Rattle.reducer_views.specs.declared.view.View.{View}
+use Rattle.reducer_views.specs.declared.view.View.TheVariants.{Nothing, One, Pair}
+use Rattle.reducer_views.specs.Products.{product_of, put_view, update_view, number_of, reducer_of}
+use Rattle.reducer_views.specs.Touched.{monoid_of}
+use Rattle.reducer_views.specs.Held.{AreNumbers, view_of}
+use Rattle.reducer_views.proofs.Gets.{get_law}
+use Rattle.race_gate.specs.ReducerVerdicts.{IsGetValue}
+use Rattle.race_gate.specs.Books.{PutsAreRead}
+
+-- where there is a put, there is a last one
+last-put : (items : Items) (some : Entry) → HasPut items some → (last : Entry) × IsLastPut items last
+last-put [] some has = absurd has
+last-put (control event ∷ items) some has = let (last, is) = last-put items some has in (last, is)
+last-put (update strand value ∷ items) some has = let (last, is) = last-put items some has in (last, is)
+last-put (other strand ∷ items) some has = let (last, is) = last-put items some has in (last, is)
+last-put (put strand value ∷ items) some has = (_, (inl refl, newest))
+  where
+    newest : (one : Entry) → HasPut (put strand value ∷ items) one → entry_number one ≤ suc (length items)
+    newest one (inl e) = let at : entry_number one ≡ suc (length items) = ap entry_number e in omega arith
+    newest one (inr older) = omega (arith, put_numbered items one older)
+
+-- what is combined with a put is a number
+put-number : (monoid : Monoid) (value : ℕ) (view : View) → number_of (product_of monoid (put_view monoid value) view) ≡ None → ⊥
+put-number Sum value Nothing e = absurd (cc)
+put-number Sum value (One n) e = absurd (cc)
+put-number Sum value (Pair m n) e = absurd (cc)
+put-number Min value Nothing e = absurd (cc)
+put-number Min value (One n) e = absurd (cc)
+put-number Min value (Pair m n) e = absurd (cc)
+put-number Max value Nothing e = absurd (cc)
+put-number Max value (One n) e = absurd (cc)
+put-number Max value (Pair m n) e = absurd (cc)
+put-number Last value Nothing e = absurd (cc)
+put-number Last value (One n) e = absurd (cc)
+put-number Last value (Pair m n) e = absurd (cc)
+put-number Digits value Nothing e = absurd (cc)
+put-number Digits value (One n) e = absurd (cc)
+put-number Digits value (Pair m n) e = absurd (cc)
+
+value-some : (monoid : Monoid) (items : Items) (strand : ℕ) (view : View) → IsValue (reducer_of monoid) items strand view → number_of view ≡ None → ⊥
+value-some monoid items strand view is none =
+    put-number monoid (value_of is.put) (product (reducer_of monoid) (map (λ (entry : Entry). update_view monoid (value_of entry)) is.counted))
+    (ap number_of (sym is.combined) ∙ none)
+
+module _ (monoids : List Monoid) (steps : Steps) (earlier : List ReducerRead) (strand reducer : ℕ) (legal : AreLegal steps) (numbers : AreNumbers steps)
+    (puts : PutsAreRead steps earlier reducer) (runs : Running (control_steps steps) strand)
+    (same : (read : ReducerRead) → IsReadOf earlier reducer read → branch (control_steps steps) read.strand ≡ branch (control_steps steps) strand)
+    (found : (read : ReducerRead) × IsReadOf earlier reducer read) where
+  granted : (last : Entry) × IsGranted (items_of reducer steps) strand last
+  granted =
+      let projects = projection_law reducer steps in
+      let (some, has) = puts.put_of found.0 found.1 in
+      let (last, is) = last-put (items_of reducer steps) some has in
+      let (read, listed, at) = puts.read_of last is.0 in (
+        last,
+        record {
+          legal = projects.1.1 legal;
+          runs = subst (λ history. Running history strand) (sym projects.0) runs;
+          last = is;
+          same_branch = subst (λ history. branch history (strand_of last) ≡ branch history strand) (sym projects.0)
+              (ap (branch (control_steps steps)) (sym at) ∙ same read listed);
+        },
+      )
+
+  is_value : IsValue (reducer_of (monoid_of monoids reducer)) (items_of reducer steps) strand (view_of monoids reducer steps strand)
+  is_value = (get_law monoids reducer steps numbers strand granted.0 granted.1 (view_of monoids reducer steps strand)).1 refl
+
+  pub get-value : (value : ℕ) → Some value ≡ number_of (view_of monoids reducer steps strand) → IsGetValue monoids steps strand reducer value
+  get-value value is = (view_of monoids reducer steps strand, is_value, sym is)
+
+  pub get-some : None ≡ number_of (view_of monoids reducer steps strand) → ⊥
+  get-some none = value-some (monoid_of monoids reducer) (items_of reducer steps) strand (view_of monoids reducer steps strand) is_value (sym none)

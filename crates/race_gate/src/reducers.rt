@@ -1,0 +1,164 @@
+//! What the gate keeps of reducers.
+
+ghost use Rattle.std.specs.Prelude.{◌≡◌, ◌<◌, ◌^◌, [], ℕ, List, length, true, Some, IfOk, OnOk, IsTrue, MatchOption};
+ghost use Rattle.access_table.specs.Table.{is_reducer_read};
+ghost use Rattle.control_history.specs.History.{Event};
+ghost use Rattle.control_history.specs.Strands.{Running};
+ghost use Rattle.reducer_values.specs.Accesses.{Steps, control_steps};
+ghost use Rattle.view_read_rule.specs.Reads.{ReducerRead};
+ghost use Rattle.race_gate.specs.Entries.{event_between};
+ghost use Rattle.race_gate.specs.Books.{Keeps, KeepsRunning, KeepsStill, KeepsOn, TakesEvent, HasRoom, IsRefusal, MayRead, AnswersAccess, OpensBooks};
+
+use crate::answer::Answer;
+use access_table::{Kind, rule};
+use branch_names::Branches;
+use reducer_views::Views;
+use std::alloc::{AllocError, Allocator};
+use std::marker::Model;
+use trace_text::{Act, Monoid};
+use view_read_rule::{ReadPeers, ViewVerdict};
+
+/// The branches of the strands, the first granted read of each reducer, and the strands' views of reducers.
+#[derive(Drop)]
+pub struct Reducers<A: Allocator + Clone> {
+    branches: Branches<A>,
+    reads: ReadPeers<A>,
+    views: Views<A>,
+}
+
+impl<A: Allocator + Clone> Model for Reducers<A> {
+    ghost use Rattle.race_gate.specs.Books.{Books};
+
+    ghost Value = { Books };
+
+    ghost view = { λ reducers. record { branches = reducers.branches; reads = reducers.reads; views = reducers.views } };
+}
+
+/// What is kept of these reducers before any event; nothing where there are none.
+pub fn opening_reducers<A: Allocator + Clone>(
+    alloc: A,
+    monoids: &[Monoid],
+) -> Result<Option<Reducers<A>>, AllocError>
+    requires { length monoids.now < 2 ^ 32 }
+    ensures { IfOk result (λ reducers. OpensBooks reducers monoids.now) }
+{
+    if monoids.is_empty() {
+        return Ok(None);
+    }
+    Ok(Some(Reducers::new(alloc, monoids)?))
+}
+
+impl<A: Allocator + Clone> Reducers<A> {
+    /// Reducers that no strand has touched.
+    pub fn new(alloc: A, monoids: &[Monoid]) -> Result<Reducers<A>, AllocError>
+        requires { length monoids.now < 2 ^ 32 }
+        ensures keeps { IfOk result (λ reducers. Keeps reducers [] []) }
+        ensures monoids { IfOk result (λ reducers. reducers.views.monoids ≡ monoids.now) }
+    {
+        let branches = Branches::new(alloc.clone()?)?;
+        let reads = ReadPeers::new(alloc.clone()?, monoids.len() as u32)?;
+        let views = Views::new(alloc, monoids)?;
+        Ok(Reducers {
+            branches,
+            reads,
+            views,
+        })
+    }
+
+    /// Makes room for an event of control. A refusal changes nothing.
+    pub fn reserve_event(&mut self) -> Result<(), AllocError>
+        ensures still { KeepsStill self.old self.new }
+        ensures room { OnOk result (HasRoom self.new) }
+    {
+        self.branches.reserve_event()?;
+        self.views.reserve_event()
+    }
+
+    /// Makes room for an update or a put. A refusal changes nothing.
+    pub fn reserve_access(&mut self) -> Result<(), AllocError>
+        ensures still { KeepsStill self.old self.new }
+        ensures room { OnOk result (self.new.views.has_room ≡ true) }
+    {
+        self.views.reserve_event()
+    }
+
+    /// Takes in the event of control that the strand's act was answered by. Takes no memory.
+    pub fn follow(&mut self, strand: u32, answer: Answer)
+        requires room { HasRoom self.old }
+        requires takes { TakesEvent self.old strand answer }
+        ensures follows { (act : Act) (event : Event) → event_between strand act answer ≡ Some event → KeepsOn self.old self.new event }
+    {
+        match answer {
+            Answer::Split(spawned) => {
+                self.branches.spawned(strand, &spawned);
+                self.views.spawned(strand, &spawned);
+            }
+            Answer::Joined(join) | Answer::EndedJoined(join) => {
+                self.branches.joined(join);
+                self.views.joined(join);
+            }
+            _ => {}
+        }
+    }
+
+    /// Takes in an update of the reducer by a running strand. Takes no memory.
+    pub fn update(&mut self, strand: u32, reducer: u32, value: u64) -> Answer
+        requires in_range { reducer < length self.old.views.monoids }
+        requires room { self.old.views.has_room ≡ true }
+        requires keeps { KeepsRunning self.old strand }
+        ensures { (number : ℕ) → AnswersAccess self.old self.new number strand (Act.Update reducer value) result }
+    {
+        self.views.update(strand, reducer, value);
+        Answer::Granted
+    }
+
+    /// The answer to a put or a get that is not granted, if it is not. Takes no memory.
+    fn refusal(&self, strand: u32, reducer: u32, kind: Kind) -> Option<Answer>
+        requires in_range { reducer < length self.now.views.monoids }
+        requires reducer_read { IsTrue (is_reducer_read kind) }
+        requires keeps { KeepsRunning self.now strand }
+        ensures { (steps : Steps) (earlier : List ReducerRead) → Keeps self.now steps earlier → Running (control_steps steps) strand →
+            MatchOption result (MayRead (control_steps steps) earlier strand reducer kind) (IsRefusal (control_steps steps) earlier strand reducer kind) }
+    {
+        match self.reads.judge(&self.branches, reducer, kind, strand) {
+            ViewVerdict::Granted => None,
+            ViewVerdict::Refused(witness) => Some(Answer::Refused {
+                rule: rule(witness.kind, kind),
+                witness,
+            }),
+            ViewVerdict::Unset => Some(Answer::Unset),
+        }
+    }
+
+    /// Judges a put of a value by a running strand, and does it where it is granted. `number` is that of its entry. Takes no memory.
+    pub fn put(&mut self, number: u32, strand: u32, reducer: u32, value: u64) -> Answer
+        requires in_range { reducer < length self.old.views.monoids }
+        requires room { self.old.views.has_room ≡ true }
+        requires keeps { KeepsRunning self.old strand }
+        ensures { AnswersAccess self.old self.new number strand (Act.Put reducer value) result }
+    {
+        if let Some(refused) = self.refusal(strand, reducer, Kind::Put) {
+            return refused;
+        }
+        self.reads.add(reducer, Kind::Put, strand, number);
+        self.views.put(strand, reducer, value);
+        Answer::Granted
+    }
+
+    /// Judges a get by a running strand, and answers the value of its view where it is granted. `number` is that of its entry. Takes no
+    /// memory.
+    pub fn get(&mut self, number: u32, strand: u32, reducer: u32) -> Answer
+        requires in_range { reducer < length self.old.views.monoids }
+        requires keeps { KeepsRunning self.old strand }
+        ensures { AnswersAccess self.old self.new number strand (Act.Get reducer) result }
+    {
+        if let Some(refused) = self.refusal(strand, reducer, Kind::Get) {
+            return refused;
+        }
+        self.reads.add(reducer, Kind::Get, strand, number);
+        match self.views.get(strand, reducer) {
+            Some(value) => Answer::Value(value),
+            None => unreachable!(),
+        }
+    }
+}

@@ -1,0 +1,359 @@
+-- What is kept of the strands, when what is touched at one number changes.
+use Rattle.std.proofs.Common.{◌≡◌, ◌≢◌, ◌⊎◌, inl, inr, ℕ, ◌-◌, ◌<◌, zero, suc, List, [], ◌∷◌, length, map, get_or, set, Option, Some, None, Box, refl, sym, ap, ap₂, ◌∙◌, subst, subst₂, arith}
+use Rattle.std.proofs.lemmas.List.{get_or-map, get_or-set_other, get_or-set_same, length-map, length-set, map-set}
+use Rattle.control_history.proofs.Members.{Present, contains_present}
+use Rattle.trace_text.specs.declared.value.Monoid.{Monoid}
+use Rattle.reducer_views.specs.declared.pieces.Piece.{Piece}
+use Rattle.reducer_views.specs.declared.touched.Touch.{Touch}
+use Rattle.reducer_views.specs.declared.touched.Slot.{Slot}
+use Rattle.reducer_views.specs.Products.{identity_of, product_of}
+use Rattle.reducer_views.specs.Touched.{Touches, touches_of, look_up, listed_of, Changes, both, added, monoid_of, view_or, gathered, IsTouch, AreTouches}
+use Rattle.reducer_views.specs.Pieces.{Kept, kept_of, all_kept, kept_at, home_at, later_at, touches_at, view_in, AreKept, SameHomes, WithTouches, TakesOver, SetsAt, ChangesAt, AreLater, product_from, Combines}
+use Rattle.control_history.proofs.Updates.{same_or_not}
+use Rattle.reducer_views.proofs.Listed.{look_up-listed_of}
+use Rattle.reducer_views.proofs.Touches.{both_touch, both_view, added_touch, added_view}
+
+abbrev pub nothing_kept : Kept
+nothing_kept = record { home = 0; later = 0; touches = [] }
+
+pub kept_here : {A : Type 0} (pieces : List (Piece A)) (strand : ℕ) (piece : Piece A) → strand < length pieces → kept_at (all_kept pieces) strand ≡ kept_of (get_or pieces strand piece)
+kept_here pieces strand piece lt = get_or-map kept_of pieces strand piece nothing_kept lt
+
+pub touches_here : {A : Type 0} (pieces : List (Piece A)) (strand : ℕ) (piece : Piece A) → strand < length pieces → (reducer : ℕ) → touches_at (all_kept pieces) strand reducer ≡ touches_of (get_or pieces strand piece).slots reducer
+touches_here pieces strand piece lt reducer = ap (λ k. look_up k.touches reducer) (kept_here pieces strand piece lt) ∙ look_up-listed_of (get_or pieces strand piece).slots reducer
+
+pub length-all_kept : {A : Type 0} (pieces : List (Piece A)) → length (all_kept pieces) ≡ length pieces
+length-all_kept pieces = length-map pieces kept_of
+
+-- one entry is written
+pub with_kept : (strands : List Kept) (strand : ℕ) (kept : Kept) → strand < length strands → kept.home ≡ home_at strands strand → kept.later ≡ later_at strands strand →
+    WithTouches strands (set strands strand kept) strand (look_up kept.touches)
+with_kept strands strand kept lt same_home same_later = record {
+  same = record {
+    len = length-set strands strand kept;
+    homes = λ x. elim (same_or_not x strand) [
+      | inl e ↦ ap (λ k. k.home) (here x e) ∙ (same_home ∙ ap (home_at strands) (sym e))
+      | inr ne ↦ ap (λ k. k.home) (get_or-set_other strands strand x kept nothing_kept ne)
+    ];
+    laters = λ x. elim (same_or_not x strand) [
+      | inl e ↦ ap (λ k. k.later) (here x e) ∙ (same_later ∙ ap (later_at strands) (sym e))
+      | inr ne ↦ ap (λ k. k.later) (get_or-set_other strands strand x kept nothing_kept ne)
+    ];
+  };
+  changed = ap (λ k. look_up k.touches) (here strand refl);
+  others = λ x ne. ap (λ k. look_up k.touches) (get_or-set_other strands strand x kept nothing_kept ne);
+}
+  where
+    here : (x : ℕ) → x ≡ strand → kept_at (set strands strand kept) x ≡ kept
+    here x e = ap (kept_at (set strands strand kept)) e ∙ get_or-set_same strands strand kept nothing_kept lt
+
+-- a piece is written whose home and later number are as before
+pub with_piece : {A : Type 0} (pieces : List (Piece A)) (strand : ℕ) (piece : Piece A) (slots : Option (Box (Slot A) A)) → strand < length pieces →
+    WithTouches (all_kept pieces) (all_kept (set pieces strand (record { home = (get_or pieces strand piece).home; later = (get_or pieces strand piece).later; slots = slots }))) strand (look_up (listed_of slots))
+with_piece {A} pieces strand piece slots lt =
+    subst (λ new. WithTouches (all_kept pieces) new strand (look_up (listed_of slots))) (sym (map-set kept_of pieces strand new))
+    (with_kept (all_kept pieces) strand (kept_of new) (subst (λ n. strand < n) (sym (length-all_kept pieces)) lt)
+    (sym (ap (λ k. k.home) (kept_here pieces strand piece lt))) (sym (ap (λ k. k.later) (kept_here pieces strand piece lt))))
+  where
+    new : Piece A
+    new = record { home = (get_or pieces strand piece).home; later = (get_or pieces strand piece).later; slots = slots }
+
+pub same_then : (first second third : List Kept) → SameHomes first second → SameHomes second third → SameHomes first third
+same_then first second third a b = record {
+  len = b.len ∙ a.len;
+  homes = λ x. b.homes x ∙ a.homes x;
+  laters = λ x. b.laters x ∙ a.laters x;
+}
+
+pub kept_with : (monoids : List Monoid) (old new : List Kept) → AreKept monoids old → SameHomes old new → ((x : ℕ) → AreTouches monoids (touches_at new x)) → AreKept monoids new
+kept_with monoids old new sound same touched = record {
+  homes = λ x. subst₂ (λ y n. y < n) (sym (same.homes x)) (sym same.len) (sound.homes x);
+  laters = λ x. subst₂ (λ y n. y < n) (sym (same.laters x)) (sym same.len) (sound.laters x);
+  behind_home = λ x lt. subst₂ (λ y n. y < n) (sym (same.homes x)) (sym (same.laters x)) (sound.behind_home x (subst (λ y. 0 < y) (same.laters x) lt));
+  rising = λ x lt more. subst₂ (λ y n. y < n) (sym (same.laters x)) (sym (twice x))
+      (sound.rising x (subst (λ y. 0 < y) (same.laters x) lt) (subst (λ y. 0 < y) (twice x) more));
+  touched = touched;
+}
+  where
+    twice : (x : ℕ) → later_at new (later_at new x) ≡ later_at old (later_at old x)
+    twice x = same.laters (later_at new x) ∙ ap (later_at old) (same.laters x)
+
+pub touched_with : (monoids : List Monoid) (old new : List Kept) (home : ℕ) (touches : Touches) → AreKept monoids old → WithTouches old new home touches → AreTouches monoids touches →
+    (x : ℕ) → AreTouches monoids (touches_at new x)
+touched_with monoids old new home touches sound w fits x = elim (same_or_not x home) [
+  | inl e ↦ subst (λ y. AreTouches monoids (touches_at new y)) (sym e) (subst (AreTouches monoids) (sym w.changed) fits)
+  | inr ne ↦ subst (AreTouches monoids) (sym (w.others x ne)) (sound.touched x)
+]
+
+pub kept_changed : (monoids : List Monoid) (old new : List Kept) (home : ℕ) (touches : Touches) → AreKept monoids old → WithTouches old new home touches → AreTouches monoids touches → AreKept monoids new
+kept_changed monoids old new home touches sound w fits = kept_with monoids old new sound w.same (touched_with monoids old new home touches sound w fits)
+
+pub taken_over : (strands first second : List Kept) (home later : ℕ) (empty touches : Touches) → home ≢ later → WithTouches strands first later empty → ((reducer : ℕ) → empty reducer ≡ None) →
+    WithTouches first second home touches → ((reducer : ℕ) → touches reducer ≡ both (touches_at first home reducer) (touches_at strands later reducer)) → TakesOver strands second home later
+taken_over strands first second home later empty touches ne w none v product = record {
+  same = same_then strands first second w.same v.same;
+  taken = λ r. ap (λ ts. ts r) v.changed ∙ (product r ∙ ap (λ ts. both (ts r) (touches_at strands later r)) (w.others home ne));
+  emptied = λ r. ap (λ ts. ts r) (v.others later (λ e. ne (sym e)) ∙ w.changed) ∙ none r;
+  others = λ x nh nl. v.others x nh ∙ w.others x nl;
+}
+
+-- what is taken over stays sound
+pub taken_kept : (monoids : List Monoid) (old new : List Kept) (home later : ℕ) → AreKept monoids old → TakesOver old new home later → AreKept monoids new
+taken_kept monoids old new home later sound taken = kept_with monoids old new sound taken.same touched
+  where
+    touched : (x : ℕ) → AreTouches monoids (touches_at new x)
+    touched x reducer = elim (same_or_not x home) [
+      | inl e ↦ subst (IsTouch (monoid_of monoids reducer)) (sym (ap (λ y. touches_at new y reducer) e ∙ taken.taken reducer))
+          (both_touch (monoid_of monoids reducer) (touches_at old home reducer) (touches_at old later reducer) (sound.touched home reducer) (sound.touched later reducer))
+      | inr nh ↦ elim (same_or_not x later) [
+        | inl e ↦ subst (IsTouch (monoid_of monoids reducer)) (sym (ap (λ y. touches_at new y reducer) e ∙ taken.emptied reducer)) tt
+        | inr nl ↦ subst (IsTouch (monoid_of monoids reducer)) (sym (ap (λ ts. ts reducer) (taken.others x nh nl))) (sound.touched x reducer)
+      ]
+    ]
+
+pub taken_views : (monoids : List Monoid) (old new : List Kept) (home later : ℕ) → AreKept monoids old → TakesOver old new home later → (reducer : ℕ) →
+    view_in monoids new home reducer ≡ product_of (monoid_of monoids reducer) (view_in monoids old home reducer) (view_in monoids old later reducer)
+taken_views monoids old new home later sound taken reducer =
+    ap (view_or (identity_of (monoid_of monoids reducer))) (taken.taken reducer) ∙
+    both_view (monoid_of monoids reducer) (touches_at old home reducer) (touches_at old later reducer) (sound.touched home reducer) (sound.touched later reducer)
+
+-- one touch is set
+pub set_kept : (monoids : List Monoid) (old new : List Kept) (home reducer : ℕ) (touch : Touch) → AreKept monoids old → SetsAt old new home reducer touch → IsTouch (monoid_of monoids reducer) (Some touch) → AreKept monoids new
+set_kept monoids old new home reducer touch sound sets fits = kept_with monoids old new sound sets.same touched
+  where
+    touched : (x : ℕ) → AreTouches monoids (touches_at new x)
+    touched x other = elim (same_or_not x home) [
+      | inl e ↦ elim (same_or_not other reducer) [
+        | inl q ↦ subst (λ r. IsTouch (monoid_of monoids r) (touches_at new x r)) (sym q)
+            (subst (IsTouch (monoid_of monoids reducer)) (sym (ap (λ y. touches_at new y reducer) e ∙ sets.changed)) fits)
+        | inr ne ↦ subst (IsTouch (monoid_of monoids other)) (sym (sets.others x other (inr ne))) (sound.touched x other)
+      ]
+      | inr ne ↦ subst (IsTouch (monoid_of monoids other)) (sym (sets.others x other (inl ne))) (sound.touched x other)
+    ]
+
+pub set_changes : (monoids : List Monoid) (old new : List Kept) (home reducer : ℕ) (touch : Touch) → SetsAt old new home reducer touch → ChangesAt monoids old new home reducer touch.view
+set_changes monoids old new home reducer touch sets = record {
+  same = sets.same;
+  changed = ap (view_or (identity_of (monoid_of monoids reducer))) sets.changed;
+  others = λ x other apart. ap (view_or (identity_of (monoid_of monoids other))) (sets.others x other apart);
+}
+
+-- the later of two that follow one another in a block is the greater
+pub greater_than : (later : ℕ → ℕ) (first : ℕ) (strands : List ℕ) (strand : ℕ) → ((x : ℕ) → 0 < later x → 0 < later (later x) → later x < later (later x)) →
+    (0 < later first → first < later first) → AreLater later (later first) strands → Present strand strands → first < strand
+greater_than later first [] strand rising up follow i = absurd i
+greater_than later first (x ∷ strands) strand rising up follow i =
+    elim i [
+      | inl e ↦ subst (λ y. first < y) e lt
+      | inr t ↦ deeper (greater_than later x strands strand rising next follow.2 t)
+    ]
+  where
+    lt : first < x
+    lt = subst (λ y. first < y) follow.0 (up (subst (λ y. 0 < y) (sym follow.0) follow.1))
+
+    next : 0 < later x → x < later x
+    next more = subst (λ y. y < later y) follow.0 (rising first (subst (λ y. 0 < y) (sym follow.0) follow.1) (subst (λ y. 0 < later y) (sym follow.0) more))
+
+    deeper : x < strand → first < strand
+    deeper l = (let m : first < x = lt in omega arith)
+
+-- what is left to combine, and what is untouched
+pub record Left (monoids : List Monoid) (start now : List Kept) (home at : ℕ) (continuations : List ℕ) : Type 0 where
+  pub left : List ℕ
+  pub follow : AreLater (later_at start) at left
+  pub views : (reducer : ℕ) →
+      product_from (monoid_of monoids reducer) (view_in monoids now home reducer) (map (λ strand. view_in monoids start strand reducer) left) ≡
+      product_from (monoid_of monoids reducer) (view_in monoids start home reducer) (map (λ strand. view_in monoids start strand reducer) continuations)
+  pub others : (strand : ℕ) → strand ≢ home → (Present strand continuations → ⊥) ⊎ Present strand left → touches_at now strand ≡ touches_at start strand
+  pub within : (strand : ℕ) → Present strand left → Present strand continuations
+
+-- how far a block is gathered, from its first continuation on to this one
+pub record Progress (monoids : List Monoid) (start now : List Kept) (home first at : ℕ) : Type 0 where
+  pub sound : AreKept monoids now
+  pub same : SameHomes start now
+  pub known : at < length now
+  pub behind : 0 < at → home < at
+  pub up : 0 < at → 0 < later_at start at → at < later_at start at
+  pub rest : (continuations : List ℕ) → AreLater (later_at start) first continuations → Left monoids start now home at continuations
+
+pub begins : (monoids : List Monoid) (strands : List Kept) (join : ℕ) → AreKept monoids strands → Progress monoids strands strands (home_at strands join) (later_at strands join) (later_at strands join)
+begins monoids strands join sound = record {
+  sound = sound;
+  same = record { len = refl; homes = λ x. refl; laters = λ x. refl };
+  known = sound.laters join;
+  behind = sound.behind_home join;
+  up = sound.rising join;
+  rest = λ continuations follow. record { left = continuations; follow = follow; views = λ r. refl; others = λ x ne t. refl; within = λ x i. i };
+}
+
+-- one more continuation is taken over
+pub advances : (monoids : List Monoid) (start now new : List Kept) (home first at : ℕ) → Progress monoids start now home first at → 0 < at → TakesOver now new home at →
+    Progress monoids start new home first (later_at new at)
+advances monoids start now new home first at p positive taken = record {
+  sound = sound;
+  same = same_then start now new p.same same;
+  known = sound.laters at;
+  behind = λ more. (let l : home < at = p.behind positive in
+      let m : at < later_at start at = p.up positive (subst (λ y. 0 < y) next_is more) in
+      let n : later_at new at ≡ later_at start at = next_is in omega arith);
+  up = λ more further. subst (λ y. y < later_at start y) (sym next_is) (old_rising at (subst (λ y. 0 < y) next_is more) (subst (λ y. 0 < later_at start y) next_is further));
+  rest = λ continuations follow. step continuations (p.rest continuations follow);
+}
+  where
+    sound : AreKept monoids new
+    sound = taken_kept monoids now new home at p.sound taken
+
+    same : SameHomes now new
+    same = taken.same
+
+    next_is : later_at new at ≡ later_at start at
+    next_is = same.laters at ∙ p.same.laters at
+
+    twice : (x : ℕ) → later_at now (later_at now x) ≡ later_at start (later_at start x)
+    twice x = p.same.laters (later_at now x) ∙ ap (later_at start) (p.same.laters x)
+
+    old_rising : (x : ℕ) → 0 < later_at start x → 0 < later_at start (later_at start x) → later_at start x < later_at start (later_at start x)
+    old_rising x lt more = subst₂ (λ y z. y < z) (p.same.laters x) (twice x) (p.sound.rising x (subst (λ y. 0 < y) (sym (p.same.laters x)) lt) (subst (λ y. 0 < y) (sym (twice x)) more))
+
+    at_apart : at ≢ home
+    at_apart q = let l : home < at = p.behind positive in omega arith
+
+    go : (continuations left : List ℕ) → AreLater (later_at start) at left →
+        ((reducer : ℕ) → product_from (monoid_of monoids reducer) (view_in monoids now home reducer) (map (λ strand. view_in monoids start strand reducer) left) ≡
+        product_from (monoid_of monoids reducer) (view_in monoids start home reducer) (map (λ strand. view_in monoids start strand reducer) continuations)) →
+        ((strand : ℕ) → strand ≢ home → (Present strand continuations → ⊥) ⊎ Present strand left → touches_at now strand ≡ touches_at start strand) →
+        ((strand : ℕ) → Present strand left → Present strand continuations) → Left monoids start new home (later_at new at) continuations
+    go continuations [] follow views others within = absurd (omega (arith, follow))
+    go continuations (x ∷ left) follow views others within = record {
+      left = left;
+      follow = subst (λ y. AreLater (later_at start) y left) (ap (later_at start) (sym follow.0) ∙ sym next_is) follow.2;
+      views = λ r. ap (λ v. product_from (monoid_of monoids r) v (map (λ strand. view_in monoids start strand r) left)) (taken_views monoids now new home at p.sound taken r ∙ ap (product_of (monoid_of monoids r) (view_in monoids now home r)) (here r)) ∙ views r;
+      others = λ strand ne t. taken.others strand ne (off strand t) ∙ others strand ne (later_one strand t);
+      within = λ strand i. within strand (inr i);
+    }
+      where
+        here : (r : ℕ) → view_in monoids now at r ≡ view_in monoids start x r
+        here r = ap (λ ts. gathered monoids ts r) (others at at_apart (inr (inl (sym follow.0)))) ∙ ap (λ y. view_in monoids start y r) follow.0
+
+        later_one : (strand : ℕ) → (Present strand continuations → ⊥) ⊎ Present strand left → (Present strand continuations → ⊥) ⊎ Present strand (x ∷ left)
+        later_one strand (inl out) = inl out
+        later_one strand (inr i) = inr (inr i)
+
+        off : (strand : ℕ) → (Present strand continuations → ⊥) ⊎ Present strand left → strand ≢ at
+        off strand (inl out) q = out (within strand (inl (sym (q ∙ follow.0))))
+        off strand (inr i) q =
+            let l : at < strand = greater_than (later_at start) at left strand old_rising (p.up positive) (subst (λ y. AreLater (later_at start) (later_at start y) left) (sym follow.0) follow.2) i in omega arith
+
+    step : (continuations : List ℕ) → Left monoids start now home at continuations → Left monoids start new home (later_at new at) continuations
+    step continuations old = go continuations old.left old.follow old.views old.others old.within
+
+-- at the end all continuations are combined
+pub finishes : (monoids : List Monoid) (start now : List Kept) (home first at : ℕ) → Progress monoids start now home first at → at ≡ 0 →
+    (continuations : List ℕ) → AreLater (later_at start) first continuations → Combines monoids start now home continuations
+finishes monoids start now home first at p e continuations follow = go (p.rest continuations follow)
+  where
+    end : (left : List ℕ) → AreLater (later_at start) at left → left ≡ []
+    end [] f = refl
+    end (x ∷ left) f = absurd (omega (arith, f.0, f.1))
+
+    go : Left monoids start now home at continuations → Combines monoids start now home continuations
+    go l = record {
+      views = λ r. ap (λ left. product_from (monoid_of monoids r) (view_in monoids now home r) (map (λ strand. view_in monoids start strand r) left)) (sym (end l.left l.follow)) ∙ l.views r;
+      others = λ strand ne out. l.others strand ne (inl (λ i. out ((contains_present strand continuations).1 i)));
+    }
+
+-- how many numbers are left from this one on
+abbrev pub numbers_left : ℕ → ℕ → ℕ
+numbers_left count zero = 0
+numbers_left count (suc at) = count - suc at
+
+pub fewer_left : (count new_count at next : ℕ) → new_count ≡ count → 0 < at → at < count → (0 < next → at < next) → next < count → numbers_left new_count next < numbers_left count at
+fewer_left count new_count zero next e positive lt up below = absurd (omega arith)
+fewer_left count new_count (suc at) zero e positive lt up below = omega arith
+fewer_left count new_count (suc at) (suc next) e positive lt up below =
+    let more : suc at < suc next = up (omega arith) in
+    let a : new_count - suc next ≡ count - suc next = ap (λ n. n - suc next) e in omega (arith, a, more, below)
+
+pub later_in_range : {A : Type 0} (monoids : List Monoid) (pieces : List (Piece A)) (at : ℕ) (piece : Piece A) → AreKept monoids (all_kept pieces) → at < length pieces → (get_or pieces at piece).later < length pieces
+later_in_range monoids pieces at piece sound lt = subst₂ (λ y n. y < n) (ap (λ k. k.later) (kept_here pieces at piece lt)) (length-all_kept pieces) (sound.laters at)
+
+pub home_in_range : {A : Type 0} (monoids : List Monoid) (pieces : List (Piece A)) (at : ℕ) (piece : Piece A) → AreKept monoids (all_kept pieces) → at < length pieces → (get_or pieces at piece).home < length pieces
+home_in_range monoids pieces at piece sound lt = subst₂ (λ y n. y < n) (ap (λ k. k.home) (kept_here pieces at piece lt)) (length-all_kept pieces) (sound.homes at)
+
+pub goes_up : {A : Type 0} (monoids : List Monoid) (start : List Kept) (now new : List (Piece A)) (home first at : ℕ) (piece : Piece A) → Progress monoids start (all_kept now) home first at → SameHomes (all_kept now) (all_kept new) →
+    0 < at → at < length new → 0 < (get_or new at piece).later → at < (get_or new at piece).later
+goes_up monoids start now new home first at piece p same positive lt more =
+    subst (λ y. at < y) (sym e) (p.up positive (subst (λ y. 0 < y) e more))
+  where
+    e : (get_or new at piece).later ≡ later_at start at
+    e = sym (ap (λ k. k.later) (kept_here new at piece lt)) ∙ (same.laters at ∙ p.same.laters at)
+
+pub begins_at : {A : Type 0} (monoids : List Monoid) (pieces : List (Piece A)) (join : ℕ) (piece other : Piece A) → AreKept monoids (all_kept pieces) → join < length pieces →
+    Progress monoids (all_kept pieces) (all_kept pieces) (get_or pieces join piece).home (get_or pieces join other).later (get_or pieces join other).later
+begins_at monoids pieces join piece other sound lt =
+    subst₂ (λ home first. Progress monoids (all_kept pieces) (all_kept pieces) home first first) (ap (λ k. k.home) (kept_here pieces join piece lt)) (ap (λ k. k.later) (kept_here pieces join other lt))
+    (begins monoids (all_kept pieces) join sound)
+
+pub finishes_at : {A : Type 0} (monoids : List Monoid) (pieces : List (Piece A)) (now : List Kept) (join : ℕ) (piece other : Piece A) (at : ℕ) → join < length pieces →
+    Progress monoids (all_kept pieces) now (get_or pieces join piece).home (get_or pieces join other).later at → at ≡ 0 →
+    (continuations : List ℕ) → AreLater (later_at (all_kept pieces)) (later_at (all_kept pieces) join) continuations → Combines monoids (all_kept pieces) now (home_at (all_kept pieces) join) continuations
+finishes_at monoids pieces now join piece other at lt p e continuations follow =
+    subst (λ home. Combines monoids (all_kept pieces) now home continuations) (sym (ap (λ k. k.home) (kept_here pieces join piece lt)))
+    (finishes monoids (all_kept pieces) now (get_or pieces join piece).home (get_or pieces join other).later at p e continuations
+    (subst (λ first. AreLater (later_at (all_kept pieces)) first continuations) (ap (λ k. k.later) (kept_here pieces join other lt)) follow))
+
+pub fewer_at : {A : Type 0} (monoids : List Monoid) (start : List Kept) (now new : List (Piece A)) (home first at : ℕ) (piece : Piece A) → Progress monoids start (all_kept now) home first at → AreKept monoids (all_kept new) → SameHomes (all_kept now) (all_kept new) →
+    0 < at → at < length now → length new ≡ length now → numbers_left (length new) (get_or new at piece).later < numbers_left (length now) at
+fewer_at monoids start now new home first at piece p sound same positive lt e =
+    fewer_left (length now) (length new) at (get_or new at piece).later e positive lt (goes_up monoids start now new home first at piece p same positive known)
+    (subst (λ n. (get_or new at piece).later < n) e (later_in_range monoids new at piece sound known))
+  where
+    known : at < length new
+    known = subst (λ n. at < n) (sym e) lt
+
+-- one touch is written where a piece is lent
+pub sets_at : {A : Type 0} (pieces : List (Piece A)) (home reducer : ℕ) (touch : Touch) (piece : Piece A) (slots : Option (Box (Slot A) A)) → home < length pieces →
+    Changes (touches_of (get_or pieces home piece).slots) (touches_of slots) reducer touch →
+    SetsAt (all_kept pieces) (all_kept (set pieces home (record { home = (get_or pieces home piece).home; later = (get_or pieces home piece).later; slots = slots }))) home reducer touch
+sets_at {A} pieces home reducer touch piece slots lt change = record {
+  same = filled.same;
+  changed = ap (λ ts. ts reducer) filled.changed ∙ (look_up-listed_of slots reducer ∙ change.changed);
+  others = λ strand other apart. elim (same_or_not strand home) [
+    | inl e ↦ elim apart [
+      | inl ne ↦ absurd (ne e)
+      | inr ne ↦ subst (λ y. touches_at new y other ≡ touches_at (all_kept pieces) y other) (sym e)
+          (ap (λ ts. ts other) filled.changed ∙ (look_up-listed_of slots other ∙ (change.others other ne ∙ sym (touches_here pieces home piece lt other))))
+    ]
+    | inr ne ↦ ap (λ ts. ts other) (filled.others strand ne)
+  ];
+}
+  where
+    new : List Kept
+    new = all_kept (set pieces home (record { home = (get_or pieces home piece).home; later = (get_or pieces home piece).later; slots = slots }))
+
+    filled : WithTouches (all_kept pieces) (all_kept (set pieces home (record { home = (get_or pieces home piece).home; later = (get_or pieces home piece).later; slots = slots }))) home (look_up (listed_of slots))
+    filled = with_piece pieces home piece slots lt
+
+pub adds_at : {A : Type 0} (pieces : List (Piece A)) (home reducer : ℕ) (touch : Touch) (piece : Piece A) (slots : Option (Box (Slot A) A)) → home < length pieces →
+    Changes (touches_of (get_or pieces home piece).slots) (touches_of slots) reducer (added (touches_of (get_or pieces home piece).slots reducer) touch) →
+    SetsAt (all_kept pieces) (all_kept (set pieces home (record { home = (get_or pieces home piece).home; later = (get_or pieces home piece).later; slots = slots }))) home reducer
+    (added (touches_at (all_kept pieces) home reducer) touch)
+adds_at pieces home reducer touch piece slots lt change =
+    sets_at pieces home reducer (added (touches_at (all_kept pieces) home reducer) touch) piece slots lt
+    (subst (λ t. Changes (touches_of (get_or pieces home piece).slots) (touches_of slots) reducer (added t touch)) (sym (touches_here pieces home piece lt reducer)) change)
+
+pub takes_over : {A : Type 0} (pieces : List (Piece A)) (home later : ℕ) (piece other : Piece A) (taken emptied absorbed : Option (Box (Slot A) A)) → home < length pieces → later < length pieces → home < later →
+    taken ≡ (get_or pieces later other).slots → emptied ≡ None →
+    ((reducer : ℕ) → touches_of absorbed reducer ≡
+    both (touches_of (get_or (set pieces later (record { home = (get_or pieces later other).home; later = (get_or pieces later other).later; slots = emptied })) home piece).slots reducer) (touches_of taken reducer)) →
+    TakesOver (all_kept pieces) (all_kept (set (set pieces later (record { home = (get_or pieces later other).home; later = (get_or pieces later other).later; slots = emptied })) home (record { home = (get_or (set pieces later (record { home = (get_or pieces later other).home; later = (get_or pieces later other).later; slots = emptied })) home piece).home; later = (get_or (set pieces later (record { home = (get_or pieces later other).home; later = (get_or pieces later other).later; slots = emptied })) home piece).later; slots = absorbed }))) home later
+takes_over {A} pieces home later piece other taken emptied absorbed home_known later_known apart taken_is emptied_is absorbed_is =
+    taken_over (all_kept pieces) (all_kept (set pieces later (record { home = (get_or pieces later other).home; later = (get_or pieces later other).later; slots = emptied }))) (all_kept (set (set pieces later (record { home = (get_or pieces later other).home; later = (get_or pieces later other).later; slots = emptied })) home (record { home = (get_or (set pieces later (record { home = (get_or pieces later other).home; later = (get_or pieces later other).later; slots = emptied })) home piece).home; later = (get_or (set pieces later (record { home = (get_or pieces later other).home; later = (get_or pieces later other).later; slots = emptied })) home piece).later; slots = absorbed }))) home later
+    (look_up (listed_of emptied)) (look_up (listed_of absorbed)) (λ e. omega (arith, e, apart)) (with_piece pieces later other emptied later_known)
+    (λ r. ap (λ (s : Option (Box (Slot A) A)). look_up (listed_of s) r) emptied_is)
+    (with_piece (set pieces later (record { home = (get_or pieces later other).home; later = (get_or pieces later other).later; slots = emptied })) home piece absorbed known)
+    (λ r. look_up-listed_of absorbed r ∙ (absorbed_is r ∙ ap₂ both (sym (touches_here (set pieces later (record { home = (get_or pieces later other).home; later = (get_or pieces later other).later; slots = emptied })) home piece known r))
+    (ap (λ (s : Option (Box (Slot A) A)). touches_of s r) taken_is ∙ sym (touches_here pieces later other later_known r))))
+  where
+    known : home < length (set pieces later (record { home = (get_or pieces later other).home; later = (get_or pieces later other).later; slots = emptied }))
+    known = subst (λ n. home < n) (sym (length-set pieces later (record { home = (get_or pieces later other).home; later = (get_or pieces later other).later; slots = emptied }))) home_known

@@ -1,0 +1,5 @@
+pub mod Products
+pub mod Touched
+pub mod Pieces
+pub mod Homes
+pub mod Held

@@ -1,0 +1,169 @@
+//! The views of the strands of a running program.
+
+ghost use Rattle.std.specs.Prelude.{◌≡◌, ◌+◌, ◌<◌, ◌↔◌, ℕ, [], ◌∷◌, length, true, false, IsTrue, IfOk, OnOk, OnErr};
+ghost use Rattle.control_history.specs.History.{ended_joined, joined};
+ghost use Rattle.control_history.specs.Strands.{Running};
+ghost use Rattle.control_history.specs.Legal.{Allowed};
+ghost use Rattle.reducer_values.specs.Accesses.{AreLegal, Steps, control, control_steps, put, update};
+ghost use Rattle.reducer_views.specs.Held.{Holds, split_of, view_of};
+ghost use Rattle.reducer_views.specs.Products.{number_of};
+
+use crate::pieces::{Piece, gather_at, gather_block, grow, set_at};
+use crate::touched::{Spare, Touch, fill, find};
+use crate::view::{identity, of_put, of_update, value};
+use sp_labels::Spawned;
+use std::alloc::{AllocError, Allocator};
+use std::marker::Model;
+use trace_text::Monoid;
+
+/// The views of strands, per reducer. A strand's view is kept under the number of its home. A child goes on at its spawner's
+/// home and a join at that of the strand that opened its block; a continuation has a home of its own.
+#[derive(Drop)]
+pub struct Views<A: Allocator + Clone> {
+    monoids: Vec<Monoid, A>,
+    pieces: Vec<Piece<A>, A>,
+    spare: Spare<A>,
+    has_room: bool,
+    alloc: A,
+}
+
+impl<A: Allocator + Clone> Model for Views<A> {
+    ghost use Rattle.std.specs.Prelude.{◌≡◌, ◌+◌, ◌≤◌, true, vec_len, vec_capacity};
+    ghost use Rattle.reducer_views.specs.Held.{Holding};
+    ghost use Rattle.reducer_views.specs.Pieces.{AreKept, all_kept};
+
+    ghost Value = { Holding };
+
+    ghost view = { λ v. record { monoids = v.monoids.items; strands = all_kept v.pieces.items; has_room = v.has_room } };
+
+    ghost invariant = { λ v. AreKept v.monoids.items (all_kept v.pieces.items) × (v.has_room ≡ true → (33 ≤ vec_len v.spare) × (vec_len v.pieces + 3 ≤ vec_capacity v.pieces)) };
+}
+
+impl<A: Allocator + Clone> Views<A> {
+    /// The views of strand 0, which has touched no reducer.
+    pub fn new(alloc: A, monoids: &[Monoid]) -> Result<Views<A>, AllocError>
+        ensures monoids { IfOk result (λ views. views.monoids ≡ monoids.now) }
+        ensures opens { IfOk result (λ views. Holds views []) }
+        ensures room { IfOk result (λ views. views.has_room ≡ false) }
+    {
+        let monoids = monoids.to_vec(alloc.clone()?)?;
+        let mut pieces = Vec::new(alloc.clone()?);
+        pieces.push(Piece {
+            home: 0,
+            later: 0,
+            slots: None,
+        })?;
+        Ok(Views {
+            monoids,
+            pieces,
+            spare: Vec::new(alloc.clone()?),
+            has_room: false,
+            alloc,
+        })
+    }
+
+    /// Makes room for the next event. A refusal changes nothing.
+    pub fn reserve_event(&mut self) -> Result<(), AllocError>
+        ensures ok { OnOk result (self.new ≡ record self.old { has_room = true }) }
+        ensures err { OnErr result (self.new ≡ self.old) }
+    {
+        self.pieces.reserve(3)?;
+        fill(&mut self.spare, &self.alloc)?;
+        self.has_room = true;
+        Ok(())
+    }
+
+    /// Whether there is room for the next event.
+    pub fn has_room(&self) -> bool
+        ensures { result ≡ self.now.has_room }
+    {
+        self.has_room
+    }
+
+    /// Whether the number is that of a strand, or of a join that is reserved.
+    pub fn is_there(&self, strand: u32) -> bool
+        ensures { IsTrue result ↔ (strand < length self.now.strands) }
+    {
+        (strand as usize) < self.pieces.len()
+    }
+
+    /// The strand spawned. The child goes on with its views, and the next strand begins with identities.
+    pub fn spawned(&mut self, strand: u32, spawned: &Spawned)
+        requires room { IsTrue self.old.has_room }
+        requires there { strand < length self.old.strands }
+        requires newest { spawned.now.next ≡ length self.old.strands + 1 }
+        ensures monoids { self.new.monoids ≡ self.old.monoids }
+        ensures room_used { self.new.has_room ≡ false }
+        ensures follows { (steps : Steps) → AreLegal steps → Holds self.old steps → Allowed (control_steps steps) (split_of strand spawned.now) →
+            Holds self.new (control (split_of strand spawned.now) ∷ steps) }
+    {
+        let home = self.pieces[strand as usize].home;
+        grow(&mut self.pieces, home, spawned.next, spawned.first);
+        self.has_room = false;
+    }
+
+    /// The join began, with the views of its block's children in order of spawning and then of the syncing strand.
+    pub fn joined(&mut self, join: u32)
+        requires room { IsTrue self.old.has_room }
+        requires there { join < length self.old.strands }
+        ensures monoids { self.new.monoids ≡ self.old.monoids }
+        ensures room_used { self.new.has_room ≡ false }
+        ensures at_sync { (steps : Steps) → AreLegal steps → Holds self.old steps → (strand : ℕ) → Allowed (control_steps steps) (joined strand join) →
+            Holds self.new (control (joined strand join) ∷ steps) }
+        ensures at_return { (steps : Steps) → AreLegal steps → Holds self.old steps → (strand : ℕ) → Allowed (control_steps steps) (ended_joined strand join) →
+            Holds self.new (control (ended_joined strand join) ∷ steps) }
+    {
+        gather_block(&mut self.pieces, join);
+        self.has_room = false;
+    }
+
+    /// The strand updated the reducer.
+    pub fn update(&mut self, strand: u32, reducer: u32, number: u64)
+        requires room { IsTrue self.old.has_room }
+        requires there { strand < length self.old.strands }
+        requires known { reducer < length self.old.monoids }
+        ensures monoids { self.new.monoids ≡ self.old.monoids }
+        ensures room_used { self.new.has_room ≡ false }
+        ensures follows { (steps : Steps) → AreLegal steps → Holds self.old steps → Running (control_steps steps) strand →
+            Holds self.new (update strand reducer number ∷ steps) }
+    {
+        let home = self.pieces[strand as usize].home;
+        let monoid = self.monoids[reducer as usize];
+        let view = of_update(monoid, number);
+        let touch = Touch { monoid, view };
+        gather_at(&mut self.pieces, &mut self.spare, home, reducer, touch);
+        self.has_room = false;
+    }
+
+    /// The strand set the reducer.
+    pub fn put(&mut self, strand: u32, reducer: u32, number: u64)
+        requires room { IsTrue self.old.has_room }
+        requires there { strand < length self.old.strands }
+        requires known { reducer < length self.old.monoids }
+        ensures monoids { self.new.monoids ≡ self.old.monoids }
+        ensures room_used { self.new.has_room ≡ false }
+        ensures follows { (steps : Steps) → AreLegal steps → Holds self.old steps → Running (control_steps steps) strand →
+            Holds self.new (put strand reducer number ∷ steps) }
+    {
+        let home = self.pieces[strand as usize].home;
+        let monoid = self.monoids[reducer as usize];
+        let view = of_put(monoid, number);
+        let touch = Touch { monoid, view };
+        set_at(&mut self.pieces, &mut self.spare, home, reducer, touch);
+        self.has_room = false;
+    }
+
+    /// The value that the strand sees in the reducer.
+    pub fn get(&self, strand: u32, reducer: u32) -> Option<u64>
+        requires there { strand < length self.now.strands }
+        requires known { reducer < length self.now.monoids }
+        ensures { (steps : Steps) → AreLegal steps → Holds self.now steps → Running (control_steps steps) strand →
+            result ≡ number_of (view_of self.now.monoids reducer steps strand) }
+    {
+        let home = self.pieces[strand as usize].home;
+        match find(&self.pieces[home as usize].slots, reducer) {
+            Some(touch) => value(touch.view),
+            None => value(identity(self.monoids[reducer as usize])),
+        }
+    }
+}
