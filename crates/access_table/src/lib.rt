@@ -13,6 +13,3 @@ mod table;
 
 pub use kind::{Kind, Rule};
 pub use table::{N, conflicting, is_memory, kind_of, rule, rule_word, word};
-
-#[cfg(test)]
-mod tests;

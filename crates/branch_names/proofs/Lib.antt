@@ -1,4 +1,3 @@
 pub mod Tables
 pub mod Events
 pub mod Queries
-pub mod Examples

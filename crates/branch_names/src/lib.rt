@@ -11,6 +11,3 @@ mod branches;
 pub mod laws;
 
 pub use branches::Branches;
-
-#[cfg(test)]
-mod tests;

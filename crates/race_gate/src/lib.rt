@@ -25,6 +25,3 @@ pub use answer::{Answer, Entry, Receipt, Reply};
 pub use fault::GateFault;
 pub use gate::Gate;
 pub use replies::judge_all;
-
-#[cfg(test)]
-mod tests;

@@ -16,6 +16,3 @@ mod views;
 pub use laws::{get_law, monoid_law, quiet_law};
 pub use view::{View, combine, fits, identity, of_put, of_update, value};
 pub use views::Views;
-
-#[cfg(test)]
-mod tests;

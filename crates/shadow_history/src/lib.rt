@@ -16,6 +16,3 @@ mod witness;
 
 pub use shadow::Shadow;
 pub use witness::Witness;
-
-#[cfg(test)]
-mod tests;

@@ -31,7 +31,7 @@ pub record IsKept (contents : Contents) : Type 0 where
 
 -- ---- numbers of cells
 
-cells_push : (mems : List Mem) (mem : Mem) → cells_of (mems ++ mem ∷ []) ≡ cells_of mems + mem.cells
+pub cells_push : (mems : List Mem) (mem : Mem) → cells_of (mems ++ mem ∷ []) ≡ cells_of mems + mem.cells
 cells_push mems mem = sum_by-append (λ (m : Mem). m.cells) mems (mem ∷ []) ∙ ap (λ (n : ℕ). cells_of mems + n) (zero-add mem.cells)
 
 pub cells_cons : (mem : Mem) (mems : List Mem) → cells_of (mem ∷ mems) ≡ mem.cells + cells_of mems
@@ -45,7 +45,7 @@ and_true : (a b : Bool) → IsTrue a → IsTrue b → IsTrue (a && b)
 and_true true b h k = k
 and_true false b h k = cc
 
-numbered_push : (from : ℕ) (mems : List Mem) (mem : Mem) → IsTrue (is_numbered from mems) → mem.first ≡ from + cells_of mems → IsTrue (is_numbered from (mems ++ mem ∷ []))
+pub numbered_push : (from : ℕ) (mems : List Mem) (mem : Mem) → IsTrue (is_numbered from mems) → mem.first ≡ from + cells_of mems → IsTrue (is_numbered from (mems ++ mem ∷ []))
 numbered_push from [] mem h e = let same : mem.first ≡ from = omega (arith, e) in and_true (mem.first == from) true (grind (arith, nat_tests)) refl
 numbered_push from (first ∷ mems) mem h e =
     let parts = both_true (first.first == from) (is_numbered (from + first.cells) mems) h in

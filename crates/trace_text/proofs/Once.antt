@@ -58,7 +58,7 @@ mark_once word d e m n p q h k =
     number_once 1 max_strand e m n (subst (λ (w : List ℕ). IsNumberIn 1 max_strand w m) digits h) k
 
 module _ (known : Known) where
-  word_once : (place : Place) (word : List ℕ) (v w : Value) → WordMeans known place word v → WordMeans known place word w → v ≡ w
+  pub word_once : (place : Place) (word : List ℕ) (v w : Value) → WordMeans known place word v → WordMeans known place word w → v ≡ w
   word_once FreshName word (OfName a) (OfName b) m n = ap OfName (m.0 ∙ sym n.0)
   word_once (Number low high) word (OfNumber a) (OfNumber b) m n = ap OfNumber (number_once low high word a b m n)
   word_once Cell word (OfNumber a) (OfNumber b) m n = ap OfNumber (cell_once known.mems word a b m n)

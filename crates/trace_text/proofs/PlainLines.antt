@@ -27,14 +27,14 @@ mark_by : (line : TraceLine) (at : ℕ) (mark : Option ℕ) → line.request.lin
 mark_by line at None e f = ap (λ (b : Bool). cond b (Some line.request.line) None) f
 mark_by line at (Some n) e f = ap (λ (b : Bool). cond b (Some line.request.line) None) f ∙ ap Some e
 
-memory_first : (mem : Mem) (mems : List Mem) (reducers : List Reducer) → AllByRecursion (λ (r : Reducer). mem.line + 1 ≤ r.line) reducers
+pub memory_first : (mem : Mem) (mems : List Mem) (reducers : List Reducer) → AllByRecursion (λ (r : Reducer). mem.line + 1 ≤ r.line) reducers
     → declarations (mem ∷ mems) reducers ≡ OfMemory mem ∷ declarations mems reducers
 memory_first mem mems [] h = refl
 memory_first mem mems (r ∷ reducers) h =
     let before : nat_lt mem.line r.line ≡ true = (let l : mem.line + 1 ≤ r.line = h.0 in grind (arith, nat_tests)) in
     ap (λ (b : Bool). cond b (OfMemory mem ∷ declarations mems (r ∷ reducers)) (OfReducer r ∷ merged_into mem (declarations mems) reducers)) before
 
-reducer_first : (reducer : Reducer) (mems : List Mem) (reducers : List Reducer) → AllByRecursion (λ (m : Mem). reducer.line + 1 ≤ m.line) mems
+pub reducer_first : (reducer : Reducer) (mems : List Mem) (reducers : List Reducer) → AllByRecursion (λ (m : Mem). reducer.line + 1 ≤ m.line) mems
     → declarations mems (reducer ∷ reducers) ≡ OfReducer reducer ∷ declarations mems reducers
 reducer_first reducer [] reducers h = refl
 reducer_first reducer (m ∷ mems) reducers h =
@@ -44,7 +44,7 @@ reducer_first reducer (m ∷ mems) reducers h =
 abbrev pub AreLater : {X : Type 0} → (X → ℕ) → ℕ → List X → Type 0
 AreLater {X} line at xs = AllByRecursion (λ (x : X). at ≤ line x) xs
 
-later_weaker : {X : Type 0} (line : X → ℕ) (at : ℕ) (xs : List X) → AreLater line (at + 1) xs → AreLater line at xs
+pub later_weaker : {X : Type 0} (line : X → ℕ) (at : ℕ) (xs : List X) → AreLater line (at + 1) xs → AreLater line at xs
 later_weaker line at [] h = tt
 later_weaker line at (x ∷ xs) h = (omega (arith, h.0), later_weaker line at xs h.1)
 
@@ -175,7 +175,7 @@ no_lines : (lines : List TraceLine) (q : TraceLine) → lines ++ q ∷ [] ≢ []
 no_lines [] q e = cc
 no_lines (line ∷ lines) q e = cc
 
-same_known : (known other : Known) → known.version ≡ other.version → known.mems ≡ other.mems → known.reducers ≡ other.reducers → known ≡ other
+pub same_known : (known other : Known) → known.version ≡ other.version → known.mems ≡ other.mems → known.reducers ≡ other.reducers → known ≡ other
 same_known known other e f g =
     let made : Version → List Mem → List Reducer → Known = λ version mems reducers. record { version = version; mems = mems; reducers = reducers } in
     ap (λ (v : Version). made v known.mems known.reducers) e
@@ -236,7 +236,7 @@ header_words : (version : Version) → ArePlain (codes "cilk" ∷ version_spelli
 header_words One = ((omega arith, (refl, (refl, (refl, (refl, tt))))), ((omega arith, (refl, tt)), tt))
 header_words Two = ((omega arith, (refl, (refl, (refl, (refl, tt))))), ((omega arith, (refl, tt)), tt))
 
-plain_header : (version : Version) → IsHeader (spaced (codes "cilk" ∷ version_spelling version ∷ [])) version
+pub plain_header : (version : Version) → IsHeader (spaced (codes "cilk" ∷ version_spelling version ∷ [])) version
 plain_header version =
     (text_spaced (codes "cilk" ∷ version_spelling version ∷ []) (header_words version), words_spaced (codes "cilk") (version_spelling version ∷ []) (header_words version))
 

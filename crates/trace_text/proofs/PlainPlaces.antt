@@ -28,7 +28,7 @@ use Rattle.trace_text.proofs.PlainWords.{IsPlain, ArePlain, is_word_byte, rec_ap
 
 -- ---- places
 
-abbrev IsSmall : Place → Type 0
+abbrev pub IsSmall : Place → Type 0
 IsSmall (Number low high) = high ≤ max_value
 IsSmall place = Unit {0}
 
@@ -110,7 +110,7 @@ same_memory from (x ∷ mems) test mem i h e l =
           ap (λ (b : Bool). cond b (Some x) (find (has_cell (mem.first + i)) mems)) none ∙ same_memory (from + x.cells) mems test mem i parts.1 f.1 l)
     ]
 
-found_name : (mems : List Mem) (name : List ℕ) (mem : Mem) → memory_named mems name ≡ Some mem → name ≡ mem.name
+pub found_name : (mems : List Mem) (name : List ℕ) (mem : Mem) → memory_named mems name ≡ Some mem → name ≡ mem.name
 found_name [] name mem e = cc
 found_name (x ∷ mems) name mem e =
     elim (named_found (bytes_eq name x.name) x mem (memory_named mems name) e) [
@@ -131,7 +131,7 @@ named_at mems cell mem i e c =
 
 -- ---- words
 
-single_plain : (mems : List Mem) (word : List ℕ) (cell : ℕ) → IsTrue (is_numbered 0 mems) → All (λ (mem : Mem). 1 ≤ mem.cells) mems
+pub single_plain : (mems : List Mem) (word : List ℕ) (cell : ℕ) → IsTrue (is_numbered 0 mems) → All (λ (mem : Mem). 1 ≤ mem.cells) mems
     → SingleMeans mems word cell → (name_of_cell mems cell ≡ word)
 single_plain mems word cell numbered some m =
     let mem = m.1 in
@@ -152,7 +152,7 @@ element_plain mems name index cell numbered m =
       m.4.2,
     )
 
-brackets : (name digits : List ℕ) → IsPlain name → IsPlain digits → IsPlain (element_word name digits)
+pub brackets : (name digits : List ℕ) → IsPlain name → IsPlain digits → IsPlain (element_word name digits)
 brackets name digits n d =
     let all : AllByRecursion (λ byte. IsTrue (is_word_byte byte)) (name ++ 91 ∷ (digits ++ 93 ∷ [])) =
     rec_append _ name (91 ∷ (digits ++ 93 ∷ [])) n.1 (refl, rec_append _ digits (93 ∷ []) d.1 (refl, tt)) in
@@ -204,7 +204,7 @@ module _ (known : Known) (numbered : IsTrue (is_numbered 0 known.mems)) (some : 
       ap (λ (n : ℕ). get_or (map (λ (r : Reducer). r.name) known.reducers) n []) (let d : number ≡ number - 0 = omega arith in d) ∙ reducer_at_by known.reducers word 0 number e
 
   -- what a word means, the plain word for it means
-  word_plain : (place : Place) (word : List ℕ) (value : Value) → IsSmall place → WordMeans known place word value
+  pub word_plain : (place : Place) (word : List ℕ) (value : Value) → IsSmall place → WordMeans known place word value
       → WordMeans known place (plain_word known place value) value × IsPlain (plain_word known place value)
   word_plain FreshName word (OfName name) s m =
       let named : IsName name = subst IsName (sym m.0) m.1 in

@@ -21,7 +21,7 @@ version_once_by One Two e = absurd (search rules)
 version_once_by Two One e = absurd (search rules)
 version_once_by Two Two e = refl
 
-version_once : (first : List ℕ) (version other : Version) → IsHeader first version → IsHeader first other → version ≡ other
+pub version_once : (first : List ℕ) (version other : Version) → IsHeader first version → IsHeader first other → version ≡ other
 version_once first version other h k =
     let behind : version_spelling version ∷ [] ≡ version_spelling other ∷ [] =
     (same_head (codes "cilk") (codes "cilk") (version_spelling version ∷ []) (version_spelling other ∷ []) (sym h.1 ∙ k.1)).1 in
@@ -63,7 +63,7 @@ lines_exclusive at before (line ∷ ls) v bad cause m (inr f) =
     lines_exclusive (at + 1) (extended at before f.0) ls v bad cause
     (subst (λ (t : Item). LinesMean (at + 1) (extended at before t) ls v) same m.2) f.2
 
-header_exclusive : (line : List ℕ) (version : Version) (cause : Cause) → IsHeader line version → HeaderFault line cause → ⊥
+pub header_exclusive : (line : List ℕ) (version : Version) (cause : Cause) → IsHeader line version → HeaderFault line cause → ⊥
 header_exclusive line version NotText h f = f h.0
 header_exclusive line version BadHeader h f = f version h
 header_exclusive line version cause h f = f
@@ -98,7 +98,7 @@ cause_at_number TooMany = refl
 not_less : (m n : ℕ) → (m < n → ⊥) → (n < m → ⊥) → m ≡ n
 not_less m n h k = omega arith
 
-lowest_once : (Holds : Cause → Type 0) (c d : Cause) → IsLowest Holds c → IsLowest Holds d → c ≡ d
+pub lowest_once : (Holds : Cause → Type 0) (c d : Cause) → IsLowest Holds c → IsLowest Holds d → c ≡ d
 lowest_once Holds c d f g =
     let same : cause_number c ≡ cause_number d = not_less _ _ (λ l. g.1 c l f.0) (λ l. f.1 d l g.0) in
     sym (cause_at_number c) ∙ (ap cause_at same ∙ cause_at_number d)

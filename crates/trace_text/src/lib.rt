@@ -16,21 +16,23 @@ mod laws;
 mod line;
 mod name;
 mod names;
-mod number;
+pub mod number;
 mod place;
 mod print;
 mod trace;
 mod value;
 mod words;
 
-pub use cell::cell_name;
-pub use fault::{Cause, TextFault};
+pub use cell::{cell_name, memory_of};
+pub use fault::{Cause, TextFault, both};
+pub use keyword::{monoid_of, monoid_word, version_word};
 pub use laws::{meaning_or_fault, one_fault, one_meaning, plain_meaning};
-pub use name::Name;
-pub use trace::Trace;
+pub use name::{NAME_LEN, Name, is_name};
+pub use names::{Named, Names};
+pub use place::{CELLS, end, length, monoid, reducer};
+pub use print::{put_declarations, put_feeds, put_memory, put_number, put_reducer, put_word};
+pub use trace::{LINES, REDUCERS, Trace, header};
 pub use value::{
     Act, Lines, Mem, Mems, Monoid, Monoids, Reducer, Reducers, Request, Shape, TraceLine, Version,
 };
-
-#[cfg(test)]
-mod tests;
+pub use words::{Words, as_text, split_line, without_return};

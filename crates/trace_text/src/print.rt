@@ -236,7 +236,7 @@ fn put_reducers<A: Allocator>(
 }
 
 /// Appends the lines of the declarations, and gives the number of the line behind them.
-fn put_declarations<A: Allocator>(
+pub fn put_declarations<A: Allocator>(
     out: &mut String<A>,
     mems: &[Mem],
     reducers: &[Reducer],

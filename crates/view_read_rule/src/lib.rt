@@ -12,6 +12,3 @@ pub mod laws;
 mod reads;
 
 pub use reads::{ReadPeers, ViewVerdict};
-
-#[cfg(test)]
-mod tests;

@@ -1,0 +1,45 @@
+//! Which strands of two blocks, one after the other, have one branch.
+
+use branch_names::Branches;
+use sp_labels::Spawned;
+use std::test::Fail;
+
+// A spawn by strand 0, the child's return, a sync that begins join 3; then the same by strand 3, and join 6.
+#[test]
+fn names_joins_as_their_openers(rt: HostRuntime) -> Result<(), Fail> {
+    let mut branches = Branches::new(rt.alloc())?;
+    branches.reserve_event()?;
+    assert!(rt; branches.has_room());
+    branches.spawned(
+        0,
+        &Spawned {
+            child: 1,
+            next: 2,
+            join: 3,
+            first: true,
+        },
+    );
+    assert!(rt; !branches.is_named(3));
+
+    branches.reserve_event()?;
+    branches.joined(3);
+    assert!(rt; branches.is_named(3));
+    assert!(rt; branches.same(0, 3));
+    assert!(rt; !branches.same(1, 2));
+    assert!(rt; !branches.same(0, 1));
+
+    branches.reserve_event()?;
+    branches.spawned(
+        3,
+        &Spawned {
+            child: 4,
+            next: 5,
+            join: 6,
+            first: true,
+        },
+    );
+    branches.reserve_event()?;
+    branches.joined(6);
+    assert!(rt; branches.same(0, 6));
+    Ok(())
+}

@@ -1,0 +1,413 @@
+//! Worked histories with cells, the faults of the gate, and long runs.
+
+ghost use Rattle.std.specs.Prelude.{◌≤◌, length};
+ghost use Rattle.race_gate.specs.Shapes.{most_entries, most_reducers};
+
+mod random;
+mod reducers;
+mod reference;
+
+use Act::{Bump, Call, Get, Read, Return, Spawn, Sync, Write};
+use Answer::{Ended, EndedJoined, Finished, Granted, Joined, Resumed, Same, Value, Waits};
+use access_table::{Kind, Rule};
+use race_gate::{Answer, Gate, GateFault, Receipt, Reply, judge_all, laws};
+use shadow_history::Witness;
+use sp_labels::Spawned;
+use std::alloc::{AllocError, Global};
+use std::process::Abort;
+use std::test::Fail;
+use trace_text::{Act, Monoid, Monoids, Request, Shape};
+
+/// One cell, x, with the number 0.
+fn opening(alloc: Global, limit: u32) -> Result<Gate<Global>, AllocError>
+    requires { limit ≤ most_entries }
+{
+    opening_with(alloc, &[], limit)
+}
+
+/// Three cells beside these reducers, or one where there are none.
+fn opening_with(alloc: Global, monoids: &[Monoid], limit: u32) -> Result<Gate<Global>, AllocError>
+    requires entries { limit ≤ most_entries }
+    requires reducers { length monoids.now ≤ most_reducers }
+{
+    let shape = Shape {
+        cells: if monoids.is_empty() { 1 } else { 3 },
+        monoids: Monoids::new(monoids.to_vec(alloc)?),
+    };
+    Gate::new(alloc, &shape, limit)
+}
+
+fn split(child: u32, next: u32, join: u32, first: bool) -> Answer {
+    Answer::Split(Spawned {
+        child,
+        next,
+        join,
+        first,
+    })
+}
+
+fn refused(entry: u32, strand: u32, kind: Kind) -> Answer {
+    Answer::Refused {
+        rule: Rule::Race,
+        witness: Witness {
+            entry,
+            strand,
+            kind,
+        },
+    }
+}
+
+/// Each act, by its strand, is answered by what stands beside it.
+fn check(rt: &impl Abort, alloc: Global, acts: &[(u32, Act, Answer)]) -> Result<(), Fail> {
+    check_with(rt, alloc, &[], acts)
+}
+
+/// The same of a program with these reducers.
+fn check_with(
+    rt: &impl Abort,
+    alloc: Global,
+    monoids: &[Monoid],
+    acts: &[(u32, Act, Answer)],
+) -> Result<(), Fail>
+    requires { length monoids.now ≤ most_reducers }
+{
+    let mut gate = opening_with(alloc, monoids, 1_000_000)?;
+    let mut number = 0u32;
+    for (strand, act, answer) in acts {
+        number = number.wrapping_add(1);
+        let request = Request {
+            strand: *strand,
+            act: *act,
+            line: number,
+        };
+        let expected = Receipt {
+            number,
+            request,
+            answer: *answer,
+        };
+        assert_eq!(rt; gate.judge(request), Ok(expected), "{act:?} by {strand}");
+    }
+    assert_eq!(rt; gate.history().len(), acts.len());
+    Ok(())
+}
+
+/// The gate answers the act of the strand by the fault.
+fn check_fault(rt: &impl Abort, gate: &mut Gate<Global>, strand: u32, act: Act, fault: GateFault) {
+    let request = Request {
+        strand,
+        act,
+        line: 1,
+    };
+    assert_eq!(rt; gate.judge(request), Err(fault), "{act:?} by {strand}");
+}
+
+#[test]
+fn a_gate_begins_without_entries(rt: HostRuntime) -> Result<(), Fail> {
+    let gate = opening(rt.alloc(), 7)?;
+    assert!(rt; gate.history().is_empty() && !gate.is_finished() && !gate.is_stopped());
+    assert_eq!(rt; gate.memory(), [0].as_slice());
+    assert_eq!(rt; gate.limit(), 7);
+    assert_eq!(rt; gate.shape().cells, 1);
+    Ok(())
+}
+
+#[test]
+fn values_go_along_a_strand(rt: HostRuntime) -> Result<(), Fail> {
+    check(
+        &rt,
+        rt.alloc(),
+        &[(0, Write(0, 5), Granted), (0, Read(0), Value(5))],
+    )
+}
+
+#[test]
+fn parallel_reads_are_granted_and_a_parallel_write_is_refused(rt: HostRuntime) -> Result<(), Fail> {
+    check(
+        &rt,
+        rt.alloc(),
+        &[
+            (0, Spawn, split(1, 2, 3, true)),
+            (1, Read(0), Value(0)),
+            (2, Read(0), Value(0)),
+            (2, Write(0, 9), refused(2, 1, Kind::Read)),
+        ],
+    )?;
+    check(
+        &rt,
+        rt.alloc(),
+        &[
+            (0, Spawn, split(1, 2, 3, true)),
+            (2, Read(0), Value(0)),
+            (1, Write(0, 9), refused(2, 2, Kind::Read)),
+        ],
+    )?;
+    check(
+        &rt,
+        rt.alloc(),
+        &[
+            (0, Spawn, split(1, 2, 3, true)),
+            (2, Read(0), Value(0)),
+            (1, Read(0), Value(0)),
+            (1, Write(0, 9), refused(2, 2, Kind::Read)),
+        ],
+    )
+}
+
+#[test]
+fn a_write_behind_the_join_is_granted(rt: HostRuntime) -> Result<(), Fail> {
+    check(
+        &rt,
+        rt.alloc(),
+        &[
+            (0, Spawn, split(1, 2, 3, true)),
+            (1, Read(0), Value(0)),
+            (2, Sync, Waits),
+            (1, Return, EndedJoined(3)),
+            (3, Write(0, 4), Granted),
+        ],
+    )
+}
+
+#[test]
+fn a_refused_write_is_not_done(rt: HostRuntime) -> Result<(), Fail> {
+    check(
+        &rt,
+        rt.alloc(),
+        &[
+            (0, Spawn, split(1, 2, 3, true)),
+            (1, Write(0, 5), Granted),
+            (2, Write(0, 6), refused(2, 1, Kind::Write)),
+            (1, Read(0), Value(5)),
+        ],
+    )
+}
+
+#[test]
+fn a_called_function_syncs_its_own_children(rt: HostRuntime) -> Result<(), Fail> {
+    check(
+        &rt,
+        rt.alloc(),
+        &[
+            (0, Spawn, split(1, 2, 3, true)),
+            (2, Call, Same),
+            (2, Spawn, split(4, 5, 6, true)),
+            (4, Return, Ended),
+            (5, Sync, Joined(6)),
+            (6, Return, Resumed),
+            (6, Sync, Waits),
+            (1, Return, EndedJoined(3)),
+        ],
+    )
+}
+
+#[test]
+fn bumps_are_added_and_race_with_reads_and_writes(rt: HostRuntime) -> Result<(), Fail> {
+    check(
+        &rt,
+        rt.alloc(),
+        &[
+            (0, Write(0, 1), Granted),
+            (0, Spawn, split(1, 2, 3, true)),
+            (1, Bump(0, 2), Granted),
+            (2, Bump(0, 3), Granted),
+            (2, Read(0), refused(3, 1, Kind::Bump)),
+            (2, Sync, Waits),
+            (1, Return, EndedJoined(3)),
+            (3, Read(0), Value(6)),
+        ],
+    )?;
+    check(
+        &rt,
+        rt.alloc(),
+        &[
+            (0, Write(0, 18_446_744_073_709_551_615), Granted),
+            (0, Bump(0, 2), Granted),
+            (0, Read(0), Value(1)),
+        ],
+    )?;
+    check(
+        &rt,
+        rt.alloc(),
+        &[
+            (0, Spawn, split(1, 2, 3, true)),
+            (1, Bump(0, 2), Granted),
+            (2, Write(0, 9), refused(2, 1, Kind::Bump)),
+        ],
+    )?;
+    check(
+        &rt,
+        rt.alloc(),
+        &[
+            (0, Spawn, split(1, 2, 3, true)),
+            (1, Write(0, 9), Granted),
+            (2, Bump(0, 2), refused(2, 1, Kind::Write)),
+        ],
+    )?;
+    check(
+        &rt,
+        rt.alloc(),
+        &[
+            (0, Spawn, split(1, 2, 3, true)),
+            (1, Read(0), Value(0)),
+            (2, Bump(0, 1), refused(2, 1, Kind::Read)),
+        ],
+    )
+}
+
+#[test]
+fn faults_come_in_their_order(rt: HostRuntime) -> Result<(), Fail> {
+    let mut gate = opening(rt.alloc(), 2)?;
+    check_fault(&rt, &mut gate, 0, Read(1), GateFault::BadName);
+    check_fault(&rt, &mut gate, 9, Read(1), GateFault::NotRunning);
+    check_fault(&rt, &mut gate, 0, Get(0), GateFault::BadName);
+    let spawn = Request {
+        strand: 0,
+        act: Spawn,
+        line: 1,
+    };
+    let read = Request {
+        strand: 2,
+        act: Read(0),
+        line: 3,
+    };
+    assert!(rt; gate.judge(spawn).is_ok());
+    check_fault(&rt, &mut gate, 2, Return, GateFault::Unsynced);
+    assert_eq!(rt;
+        gate.judge(read),
+        Ok(Receipt {
+            number: 2,
+            request: read,
+            answer: Value(0)
+        })
+    );
+    check_fault(&rt, &mut gate, 9, Read(1), GateFault::Limit);
+    gate.stop();
+    assert!(rt; gate.is_stopped());
+    check_fault(&rt, &mut gate, 0, Sync, GateFault::Stopped);
+    assert_eq!(rt; gate.history().len(), 2);
+    Ok(())
+}
+
+#[test]
+fn a_list_has_one_reply_to_each_request(rt: HostRuntime) -> Result<(), Fail> {
+    let mut gate = opening(rt.alloc(), 3)?;
+    let write = |line: u32| Request {
+        strand: 0,
+        act: Write(0, 1),
+        line,
+    };
+    let done = |number: u32| {
+        Reply::Done(Receipt {
+            number,
+            request: write(number),
+            answer: Granted,
+        })
+    };
+    let requests = [write(1), write(2), write(3), write(4)];
+    let replies = judge_all(&mut gate, rt.alloc(), &requests)?;
+    assert_eq!(rt;
+        replies.as_slice(),
+        [done(1), done(2), done(3), Reply::Illegal(GateFault::Limit)].as_slice()
+    );
+    assert_eq!(rt; gate.memory(), [1].as_slice());
+    Ok(())
+}
+
+#[test]
+fn the_root_function_finishes(rt: HostRuntime) -> Result<(), Fail> {
+    let mut gate = opening(rt.alloc(), 1_000_000)?;
+    let by_root = |act: Act| Request {
+        strand: 0,
+        act,
+        line: 1,
+    };
+    let done = |number: u32, act: Act, answer: Answer| {
+        Reply::Done(Receipt {
+            number,
+            request: by_root(act),
+            answer,
+        })
+    };
+    let requests = [by_root(Sync), by_root(Return), by_root(Read(0))];
+    let replies = judge_all(&mut gate, rt.alloc(), &requests)?;
+    assert_eq!(rt;
+        replies.as_slice(),
+        [
+            done(1, Sync, Same),
+            done(2, Return, Finished),
+            Reply::Illegal(GateFault::NotRunning),
+        ]
+        .as_slice()
+    );
+    assert!(rt; gate.is_finished());
+    assert_eq!(rt; gate.history().len(), 2);
+    laws::race_law();
+    laws::verdict_law();
+    laws::read_law();
+    laws::value_law();
+    laws::examples_law();
+    Ok(())
+}
+
+#[test]
+fn spawns_in_a_long_loop(rt: HostRuntime) -> Result<(), Fail> {
+    let mut gate = opening(rt.alloc(), 1_000_000)?;
+    let mut newest = 0;
+    let mut last = 0;
+    for k in 1..10_001u32 {
+        let child = if k == 1 { 1 } else { 2 * k };
+        for (strand, act) in [(newest, Spawn), (child, Return)] {
+            let request = Request {
+                strand,
+                act,
+                line: 1,
+            };
+            match gate.judge(request) {
+                Ok(receipt) => {
+                    let expected = if act == Return {
+                        Ended
+                    } else {
+                        split(child, child + 1, 3, k == 1)
+                    };
+                    assert_eq!(rt; receipt.answer, expected);
+                }
+                Err(_) => assert!(rt; false),
+            }
+        }
+        newest = child + 1;
+        if k % 100 == 0 {
+            let request = Request {
+                strand: newest,
+                act: Write(0, 7),
+                line: 1,
+            };
+            match gate.judge(request) {
+                Ok(receipt) => {
+                    assert_eq!(rt; receipt.answer, Granted);
+                    last = receipt.number;
+                }
+                Err(_) => assert!(rt; false),
+            }
+        }
+    }
+    assert_eq!(rt; last, 20_100);
+    for (number, strand, act, answer) in [
+        (20_101, 20_001, Sync, Joined(3)),
+        (20_102, 3, Return, Finished),
+    ] {
+        let request = Request {
+            strand,
+            act,
+            line: 1,
+        };
+        assert_eq!(rt;
+            gate.judge(request),
+            Ok(Receipt {
+                number,
+                request,
+                answer
+            })
+        );
+    }
+    Ok(())
+}

@@ -1,0 +1,141 @@
+//! Random legal traces, against the slow reference.
+
+use super::opening_with;
+use super::reference::Reference;
+use crate::draws::draw;
+use access_table::Rule;
+use race_gate::{Answer, Entry, Gate};
+use std::alloc::{AllocError, Global};
+use std::process::Abort;
+use std::test::Fail;
+use trace_text::{Act, Monoid, Request};
+
+fn drawn_monoid(choice: u32) -> Monoid {
+    match choice {
+        0 => Monoid::Sum,
+        1 => Monoid::Min,
+        2 => Monoid::Max,
+        3 => Monoid::Last,
+        _ => Monoid::Digits,
+    }
+}
+
+/// An act that is legal, in a block or not.
+fn drawn_act(choice: u32, place: u32, value: u64, is_in_block: bool) -> Act {
+    match choice {
+        0..=3 => Act::Spawn,
+        4..=6 if is_in_block => Act::Sync,
+        4..=6 => Act::Return,
+        7 => Act::Sync,
+        8 => Act::Read(place),
+        9 => Act::Write(place, value),
+        10 => Act::Bump(place, value),
+        11..=14 => Act::Update(place % 2, value),
+        15..=17 => Act::Put(place % 2, value),
+        _ => Act::Get(place % 2),
+    }
+}
+
+/// Asks the gate, and takes the answer in.
+fn ask(
+    gate: &mut Gate<Global>,
+    reference: &mut Reference,
+    strand: u32,
+    act: Act,
+) -> Result<(), AllocError> {
+    let request = Request {
+        strand,
+        act,
+        line: 1,
+    };
+    if let Ok(receipt) = gate.judge(request) {
+        reference.take(Entry {
+            request,
+            answer: receipt.answer,
+        })?;
+    }
+    Ok(())
+}
+
+/// Syncs and returns until the root function has returned, with a get before each.
+fn finish(gate: &mut Gate<Global>, reference: &mut Reference) -> Result<(), AllocError> {
+    for round in 0..400u32 {
+        if gate.is_finished() {
+            break;
+        }
+        let strand = reference.pick(63);
+        let act = if reference.is_in_block(strand) {
+            Act::Sync
+        } else {
+            Act::Return
+        };
+        ask(gate, reference, strand, Act::Get(round % 2))?;
+        ask(gate, reference, strand, act)?;
+    }
+    Ok(())
+}
+
+/// Each access among the entries was answered as the reference answers it in the finished dag.
+fn compare(
+    rt: &impl Abort,
+    alloc: Global,
+    reference: &Reference,
+    entries: &[Entry],
+    monoids: &[Monoid],
+    seed: u64,
+) -> Result<(), Fail> {
+    for (place, entry) in entries.iter().enumerate() {
+        let earlier = entries.get(..place).unwrap_or(&[]);
+        let strand = entry.request.strand;
+        let act = entry.request.act;
+        if let Some(expected) = reference.answer_to_read(alloc, earlier, monoids, strand, act)? {
+            assert_eq!(rt; entry.answer, expected, "entry {place} of {seed}");
+        }
+        let is_race = matches!(
+            entry.answer,
+            Answer::Refused {
+                rule: Rule::Race,
+                ..
+            }
+        );
+        assert_eq!(rt;
+            is_race,
+            reference.races(earlier, strand, act),
+            "entry {place} of {seed}"
+        );
+    }
+    Ok(())
+}
+
+#[test]
+fn random_traces_agree_with_the_reference(rt: HostRuntime) -> Result<(), Fail> {
+    for seed in 0..300u64 {
+        let (first, state_first) = draw(seed, 5);
+        let (second, mut state) = draw(state_first, 5);
+        let monoids = [drawn_monoid(first), drawn_monoid(second)];
+        let mut gate = opening_with(rt.alloc(), &monoids, 1_000)?;
+        let mut reference = Reference::new(rt.alloc());
+        if seed % 2 == 0 {
+            ask(&mut gate, &mut reference, 0, Act::Put(0, 1))?;
+            ask(&mut gate, &mut reference, 0, Act::Put(1, 500))?;
+        }
+        for _entry in 0..20u32 {
+            let (which, state_strand) = draw(state, 64);
+            let (choice, state_act) = draw(state_strand, 22);
+            let (place, state_place) = draw(state_act, 3);
+            let (value, state_next) = draw(state_place, 1_000);
+            state = state_next;
+            let strand = reference.pick(which % 7);
+            if gate.is_finished() || (strand == 0 && choice > 3 && choice < 8) {
+                continue;
+            }
+            let act = drawn_act(choice, place, value as u64, reference.is_in_block(strand));
+            ask(&mut gate, &mut reference, strand, act)?;
+        }
+        finish(&mut gate, &mut reference)?;
+        assert!(rt; gate.is_finished(), "{seed}");
+        reference.close();
+        compare(&rt, rt.alloc(), &reference, gate.history(), &monoids, seed)?;
+    }
+    Ok(())
+}

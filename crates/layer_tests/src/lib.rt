@@ -1,0 +1,26 @@
+//! The tests of the layers below the program, a module for each layer, and nothing else.
+//!
+//! They make public calls alone, so they stand above the crates that they test: each layer is proved once, and not a second
+//! time with its tests, and all the tests are proved beside one another.
+#![tactic(auto)]
+
+#[cfg(test)]
+mod accesses;
+#[cfg(test)]
+mod branches;
+#[cfg(test)]
+mod draws;
+#[cfg(test)]
+mod gate;
+#[cfg(test)]
+mod kinds;
+#[cfg(test)]
+mod order;
+#[cfg(test)]
+mod reads;
+#[cfg(test)]
+mod strands;
+#[cfg(test)]
+mod texts;
+#[cfg(test)]
+mod views;

@@ -1,0 +1,360 @@
+//! Traces as text: each cause, each limit, each kind of line.
+use std::alloc::Global;
+use std::process::Abort;
+use std::test::Fail;
+use trace_text::{Act, Cause, Monoid, Request, TextFault, Trace, cell_name};
+
+/// The fault of a text, or none where it means a trace.
+fn fault_of(alloc: Global, text: &[u8]) -> Option<(u32, Cause)> {
+    match Trace::parse(alloc, text) {
+        Err(TextFault::At { line, why }) => Some((line, why)),
+        _ => None,
+    }
+}
+
+/// Whether a text means a trace.
+fn is_trace(alloc: Global, text: &[u8]) -> bool {
+    Trace::parse(alloc, text).is_ok()
+}
+
+#[test]
+fn headers(rt: HostRuntime) {
+    let alloc = rt.alloc();
+    assert_eq!(rt; fault_of(alloc, b""), Some((1, Cause::BadHeader)));
+    assert_eq!(rt; fault_of(alloc, b"cilk 3\n"), Some((1, Cause::BadHeader)));
+    assert_eq!(rt; fault_of(alloc, b"cilk 01\n"), Some((1, Cause::BadHeader)));
+    assert_eq!(rt; fault_of(alloc, b"\ncilk 1\n"), Some((1, Cause::BadHeader)));
+    assert_eq!(rt; fault_of(alloc, b"cilk 1 1\n"), Some((1, Cause::BadHeader)));
+    assert_eq!(rt; fault_of(alloc, b"cilk \xFF\n"), Some((1, Cause::NotText)));
+    assert!(rt; is_trace(alloc, b"cilk 1"));
+    assert!(rt; is_trace(alloc, b"\tcilk  2 # the second\r\n"));
+}
+
+#[test]
+fn words_and_numbers(rt: HostRuntime) {
+    let alloc = rt.alloc();
+    assert_eq!(rt;
+        fault_of(alloc, b"cilk 1\n\xFF\n"),
+        Some((2, Cause::NotText))
+    );
+    assert_eq!(rt;
+        fault_of(alloc, b"cilk 1\nmem x # \x7F\n"),
+        Some((2, Cause::NotText))
+    );
+    assert_eq!(rt;
+        fault_of(alloc, b"cilk 1\nmem x\rmem y\n"),
+        Some((2, Cause::NotText))
+    );
+    assert_eq!(rt;
+        fault_of(alloc, b"cilk 1\nmem x\r\r\n"),
+        Some((2, Cause::NotText))
+    );
+    assert_eq!(rt;
+        fault_of(alloc, b"cilk 1\nmem x\njump 0\n"),
+        Some((3, Cause::BadWord))
+    );
+    assert_eq!(rt;
+        fault_of(alloc, b"cilk 1\nmem x\nread 0\n"),
+        Some((3, Cause::BadWord))
+    );
+    assert_eq!(rt;
+        fault_of(alloc, b"cilk 1\nmem x\nread 0 @0\n"),
+        Some((3, Cause::BadWord))
+    );
+    assert_eq!(rt;
+        fault_of(alloc, b"cilk 1\nsync 0 0\n"),
+        Some((2, Cause::BadWord))
+    );
+    assert_eq!(rt;
+        fault_of(alloc, b"cilk 1\nmem 5\n"),
+        Some((2, Cause::BadWord))
+    );
+    assert_eq!(rt;
+        fault_of(alloc, b"cilk 1\nmem X\n"),
+        Some((2, Cause::BadWord))
+    );
+    assert_eq!(rt;
+        fault_of(alloc, b"cilk 1\nmem x\nread 0 x @1 @2\n"),
+        Some((3, Cause::BadWord))
+    );
+    assert_eq!(rt;
+        fault_of(alloc, b"cilk 1\nmem a 2\nread 0 a[2\n"),
+        Some((3, Cause::BadWord))
+    );
+    assert_eq!(rt;
+        fault_of(alloc, b"cilk 1\nmem a 2\nread 0 a[1][1]\n"),
+        Some((3, Cause::BadNumber))
+    );
+    assert_eq!(rt;
+        fault_of(alloc, b"cilk 1\nmem a 2\nread 0 a[5x]\n"),
+        Some((3, Cause::BadNumber))
+    );
+    assert_eq!(rt;
+        fault_of(alloc, b"cilk 1\nmem a 2\nread 0 a[2]\n"),
+        Some((3, Cause::BadNumber))
+    );
+    assert_eq!(rt;
+        fault_of(alloc, b"cilk 1\nmem x\nread 4294967296 x\n"),
+        Some((3, Cause::BadNumber))
+    );
+    assert_eq!(rt;
+        fault_of(alloc, b"cilk 1\nmem x\nwrite 0 x 18446744073709551616\n"),
+        Some((3, Cause::BadNumber))
+    );
+    assert_eq!(rt;
+        fault_of(alloc, b"cilk 1\nmem x\nread 0 x @0\n"),
+        Some((3, Cause::BadNumber))
+    );
+    assert_eq!(rt;
+        fault_of(alloc, b"cilk 1\nmem x\nread 0 x @4294967296\n"),
+        Some((3, Cause::BadNumber))
+    );
+    assert!(rt;
+        is_trace(
+            alloc,
+            b"cilk 1\nmem x\nwrite 4294967295 x 18446744073709551615 @4294967295\n"
+        )
+    );
+}
+
+#[test]
+fn names_and_order(rt: HostRuntime) {
+    let alloc = rt.alloc();
+    assert_eq!(rt;
+        fault_of(alloc, b"cilk 1\nmem x\nread 0 y\n"),
+        Some((3, Cause::UnknownName))
+    );
+    assert_eq!(rt;
+        fault_of(alloc, b"cilk 1\nmem x\nread 0 x[0]\n"),
+        Some((3, Cause::UnknownName))
+    );
+    assert_eq!(rt;
+        fault_of(alloc, b"cilk 1\nmem a 1\nread 0 a\n"),
+        Some((3, Cause::UnknownName))
+    );
+    assert_eq!(rt;
+        fault_of(alloc, b"cilk 1\nmem x\nget 0 x\n"),
+        Some((3, Cause::UnknownName))
+    );
+    assert_eq!(rt;
+        fault_of(alloc, b"cilk 1\nreducer h sum\nread 0 h\n"),
+        Some((3, Cause::UnknownName))
+    );
+    assert_eq!(rt;
+        fault_of(alloc, b"cilk 1\nread 0 x\nmem x\n"),
+        Some((2, Cause::UnknownName))
+    );
+    assert_eq!(rt;
+        fault_of(alloc, b"cilk 1\nmem x\nmem x\n"),
+        Some((3, Cause::TwiceNamed))
+    );
+    assert_eq!(rt;
+        fault_of(alloc, b"cilk 1\nmem x\nreducer x sum\n"),
+        Some((3, Cause::TwiceNamed))
+    );
+    assert_eq!(rt;
+        fault_of(alloc, b"cilk 1\nreducer x sum\nmem x\n"),
+        Some((3, Cause::TwiceNamed))
+    );
+    assert_eq!(rt;
+        fault_of(alloc, b"cilk 1\nmem x\nmem x 0\n"),
+        Some((3, Cause::BadNumber))
+    );
+    assert_eq!(rt;
+        fault_of(alloc, b"cilk 1\nmem x\nsync 0\nmem x\n"),
+        Some((4, Cause::TwiceNamed))
+    );
+    assert_eq!(rt;
+        fault_of(alloc, b"cilk 1\nmem x\nsync 0\nmem y\n"),
+        Some((4, Cause::BadNesting))
+    );
+    assert_eq!(rt;
+        fault_of(alloc, b"cilk 1\nsync 0\nreducer h min\n"),
+        Some((3, Cause::BadNesting))
+    );
+    assert!(rt;
+        is_trace(
+            alloc,
+            b"cilk 1\nmem mem\nmem read\nreducer bump last\nmem digits\nread 0 read\n"
+        )
+    );
+}
+
+#[test]
+fn versions(rt: HostRuntime) {
+    let alloc = rt.alloc();
+    assert_eq!(rt;
+        fault_of(alloc, b"cilk 1\nmem x\nbump 0 x 1\n"),
+        Some((3, Cause::BadWord))
+    );
+    assert_eq!(rt;
+        fault_of(alloc, b"cilk 1\nreducer h digits\n"),
+        Some((2, Cause::BadWord))
+    );
+    assert_eq!(rt;
+        fault_of(alloc, b"cilk 2\nreducer h product\n"),
+        Some((2, Cause::BadWord))
+    );
+    assert!(rt;
+        is_trace(
+            alloc,
+            b"cilk 2\nmem x\nreducer h digits\nbump 0 x 1\nupdate 0 h 2\n"
+        )
+    );
+}
+
+#[test]
+fn limits(rt: HostRuntime) {
+    let alloc = rt.alloc();
+    assert_eq!(rt;
+        fault_of(alloc, b"cilk 1\nmem a 0\n"),
+        Some((2, Cause::BadNumber))
+    );
+    assert_eq!(rt;
+        fault_of(alloc, b"cilk 1\nmem a 1000001\n"),
+        Some((2, Cause::BadNumber))
+    );
+    assert!(rt; is_trace(alloc, b"cilk 1\nmem a 999999\nmem b\nread 0 a[999998]\n"));
+    assert_eq!(rt;
+        fault_of(alloc, b"cilk 1\nmem a 1000000\nmem b\n"),
+        Some((3, Cause::TooMany))
+    );
+    assert!(rt; is_trace(alloc, b"cilk 1\nmem a2345678901234567890123456789012\n"));
+    assert_eq!(rt;
+        fault_of(alloc, b"cilk 1\nmem a23456789012345678901234567890123\n"),
+        Some((2, Cause::BadWord))
+    );
+}
+
+/// A text that declares so many reducers.
+fn with_reducers(alloc: Global, count: u32) -> Result<String, Fail> {
+    let mut text = String::from_str(alloc, "cilk 1\n")?;
+    for number in 0..count {
+        let line = format!(in alloc; "reducer h{number} max\n")?;
+        text.push_str(line.as_str())?;
+    }
+    Ok(text)
+}
+
+#[test]
+fn many_reducers(rt: HostRuntime) -> Result<(), Fail> {
+    let alloc = rt.alloc();
+    assert!(rt; is_trace(alloc, with_reducers(alloc, 256)?.as_bytes()));
+    assert_eq!(rt;
+        fault_of(alloc, with_reducers(alloc, 257)?.as_bytes()),
+        Some((258, Cause::TooMany))
+    );
+    Ok(())
+}
+
+/// Checks that a text means these requests, each of strand 3 and of the line of its own number.
+fn asks(rt: &impl Abort, alloc: Global, text: &[u8], acts: &[Act]) -> Result<(), Fail> {
+    let trace = Trace::parse(alloc, text)?;
+    let lines = trace.lines.as_slice();
+    assert_eq!(rt; lines.len(), acts.len());
+    for (line, act) in lines.iter().zip(acts) {
+        assert_eq!(rt;
+            line.request,
+            Request {
+                strand: 3,
+                act: *act,
+                line: line.at
+            }
+        );
+        assert!(rt; !line.marked);
+    }
+    Ok(())
+}
+
+#[test]
+fn requests(rt: HostRuntime) -> Result<(), Fail> {
+    let head =
+        b"cilk 2\nmem x\nmem a 4\nreducer g sum\nreducer h min\nspawn 3\ncall 3\nsync 3\nreturn 3\nread 3 a[1]\nwrite 3 x 7\nbump 3 a[3] 8\nupdate 3 h 9\nput 3 g 10\nget 3 h";
+    let acts = [
+        Act::Spawn,
+        Act::Call,
+        Act::Sync,
+        Act::Return,
+        Act::Read(2),
+        Act::Write(0, 7),
+        Act::Bump(4, 8),
+        Act::Update(1, 9),
+        Act::Put(0, 10),
+        Act::Get(1),
+    ];
+    asks(&rt, rt.alloc(), head, acts.as_slice())
+}
+
+#[test]
+fn marks_and_blanks(rt: HostRuntime) -> Result<(), Fail> {
+    let text = b"cilk 1\r\nmem x\nspawn 0\nread 1 x # c\n\n  write\t2 x 9 @7\n\r";
+    let trace = Trace::parse(rt.alloc(), text)?;
+    let lines = trace.lines.as_slice();
+    assert_eq!(rt; lines.len(), 3);
+    assert_eq!(rt;
+        lines[2].request,
+        Request {
+            strand: 2,
+            act: Act::Write(0, 9),
+            line: 7
+        }
+    );
+    assert_eq!(rt; lines[2].at, 6);
+    assert!(rt; lines[2].marked);
+    assert_eq!(rt;
+        lines[1].request,
+        Request {
+            strand: 1,
+            act: Act::Read(0),
+            line: 4
+        }
+    );
+    Ok(())
+}
+
+/// Checks that a text is printed so, and that the printed text is printed alike.
+fn prints(rt: &impl Abort, alloc: Global, text: &[u8], plain: &[u8]) -> Result<(), Fail> {
+    let printed = Trace::parse(alloc, text)?.print(alloc)?;
+    assert_eq!(rt; printed.as_slice(), plain);
+    let again = Trace::parse(alloc, plain)?.print(alloc)?;
+    assert_eq!(rt; again.as_slice(), plain);
+    Ok(())
+}
+
+#[test]
+fn printed(rt: HostRuntime) -> Result<(), Fail> {
+    let alloc = rt.alloc();
+    prints(
+        &rt,
+        alloc,
+        b"cilk 1\n# c\nmem  x\nwrite 0 x 007 @5",
+        b"cilk 1\n\nmem x\nwrite 0 x 7 @5\n",
+    )?;
+    prints(&rt, alloc, b"cilk 2\n\n\n", b"cilk 2\n")?;
+    prints(
+        &rt,
+        alloc,
+        b"cilk 2\r\nreducer g digits # c\nmem a 04\n\treducer h last\nmem b\n\nread 00 a[03] @09\nbump 1 b 2\nget 2 h\nput 3 g 4\nspawn 5 #\n\n",
+        b"cilk 2\nreducer g digits\nmem a 4\nreducer h last\nmem b\n\nread 0 a[3] @9\nbump 1 b 2\nget 2 h\nput 3 g 4\nspawn 5\n",
+    )
+}
+
+#[test]
+fn shapes_and_names(rt: HostRuntime) -> Result<(), Fail> {
+    let alloc = rt.alloc();
+    let trace = Trace::parse(
+        alloc,
+        b"cilk 2\nmem x\nmem a 2\nreducer h digits\nreducer g min\n",
+    )?;
+    let shape = trace.shape(alloc)?;
+    assert_eq!(rt; shape.cells, 3);
+    assert_eq!(rt;
+        shape.monoids.as_slice(),
+        [Monoid::Digits, Monoid::Min].as_slice()
+    );
+    let first = cell_name(alloc, trace.mems.as_slice(), 0)?;
+    assert_eq!(rt; first.as_str(), "x");
+    let last = cell_name(alloc, trace.mems.as_slice(), 2)?;
+    assert_eq!(rt; last.as_str(), "a[1]");
+    Ok(())
+}
