@@ -1,0 +1,9 @@
+pub mod Keywords
+pub mod LocationWords
+pub mod Outcomes
+pub mod LineFaults
+pub mod NameLists
+pub mod Once
+pub mod Crowded
+pub mod PlainItems
+pub mod Within

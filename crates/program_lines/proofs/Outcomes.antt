@@ -1,0 +1,232 @@
+-- Words in their places: what means something has no fault, and the lowest cause of more words is the lower one.
+use Rattle.std.proofs.Common.{◌≡◌, ℕ, ◌<◌, ◌≤◌, ◌+◌, ◌∷◌, [], List, length, true, false, Bool, cond, arith, refl, sym, ap, subst, inl, inr}
+use Rattle.std.specs.Prelude.{Option, Some, None, Result, Ok, Err, option_map, nat_lt}
+use Rattle.std.proofs.lemmas.Bool.Decides.{nat_tests}
+use Rattle.trace_text.specs.declared.fault.Cause.{Cause}
+use Rattle.trace_text.specs.declared.fault.Cause.TheVariants.{NotText, BadHeader, BadWord, BadNumber, UnknownName, TwiceNamed, BadNesting, NoMain, TooMany}
+use Rattle.trace_text.specs.Faults.{IsLowest, cause_number}
+use Rattle.trace_text.specs.Lines as trace
+use Rattle.trace_text.specs.Outcome.{both_of, TakesWord as TakesCommon, Fits as FitsCommon}
+use Rattle.trace_text.specs.Text.{IsName}
+use Rattle.trace_text.proofs.Outcomes.{word_clean as common_clean}
+use Rattle.program_lines.specs.declared.operator.Operator.{Operator}
+use Rattle.program_lines.specs.declared.statement.Operand.{Operand}
+use Rattle.program_lines.specs.declared.statement.Register.{Register}
+use Rattle.program_lines.specs.Scopes.{Scope, register_named, function_named, max_registers, IsFresh}
+use Rattle.program_lines.specs.Places.{Place, Common, FreshName, OperandWord, LocationWord, AssignedRegister, KnownRegister, FunctionName, ParameterName, Sign, Exactly, Value, Plain, OfOperand, OfLocation, OfRegister, OfAssigned, OfSign, Nothing, WordMeans, OperandMeans, RegisterMeans, AssignedMeans, IsRegisterName}
+use Rattle.program_lines.specs.Table.{Placed, placed, WordsMean}
+use Rattle.program_lines.specs.Grammar.{number_if_there}
+use Rattle.program_lines.specs.Faults.{WordFault, SomeFault}
+use Rattle.program_lines.specs.Outcome.{Reads, TakesWord, IsPlacedFault, Fits}
+use Rattle.program_lines.proofs.LocationWords.{below_word, unnamed, operand_shape, operand_number, operand_known, location_no_fault}
+
+module _ (scope : Scope) where
+  -- ---- a word that means something has no fault
+
+  fresh_no_fault : (word : List ℕ) → IsName word → IsFresh scope word → (cause : Cause) → WordFault scope FreshName word cause → ⊥
+  fresh_no_fault word n e BadWord f = f n
+  fresh_no_fault word n e TwiceNamed f = f e
+  fresh_no_fault word n e cause f = f
+
+  operand_no_fault : (word : List ℕ) (operand : Operand) → OperandMeans scope.registers word operand → (cause : Cause) → WordFault scope OperandWord word cause → ⊥
+  operand_no_fault word operand m BadWord f = f (operand_shape scope word operand m)
+  operand_no_fault word operand m BadNumber f = operand_number scope word operand m f
+  operand_no_fault word operand m UnknownName f = operand_known scope word operand m f
+  operand_no_fault word operand m cause f = f
+
+  known_no_fault : (word : List ℕ) (register : Register) → RegisterMeans scope.registers word register → (cause : Cause) → WordFault scope KnownRegister word cause → ⊥
+  known_no_fault word register m BadWord f = f m.0
+  known_no_fault word register m UnknownName f = unnamed _ _ m.1 f.1
+  known_no_fault word register m cause f = f
+
+  assigned_no_fault : (word : List ℕ) (register : Register) (named : Option (List ℕ)) → AssignedMeans scope.registers word register named → (cause : Cause) → WordFault scope AssignedRegister word cause → ⊥
+  assigned_no_fault word register None m BadWord f = f m.0
+  assigned_no_fault word register None m TooMany f = unnamed _ _ m.1 f.0
+  assigned_no_fault word register (Some name) m BadWord f = f m.1
+  assigned_no_fault word register (Some name) m TooMany f =
+      let few : register.index < 17 = register.in_range in
+      let next : register.index ≡ length scope.registers + 1 = m.3 in
+      omega (arith, f.1)
+  assigned_no_fault word register named m cause f = f
+
+  function_no_fault : (word : List ℕ) (number : ℕ) → IsName word → function_named scope.functions word ≡ Some number → (cause : Cause) → WordFault scope FunctionName word cause → ⊥
+  function_no_fault word number n e BadWord f = f n
+  function_no_fault word number n e UnknownName f = unnamed _ _ e f.1
+  function_no_fault word number n e cause f = f
+
+  parameter_no_fault : (word : List ℕ) → IsRegisterName word → (cause : Cause) → WordFault scope ParameterName word cause → ⊥
+  parameter_no_fault word n BadWord f = f n
+  parameter_no_fault word n cause f = f
+
+  sign_no_fault : (word : List ℕ) (operator : Operator) → WordMeans scope Sign word (OfSign operator) → (cause : Cause) → WordFault scope Sign word cause → ⊥
+  sign_no_fault word operator m BadWord f = f (operator, m)
+  sign_no_fault word operator m cause f = f
+
+  exact_no_fault : (other word : List ℕ) → word ≡ other → (cause : Cause) → WordFault scope (Exactly other) word cause → ⊥
+  exact_no_fault other word m BadWord f = f m
+  exact_no_fault other word m cause f = f
+
+  pub word_clean : (place : Place) (word : List ℕ) (value : Value) → WordMeans scope place word value → (cause : Cause) → WordFault scope place word cause → ⊥
+  word_clean (Common place) word (Plain value) m cause f = common_clean scope.known place word value m cause f
+  word_clean FreshName word (Plain (trace.OfName name)) m cause f = fresh_no_fault word m.1 m.2 cause f
+  word_clean OperandWord word (OfOperand operand) m cause f = operand_no_fault word operand m cause f
+  word_clean LocationWord word (OfLocation location) m cause f = location_no_fault scope word location m cause f
+  word_clean AssignedRegister word (OfAssigned register named) m cause f = assigned_no_fault word register named m cause f
+  word_clean KnownRegister word (OfRegister register) m cause f = known_no_fault word register m cause f
+  word_clean FunctionName word (Plain (trace.OfNumber number)) m cause f = function_no_fault word number m.0 m.1 cause f
+  word_clean ParameterName word (Plain (trace.OfName name)) m cause f = parameter_no_fault word m.1 cause f
+  word_clean Sign word (OfSign operator) m cause f = sign_no_fault word operator m cause f
+  word_clean (Exactly other) word Nothing m cause f = exact_no_fault other word m cause f
+  word_clean place word value m cause f = m
+
+  pub words_clean : (pairs : List Placed) (values : List Value) → WordsMean scope pairs values → (cause : Cause) → SomeFault scope pairs cause → ⊥
+  words_clean [] [] m cause f = f
+  words_clean [] (value ∷ values) m cause f = m
+  words_clean (pair ∷ pairs) [] m cause f = m
+  words_clean (pair ∷ pairs) (value ∷ values) m cause (inl f) = word_clean pair.0 pair.1 value m.0 cause f
+  words_clean (pair ∷ pairs) (value ∷ values) m cause (inr f) = words_clean pairs values m.1 cause f
+
+  -- ---- a word and the rest
+
+  module _ (place : Place) (word : List ℕ) where
+    after_clean : (rest : Option (List Placed)) (value : Value) (cause : Cause) → WordMeans scope place word value → IsPlacedFault scope rest cause
+        → IsPlacedFault scope (option_map (λ pairs. (place, word) ∷ pairs) rest) cause
+    after_clean None value cause m f = f
+    after_clean (Some pairs) value cause m f =
+        (inr f.0, λ lower l g. elim g [ inl w ↦ word_clean place word value m lower w | inr n ↦ f.1 lower l n ])
+
+    before_clean : (pairs : List Placed) (values : List Value) (cause : Cause) → IsLowest (WordFault scope place word) cause → WordsMean scope pairs values
+        → IsLowest (SomeFault scope ((place, word) ∷ pairs)) cause
+    before_clean pairs values cause f m =
+        (inl f.0, λ lower l g. elim g [ inl w ↦ f.1 lower l w | inr n ↦ words_clean pairs values m lower n ])
+
+    first_lower : (rest : Option (List Placed)) (first second : Cause) → cause_number first < cause_number second
+        → IsLowest (WordFault scope place word) first → IsPlacedFault scope rest second
+        → IsPlacedFault scope (option_map (λ pairs. (place, word) ∷ pairs) rest) first
+    first_lower None first second l f g =
+        absurd (below_word scope place word first (let three : cause_number second ≡ 3 = ap cause_number g in omega arith) f.0)
+    first_lower (Some pairs) first second l f g =
+        (inl f.0, λ lower k h. elim h [ inl w ↦ f.1 lower k w | inr n ↦ g.1 lower (omega arith) n ])
+
+    second_lower : (rest : Option (List Placed)) (first second : Cause) → cause_number second ≤ cause_number first
+        → IsLowest (WordFault scope place word) first → IsPlacedFault scope rest second
+        → IsPlacedFault scope (option_map (λ pairs. (place, word) ∷ pairs) rest) second
+    second_lower None first second l f g = g
+    second_lower (Some pairs) first second l f g =
+        (inr g.0, λ lower k h. elim h [ inl w ↦ f.1 lower (omega arith) w | inr n ↦ g.1 lower k n ])
+
+    module _ (places last : List Place) (words : List (List ℕ)) {A B : Type 0} (value : A → Value) (values : B → List Value) where
+      lower_fits : (t : Bool) (first second : Cause) → (t ≡ true → cause_number first < cause_number second) → (t ≡ false → cause_number second ≤ cause_number first)
+          → IsLowest (WordFault scope place word) first → IsPlacedFault scope (placed places last words) second
+          → Fits {A = A × B} scope (place ∷ places) last (word ∷ words) (cond t (Err first) (Err second)) (λ r. value r.0 ∷ values r.1)
+      lower_fits true first second h k f g = first_lower (placed places last words) first second (h refl) f g
+      lower_fits false first second h k f g = second_lower (placed places last words) first second (k refl) f g
+
+      takes_some : (a : Result A Cause) (b : Result B Cause) → Reads scope place word a value → Fits scope places last words b values
+          → Fits scope (place ∷ places) last (word ∷ words) (both_of a b) (λ r. value r.0 ∷ values r.1)
+      takes_some (Ok x) (Ok y) m f = ((place, word) ∷ f.0, ap (option_map (λ pairs. (place, word) ∷ pairs)) f.1, (m, f.2))
+      takes_some (Ok x) (Err second) m f = after_clean (placed places last words) (value x) second m f
+      takes_some (Err first) (Ok y) m f = rw f.1 (before_clean f.0 (values y) first m f.2)
+      takes_some (Err first) (Err second) m f =
+          lower_fits (nat_lt (cause_number first) (cause_number second)) first second (λ e. grind (arith, nat_tests)) (λ e. grind (arith, nat_tests)) m f
+
+  -- ---- no word is left
+
+  no_words : (places last : List Place) (cause : Cause) → IsPlacedFault scope (placed places last []) cause → cause ≡ BadWord
+  no_words [] last cause f = absurd f.0
+  no_words (place ∷ places) last cause f = f
+
+  takes_none : (place : Place) (places last : List Place) {A B : Type 0} (value : A → Value) (values : B → List Value) (b : Result B Cause)
+      → Fits scope places last [] b values → Fits {A = A × B} scope (place ∷ places) last [] (both_of (Err BadWord) b) (λ r. value r.0 ∷ values r.1)
+  takes_none place places last value values (Ok y) f = refl
+  takes_none place places last value values (Err second) f = let e : second ≡ BadWord = no_words places last second f in rw e refl
+
+  -- a word in its place, and the rest
+  pub takes : (place : Place) (places last : List Place) (old mid : List (List ℕ)) {A B : Type 0} (a : Result A Cause) (b : Result B Cause)
+      (value : A → Value) (values : B → List Value) → TakesWord scope place old mid a value → Fits scope places last mid b values
+      → Fits scope (place ∷ places) last old (both_of a b) (λ r. value r.0 ∷ values r.1)
+  takes place places last [] mid {A} {B} a b value values t f =
+      subst (λ (r : Result A Cause). Fits scope (place ∷ places) last [] (both_of r b) (λ r. value r.0 ∷ values r.1)) (sym t.1)
+      (takes_none place places last value values b (subst (λ (ws : List (List ℕ)). Fits scope places last ws b values) t.0 f))
+  takes place places last (word ∷ words) mid a b value values t f =
+      takes_some place word places last words value values a b t.1 (subst (λ (ws : List (List ℕ)). Fits scope places last ws b values) t.0 f)
+
+  -- a word that is taken already, and the rest
+  pub reads : (place : Place) (places last : List Place) (word : List ℕ) (words : List (List ℕ)) {A B : Type 0} (a : Result A Cause) (b : Result B Cause)
+      (value : A → Value) (values : B → List Value) → Reads scope place word a value → Fits scope places last words b values
+      → Fits scope (place ∷ places) last (word ∷ words) (both_of a b) (λ r. value r.0 ∷ values r.1)
+  reads place places last word words a b value values m f = takes_some place word places last words value values a b m f
+
+  -- ---- places as in traces
+
+  pub takes_common : (place : trace.Place) (old new : List (List ℕ)) {A : Type 0} (r : Result A Cause) (value : A → trace.Value)
+      → TakesCommon scope.known place old new r value → TakesWord scope (Common place) old new r (λ x. Plain (value x))
+  takes_common place [] new r value t = t
+  takes_common place (word ∷ words) new (Ok x) value t = t
+  takes_common place (word ∷ words) new (Err cause) value t = t
+
+  pub fits_common : (place : trace.Place) (words : List (List ℕ)) (r : Result (Option ℕ) Cause)
+      → FitsCommon scope.known [] (Some place) words r trace.if_there → Fits scope [] (Common place ∷ []) words r number_if_there
+  fits_common place [] (Ok None) f = ([], refl, tt)
+  fits_common place [] (Ok (Some n)) f =
+      let same : [] ≡ f.0 = let some : Some [] ≡ Some f.0 = f.1 in cc in
+      absurd (subst (λ (ps : List trace.Placed). trace.WordsMean scope.known ps (trace.OfNumber n ∷ [])) (sym same) f.2)
+  fits_common place [] (Err cause) f = absurd f.0
+  fits_common place (word ∷ []) (Ok None) f =
+      let same : (place, word) ∷ [] ≡ f.0 = let some : Some ((place, word) ∷ []) ≡ Some f.0 = f.1 in cc in
+      absurd (subst (λ (ps : List trace.Placed). trace.WordsMean scope.known ps []) (sym same) f.2)
+  fits_common place (word ∷ []) (Ok (Some n)) f =
+      let same : (place, word) ∷ [] ≡ f.0 = let some : Some ((place, word) ∷ []) ≡ Some f.0 = f.1 in cc in
+      let m = subst (λ (ps : List trace.Placed). trace.WordsMean scope.known ps (trace.OfNumber n ∷ [])) (sym same) f.2 in
+      ((Common place, word) ∷ [], refl, (m.0, tt))
+  fits_common place (word ∷ []) (Err cause) f = f
+  fits_common place (word ∷ next ∷ words) (Ok n) f = let clash : None ≡ Some f.0 = f.1 in cc
+  fits_common place (word ∷ next ∷ words) (Err cause) f = f
+
+  -- ---- lowest causes
+
+  pub lowest_twice : (word : List ℕ) → IsName word → (IsFresh scope word → ⊥) → IsLowest (WordFault scope FreshName word) TwiceNamed
+  lowest_twice word n h = (h, below)
+    where
+      below : (lower : Cause) → cause_number lower < 6 → WordFault scope FreshName word lower → ⊥
+      below NotText l f = f
+      below BadHeader l f = f
+      below BadWord l f = f n
+      below BadNumber l f = f
+      below UnknownName l f = f
+      below cause l f = absurd (omega arith)
+
+  pub lowest_no_register : (word : List ℕ) → IsName word → register_named scope.registers word ≡ None → IsLowest (WordFault scope KnownRegister word) UnknownName
+  lowest_no_register word n e = ((n, e), below)
+    where
+      below : (lower : Cause) → cause_number lower < 5 → WordFault scope KnownRegister word lower → ⊥
+      below NotText l f = f
+      below BadHeader l f = f
+      below BadWord l f = f n
+      below BadNumber l f = f
+      below cause l f = absurd (omega arith)
+
+  pub lowest_no_function : (word : List ℕ) → IsName word → function_named scope.functions word ≡ None → IsLowest (WordFault scope FunctionName word) UnknownName
+  lowest_no_function word n e = ((n, e), below)
+    where
+      below : (lower : Cause) → cause_number lower < 5 → WordFault scope FunctionName word lower → ⊥
+      below NotText l f = f
+      below BadHeader l f = f
+      below BadWord l f = f n
+      below BadNumber l f = f
+      below cause l f = absurd (omega arith)
+
+  pub lowest_no_room : (word : List ℕ) → IsRegisterName word → register_named scope.registers word ≡ None → max_registers ≤ length scope.registers
+      → IsLowest (WordFault scope AssignedRegister word) TooMany
+  lowest_no_room word n e many = ((e, many), below)
+    where
+      below : (lower : Cause) → cause_number lower < 9 → WordFault scope AssignedRegister word lower → ⊥
+      below NotText l f = f
+      below BadHeader l f = f
+      below BadWord l f = f n
+      below BadNumber l f = f
+      below UnknownName l f = f
+      below TwiceNamed l f = f
+      below BadNesting l f = f
+      below NoMain l f = f
+      below cause l f = absurd (omega arith)

@@ -1,0 +1,19 @@
+use Rattle.std.proofs.Common.{[], ◌∷◌}
+use Rattle.std.specs.Prelude.{option_copied}
+use Rattle.trace_text.specs.Lines as trace
+use Rattle.trace_text.specs.Outcome.{both_of}
+use Rattle.program_lines.specs.Places.{Common, AssignedRegister, Plain, OfAssigned}
+use Rattle.program_lines.proofs.Outcomes.{takes}
+use Rattle.program_lines.proofs.line.of_get.Goals as goal
+
+pub returns : goal.returns
+returns g c =
+    let scope = c.args.scope.now in
+    let first = c.assigned_register-register in
+    let second = c.reducer-reducer in
+    rw (c.both-2.ensures, c.both.ensures)
+    (takes scope (AssignedRegister) (Common trace.ReducerName ∷ []) [] c.args.words.now first.new.words first.result (both_of second.result c.end-end.result) (λ r. OfAssigned r.register (option_copied r.named)) (λ r. Plain (trace.OfNumber r.0) ∷ [])
+    first.ensures
+    (takes scope (Common trace.ReducerName) [] [] first.new.words second.new.words second.result c.end-end.result (λ number. Plain (trace.OfNumber number)) (λ _. [])
+    second.ensures
+    (c.end-end.ensures scope)))

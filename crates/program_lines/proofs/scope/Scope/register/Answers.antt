@@ -1,0 +1,16 @@
+use Rattle.std.proofs.Common.{◌≡◌, false}
+use Rattle.std.specs.Prelude.{Some, None}
+use Rattle.std.specs.Str.{bytes_eq}
+use Rattle.program_lines.specs.Scopes.{ok_word}
+use Rattle.program_lines.proofs.NameLists.{register_found}
+use Rattle.program_lines.proofs.scope.Scope.register.Goals as goal
+
+pub returns-in-Some : goal.returns-in-Some
+returns-in-Some g c =
+    let other : bytes_eq c.args.name.now ok_word ≡ false = (let e = c.eq.ensures in let f = c.if-eq.false in cc) in
+    rw (← c.self.view_is) (register_found c.self.inside.registers.now c.args.name.now (Some c.in-Some.place) other c.in-Some.ensures)
+
+pub returns-in-None : goal.returns-in-None
+returns-in-None g c =
+    let other : bytes_eq c.args.name.now ok_word ≡ false = (let e = c.eq.ensures in let f = c.if-eq.false in cc) in
+    rw (← c.self.view_is) (register_found c.self.inside.registers.now c.args.name.now None other c.in-None.ensures)

@@ -1,0 +1,35 @@
+-- The items that the code makes of lines.
+use Rattle.std.specs.Prelude.{ℕ, Option, Some, None, List, [], ◌∷◌, Result, MatchResult, option_copied}
+use Rattle.trace_text.specs.declared.fault.Cause.{Cause}
+use Rattle.program_lines.specs.declared.keyword.Keyword.{Keyword}
+use Rattle.program_lines.specs.declared.item.Item as code
+use Rattle.program_lines.specs.declared.item.Item.TheVariants as code_item
+use Rattle.program_lines.specs.declared.operator.Operator.{Operator}
+use Rattle.program_lines.specs.declared.statement.Operand.{Operand}
+use Rattle.program_lines.specs.Scopes.{Scope}
+use Rattle.program_lines.specs.Places.{Value, OfOperand, OfSign}
+use Rattle.program_lines.specs.Table.{spelling, placed, wanted, optional}
+use Rattle.program_lines.specs.Grammar.{Item, Blank, Declared, Reduces, Begins, Does, Decides, Otherwise, Ends, ItemMeans}
+use Rattle.program_lines.specs.Outcome.{IsPlacedFault}
+
+-- What the code's item says.
+abbrev pub item_of : code.Item → Item
+item_of code_item.Blank = Blank
+item_of (code_item.Declared name length) = Declared name.now length
+item_of (code_item.Reduces name monoid) = Reduces name.now monoid
+item_of (code_item.Begins name parameter) = Begins name.now parameter.now
+item_of (code_item.Does statement named) = Does statement (option_copied named)
+item_of (code_item.Decides register) = Decides register
+item_of code_item.Otherwise = Otherwise
+item_of code_item.Ends = Ends
+
+-- The answer is what the keyword and the words behind it say, or the lowest cause why they say nothing.
+abbrev pub IsRead : ℕ → Scope → Keyword → List (List ℕ) → Result code.Item Cause → Type 0
+IsRead at scope keyword words answer =
+    MatchResult answer (λ item. ItemMeans at scope (spelling keyword ∷ words) (item_of item))
+    (λ cause. IsPlacedFault scope (placed (wanted keyword) (optional keyword) words) cause)
+
+-- A second operand behind a sign, where it is there.
+abbrev pub joined_values : Option (Operator × Operand) → List Value
+joined_values None = []
+joined_values (Some joined) = OfSign joined.0 ∷ OfOperand joined.1 ∷ []

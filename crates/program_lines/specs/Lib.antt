@@ -1,0 +1,10 @@
+pub mod Scopes
+pub mod Places
+pub mod Table
+pub mod Grammar
+pub mod Faults
+pub mod Outcome
+pub mod Items
+pub mod Locations
+pub mod Printing
+pub mod Laws

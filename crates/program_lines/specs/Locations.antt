@@ -1,0 +1,27 @@
+-- What the parts of a word name, and why they name no location.
+use Rattle.std.specs.Prelude.{ℕ, true, ◌⊎◌, List}
+use Rattle.trace_text.specs.declared.fault.Cause.{Cause}
+use Rattle.trace_text.specs.declared.fault.Cause.TheVariants.{BadWord, BadNumber, UnknownName}
+use Rattle.trace_text.specs.Text.{IsName}
+use Rattle.trace_text.specs.Names.{SingleMeans}
+use Rattle.trace_text.specs.Faults.{IsUndeclared}
+use Rattle.program_lines.specs.declared.statement.Location.{Location}
+use Rattle.program_lines.specs.declared.statement.Location.TheVariants.{Cell, Element}
+use Rattle.program_lines.specs.Scopes.{Scope}
+use Rattle.program_lines.specs.Places.{ElementMeans}
+use Rattle.program_lines.specs.Faults.{HasOperandShape, IsNoNumber, IsNoRegister}
+
+abbrev pub SingleIs : Scope → List ℕ → Location → Type 0
+SingleIs scope name (Cell cell) = SingleMeans scope.known.mems name cell
+SingleIs scope name (Element first count operand) = ⊥
+
+abbrev pub ElementIs : Scope → (name index : List ℕ) → Location → Type 0
+ElementIs scope name index (Cell cell) = ⊥
+ElementIs scope name index (Element first count operand) = ElementMeans scope name index first count operand
+
+abbrev pub IsElementFault : Scope → (name index : List ℕ) → Cause → Type 0
+IsElementFault scope name index BadWord = IsName name → HasOperandShape index → ⊥
+IsElementFault scope name index BadNumber = IsName name × IsNoNumber index
+IsElementFault scope name index UnknownName =
+    IsName name × HasOperandShape index × (IsNoNumber index → ⊥) × (IsUndeclared scope.known.mems name true ⊎ IsNoRegister scope.registers index)
+IsElementFault scope name index cause = ⊥

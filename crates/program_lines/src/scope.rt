@@ -1,0 +1,168 @@
+//! What a line is read behind.
+
+ghost use Rattle.std.specs.Prelude.{◌≡◌, ◌≤◌, ◌<◌, [], OnOk, OnErr, length, option_map, position};
+ghost use Rattle.std.specs.Str.{bytes_eq};
+ghost use Rattle.trace_text.specs.Limits.{max_lines};
+ghost use Rattle.program_lines.specs.Scopes.{max_registers, register_named, function_named, with_name};
+
+use crate::statement::Register;
+use indexmap::IndexSet;
+use std::alloc::{AllocError, Allocator};
+use std::hash::{BuildHasherDefault, FoldHasher};
+use std::marker::Model;
+use trace_text::{Name, Names};
+
+/// The most names of functions that are kept, which is the most lines of a text.
+pub const FUNCTION_NAMES: usize = 4_000_000;
+
+/// The names of a text's functions, each once, in the order of the lines that make them known. They are found in constant time. Contracts
+/// see the list of the names.
+#[derive(Drop)]
+pub struct FunctionNames<'a, A: Allocator> {
+    names: IndexSet<&'a str, BuildHasherDefault<FoldHasher>, A>,
+}
+
+impl<'a, A: Allocator> Model for FunctionNames<'a, A> {
+    ghost use Rattle.std.specs.Prelude.{ℕ, ◌≤◌, List, map, length};
+    ghost use Rattle.trace_text.specs.Limits.{max_lines};
+    ghost use denote.Ref.{Bor};
+
+    ghost Value = { List (List ℕ) };
+
+    ghost view = { λ functions. map (λ (name : Bor (List ℕ)). name.now) functions.names.keys };
+
+    ghost invariant = { λ functions. length functions.names.keys ≤ max_lines };
+}
+
+impl<'a, A: Allocator + Copy> FunctionNames<'a, A> {
+    /// No names yet.
+    pub fn new(alloc: A) -> FunctionNames<'a, A>
+        ensures { result ≡ [] }
+    {
+        FunctionNames {
+            names: IndexSet::new(alloc),
+        }
+    }
+
+    /// How many names there are.
+    pub fn len(&self) -> usize
+        ensures count { result ≡ length self.now }
+        ensures few { result ≤ max_lines }
+    {
+        self.names.len()
+    }
+
+    /// Adds a name, unless it is there.
+    pub fn add(&mut self, name: &'a str) -> Result<(), AllocError>
+        requires { length self.old < max_lines }
+        ensures ok { OnOk result (self.new ≡ with_name self.old name.now) }
+        ensures err { OnErr result (self.new ≡ self.old) }
+    {
+        self.names.insert(name)?;
+        Ok(())
+    }
+
+    /// The number of the function of that name, from 0 on.
+    pub fn find(&self, name: &str) -> Option<u32>
+        ensures { result ≡ function_named self.now name.now }
+    {
+        match self.names.get_index_of(name) {
+            Some(number) => Some(number as u32),
+            None => None,
+        }
+    }
+}
+
+/// The place of a name among the names of registers.
+fn place_of(registers: &[Name], name: &str) -> Option<usize>
+    ensures { result ≡ position (λ register. bytes_eq name.now register) registers.now }
+{
+    registers
+        .iter()
+        .position(|register| name == register.as_str())
+}
+
+/// What a line is read behind: the declarations, the functions of the whole text and how many of them have begun on earlier lines, and the
+/// registers of the open function other than `ok`, at most 16 and none outside a function. Contracts see a record.
+#[derive(Drop)]
+pub struct Scope<'s, 'a, A: Allocator> {
+    names: &'s Names<'a, A>,
+    functions: &'s FunctionNames<'a, A>,
+    begun: u32,
+    registers: &'s [Name],
+}
+
+impl<'s, 'a, A: Allocator> Model for Scope<'s, 'a, A> {
+    ghost use Rattle.std.specs.Prelude.{◌≤◌, length};
+    ghost use Rattle.program_lines.specs.Scopes.{Scope as SpecScope, max_registers};
+
+    ghost Value = { SpecScope };
+
+    ghost view = { λ scope. record { known = scope.names.now; functions = scope.functions.now; begun = scope.begun; registers = scope.registers.now } };
+
+    ghost invariant = { λ scope. length scope.registers.now ≤ max_registers };
+}
+
+impl<'s, 'a, A: Allocator + Copy> Scope<'s, 'a, A> {
+    /// The scope of these parts.
+    pub fn new(
+        names: &'s Names<'a, A>,
+        functions: &'s FunctionNames<'a, A>,
+        begun: u32,
+        registers: &'s [Name],
+    ) -> Scope<'s, 'a, A>
+        requires { length registers.now ≤ max_registers }
+        ensures { result ≡ record { known = names.now; functions = functions.now; begun = begun; registers = registers.now } }
+    {
+        Scope {
+            names,
+            functions,
+            begun,
+            registers,
+        }
+    }
+
+    /// The declarations.
+    pub fn names(&self) -> &'s Names<'a, A>
+        ensures { result.now ≡ self.now.known }
+    {
+        self.names
+    }
+
+    /// The number of the function of that name.
+    pub fn function(&self, name: &str) -> Option<u32>
+        ensures { result ≡ function_named self.now.functions name.now }
+    {
+        self.functions.find(name)
+    }
+
+    /// How many functions have begun.
+    pub fn begun(&self) -> u32
+        ensures { result ≡ self.now.begun }
+    {
+        self.begun
+    }
+
+    /// How many registers other than `ok` are known.
+    pub fn register_count(&self) -> usize
+        ensures count { result ≡ length self.now.registers }
+        ensures few { result ≤ max_registers }
+    {
+        self.registers.len()
+    }
+
+    /// The register of that name. `ok` is known everywhere.
+    pub fn register(&self, name: &str) -> Option<Register>
+        ensures { option_map (λ register. register.index) result ≡ register_named self.now.registers name.now }
+    {
+        if name == "ok" {
+            return Some(Register { index: 0 });
+        }
+        match place_of(self.registers, name) {
+            Some(place) => Some(Register {
+                index: place as u8 + 1,
+            }),
+            None => None,
+        }
+    }
+}

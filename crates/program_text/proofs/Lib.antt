@@ -1,0 +1,13 @@
+pub mod Unique
+pub mod Knowing
+pub mod Linked
+pub mod Said
+pub mod Taken
+pub mod Kept
+pub mod Listed
+pub mod Whole
+pub mod PrintedFunctions
+pub mod PrintedKept
+pub mod PrintedRows
+pub mod PrintedLaw
+pub mod Printed

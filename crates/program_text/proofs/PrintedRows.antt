@@ -1,0 +1,37 @@
+-- Rows of statements: what they say does not hang on the places that an `if` and an `else` name.
+use Rattle.std.proofs.Common.{◌≡◌, ℕ, ◌∷◌, ◌++◌, [], List, map, refl, sym, ap, ◌∙◌, get_or}
+use Rattle.std.specs.Prelude.{Option, Some, None, slice_get, slice_set}
+use Rattle.std.proofs.Math.Seq.{map-set_same}
+use Rattle.std.proofs.lemmas.Option.{get_or_from_slice_get}
+use Rattle.trace_text.specs.Values.{Known}
+use Rattle.program_lines.specs.declared.statement.Statement.{Statement}
+use Rattle.program_lines.specs.declared.statement.Statement.TheVariants.{Let, Read, Write, Bump, Update, Put, Get, Spawn, Call, Sync, ParallelFor, If, Else, End}
+use Rattle.program_text.specs.Drafts.{ending, ended_at, with_end}
+use Rattle.program_text.specs.Printing.{Row, statement_row, body_rows}
+
+module _ (known : Known) (names registers : List (List ℕ)) where
+  ending_row : (to : ℕ) (statement : Statement) → statement_row known names registers (ending to statement) ≡ statement_row known names registers statement
+  ending_row to (Let line register value) = refl
+  ending_row to (Read line register location) = refl
+  ending_row to (Write line location value) = refl
+  ending_row to (Bump line location value) = refl
+  ending_row to (Update line reducer value) = refl
+  ending_row to (Put line reducer value) = refl
+  ending_row to (Get line register reducer) = refl
+  ending_row to (Spawn line function argument) = refl
+  ending_row to (Call line function argument) = refl
+  ending_row to (Sync line) = refl
+  ending_row to (ParallelFor line register count function) = refl
+  ending_row to (If line register otherwise) = refl
+  ending_row to (Else line after) = refl
+  ending_row to (End line) = refl
+
+  ended_rows : (statement : Option Statement) (place to : ℕ) (body : List Statement) → slice_get body place ≡ statement
+      → body_rows known names registers (ended_at statement place to body) ≡ body_rows known names registers body
+  ended_rows None place to body e = refl
+  ended_rows (Some statement) place to body e =
+      map-set_same (statement_row known names registers) body place (ending to statement) statement
+      (ending_row to statement ∙ ap (statement_row known names registers) (sym (get_or_from_slice_get body place statement statement e)))
+
+  pub end_rows : (place to : ℕ) (body : List Statement) → body_rows known names registers (with_end place to body) ≡ body_rows known names registers body
+  end_rows place to body = ended_rows (slice_get body place) place to body refl

@@ -1,0 +1,111 @@
+-- What the words of a line tell of its names.
+use Rattle.std.proofs.Common.{◌≡◌, ℕ, ◌<◌, ◌≤◌, ◌∷◌, [], List, length, arith, refl, sym, ap, ◌∙◌, subst}
+use Rattle.std.specs.Prelude.{codes, unwrap_or, Option, Some, None, option_map}
+use Rattle.trace_text.specs.declared.value.Monoid.{Monoid}
+use Rattle.trace_text.specs.Lines.{OfName, OfNumber, OfMonoid}
+use Rattle.trace_text.specs.Text.{IsName}
+use Rattle.program_lines.specs.declared.keyword.Keyword.{Keyword}
+use Rattle.program_lines.specs.declared.keyword.Keyword.TheVariants as word
+use Rattle.program_lines.specs.declared.statement.Register.{Register}
+use Rattle.program_lines.specs.declared.statement.Statement.{Statement}
+use Rattle.program_lines.specs.declared.statement.Statement.TheVariants.{Let, Read, Get, ParallelFor, If, Else, End}
+use Rattle.trace_text.specs.Names.{IsFresh as IsUndeclaredName}
+use Rattle.trace_text.specs.Lines as trace
+use Rattle.access_table.specs.declared.kind.Kind.TheVariants as kind
+use Rattle.program_lines.specs.Scopes.{Scope, IsFresh}
+use Rattle.program_lines.specs.Places.{Place, Common, FreshName, OperandWord, LocationWord, AssignedRegister, FunctionName, ParameterName, Exactly, Value, Plain, OfOperand, OfLocation, OfAssigned, Nothing, IsRegisterName}
+use Rattle.program_lines.specs.Table.{Placed, placed, wanted, optional, WordsMean, Says}
+use Rattle.program_lines.specs.Grammar.{Item, Blank, Declared, Reduces, Begins, Does, Decides, Otherwise, Ends, ItemMeans, number_if_there, expression_values}
+use Rattle.program_text.specs.Drafts.{Draft, scope_of}
+use Rattle.program_text.specs.Grammar.{IsSaid}
+
+-- the first place has a word
+first_placed : (p : Place) (places last : List Place) (arguments : List (List ℕ)) (pairs : List Placed) → placed (p ∷ places) last arguments ≡ Some pairs
+    → (w : List ℕ) × (rest : List (List ℕ)) × (more : List Placed) × (pairs ≡ (p, w) ∷ more) × (placed places last rest ≡ Some more)
+first_placed p places last [] pairs e = cc
+first_placed p places last (w ∷ arguments) pairs e = by (placed places last arguments) refl e
+  where
+    by : (o : Option (List Placed)) → placed places last arguments ≡ o → option_map (λ ps. (p, w) ∷ ps) o ≡ Some pairs
+        → (w : List ℕ) × (rest : List (List ℕ)) × (more : List Placed) × (pairs ≡ (p, w) ∷ more) × (placed places last rest ≡ Some more)
+    by None f e = cc
+    by (Some more) f e = (w, arguments, more, cc, f)
+
+module _ (scope : Scope) (ws : List (List ℕ)) where
+  -- what the first word behind the keyword means
+  pub first_said : (keyword : Keyword) (p : Place) (places : List Place) (value : Value) (values : List Value) → wanted keyword ≡ p ∷ places
+      → Says scope ws keyword (value ∷ values)
+      → (w : List ℕ) × (more : List Placed) × (rest : List (List ℕ)) × WordsMean scope ((p, w) ∷ []) (value ∷ []) × WordsMean scope more values × (placed places (optional keyword) rest ≡ Some more)
+  first_said keyword p places value values e says =
+      let placing : placed (p ∷ places) (optional keyword) says.1.0 ≡ Some says.0 =
+      subst (λ (t : List Place). placed t (optional keyword) says.1.0 ≡ Some says.0) e says.1.3 in
+      let first = first_placed p places (optional keyword) says.1.0 says.0 placing in
+      let m : WordsMean scope ((p, first.0) ∷ first.2) (value ∷ values) = subst (λ (t : List Placed). WordsMean scope t (value ∷ values)) first.3 says.2 in
+      (first.0, first.2, first.1, (m.0, tt), m.1, first.4)
+
+  new_register : (keyword : Keyword) (places : List Place) (register : Register) (name : List ℕ) (values : List Value) → wanted keyword ≡ AssignedRegister ∷ places
+      → Says scope ws keyword (OfAssigned register (Some name) ∷ values) → IsName name × (length scope.registers < 16)
+  new_register keyword places register name values e says =
+      let first = first_said keyword AssignedRegister places (OfAssigned register (Some name)) values e says in
+      let small = register.in_range in
+      (subst (λ (t : List ℕ). IsName t) (sym first.3.0.0) first.3.0.1.0, omega (arith, first.3.0.3, small))
+
+fresh_said : (scope : Scope) (w name : List ℕ) → (name ≡ w) × IsName w × IsFresh scope w → IsName name × IsUndeclaredName scope.known name
+fresh_said scope w name h = (subst (λ (t : List ℕ). IsName t) (sym h.0) h.1, subst (λ (t : List ℕ). IsUndeclaredName scope.known t) (sym h.0) h.2.0)
+
+parameter_said : (w parameter : List ℕ) → (parameter ≡ w) × IsRegisterName w → IsName parameter
+parameter_said w parameter h = subst (λ (t : List ℕ). IsName t) (sym h.0) h.1.0
+
+begins_said : (scope : Scope) (ws : List (List ℕ)) (name parameter : List ℕ) → Says scope ws word.Func (Plain (OfName name) ∷ Plain (OfName parameter) ∷ []) → IsName name × IsName parameter
+begins_said scope ws name parameter says =
+    let first = first_said scope ws word.Func FreshName (ParameterName ∷ []) (Plain (OfName name)) (Plain (OfName parameter) ∷ []) refl says in
+    let second = first_placed ParameterName [] [] first.2 first.1 first.5 in
+    let m : WordsMean scope ((ParameterName, second.0) ∷ second.2) (Plain (OfName parameter) ∷ []) =
+    subst (λ (t : List Placed). WordsMean scope t (Plain (OfName parameter) ∷ [])) second.3 first.4 in
+    ((fresh_said scope first.0 name first.3.0).0, parameter_said second.0 parameter m.0)
+
+does_said : (scope : Scope) (at : ℕ) (ws : List (List ℕ)) (statement : Statement) (name : List ℕ) → ItemMeans at scope ws (Does statement (Some name))
+    → IsName name × (length scope.registers < 16)
+does_said scope at ws (Let line register value) name m =
+    new_register scope ws word.Let (Exactly (codes "=") ∷ OperandWord ∷ []) register name (Nothing ∷ expression_values value) refl m.2
+does_said scope at ws (Read line register location) name m =
+    new_register scope ws (word.Access kind.Read) (LocationWord ∷ []) register name (OfLocation location ∷ []) refl m.2
+does_said scope at ws (Get line register reducer) name m =
+    new_register scope ws (word.Access kind.Get) (Common trace.ReducerName ∷ []) register name (Plain (OfNumber reducer) ∷ []) refl m.2
+does_said scope at ws (ParallelFor line register count function) name m =
+    new_register scope ws word.ParallelFor (OperandWord ∷ FunctionName ∷ []) register name (OfOperand count ∷ Plain (OfNumber function) ∷ []) refl m.2
+does_said scope at ws (If line register otherwise) name m = absurd m.0
+does_said scope at ws (Else line after) name m = absurd m.0
+does_said scope at ws (End line) name m = absurd m.0
+does_said scope at ws statement name m = let clash : Some name ≡ None = m.0 in cc
+
+-- what an item tells of its names
+pub said : (names : List (List ℕ)) (at : ℕ) (before : Draft) (ws : List (List ℕ)) (item : Item) → ItemMeans at (scope_of names before) ws item → IsSaid before item
+said names at before ws (Declared name length) m =
+    let first = first_said (scope_of names before) ws word.Mem FreshName [] (Plain (OfName name)) (number_if_there length) refl m in
+    fresh_said (scope_of names before) first.0 name first.3.0
+said names at before ws (Reduces name monoid) m =
+    let first = first_said (scope_of names before) ws word.Reducer FreshName (Common trace.MonoidWord ∷ []) (Plain (OfName name)) (Plain (OfMonoid monoid) ∷ []) refl m in
+    fresh_said (scope_of names before) first.0 name first.3.0
+said names at before ws (Begins name parameter) m = begins_said (scope_of names before) ws name parameter m
+said names at before ws (Does statement (Some name)) m = does_said (scope_of names before) at ws statement name m
+said names at before ws (Does statement None) m = tt
+said names at before ws Blank m = tt
+said names at before ws (Decides register) m = tt
+said names at before ws Otherwise m = tt
+said names at before ws Ends m = tt
+
+number_said : (scope : Scope) (low n : ℕ) (rest : List (List ℕ)) (more : List Placed) → placed [] (Common (trace.Number low 1000000) ∷ []) rest ≡ Some more
+    → WordsMean scope more (Plain (OfNumber n) ∷ []) → low ≤ n
+number_said scope low n [] more e m = let same : more ≡ [] = cc in absurd (subst (λ (t : List Placed). WordsMean scope t (Plain (OfNumber n) ∷ [])) same m)
+number_said scope low n (word ∷ []) more e m =
+    let same : more ≡ (Common (trace.Number low 1000000), word) ∷ [] = cc in
+    let k : WordsMean scope ((Common (trace.Number low 1000000), word) ∷ []) (Plain (OfNumber n) ∷ []) = subst (λ (t : List Placed). WordsMean scope t (Plain (OfNumber n) ∷ [])) same m in
+    k.0.1
+number_said scope low n (word ∷ next ∷ rest) more e m = cc
+
+-- a memory has a cell at least
+pub length_said : (scope : Scope) (ws : List (List ℕ)) (name : List ℕ) (length : Option ℕ) → Says scope ws word.Mem (Plain (OfName name) ∷ number_if_there length) → 1 ≤ unwrap_or length 1
+length_said scope ws name None says = omega arith
+length_said scope ws name (Some n) says =
+    let first = first_said scope ws word.Mem FreshName [] (Plain (OfName name)) (Plain (OfNumber n) ∷ []) refl says in
+    number_said scope 1 n first.2 first.1 first.5 first.4

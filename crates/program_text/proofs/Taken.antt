@@ -1,0 +1,232 @@
+-- One line that is read, and the lines behind the header.
+use Rattle.std.proofs.Common.{◌≡◌, ◌≢◌, ℕ, ◌<◌, ◌+◌, ◌∷◌, [], List, Bool, true, false, cond, length, suc, arith, refl, sym, ◌∙◌, subst, ap, inl, inr}
+use Rattle.std.specs.Prelude.{◌⊎◌, IsTrue, codes, option_map, slice_get, Option, Some, None, Result, Ok, Err, MatchResult}
+use Rattle.trace_text.specs.declared.fault.Cause.{Cause}
+use Rattle.trace_text.specs.declared.fault.Cause.TheVariants.{NotText, BadHeader, BadWord, BadNumber, UnknownName, TwiceNamed, BadNesting, NoMain, TooMany}
+use Rattle.trace_text.specs.declared.fault.TextFault.{TextFault}
+use Rattle.trace_text.specs.declared.fault.TextFault.TheVariants.{At, Memory}
+use Rattle.trace_text.specs.declared.value.Version.{Version}
+use Rattle.trace_text.specs.Text.{words, lines, IsTextLine}
+use Rattle.trace_text.specs.Grammar.{IsHeader}
+use Rattle.trace_text.specs.Faults.{IsLowest, cause_number}
+use Rattle.trace_text.specs.Values.{Known}
+use Rattle.program_lines.specs.Scopes.{Scope}
+use Rattle.program_text.specs.declared.open_function.Part.{Part}
+use Rattle.program_lines.specs.Grammar.{Item, Blank, Declared, Reduces, Begins, Does, Decides, Otherwise, Ends, ItemMeans}
+use Rattle.program_lines.specs.Faults.{WordsFault}
+use Rattle.std.specs.List.{position_from}
+use Rattle.std.specs.Str.{bytes_eq}
+use Rattle.std.proofs.lemmas.Slice.Eq.{bytes_eq-Decides}
+use Rattle.program_text.specs.Codes.{Code}
+use Rattle.program_text.specs.Sound.{IsMain}
+use Rattle.program_text.specs.Functions.{functions_of}
+use Rattle.program_text.specs.Drafts.{Draft, Contents, Open, begun, registers_of, scope_of, held}
+use Rattle.program_text.specs.Grammar.{IsInOrder, HasRoom, extended, nothing, main_of, LineMeans, LinesMean, LinesOfProgram, TextMeans, ended, ended_by}
+use Rattle.program_text.specs.Faults.{LineFault, EndFault, LinesFault, FaultOfLines, IsTextFault, Extends, IsRoomCause, IsRoomFault, IsLineFault, IsBodyFault}
+use Rattle.program_lines.proofs.Once.{item_once}
+use Rattle.program_lines.proofs.LineFaults.{item_clean}
+use Rattle.program_lines.proofs.Crowded.{no_words_fault}
+
+-- the scope that the code makes
+pub scope_is : (scope : Scope) (names : List (List ℕ)) (so_far : Draft) (known : Known) (count : ℕ) (registers : List (List ℕ))
+    → scope ≡ record { known = known; functions = names; begun = count; registers = registers } → known ≡ so_far.known → count ≡ begun so_far
+    → registers ≡ registers_of so_far.current → scope ≡ scope_of names so_far
+scope_is scope names so_far known count registers e f g h =
+    let made : Known → ℕ → List (List ℕ) → Scope = λ k n r. record { known = k; functions = names; begun = n; registers = r } in
+    e ∙ (ap (λ (k : Known). made k count registers) f ∙ (ap (λ (n : ℕ). made so_far.known n registers) g ∙ ap (made so_far.known (begun so_far)) h))
+
+module _ (names : List (List ℕ)) (at : ℕ) (before : Draft) (line : List ℕ) (text : IsTextLine line) where
+  -- ---- a line that says something, and has no room or no right place
+
+  module _ (item : Item) (m : ItemMeans at (scope_of names before) (words line) item) where
+    below_nesting : (lower : Cause) → cause_number lower < 7 → LineFault names at before line lower → ⊥
+    below_nesting NotText l f = f text
+    below_nesting BadNesting l f = absurd (omega arith)
+    below_nesting TooMany l f = absurd (omega arith)
+    below_nesting BadHeader l f = f
+    below_nesting NoMain l f = f
+    below_nesting cause l f = item_clean (scope_of names before) at (words line) item m cause f
+
+    below_too_many : IsInOrder before item → (lower : Cause) → cause_number lower < 9 → LineFault names at before line lower → ⊥
+    below_too_many order NotText l f = f text
+    below_too_many order BadNesting l f =
+        f.2 (subst (λ (t : Item). IsInOrder before t) (item_once at (scope_of names before) (words line) item f.0 m f.1) order)
+    below_too_many order TooMany l f = absurd (omega arith)
+    below_too_many order BadHeader l f = f
+    below_too_many order NoMain l f = f
+    below_too_many order cause l f = item_clean (scope_of names before) at (words line) item m cause f
+
+    too_many : ((4000000 < at) ⊎ (HasRoom before item → ⊥)) → LineFault names at before line TooMany
+    too_many (inl f) = inl f
+    too_many (inr f) = inr (inl (item, m, f))
+
+    lowest_of_room : (cause : Cause) → IsRoomCause at before item cause → IsLowest (LineFault names at before line) cause
+    lowest_of_room BadNesting f = ((item, m, f), below_nesting)
+    lowest_of_room TooMany f = (too_many f.1, below_too_many f.0)
+    lowest_of_room cause f = absurd f
+
+    pub line_taken : {U : Type 0} (after : Draft) (r : Result U TextFault) → MatchResult r (λ _. Extends at before item after) (IsRoomFault at before item)
+        → MatchResult r (λ _. (x : Item) × LineMeans names at before line x × (after ≡ extended at before x)) (IsLineFault names at before line)
+    line_taken after (Ok u) e = (item, (e.0, text, m, e.1, e.2), e.3)
+    line_taken after (Err (At bad why)) e = (e.0, lowest_of_room why e.1)
+    line_taken after (Err Memory) e = tt
+
+  -- ---- a line whose words have a fault
+
+  module _ (cause : Cause) (f : IsLowest (WordsFault (scope_of names before) (words line)) cause) where
+    lower_line : (lower : Cause) → cause_number lower < cause_number cause → LineFault names at before line lower → ⊥
+    lower_line NotText l g = g text
+    lower_line BadHeader l g = g
+    lower_line NoMain l g = g
+    lower_line BadNesting l g = item_clean (scope_of names before) at (words line) g.0 g.1 cause f.0
+    lower_line TooMany l g = absurd (last cause l)
+      where
+        last : (c : Cause) → 9 < cause_number c → ⊥
+        last NotText l = absurd (omega arith)
+        last BadHeader l = absurd (omega arith)
+        last BadWord l = absurd (omega arith)
+        last BadNumber l = absurd (omega arith)
+        last UnknownName l = absurd (omega arith)
+        last TwiceNamed l = absurd (omega arith)
+        last BadNesting l = absurd (omega arith)
+        last NoMain l = absurd (omega arith)
+        last TooMany l = absurd (omega arith)
+    lower_line lower l g = f.1 lower l g
+
+  fault_of_words : (cause : Cause) → WordsFault (scope_of names before) (words line) cause → LineFault names at before line cause
+  fault_of_words NotText f = absurd (no_words_fault (scope_of names before) (words line) NotText (λ n. n) f)
+  fault_of_words BadHeader f = absurd (no_words_fault (scope_of names before) (words line) BadHeader (λ n. n) f)
+  fault_of_words BadNesting f = absurd (no_words_fault (scope_of names before) (words line) BadNesting (λ n. n) f)
+  fault_of_words NoMain f = absurd (no_words_fault (scope_of names before) (words line) NoMain (λ n. n) f)
+  fault_of_words TooMany f = inr (inr f)
+  fault_of_words cause f = f
+
+  pub lowest_of_words : (cause : Cause) → IsLowest (WordsFault (scope_of names before) (words line)) cause → IsLowest (LineFault names at before line) cause
+  lowest_of_words cause f = (fault_of_words cause f.0, lower_line cause f)
+
+-- ---- the lines behind the header
+
+module _ (version : Version) (text : List ℕ) where
+  -- what is left decides the whole
+  pub record Decides_whole (names : List (List ℕ)) (at : ℕ) (before : Draft) (ls : List (List ℕ)) : Type 0 where
+    pub means : (contents : Contents) → LinesMean names at before ls contents → LinesMean (functions_of (lines text)) 2 (nothing version) (lines text) contents
+    pub faults : (bad : ℕ) (cause : Cause) → LinesFault names at before ls bad cause → LinesFault (functions_of (lines text)) 2 (nothing version) (lines text) bad cause
+
+  module _ (names : List (List ℕ)) (n : ℕ) (before : Draft) (ls : List (List ℕ)) (d : Decides_whole names n before ls) where
+    -- one line is read
+    pub decides_more : (line : List ℕ) (rest : List (List ℕ)) (item : Item) → ls ≡ line ∷ rest → LineMeans names n before line item → Decides_whole names (n + 1) (extended n before item) rest
+    decides_more line rest item e m = record {
+      means = λ contents k. d.means contents (subst (λ (t : List (List ℕ)). LinesMean names n before t contents) (sym e) (item, m, k));
+      faults = λ bad cause k. d.faults bad cause (subst (λ (t : List (List ℕ)). LinesFault names n before t bad cause) (sym e) (inr (item, m, k)));
+    }
+
+    pub fault_here : (line : List ℕ) (rest : List (List ℕ)) (fault : TextFault) → ls ≡ line ∷ rest → IsLineFault names n before line fault → IsBodyFault version text fault
+    fault_here line rest (At bad why) e f = d.faults bad why (subst (λ (t : List (List ℕ)). LinesFault names n before t bad why) (sym e) (inl f))
+    fault_here line rest Memory e f = tt
+
+    nothing_below_nesting : (lower : Cause) → cause_number lower < 7 → EndFault before lower → ⊥
+    nothing_below_nesting BadNesting l f = absurd (omega arith)
+    nothing_below_nesting NoMain l f = absurd (omega arith)
+    nothing_below_nesting cause l f = f
+
+    nothing_below_main : (before.current ≢ None → ⊥) → (lower : Cause) → cause_number lower < 8 → EndFault before lower → ⊥
+    nothing_below_main ended BadNesting l f = ended f
+    nothing_below_main ended NoMain l f = absurd (omega arith)
+    nothing_below_main ended cause l f = f
+
+    -- at the end
+    pub open_here : ls ≡ [] → before.current ≢ None → IsBodyFault version text (At n BadNesting)
+    open_here e o = d.faults n BadNesting (subst (λ (t : List (List ℕ)). LinesFault names n before t n BadNesting) (sym e) (refl, (o, nothing_below_nesting)))
+
+    pub no_main_here : ls ≡ [] → (before.current ≢ None → ⊥) → main_of before.functions ≡ None → IsBodyFault version text (At n NoMain)
+    no_main_here e o none = d.faults n NoMain (subst (λ (t : List (List ℕ)). LinesFault names n before t n NoMain) (sym e) (refl, (none, nothing_below_main o)))
+
+    pub means_here : ls ≡ [] → before.current ≡ None → (main : ℕ) → main_of before.functions ≡ Some main
+        → LinesMean (functions_of (lines text)) 2 (nothing version) (lines text) (held before)
+    means_here e o main is =
+        d.means (held before) (subst (λ (t : List (List ℕ)). LinesMean names n before t (held before)) (sym e) (o, (λ none. let clash : Some main ≡ None = sym is ∙ none in cc), refl))
+
+-- ---- the whole text
+
+version_ended_by : (at : ℕ) (before : Draft) (current : Open) (parts : List Part) → (ended_by at before current parts).known.version ≡ before.known.version
+version_ended_by at before current [] = refl
+version_ended_by at before current (part ∷ parts) = refl
+
+version_ended : (at : ℕ) (before : Draft) (current : Option Open) → (ended at before current).known.version ≡ before.known.version
+version_ended at before None = refl
+version_ended at before (Some current) = version_ended_by at before current current.parts
+
+version_extended : (at : ℕ) (before : Draft) (item : Item) → (extended at before item).known.version ≡ before.known.version
+version_extended at before Blank = refl
+version_extended at before (Declared name length) = refl
+version_extended at before (Reduces name monoid) = refl
+version_extended at before (Begins name parameter) = refl
+version_extended at before (Does statement named) = refl
+version_extended at before (Decides register) = refl
+version_extended at before Otherwise = refl
+version_extended at before Ends = version_ended at before before.current
+
+version_kept : (names : List (List ℕ)) (at : ℕ) (before : Draft) (ls : List (List ℕ)) (contents : Contents) → LinesMean names at before ls contents
+    → contents.known.version ≡ before.known.version
+version_kept names at before [] contents m = ap (λ (c : Contents). c.known.version) m.2
+version_kept names at before (line ∷ ls) contents m = version_kept names (at + 1) (extended at before m.0) ls contents m.2 ∙ version_extended at before m.0
+
+text_means : (version : Version) (text first rest : List ℕ) (contents : Contents) → lines text ≡ first ∷ lines rest → IsHeader first version
+    → LinesMean (functions_of (lines rest)) 2 (nothing version) (lines rest) contents → TextMeans text contents
+text_means version text first rest contents e h m =
+    let same : contents.known.version ≡ version = version_kept (functions_of (lines rest)) 2 (nothing version) (lines rest) contents m in
+    let header : IsHeader first contents.known.version = subst (λ (v : Version). IsHeader first v) (sym same) h in
+    let behind : LinesMean (functions_of (lines rest)) 2 (nothing contents.known.version) (lines rest) contents =
+    subst (λ (v : Version). LinesMean (functions_of (lines rest)) 2 (nothing v) (lines rest) contents) (sym same) m in
+    subst (λ (t : List (List ℕ)). LinesOfProgram t contents) (sym e) (header, behind)
+
+body_fault : (version : Version) (text first rest : List ℕ) (fault : TextFault) → lines text ≡ first ∷ lines rest → IsHeader first version → IsBodyFault version rest fault
+    → IsTextFault text fault
+body_fault version text first rest (At bad why) e h f = subst (λ (t : List (List ℕ)). FaultOfLines t bad why) (sym e) (inr (version, h, f))
+body_fault version text first rest Memory e h f = tt
+
+-- what the lines behind the header come to, the text comes to
+pub whole_read : {D : Type 0} (view : D → Contents) (version : Version) (text first rest : List ℕ) (r : Result D TextFault) → lines text ≡ first ∷ lines rest → IsHeader first version
+    → MatchResult r (λ d. LinesMean (functions_of (lines rest)) 2 (nothing version) (lines rest) (view d)) (IsBodyFault version rest) → MatchResult r (λ d. TextMeans text (view d)) (IsTextFault text)
+whole_read view version text first rest (Ok d) e h m = text_means version text first rest (view d) e h m
+whole_read view version text first rest (Err fault) e h f = body_fault version text first rest fault e h f
+
+-- ---- the function `main`
+
+main_below_by : (from main : ℕ) (functions : List Code) → position_from (λ (code : Code). bytes_eq code.name (codes "main")) from functions ≡ Some main → main < from + length functions
+main_below_by from main [] e = cc
+main_below_by from main (code ∷ functions) e = by (bytes_eq code.name (codes "main")) e (main_below_by (from + 1) main functions)
+  where
+    by : (b : Bool) → cond b (Some from) (position_from (λ (c : Code). bytes_eq c.name (codes "main")) (from + 1) functions) ≡ Some main
+        → (position_from (λ (c : Code). bytes_eq c.name (codes "main")) (from + 1) functions ≡ Some main → main < from + 1 + length functions) → main < from + length (code ∷ functions)
+    by true h later = let same : from ≡ main = cc in omega arith
+    by false h later = let l = later h in omega (arith, l)
+
+pub main_below : (functions : List Code) (main : ℕ) → main_of functions ≡ Some main → main < length functions
+main_below functions main e = let l = main_below_by 0 main functions e in omega (arith, l)
+
+abbrev MainThere : ℕ → ℕ → List Code → Type 0
+MainThere from main functions = (place : ℕ) × (main ≡ from + place) × (option_map (λ (code : Code). code.name) (slice_get functions place) ≡ Some (codes "main"))
+
+main_there : (from main : ℕ) (functions : List Code) → position_from (λ (code : Code). bytes_eq code.name (codes "main")) from functions ≡ Some main → MainThere from main functions
+main_there from main [] e = cc
+main_there from main (code ∷ functions) e = by (bytes_eq code.name (codes "main")) refl e (main_there (from + 1) main functions)
+  where
+    by : (b : Bool) → bytes_eq code.name (codes "main") ≡ b → cond b (Some from) (position_from (λ (c : Code). bytes_eq c.name (codes "main")) (from + 1) functions) ≡ Some main
+        → (position_from (λ (c : Code). bytes_eq c.name (codes "main")) (from + 1) functions ≡ Some main → MainThere (from + 1) main functions) → MainThere from main (code ∷ functions)
+    by true t h later = let same : from ≡ main = cc in (0, omega (arith, same), ap (λ (n : List ℕ). Some n) ((bytes_eq-Decides code.name (codes "main")).0 t))
+    by false t h later = let there = later h in (suc there.0, omega (arith, there.1), there.2)
+
+pub main_is : (functions : List Code) (main : ℕ) → main_of functions ≡ Some main → IsMain functions main
+main_is functions main e =
+    let there = main_there 0 main functions e in
+    let same : there.0 ≡ main = omega (arith, there.1) in
+    subst (λ (n : ℕ). IsMain functions n) same there.2
+
+pub is_none : (current : Option Open) → (current ≢ None → ⊥) → current ≡ None
+is_none None h = refl
+is_none (Some current) h = absurd (h (λ e. cc))
+
+pub is_shut : (answer : Bool) → answer ≡ false → IsTrue answer → ⊥
+is_shut true e t = cc
+is_shut false e t = cc

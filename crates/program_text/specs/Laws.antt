@@ -1,0 +1,18 @@
+-- Laws of the grammar.
+use Rattle.std.specs.Prelude.{◌≡◌, ℕ, List}
+use Rattle.trace_text.specs.declared.fault.Cause.{Cause}
+use Rattle.program_text.specs.Drafts.{Contents}
+use Rattle.program_text.specs.Grammar.{TextMeans}
+use Rattle.program_text.specs.Faults.{TextFaults}
+
+-- A text means at most one program.
+abbrev pub OneMeaning : Type 0
+OneMeaning = (text : List ℕ) (one other : Contents) → TextMeans text one → TextMeans text other → one ≡ other
+
+-- No text means a program and has a fault.
+abbrev pub MeaningOrFault : Type 0
+MeaningOrFault = (text : List ℕ) (contents : Contents) (line : ℕ) (why : Cause) → TextMeans text contents → TextFaults text line why → ⊥
+
+-- A text has at most one fault.
+abbrev pub OneFault : Type 0
+OneFault = (text : List ℕ) (line other : ℕ) (why cause : Cause) → TextFaults text line why → TextFaults text other cause → (line ≡ other) × (why ≡ cause)

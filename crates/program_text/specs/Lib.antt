@@ -1,0 +1,12 @@
+pub mod Codes
+pub mod Bodies
+pub mod Trees
+pub mod Sound
+pub mod Functions
+pub mod Drafts
+pub mod Openings
+pub mod Grammar
+pub mod Faults
+pub mod Programs
+pub mod Laws
+pub mod Printing

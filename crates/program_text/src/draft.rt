@@ -1,0 +1,310 @@
+//! What was read of a program so far.
+
+ghost use Rattle.std.specs.Prelude.{◌≡◌, ◌≢◌, ◌≤◌, ◌↔◌, None, IsTrue, MatchResult, length, option_copied};
+ghost use Rattle.program_text.specs.Sound.{max_functions};
+ghost use Rattle.program_lines.specs.Grammar.{Item as SpecItem, Declared, Reduces, Begins, Does, Decides, Otherwise, Ends};
+ghost use Rattle.program_lines.specs.Items.{item_of};
+ghost use Rattle.program_lines.specs.Scopes.{max_registers};
+ghost use Rattle.program_text.specs.Drafts.{begun as begun_of, registers_of};
+ghost use Rattle.program_text.specs.Grammar.{IsSaid, LineMeans, extended, nothing};
+ghost use Rattle.program_text.specs.Faults.{Extends, IsRoomFault, IsLineFault};
+
+use crate::function::Function;
+use crate::open_function::Open;
+use program_lines::{FunctionNames, Item, Register, Scope, Statement, read_line};
+use std::alloc::Allocator;
+use std::marker::Model;
+use trace_text::{
+    CELLS, Cause, LINES, Mem, Monoid, Name, Names, REDUCERS, Reducer, TextFault, Version, Words,
+    as_text,
+};
+
+/// The most functions of a program.
+pub const FUNCTIONS: usize = 1_000;
+/// The most statements of a program: lines with words behind the first `func`, up to the last `end`.
+pub const STATEMENTS: u32 = 100_000;
+/// The most `if`s that stand in one another.
+pub const NESTED: usize = 64;
+
+/// What was read so far: the declarations, the functions that have ended and the one that has not, and how many lines with words there
+/// are from the first `func` on.
+#[derive(Drop)]
+pub struct Draft<'a, A: Allocator> {
+    names: Names<'a, A>,
+    functions: Vec<Function<A>, A>,
+    current: Option<Open<A>>,
+    lines: u32,
+}
+
+impl<'a, A: Allocator> Model for Draft<'a, A> {
+    ghost use Rattle.program_text.specs.Drafts.{Draft as SpecDraft};
+    ghost use Rattle.program_text.specs.Openings.{IsCounted};
+
+    ghost Value = { SpecDraft };
+
+    ghost view = { λ draft. record { known = draft.names; functions = draft.functions.items; current = draft.current; lines = draft.lines } };
+
+    ghost invariant = { λ draft. IsCounted draft.functions.items draft.current draft.lines };
+}
+
+/// The fault of a line.
+pub fn fault(line: u32, why: Cause) -> TextFault
+    ensures { result ≡ TextFault.At line why }
+{
+    TextFault::At { line, why }
+}
+
+impl<'a, A: Allocator + Copy> Draft<'a, A> {
+    /// Nothing is read yet.
+    pub fn new(alloc: A, version: Version) -> Draft<'a, A>
+        ensures { result ≡ nothing version }
+    {
+        Draft {
+            names: Names::new(alloc, version),
+            functions: Vec::new(alloc),
+            current: None,
+            lines: 0,
+        }
+    }
+
+    /// The declarations.
+    pub fn names(&self) -> &Names<'a, A>
+        ensures { result.now ≡ self.now.known }
+    {
+        &self.names
+    }
+
+    /// Whether a function has not ended.
+    pub fn is_open(&self) -> bool
+        ensures { IsTrue result ↔ (self.now.current ≢ None) }
+    {
+        self.current.is_some()
+    }
+
+    /// How many functions have begun.
+    pub fn begun(&self) -> u32
+        ensures { result ≡ begun_of self.now }
+    {
+        match &self.current {
+            Some(_) => self.functions.len() as u32 + 1,
+            None => self.functions.len() as u32,
+        }
+    }
+
+    /// The functions that have ended.
+    pub fn functions(&self) -> &[Function<A>]
+        ensures value { result.now ≡ self.now.functions }
+        ensures few { length result.now ≤ max_functions }
+    {
+        self.functions.as_slice()
+    }
+
+    /// The registers that the open function knows.
+    pub fn registers(&self) -> &[Name]
+        ensures value { result.now ≡ registers_of self.now.current }
+        ensures few { length result.now ≤ max_registers }
+    {
+        match &self.current {
+            Some(function) => function.registers(),
+            None => &[],
+        }
+    }
+
+    /// Adds a memory.
+    fn declare(&mut self, at: u32, name: &'a str, length: Option<u32>) -> Result<(), TextFault>
+        requires { IsSaid self.old (Declared name.now length) }
+        ensures { MatchResult result
+            (λ _. Extends at self.old (Declared name.now length) self.new)
+            (IsRoomFault at self.old (Declared name.now length)) }
+    {
+        if self.begun() != 0 {
+            return Err(fault(at, Cause::BadNesting));
+        }
+        if at > LINES || u64::from(self.names.cells()) + u64::from(length.unwrap_or(1)) > CELLS {
+            return Err(fault(at, Cause::TooMany));
+        }
+        self.names.add_memory(at, name, length)?;
+        Ok(())
+    }
+
+    /// Adds a reducer.
+    fn reduce(&mut self, at: u32, name: &'a str, monoid: Monoid) -> Result<(), TextFault>
+        requires { IsSaid self.old (Reduces name.now monoid) }
+        ensures { MatchResult result
+            (λ _. Extends at self.old (Reduces name.now monoid) self.new)
+            (IsRoomFault at self.old (Reduces name.now monoid)) }
+    {
+        if self.begun() != 0 {
+            return Err(fault(at, Cause::BadNesting));
+        }
+        if at > LINES || self.names.reducer_count() >= REDUCERS {
+            return Err(fault(at, Cause::TooMany));
+        }
+        self.names.add_reducer(at, name, monoid)?;
+        Ok(())
+    }
+
+    /// Begins a function.
+    fn begin(&mut self, alloc: A, at: u32, name: &str, parameter: &str) -> Result<(), TextFault>
+        requires { IsSaid self.old (Begins name.now parameter.now) }
+        ensures { MatchResult result
+            (λ _. Extends at self.old (Begins name.now parameter.now) self.new)
+            (IsRoomFault at self.old (Begins name.now parameter.now)) }
+    {
+        if self.current.is_some() {
+            return Err(fault(at, Cause::BadNesting));
+        }
+        if at > LINES || self.lines > STATEMENTS || self.functions.len() >= FUNCTIONS {
+            return Err(fault(at, Cause::TooMany));
+        }
+        self.current = Some(Open::new(alloc, at, name, parameter)?);
+        self.lines += 1;
+        Ok(())
+    }
+
+    /// Adds a statement, and the register that it is the first to name.
+    fn act(
+        &mut self,
+        at: u32,
+        statement: Statement,
+        named: Option<&'a str>,
+    ) -> Result<(), TextFault>
+        requires { IsSaid self.old (Does statement (option_copied named)) }
+        ensures { MatchResult result
+            (λ _. Extends at self.old (Does statement (option_copied named.entry)) self.new)
+            (IsRoomFault at self.old (Does statement (option_copied named.entry))) }
+    {
+        let Some(function) = &mut self.current else {
+            return Err(fault(at, Cause::BadNesting));
+        };
+        if at > LINES || self.lines > STATEMENTS {
+            return Err(fault(at, Cause::TooMany));
+        }
+        if let Some(name) = named {
+            function.name_register(name)?;
+        }
+        function.add(statement)?;
+        self.lines += 1;
+        Ok(())
+    }
+
+    /// Adds an `if`.
+    fn decide(&mut self, at: u32, register: Register) -> Result<(), TextFault>
+        ensures { MatchResult result
+            (λ _. Extends at self.old (Decides register) self.new)
+            (IsRoomFault at self.old (Decides register)) }
+    {
+        let Some(function) = &mut self.current else {
+            return Err(fault(at, Cause::BadNesting));
+        };
+        if at > LINES || self.lines > STATEMENTS || function.depth() >= NESTED {
+            return Err(fault(at, Cause::TooMany));
+        }
+        function.decide(at, register)?;
+        self.lines += 1;
+        Ok(())
+    }
+
+    /// Adds an `else`.
+    fn divide(&mut self, at: u32) -> Result<(), TextFault>
+        ensures { MatchResult result
+            (λ _. Extends at self.old Otherwise self.new)
+            (IsRoomFault at self.old Otherwise) }
+    {
+        let Some(function) = &mut self.current else {
+            return Err(fault(at, Cause::BadNesting));
+        };
+        if !function.is_first() {
+            return Err(fault(at, Cause::BadNesting));
+        }
+        if at > LINES || self.lines > STATEMENTS {
+            return Err(fault(at, Cause::TooMany));
+        }
+        function.divide(at)?;
+        self.lines += 1;
+        Ok(())
+    }
+
+    /// Adds an `end`, of the innermost `if` or of the function.
+    fn end(&mut self, at: u32) -> Result<(), TextFault>
+        ensures { MatchResult result
+            (λ _. Extends at self.old Ends self.new)
+            (IsRoomFault at self.old Ends) }
+    {
+        let Some(mut function) = self.current.take() else {
+            return Err(fault(at, Cause::BadNesting));
+        };
+        if at > LINES || self.lines > STATEMENTS {
+            return Err(fault(at, Cause::TooMany));
+        }
+        if function.end(at)? {
+            self.current = Some(function);
+        } else {
+            self.functions.push(function.into_function(at))?;
+        }
+        self.lines += 1;
+        Ok(())
+    }
+
+    /// Adds what the line with the number `at` says.
+    pub fn add(&mut self, alloc: A, at: u32, item: Item<'a>) -> Result<(), TextFault>
+        requires { IsSaid self.old (item_of item) }
+        ensures { MatchResult result
+            (λ _. Extends at self.old (item_of item.entry) self.new)
+            (IsRoomFault at self.old (item_of item.entry)) }
+    {
+        match item {
+            Item::Blank => {
+                if at > LINES {
+                    Err(fault(at, Cause::TooMany))
+                } else {
+                    Ok(())
+                }
+            }
+            Item::Declared { name, length } => self.declare(at, name, length),
+            Item::Reduces { name, monoid } => self.reduce(at, name, monoid),
+            Item::Begins { name, parameter } => self.begin(alloc, at, name, parameter),
+            Item::Does { statement, named } => self.act(at, statement, named),
+            Item::Decides { register } => self.decide(at, register),
+            Item::Otherwise => self.divide(at),
+            Item::Ends => self.end(at),
+        }
+    }
+
+    /// Reads the line with the number `at` of a text with these functions.
+    pub fn take(
+        &mut self,
+        alloc: A,
+        names: &FunctionNames<'a, A>,
+        at: u32,
+        line: &'a [u8],
+    ) -> Result<(), TextFault>
+        ensures { MatchResult result
+            (λ _. (item : SpecItem) × LineMeans names.now at self.old line.now item × (self.new ≡ extended at self.old item))
+            (IsLineFault names.now at self.old line.now) }
+    {
+        let Some(text) = as_text(line) else {
+            return Err(fault(at, Cause::NotText));
+        };
+        let scope = Scope::new(&self.names, names, self.begun(), self.registers());
+        match read_line(at, &scope, &mut Words::of_line(text)) {
+            Ok(item) => self.add(alloc, at, item),
+            Err(why) => Err(fault(at, why)),
+        }
+    }
+
+    /// The version, the declarations and the functions that have ended.
+    pub fn into_parts(self) -> (Version, Vec<Mem, A>, Vec<Reducer, A>, Vec<Function<A>, A>)
+        ensures known { self.entry.known ≡ record { version = result.0; mems = result.1.items; reducers = result.2.items } }
+        ensures functions { self.entry.functions ≡ result.3.items }
+    {
+        let Draft {
+            names,
+            functions,
+            current: _,
+            lines: _,
+        } = self;
+        let (version, mems, reducers) = names.into_parts();
+        (version, mems, reducers, functions)
+    }
+}

@@ -1,0 +1,86 @@
+//! A program.
+
+ghost use Rattle.std.specs.Prelude.{◌≡◌, ◌≤◌, ℕ, List, length, IfOk, IsTrue, MatchResult, map};
+ghost use Rattle.trace_text.specs.Shapes.{is_numbered};
+ghost use Rattle.trace_text.specs.Limits.{max_cells, max_reducers};
+ghost use Rattle.trace_text.specs.Grammar.{cells_of};
+ghost use Rattle.program_text.specs.Grammar.{TextMeans};
+ghost use Rattle.program_text.specs.Faults.{IsTextFault};
+ghost use Rattle.program_text.specs.Sound.{IsSound, IsMain, max_functions};
+
+use crate::function::Functions;
+use crate::text::whole;
+use std::alloc::{AllocError, Allocator};
+use trace_text::{Mems, Monoids, Reducers, Shape, TextFault, Version};
+
+/// The meaning of a text, made by [`Program::parse`] alone. Some text means it, its cells are numbered without a gap, and it is sound: its
+/// statements name cells, reducers and functions that there are, and each `if` and `else` knows where its part ends.
+#[derive(Drop)]
+pub struct Program<A: Allocator> {
+    /// The version that the first line names.
+    pub version: Version,
+    /// The declared memories.
+    pub mems: Mems<A>,
+    /// The declared reducers.
+    pub reducers: Reducers<A>,
+    /// The functions.
+    pub functions: Functions<A>,
+    /// The number of the function `main`.
+    main: u32,
+    ghost meant: { ∥ ((text : List ℕ) × TextMeans text (record { known = record { version = version; mems = mems; reducers = reducers }; functions = functions })) ∥₁ },
+    ghost numbered: { IsTrue (is_numbered 0 mems) },
+    ghost few_cells: { cells_of mems ≤ max_cells },
+    ghost few_reducers: { length reducers ≤ max_reducers },
+    ghost few_functions: { length functions ≤ max_functions },
+    ghost sound: { IsSound (cells_of mems) (length reducers) functions },
+    ghost main_is: { IsMain functions main },
+}
+
+impl<A: Allocator + Copy> Program<A> {
+    ghost use Rattle.program_text.specs.Programs.{contents};
+
+    /// The program that the bytes mean. Otherwise it answers the first faulty line with the lowest cause in it, or
+    /// [`TextFault::Memory`] where a growth was refused.
+    pub fn parse(alloc: A, bytes: &[u8]) -> Result<Program<A>, TextFault>
+        ensures { MatchResult result (λ program. TextMeans bytes.now (contents program)) (IsTextFault bytes.now) }
+    {
+        match whole(alloc, bytes) {
+            Ok((draft, main)) => {
+                let (version, mems, reducers, functions) = draft.into_parts();
+                Ok(Program {
+                    version,
+                    mems: Mems::new(mems),
+                    reducers: Reducers::new(reducers),
+                    functions: Functions::new(functions),
+                    main,
+                })
+            }
+            Err(fault) => Err(fault),
+        }
+    }
+}
+
+impl<A: Allocator> Program<A> {
+    /// The number of the function `main`.
+    pub fn main(&self) -> u32
+        ensures { IsMain self.now.functions result }
+    {
+        self.main
+    }
+
+    /// How many cells the program declares, and the monoids of its reducers.
+    pub fn shape<B: Allocator>(&self, alloc: B) -> Result<Shape<B>, AllocError>
+        ensures cells { IfOk result (λ shape. shape.cells ≡ cells_of self.now.mems) }
+        ensures monoids { IfOk result (λ shape. shape.monoids ≡ map (λ reducer. reducer.monoid) self.now.reducers) }
+    {
+        let cells = self.mems.as_slice().iter().map(|mem| mem.cells).sum();
+        let mut monoids = Vec::new(alloc);
+        for reducer in self.reducers.as_slice() {
+            monoids.push(reducer.monoid)?;
+        }
+        Ok(Shape {
+            cells,
+            monoids: Monoids::new(monoids),
+        })
+    }
+}

@@ -1,0 +1,162 @@
+//! A program's text, a line at a time.
+
+ghost use Rattle.std.specs.Prelude.{◌≡◌, ◌<◌, Some, length, OnOk, IfOk, MatchResult, option_copied, position};
+ghost use Rattle.std.specs.List.{before_first};
+ghost use Rattle.trace_text.specs.Text.{lines, is_hash};
+ghost use Rattle.trace_text.specs.Limits.{max_lines};
+ghost use Rattle.program_text.specs.Functions.{is_name_word, function_in as named_in, function_named, with_function, functions_of};
+ghost use Rattle.program_text.specs.Drafts.{held};
+ghost use Rattle.program_text.specs.Grammar.{nothing, main_of as main_among, LinesMean, TextMeans};
+ghost use Rattle.program_text.specs.Faults.{IsBodyFault, IsTextFault};
+
+use crate::draft::{Draft, fault};
+use crate::function::Function;
+use program_lines::FunctionNames;
+use std::alloc::{AllocError, Allocator};
+use trace_text::{
+    Cause, LINES, TextFault, Version, Words, as_text, header, is_name, split_line, without_return,
+};
+
+fn hash_at(line: &[u8]) -> Option<usize>
+    ensures { result ≡ position is_hash line.now }
+{
+    line.iter().position(|byte| *byte == b'#')
+}
+
+/// What stands before the comment of a line.
+fn before_comment(line: &[u8]) -> &[u8]
+    ensures { result.now ≡ before_first is_hash line.now }
+{
+    match hash_at(line) {
+        Some(end) => &line[..end],
+        None => line,
+    }
+}
+
+fn is_function_name(word: &str) -> bool
+    ensures { result ≡ is_name_word word.now }
+{
+    is_name(word)
+}
+
+/// The name in these words, where they are `func`, a name and a name.
+fn function_in<'a>(words: &mut Words<'a>) -> Option<&'a str>
+    ensures { option_copied result ≡ named_in words.old }
+{
+    if words.take() != Some("func") {
+        return None;
+    }
+    let name = words.take()?;
+    let parameter = words.take()?;
+    if words.take().is_none() && is_function_name(name) && is_function_name(parameter) {
+        Some(name)
+    } else {
+        None
+    }
+}
+
+/// The function that a line makes known: one with the words `func`, its name and a name.
+fn function_of(line: &[u8]) -> Option<&str>
+    ensures { option_copied result ≡ function_named line.now }
+{
+    match as_text(before_comment(line)) {
+        Some(text) => function_in(&mut Words::of_line(text)),
+        None => None,
+    }
+}
+
+/// Adds the function that a line makes known.
+fn note_function<'a, A: Allocator + Copy>(
+    names: &mut FunctionNames<'a, A>,
+    line: &'a [u8],
+) -> Result<(), AllocError>
+    requires { length names.old < max_lines }
+    ensures { OnOk result (names.new ≡ with_function names.old (function_named line.now)) }
+{
+    match function_of(line) {
+        Some(name) => names.add(name),
+        None => Ok(()),
+    }
+}
+
+/// The functions that the lines behind the header make known, as far as a text has lines.
+fn function_names<'a, A: Allocator + Copy>(
+    alloc: A,
+    text: &'a [u8],
+) -> Result<FunctionNames<'a, A>, AllocError>
+    ensures { IfOk result (λ names. names ≡ functions_of (lines text.now)) }
+{
+    let mut names = FunctionNames::new(alloc);
+    let mut rest = text;
+    let mut at = 1;
+    while !rest.is_empty() {
+        if at >= LINES {
+            return Ok(names);
+        }
+        let (line, after) = split_line(rest);
+        note_function(&mut names, without_return(line))?;
+        at += 1;
+        rest = after;
+    }
+    Ok(names)
+}
+
+/// The number of the function `main`.
+fn main_of<A: Allocator>(functions: &[Function<A>]) -> Option<usize>
+    ensures { result ≡ main_among functions.now }
+{
+    functions
+        .iter()
+        .position(|function| function.name.as_str() == "main")
+}
+
+/// Reads the lines behind the first.
+fn body<'a, A: Allocator + Copy>(
+    alloc: A,
+    version: Version,
+    text: &'a [u8],
+) -> Result<(Draft<'a, A>, u32), TextFault>
+    ensures means { MatchResult result
+        (λ read. LinesMean (functions_of (lines text.now)) 2 (nothing version) (lines text.now) (held read.0))
+        (IsBodyFault version text.now) }
+    ensures main { IfOk result (λ read. main_among read.0.functions ≡ Some read.1) }
+{
+    let names = function_names(alloc, text)?;
+    let mut draft = Draft::new(alloc, version);
+    let mut rest = text;
+    let mut at = 1;
+    while !rest.is_empty() {
+        let (line, after) = split_line(rest);
+        at += 1;
+        if let Err(fault) = draft.take(alloc, &names, at, without_return(line)) {
+            return Err(fault);
+        }
+        rest = after;
+    }
+    if draft.is_open() {
+        return Err(fault(at + 1, Cause::BadNesting));
+    }
+    match main_of(draft.functions()) {
+        Some(main) => Ok((draft, main as u32)),
+        None => Err(fault(at + 1, Cause::NoMain)),
+    }
+}
+
+/// Reads a text.
+pub fn whole<'a, A: Allocator + Copy>(
+    alloc: A,
+    bytes: &'a [u8],
+) -> Result<(Draft<'a, A>, u32), TextFault>
+    ensures means { MatchResult result (λ read. TextMeans bytes.now (held read.0)) (IsTextFault bytes.now) }
+    ensures main { IfOk result (λ read. main_among read.0.functions ≡ Some read.1) }
+{
+    if bytes.is_empty() {
+        return Err(fault(1, Cause::BadHeader));
+    }
+    let (first, rest) = split_line(bytes);
+    let version = match header(without_return(first)) {
+        Ok(version) => version,
+        Err(fault) => return Err(fault),
+    };
+    body(alloc, version, rest)
+}
