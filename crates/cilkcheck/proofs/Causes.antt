@@ -2,9 +2,9 @@
 use Rattle.std.proofs.Common.{◌≡◌, ℕ, List, Option, ◌∙◌}
 use Rattle.race_gate.specs.declared.answer.Reply.{Reply}
 use Rattle.cilkcheck.specs.declared.fault.CliFault.{CliFault}
-use Rattle.cilkcheck.specs.declared.fault.CliFault.TheVariants.{Usage, Read, Write, TooLong, Trace, Memory}
+use Rattle.cilkcheck.specs.declared.fault.CliFault.TheVariants.{Usage, Read, Write, TooLong, Trace, Program, Limit, Memory}
 use Rattle.cilkcheck.specs.VerdictText.{verdict_text}
-use Rattle.cilkcheck.specs.Streams.{AnswersText, IsRead, IsFaultOf, HasCause, StopsReading, StopsWriting}
+use Rattle.cilkcheck.specs.Streams.{AnswersText, IsRead, HasCause, StopsWriting}
 
 -- only a part could be written
 pub writing_cause : (before behind wrote writes : Option (List ℕ)) (old_calls new_calls limit : ℕ) (text lines : List ℕ) (replies : List Reply) (fault : CliFault) →
@@ -24,4 +24,6 @@ writing_cause before behind wrote writes old_calls new_calls limit text lines re
 writing_cause before behind wrote writes old_calls new_calls limit text lines replies Read read answers are stops = absurd stops
 writing_cause before behind wrote writes old_calls new_calls limit text lines replies TooLong read answers are stops = absurd stops
 writing_cause before behind wrote writes old_calls new_calls limit text lines replies (Trace fault) read answers are stops = absurd stops
+writing_cause before behind wrote writes old_calls new_calls limit text lines replies (Program fault) read answers are stops = absurd stops
+writing_cause before behind wrote writes old_calls new_calls limit text lines replies Limit read answers are stops = absurd stops
 writing_cause before behind wrote writes old_calls new_calls limit text lines replies Memory read answers are stops = absurd stops

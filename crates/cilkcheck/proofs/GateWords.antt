@@ -24,7 +24,7 @@ use Rattle.race_gate.specs.ReducerVerdicts.{IsRightFor}
 use Rattle.race_gate.specs.Judged.{IsJudged}
 use Rattle.race_gate.specs.States.{State}
 use Rattle.race_gate.specs.Replies.{JudgesAll}
-use Rattle.cilkcheck.specs.VerdictText.{HasWord, HasWords, kind_asked, refusal_word}
+use Rattle.cilkcheck.specs.VerdictText.{HasWord, HasWords}
 
 -- two kinds that race have a word for it, and so have two kinds of reads of reducers
 race_word : (earlier new : Kind) → rule_between earlier new ≡ Race → IsSome (rule_spelling earlier new (rule_between earlier new))

@@ -1,3 +1,4 @@
 mod Bytes
 mod GateWords
 mod Causes
+mod ElisionCauses

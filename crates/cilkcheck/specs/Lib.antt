@@ -4,3 +4,5 @@ pub mod VerdictText
 pub mod Statuses
 pub mod Streams
 pub mod Jobs
+pub mod ElisionText
+pub mod Elided

@@ -5,7 +5,6 @@ use Rattle.race_gate.specs.declared.answer.Answer.{Answer}
 use Rattle.race_gate.specs.declared.answer.Answer.TheVariants.{Refused, Unset}
 use Rattle.race_gate.specs.declared.answer.Reply.{Reply}
 use Rattle.race_gate.specs.declared.answer.Reply.TheVariants.{Done, Illegal}
-use Rattle.race_gate.specs.declared.fault.GateFault.{GateFault}
 use Rattle.race_gate.specs.declared.fault.GateFault.TheVariants.{Limit, Memory}
 
 -- a request that was not answered for want of memory

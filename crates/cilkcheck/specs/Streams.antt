@@ -1,9 +1,8 @@
 -- What is read, and what is written for it.
-use Rattle.std.specs.Prelude.{ℕ, ◌≡◌, ◌+◌, ◌-◌, ◌^◌, ◌<◌, ◌≤◌, ◌≢◌, ◌⊎◌, Bool, true, false, Option, List, [], ◌++◌, length, map, min, IsTrue}
+use Rattle.std.specs.Prelude.{ℕ, ◌≡◌, ◌+◌, ◌-◌, ◌^◌, ◌<◌, ◌≤◌, ◌⊎◌, Bool, false, Option, List, ◌++◌, length, map, min}
 use Rattle.std.specs.Io.KnownBytes.{Consumes, Appends, IsAtEnd}
 use Rattle.trace_text.specs.declared.value.Request.{Request}
-use Rattle.trace_text.specs.declared.fault.TextFault.{TextFault}
-use Rattle.trace_text.specs.declared.fault.TextFault.TheVariants.{At, Memory as TextMemory}
+use Rattle.trace_text.specs.declared.fault.TextFault.TheVariants.{At}
 use Rattle.trace_text.specs.Values.{Contents}
 use Rattle.trace_text.specs.Grammar.{TextMeans, cells_of}
 use Rattle.trace_text.specs.Faults.{TextFaults}

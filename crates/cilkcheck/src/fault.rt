@@ -26,18 +26,27 @@ pub enum CliFault {
     /// The input means no trace.
     #[error("trace {0}")]
     Trace(TextFault),
+    /// The input means no program.
+    #[error("program {0}")]
+    Program(TextFault),
+    /// The program makes more requests than the limit.
+    #[error("limit")]
+    Limit,
     /// There is no memory.
     #[error("memory")]
     Memory,
 }
 
 impl CliFault {
-    /// The exit status of the program: 3 for want of memory, and else 2.
+    /// The exit status of the program: 3 for want of memory, 4 where the limit was passed, and else 2.
     pub fn status(&self) -> u8
         ensures { result ≡ status_of_fault self.now }
     {
         match self {
-            CliFault::Memory | CliFault::Trace(TextFault::Memory) => 3,
+            CliFault::Memory
+            | CliFault::Trace(TextFault::Memory)
+            | CliFault::Program(TextFault::Memory) => 3,
+            CliFault::Limit => 4,
             _ => 2,
         }
     }

@@ -56,7 +56,7 @@ fn read_piece<A: Allocator, R: Read>(
 }
 
 /// Reads all that is left. A reader that has more than the most bytes, or gives them in too many pieces, is too long.
-fn read_text<A: Allocator + Copy, R: Read>(
+pub fn read_text<A: Allocator + Copy, R: Read>(
     alloc: A,
     input: &mut Watched<R>,
 ) -> Result<Vec<u8, A>, CliFault>

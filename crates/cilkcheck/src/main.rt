@@ -5,8 +5,16 @@
 //! replies of a gate to its requests, in their order, the history of that gate is judged, and the status follows from the replies. A
 //! fault in the text is the first one of the bytes that were read, a fault of a device is answered exactly where the device has failed,
 //! and nothing is written then.
+//!
+//! `cilkcheck elide` reads a program from a file and writes the memory that its serial elision leaves, in which each spawn is a call.
+//! [`elide::elide_text`] carries that theorem: at status 0 the bytes that were read mean a program, and what was written are the lines of
+//! the memory and of the number of requests of its one evaluation, which are no more than the limit. At the fault Limit an evaluation, if
+//! there is one, makes more requests. Of the other faults the same holds as of a trace.
 #![tactic(auto)]
 
+ghost use Rattle.std.specs.Prelude.{◌≡◌, IfErr};
+
+mod elide;
 mod fault;
 mod judge;
 mod status;
@@ -14,12 +22,24 @@ mod verdict;
 mod watched;
 mod words;
 
+use elide::elide_text;
 use fault::CliFault;
 use judge::{judge_stream, write_text};
+use std::fs::File;
 use std::process::ExitCode;
 use std::{env, io};
 use watched::Watched;
 use words::{Job, read_words, usage};
+
+/// The file with this name, to be read. It answers [`CliFault::Read`] where it can't be opened.
+fn opened(rt: &HostRuntime, name: &str) -> Result<File, CliFault>
+    ensures { IfErr result (λ fault. fault ≡ CliFault.Read) }
+{
+    match File::open(rt, name) {
+        Ok(file) => Ok(file),
+        Err(_) => Err(CliFault::Read),
+    }
+}
 
 /// Does what the words of the command line ask for.
 fn run(rt: &HostRuntime) -> Result<u8, CliFault> {
@@ -35,6 +55,10 @@ fn run(rt: &HostRuntime) -> Result<u8, CliFault> {
         Job::Judge { limit } => {
             let mut input = Watched::new(rt.reader());
             judge_stream(rt.alloc(), &mut input, &mut output, limit)
+        }
+        Job::Elide { file, limit } => {
+            let mut program = Watched::new(opened(rt, file.as_str())?);
+            elide_text(rt.alloc(), &mut program, &mut output, limit)
         }
         Job::Show { text } => {
             write_text(&mut output, text.as_bytes())?;

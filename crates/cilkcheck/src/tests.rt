@@ -1,6 +1,8 @@
 ghost use Rattle.std.specs.Prelude.{◌≤◌};
 ghost use Rattle.race_gate.specs.Shapes.{most_entries};
 
+mod elisions;
+
 use super::*;
 use fault::CliFault;
 use race_gate::{Answer, GateFault, Receipt, Reply};
@@ -454,6 +456,17 @@ fn check_limit(rt: &impl Abort, alloc: Global, words: &[&str], wanted: u32) {
     }
 }
 
+/// The words ask for the elision of the program in this file, with this limit.
+fn check_elide(rt: &impl Abort, alloc: Global, words: &[&str], wanted: &str, most: u32) {
+    match read_words(alloc, words) {
+        Ok(Job::Elide { file, limit }) => {
+            assert_eq!(rt; file.as_str(), wanted);
+            assert_eq!(rt; limit, most);
+        }
+        _ => assert!(rt; false, "{words:?} do not ask for an elision"),
+    }
+}
+
 /// The words are refused with this text.
 fn check_usage(rt: &impl Abort, alloc: Global, words: &[&str], wanted: &str) {
     match read_words(alloc, words) {
@@ -480,6 +493,22 @@ fn words_of_the_command_line(rt: HostRuntime) {
     let no_limit = "invalid value for '--limit <N>': a number from 0 to 1000000 is wanted";
     check_usage(&rt, alloc, &["judge", "--limit", "1000001"], no_limit);
     check_usage(&rt, alloc, &["judge", "--limit", "many"], no_limit);
+    check_elide(&rt, alloc, &["elide", "f"], "f", 1_000_000);
+    check_elide(&rt, alloc, &["elide", "f", "--limit", "713"], "f", 713);
+    check_elide(&rt, alloc, &["elide", "--limit=0", "f"], "f", 0);
+    check_usage(&rt, alloc, &["elide", "f", "--limit", "1000001"], no_limit);
+    check_usage(
+        &rt,
+        alloc,
+        &["elide"],
+        "no file is given; see 'cilkcheck --help'",
+    );
+    check_usage(
+        &rt,
+        alloc,
+        &["elide", "f", "g"],
+        "unexpected argument 'g' found",
+    );
     check_usage(&rt, alloc, &["judge", "x"], "unexpected argument 'x' found");
     check_usage(&rt, alloc, &["jugde"], "unrecognized subcommand 'jugde'");
     check_usage(
@@ -494,6 +523,12 @@ fn words_of_the_command_line(rt: HostRuntime) {
         alloc,
         &["judge", "--help"],
         "Usage: cilkcheck judge [OPTIONS]\n",
+    );
+    check_shown(
+        &rt,
+        alloc,
+        &["elide", "--help"],
+        "Usage: cilkcheck elide [OPTIONS] <FILE>\n",
     );
     check_shown(&rt, alloc, &["--version"], "cilkcheck 0.1.0\n");
 }

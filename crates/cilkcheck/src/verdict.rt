@@ -54,14 +54,14 @@ fn fault_word(fault: GateFault) -> &'static str
 }
 
 /// Adds words to a text.
-fn push_words<A: Allocator>(text: &mut Vec<u8, A>, words: &str) -> Result<(), AllocError>
+pub fn push_words<A: Allocator>(text: &mut Vec<u8, A>, words: &str) -> Result<(), AllocError>
     ensures { OnOk result (text.new.items ≡ text.old.items ++ words.now) }
 {
     text.extend_from_slice(words.as_bytes())
 }
 
 /// Adds a number to a text, behind what stands before it.
-fn push_number<A: Allocator>(
+pub fn push_number<A: Allocator>(
     text: &mut Vec<u8, A>,
     before: &str,
     number: u64,

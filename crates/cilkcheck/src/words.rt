@@ -53,30 +53,56 @@ peers, or `6 refused unset` for a get with no put or get before it; or `illegal`
 Exit status: 0 where nothing was refused, 1 where an access was, 2 for a fault of the input or an illegal request,
 3 for want of memory, 4 where the limit was passed.";
 
+const ELIDE_ABOUT: &str =
+    "Runs a program serially, where each spawn is a call, and writes the memory that it leaves";
+
+const ELIDE_EXAMPLE: &str =
+    "Output: for each cell a line with its name and its value, in order, and then the number of requests, as
+  x 55
+  requests 713
+
+Exit status: 0 at the end of the program, 2 for a fault of the input, 3 for want of memory, 4 where the limit was passed.";
+
 /// What the words of the command line ask for.
 #[derive(Debug, Drop)]
 pub enum Job {
     /// To judge a trace, with this limit on the entries of its history.
     Judge { limit: u32 },
+    /// To write the elision of the program in this file, with this limit on its requests.
+    Elide { file: String, limit: u32 },
     /// To show a text: the help or the version.
     Show { text: String },
 }
 
 /// The program's commands.
 fn commands<'a>(alloc: Global) -> Result<Command<'a>, AllocError> {
-    let limit = Arg::new(alloc, "limit").long("limit").value_name("N").help(
+    let entries = Arg::new(alloc, "limit").long("limit").value_name("N").help(
         "The most entries of the history, from 0 to 1000000 [default: 1000000]",
     );
+    let requests = Arg::new(alloc, "limit")
+        .long("limit")
+        .value_name("N")
+        .help("The most requests, from 0 to 1000000 [default: 1000000]");
+    let file = Arg::new(alloc, "file")
+        .value_name("FILE")
+        .required(true)
+        .help("The program");
     let judge = Command::new(alloc, "judge")
         .about(JUDGE_ABOUT)
         .after_help(JUDGE_EXAMPLE)
-        .arg(limit)?;
+        .arg(entries)?;
+    let elide = Command::new(alloc, "elide")
+        .about(ELIDE_ABOUT)
+        .after_help(ELIDE_EXAMPLE)
+        .arg(file)?
+        .arg(requests)?;
     Command::new(alloc, "cilkcheck")
         .bin_name("cilkcheck")?
         .version("0.1.0")
         .about(ABOUT)
         .after_help(EXAMPLE)
-        .subcommand(judge)
+        .subcommand(judge)?
+        .subcommand(elide)
 }
 
 /// A usage fault with this text, which stands in one line; or want of memory.
@@ -89,13 +115,22 @@ pub fn usage(alloc: Global, text: &str) -> CliFault
     }
 }
 
+/// A command that works on a file is given none.
+fn no_file(alloc: Global) -> CliFault
+    ensures { IsUsageFault result }
+{
+    usage(alloc, "no file is given; see 'cilkcheck --help'")
+}
+
 /// What the parser of the command line answers in place of a job: a text to show, or the first line of what is wrong.
 fn shown(alloc: Global, error: clap::Error) -> Result<Job, CliFault>
     ensures job { IfOk result IsInRange }
     ensures fault { IfErr result IsUsageFault }
 {
-    if error.kind() == ErrorKind::OutOfMemory {
-        return Err(CliFault::Memory);
+    match error.kind() {
+        ErrorKind::OutOfMemory => return Err(CliFault::Memory),
+        ErrorKind::MissingRequiredArgument => return Err(no_file(alloc)),
+        _ => {}
     }
     let text = format!(in alloc; "{error}")?;
     if error.use_stderr() {
@@ -106,7 +141,7 @@ fn shown(alloc: Global, error: clap::Error) -> Result<Job, CliFault>
     }
 }
 
-/// The limit that the words of `judge` give.
+/// The limit that the words of a command give.
 fn limit_of(alloc: Global, matches: &ArgMatches<'_>) -> Result<u32, CliFault>
     ensures limit { IfOk result (λ limit. limit ≤ most_entries) }
     ensures fault { IfErr result IsUsageFault }
@@ -137,6 +172,14 @@ pub fn read_words(alloc: Global, words: &[&str]) -> Result<Job, CliFault>
             Some(("judge", matches)) => {
                 let limit = limit_of(alloc, matches)?;
                 Ok(Job::Judge { limit })
+            }
+            Some(("elide", matches)) => {
+                let Some(file) = matches.get_str("file") else {
+                    return Err(no_file(alloc));
+                };
+                let file = String::from_str(alloc, file)?;
+                let limit = limit_of(alloc, matches)?;
+                Ok(Job::Elide { file, limit })
             }
             _ => Err(usage(alloc, "no command is given; see 'cilkcheck --help'")),
         },

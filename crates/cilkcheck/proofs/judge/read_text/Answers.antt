@@ -1,4 +1,4 @@
-use Rattle.std.proofs.Common.{rules, ◌≡◌, ◌≤◌, ◌+◌, ℕ, List, [], length, ap, sym, subst, arith}
+use Rattle.std.proofs.Common.{rules, ◌≤◌, ◌+◌, ℕ, List, length, ap, sym, subst, arith}
 use Rattle.std.proofs.lemmas.Grind.{common_steps}
 use Rattle.std.specs.Io.KnownBytes.{Consumes}
 use Rattle.cilkcheck.specs.Watched.{held, calls_of}

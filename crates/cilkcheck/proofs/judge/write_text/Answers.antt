@@ -1,4 +1,4 @@
-use Rattle.std.proofs.Common.{rules, ◌<◌, ◌++◌, ℕ, take, arith}
+use Rattle.std.proofs.Common.{rules, ◌<◌, ◌++◌, take, arith}
 use Rattle.std.proofs.lemmas.Grind.{common_steps}
 use Rattle.cilkcheck.specs.Watched.{held}
 use Rattle.cilkcheck.proofs.Bytes.{appends-more, rest-left, write-fresh}

@@ -1,0 +1,4 @@
+pub mod Replies
+pub mod Dialogues
+pub mod Standings
+pub mod Histories

@@ -1,0 +1,5 @@
+pub mod Requests
+pub mod Stacks
+pub mod Joins
+pub mod States
+pub mod Frames

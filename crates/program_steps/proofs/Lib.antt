@@ -1,0 +1,4 @@
+pub mod Trees
+pub mod Places
+pub mod Turns
+pub mod Located

@@ -1,0 +1,4 @@
+pub mod Evaluations
+pub mod Elisions
+pub mod Soundness
+pub mod Reducing

@@ -1,0 +1,40 @@
+use Rattle.std.proofs.Common.{refl, arith, length, []}
+use Rattle.trace_text.specs.Grammar.{cells_of}
+use Rattle.serial_elision.specs.States.{state_of, monoids_in}
+use Rattle.serial_elision.proofs.Soundness.{few_places}
+use Rattle.serial_elision.proofs.Elisions.{opening_leads, more_leads, leads_needs, over_elides, nearer}
+use Rattle.serial_elision.proofs.elision.elide.Goals as goal
+
+pub loop-elision-init : goal.loop-elision-init
+loop-elision-init g c =
+    let p = c.args.program.now in
+    let o = opening_leads p.functions (monoids_in p) (cells_of p.mems) (state_of c.in-Ok.elision) c.in-Ok.ensures.stands c.in-Ok.ensures.opens in
+    record { within = omega arith; stands = c.in-Ok.ensures.stands; main = o.0; is_main = o.1; done = []; count = refl; leads = o.2 }
+
+pub returns-then-asked-limit-clause-limit : goal.returns-then-asked-limit-clause-limit
+returns-then-asked-limit-clause-limit g c = λ e.
+    let p = c.args.program.now in
+    let i = c.loop-elision.invariant in
+    let m = more_leads p.functions (monoids_in p) (cells_of p.mems) c.in-Ok-step.asked c.loop-elision.requests i.main i.done (state_of c.loop-elision.elision) (state_of c.step.new.self) i.count i.leads c.in-Ok-step.ensures.makes in
+    leads_needs p.functions (monoids_in p) (cells_of p.mems) c.args.limit i.main m.0 _ _ i.is_main (let n = m.1 in let t = c.if-asked-limit.true in let w = i.within in omega (arith, n, t, w)) m.2
+
+pub loop-elision-smaller : goal.loop-elision-smaller
+loop-elision-smaller g c =
+    let p = c.args.program.now in
+    let i = c.loop-elision.invariant in
+    let before = few_places (cells_of p.mems) (length p.reducers) p.functions p.sound _ i.stands.top in
+    let after = few_places (cells_of p.mems) (length p.reducers) p.functions p.sound _ c.in-Ok-step.ensures.stands.top in
+    nearer c.args.limit c.loop-elision.requests c.in-Ok-step.asked c.loop-elision.elision.top.place c.step.new.self.top.place before after c.if-asked-limit.false c.in-Ok-step.ensures.makes.further
+
+pub loop-elision-preserved : goal.loop-elision-preserved
+loop-elision-preserved g c =
+    let p = c.args.program.now in
+    let i = c.loop-elision.invariant in
+    let m = more_leads p.functions (monoids_in p) (cells_of p.mems) c.in-Ok-step.asked c.loop-elision.requests i.main i.done (state_of c.loop-elision.elision) (state_of c.step.new.self) i.count i.leads c.in-Ok-step.ensures.makes in
+    record { within = (let f = c.if-asked-limit.false in let w = i.within in omega (arith, f, w)); stands = c.in-Ok-step.ensures.stands; main = i.main; is_main = i.is_main; done = m.0; count = m.1; leads = m.2 }
+
+pub returns-clause-ok : goal.returns-clause-ok
+returns-clause-ok g c =
+    let p = c.args.program.now in
+    let i = c.loop-elision.invariant in
+    (i.within, over_elides p.functions (monoids_in p) (cells_of p.mems) c.loop-elision.requests i.main i.done (state_of c.loop-elision.elision) i.is_main c.loop-elision-test.false i.count i.leads)

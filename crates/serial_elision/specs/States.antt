@@ -1,0 +1,148 @@
+-- The evaluator's stack and store.
+use Rattle.std.specs.Prelude.{◌≡◌, ℕ, ◌+◌, ◌<◌, ◌≤◌, ◌^◌, Bool, true, false, List, [], ◌∷◌, ◌++◌, map, reverse, Option, Some, None, length, drop, slice_get, slice_index_or}
+use Rattle.trace_text.specs.declared.value.Monoid.{Monoid}
+use Rattle.reducer_views.specs.declared.view.View.{View}
+use Rattle.reducer_views.specs.declared.view.View.TheVariants.{Nothing}
+use Rattle.reducer_views.specs.Products.{FitsMonoid}
+use Rattle.reducer_views.specs.Touched.{monoid_of}
+use Rattle.program_lines.specs.declared.statement.Statement.{Statement}
+use Rattle.program_text.specs.declared.program.Program.{Program}
+use Rattle.program_text.specs.Codes.{Code}
+use Rattle.program_text.specs.Sound.{IsMain}
+use Rattle.program_text.specs.Trees.{Tree, Done, and_then, left_of}
+use Rattle.serial_elision.specs.declared.activation.Turns.{Turns}
+use Rattle.serial_elision.specs.declared.activation.Activation.{Activation}
+use Rattle.serial_elision.specs.declared.elision.Elision.{Elision}
+use Rattle.program_steps.specs.Values.{Registers, first_registers}
+use Rattle.program_steps.specs.Scripts.{closing, numbers}
+use Rattle.serial_elision.specs.Evaluation.{Effect, Store, Standing, Leads}
+use Rattle.serial_elision.specs.Elisions.{first_store}
+
+-- what an evaluator holds
+pub record State : Type 0 where
+  pub top : Activation
+  pub callers : List Activation
+  pub memory : List ℕ
+  pub views : List View
+  pub monoids : List Monoid
+  pub over : Bool
+
+abbrev pub state_of : {A : Type 0} → Elision A → State
+state_of elision = record {
+  top = elision.top;
+  callers = elision.callers.items;
+  memory = elision.memory.items;
+  views = elision.views.items;
+  monoids = elision.monoids;
+  over = elision.over;
+}
+
+abbrev pub store_of : State → Store
+store_of state = record { memory = state.memory; views = state.views }
+
+-- the same with this store
+abbrev pub with_store : State → Store → State
+with_store state store = record { top = state.top; callers = state.callers; memory = store.memory; views = store.views; monoids = state.monoids; over = state.over }
+
+-- the same with this topmost function
+abbrev pub with_top : State → Activation → State
+with_top state top = record { top = top; callers = state.callers; memory = state.memory; views = state.views; monoids = state.monoids; over = state.over }
+
+-- a function at this place with these registers
+abbrev pub moved : Activation → ℕ → Registers → Activation
+moved top place registers = record { function = top.function; place = place; registers = registers; turns = top.turns }
+
+-- a function with these turns
+abbrev pub turning : Activation → Option Turns → Activation
+turning top turns = record { function = top.function; place = top.place; registers = top.registers; turns = turns }
+
+-- a function at its begin
+abbrev pub begun : ℕ → ℕ → Activation
+begun function argument = record { function = function; place = 0; registers = first_registers argument; turns = None }
+
+-- the same with a function begun above the topmost one
+abbrev pub with_begun : State → Activation → ℕ → ℕ → State
+with_begun state caller function argument =
+    record { top = begun function argument; callers = state.callers ++ caller ∷ []; memory = state.memory; views = state.views; monoids = state.monoids; over = state.over }
+
+-- what is left of a function where these statements of its body are left
+abbrev pub left_at : (end_line : ℕ) → List Statement → Tree
+left_at end_line statements = and_then (left_of statements) (closing end_line)
+
+-- the same where these turns come first
+abbrev pub left_in : (end_line : ℕ) → Option Turns → List Statement → Tree
+left_in end_line None statements = left_at end_line statements
+left_in end_line (Some turns) statements = numbers turns.line turns.register turns.function turns.number turns.left (left_at end_line statements)
+
+abbrev pub standing_in : Option Code → Activation → Standing
+standing_in None activation = record { end_line = 0; rest = Done; registers = activation.registers }
+standing_in (Some code) activation = record { end_line = code.end_line; rest = left_in code.end_line activation.turns (drop activation.place code.body); registers = activation.registers }
+
+-- where a function stands
+abbrev pub standing : List Code → Activation → Standing
+standing functions activation = standing_in (slice_get functions activation.function) activation
+
+abbrev pub callers_of : List Code → List Activation → List Standing
+callers_of functions callers = map (standing functions) (reverse callers)
+
+abbrev pub stack_in : List Code → Bool → Activation → List Activation → List Standing
+stack_in functions true top callers = []
+stack_in functions false top callers = standing functions top ∷ callers_of functions callers
+
+-- the functions that the evaluator is in, the topmost first
+abbrev pub stack_of : List Code → State → List Standing
+stack_of functions state = stack_in functions state.over state.top state.callers
+
+abbrev pub are_turns : List Code → Option Turns → Type 0
+are_turns functions None = Unit {0}
+are_turns functions (Some turns) = (turns.function < length functions) × (turns.number + turns.left < 2 ^ 64)
+
+abbrev pub length_in : Option Code → ℕ
+length_in None = 0
+length_in (Some code) = length code.body
+
+-- the function is there, it stands in its body or at its end, and its turns begin a function that is there
+pub record IsInPlace (functions : List Code) (activation : Activation) : Type 0 where
+  pub known : activation.function < length functions
+  pub within : activation.place ≤ length_in (slice_get functions activation.function)
+  pub turning : are_turns functions activation.turns
+
+-- the evaluator is in functions of this program, and its store has this size and fits the monoids
+pub record Stands (functions : List Code) (monoids : List Monoid) (cells : ℕ) (state : State) : Type 0 where
+  pub top : IsInPlace functions state.top
+  pub callers : (index : ℕ) (caller : Activation) → slice_get state.callers index ≡ Some caller → IsInPlace functions caller
+  pub memory : length state.memory ≡ cells
+  pub views : length state.views ≡ length monoids
+  pub same_monoids : state.monoids ≡ monoids
+  pub fits : (reducer : ℕ) → reducer < length monoids → FitsMonoid (monoid_of monoids reducer) (slice_index_or state.views reducer Nothing)
+
+-- so many requests lead from the one to the other; where there are none, the topmost function has come further
+pub record Makes (functions : List Code) (monoids : List Monoid) (asked : ℕ) (before after : State) : Type 0 where
+  pub done : List Effect
+  pub count : length done ≡ asked
+  pub leads : Leads functions monoids done (stack_of functions before) (store_of before) (stack_of functions after) (store_of after)
+  pub further : asked ≡ 0 → before.top.place < after.top.place
+
+abbrev pub is_left : Bool → State → State → Type 0
+is_left true before after = (before.callers ≡ []) × (after.callers ≡ []) × (after.top ≡ before.top)
+is_left false before after = before.callers ≡ after.callers ++ after.top ∷ []
+
+-- an evaluator before and after its topmost function returned
+pub record IsLeft (before after : State) : Type 0 where
+  pub stack : is_left after.over before after
+  pub memory : after.memory ≡ before.memory
+  pub views : after.views ≡ before.views
+  pub monoids : after.monoids ≡ before.monoids
+
+-- the monoids of the program's reducers
+abbrev pub monoids_in : {B : Type 0} → Program B → List Monoid
+monoids_in program = map (λ reducer. reducer.monoid) program.reducers
+
+-- nothing has been done yet
+pub record IsOpening (functions : List Code) (monoids : List Monoid) (cells : ℕ) (state : State) : Type 0 where
+  pub main : ℕ
+  pub is_main : IsMain functions main
+  pub top : state.top ≡ begun main 0
+  pub callers : state.callers ≡ []
+  pub store : store_of state ≡ first_store monoids cells
+  pub going : state.over ≡ false

@@ -1,0 +1,472 @@
+//! The elision of a program, statement by statement.
+
+ghost use Rattle.std.specs.Prelude.{◌≡◌, ◌≢◌, ℕ, ◌+◌, ◌-◌, ◌%◌, ◌^◌, ◌<◌, ◌≤◌, IsTrue, false, true, List, drop, [], ◌∷◌, ◌++◌, Some, None, Err, map, length, replicate, slice_index, slice_index_or, slice_get, OnOk, IfOk};
+ghost use Rattle.trace_text.specs.Grammar.{cells_of};
+ghost use Rattle.trace_text.specs.Limits.{max_cells};
+ghost use Rattle.reducer_views.specs.declared.view.View.TheVariants.{Nothing};
+ghost use Rattle.reducer_views.specs.Products.{FitsMonoid, identity_of, product_of, put_view, update_view};
+ghost use Rattle.reducer_views.specs.Touched.{monoid_of};
+ghost use Rattle.program_lines.specs.declared.statement.Statement.TheVariants.{Else};
+ghost use Rattle.program_text.specs.Bodies.{EndsAt};
+ghost use Rattle.program_text.specs.Sound.{is_located};
+ghost use Rattle.program_text.specs.Trees.{left_of};
+ghost use Rattle.program_steps.specs.Values.{cell_of, result_of, value_of, with_ok};
+ghost use Rattle.serial_elision.specs.Evaluation.{got, view_at, with_cell, with_register, with_view};
+ghost use Rattle.serial_elision.specs.States.{IsLeft, IsOpening, Makes, Stands, moved, monoids_in, state_of, store_of, turning, with_begun, with_store, with_top};
+ghost use Rattle.serial_elision.specs.Elisions.{Elides, NeedsMore};
+
+use crate::activation::{Activation, Turns};
+use program_lines::{Expression, Location, Operand, Register, Statement};
+use program_steps::{cell_of, result_of, value_of};
+use program_text::{Function, Program};
+use reducer_views::{View, combine, identity, of_put, of_update, value};
+use std::alloc::{AllocError, Allocator};
+use trace_text::{Monoid, Monoids};
+
+/// The functions that are begun, the topmost apart, with the cells' values and the reducers' views.
+#[derive(Drop)]
+struct Elision<A: Allocator> {
+    top: Activation,
+    callers: Vec<Activation, A>,
+    memory: Vec<u64, A>,
+    views: Vec<View, A>,
+    monoids: Monoids<A>,
+    over: bool,
+}
+
+/// The last memory, and how many requests led to it.
+#[derive(Drop)]
+pub struct Elided<A: Allocator> {
+    /// The cells' values.
+    pub memory: Vec<u64, A>,
+    /// How many requests were made.
+    pub requests: u32,
+}
+
+/// Why there is no last memory.
+#[derive(Clone, Copy, Debug, PartialEq, Eq)]
+pub enum ElideFault {
+    /// More requests than the limit.
+    Limit,
+    /// A growth was refused.
+    Memory,
+}
+
+/// The program's last memory, from `main` with argument 0, cells that hold 0 and views that are identities, with at most `limit` requests.
+pub fn elide<A: Allocator + Clone, B: Allocator>(
+    alloc: A,
+    program: &Program<B>,
+    limit: u32,
+) -> Result<Elided<A>, ElideFault>
+    ensures ok { IfOk result (λ elided. (elided.requests ≤ limit) × Elides program.now.functions (monoids_in program.now) (cells_of program.now.mems) elided.memory.items elided.requests) }
+    ensures limit { result ≡ Err ElideFault.Limit → NeedsMore program.now.functions (monoids_in program.now) (cells_of program.now.mems) limit }
+{
+    let mut elision = match Elision::open(alloc, program) {
+        Ok(elision) => elision,
+        Err(_) => return Err(ElideFault::Memory),
+    };
+    let mut requests = 0;
+    while !elision.over {
+        let asked = match elision.step(program) {
+            Ok(asked) => asked,
+            Err(_) => return Err(ElideFault::Memory),
+        };
+        if asked > limit - requests {
+            return Err(ElideFault::Limit);
+        }
+        requests += asked;
+    }
+    Ok(Elided {
+        memory: elision.memory,
+        requests,
+    })
+}
+
+/// Where a function goes on that has come to an `else` behind which a part ends before `after`: at the line that closes that part where
+/// it is another `else`, and otherwise at `after`.
+fn behind_else(body: &[Statement], place: u32, after: u32) -> u32
+    requires ends { EndsAt body.now place after }
+    requires few { length body.now < 2 ^ 32 }
+    ensures later { place < result }
+    ensures within { result ≤ length body.now }
+    ensures left { (line to : ℕ) → left_of (drop result body.now) ≡ left_of (Else line to ∷ drop (place + 1) body.now) }
+{
+    match body[(after - 1) as usize] {
+        Statement::Else { .. } => { if place + 1 < after { after - 1 } else { after } }
+        _ => after,
+    }
+}
+
+/// A function of the program by its number.
+fn function_at<B: Allocator>(program: &Program<B>, index: u32) -> &Function<B>
+    requires { index < length program.now.functions }
+    ensures { slice_get program.now.functions index ≡ Some result.now }
+{
+    &program.functions.as_slice()[index as usize]
+}
+
+/// So many cells that hold 0.
+fn zeros<A: Allocator>(alloc: A, count: usize) -> Result<Vec<u64, A>, AllocError>
+    ensures { IfOk result (λ v. v.items ≡ replicate count 0) }
+{
+    vec![in alloc; 0; count]
+}
+
+/// The identity of each monoid.
+fn identities<A: Allocator>(alloc: A, monoids: &[Monoid]) -> Result<Vec<View, A>, AllocError>
+    ensures { IfOk result (λ views. views.items ≡ map identity_of monoids.now) }
+{
+    let mut views = Vec::new(alloc);
+    for monoid in monoids {
+        views.push(identity(*monoid))?;
+    }
+    Ok(views)
+}
+
+impl<A: Allocator + Clone> Elision<A> {
+    /// `main` at its first statement.
+    fn open<B: Allocator>(alloc: A, program: &Program<B>) -> Result<Elision<A>, AllocError>
+        ensures stands { IfOk result (λ elision. Stands program.now.functions (monoids_in program.now) (cells_of program.now.mems) (state_of elision)) }
+        ensures opens { IfOk result (λ elision. IsOpening program.now.functions (monoids_in program.now) (cells_of program.now.mems) (state_of elision)) }
+    {
+        let shape = program.shape(alloc.clone()?)?;
+        Ok(Elision {
+            top: Activation::begin(program.main(), 0),
+            callers: Vec::new(alloc.clone()?),
+            memory: zeros(alloc.clone()?, shape.cells as usize)?,
+            views: identities(alloc, shape.monoids.as_slice())?,
+            monoids: shape.monoids,
+            over: false,
+        })
+    }
+}
+
+impl<A: Allocator> Elision<A> {
+    /// Goes on at another place.
+    fn go(&mut self, place: u32)
+        ensures { state_of self.new ≡ with_top (state_of self.old) (moved self.old.top place self.old.top.registers) }
+    {
+        self.top.place = place;
+    }
+
+    /// `let`.
+    fn assign(&mut self, register: Register, expression: Expression)
+        requires { self.old.top.place + 1 < 2 ^ 32 }
+        ensures { state_of self.new ≡ with_top (state_of self.old) (moved self.old.top (self.old.top.place + 1) (with_register self.old.top.registers register (result_of expression self.old.top.registers))) }
+    {
+        self.top.registers[usize::from(register.index)] = result_of(
+            &self.top.registers,
+            expression,
+        );
+        self.top.place += 1;
+    }
+
+    /// `read`.
+    fn read(&mut self, register: Register, location: Location)
+        requires place { self.old.top.place + 1 < 2 ^ 32 }
+        requires located { IsTrue (is_located max_cells location) }
+        requires known { cell_of location self.old.top.registers < length self.old.memory.items }
+        ensures { state_of self.new ≡ with_top (state_of self.old) (moved self.old.top (self.old.top.place + 1)
+            (with_register (with_ok 1 self.old.top.registers) register (slice_index self.old.memory.items (cell_of location self.old.top.registers)))) }
+    {
+        let cell = cell_of(&self.top.registers, location);
+        self.top.registers[0] = 1;
+        self.top.registers[usize::from(register.index)] = self.memory[cell as usize];
+        self.top.place += 1;
+    }
+
+    /// `write`.
+    fn write(&mut self, location: Location, operand: Operand)
+        requires place { self.old.top.place + 1 < 2 ^ 32 }
+        requires located { IsTrue (is_located max_cells location) }
+        requires known { cell_of location self.old.top.registers < length self.old.memory.items }
+        ensures { state_of self.new ≡ with_store (with_top (state_of self.old) (moved self.old.top (self.old.top.place + 1) (with_ok 1 self.old.top.registers)))
+            (with_cell (store_of (state_of self.old)) (cell_of location self.old.top.registers) (value_of operand self.old.top.registers)) }
+    {
+        let cell = cell_of(&self.top.registers, location);
+        self.memory[cell as usize] = value_of(&self.top.registers, operand);
+        self.top.registers[0] = 1;
+        self.top.place += 1;
+    }
+
+    /// `bump`.
+    fn bump(&mut self, location: Location, operand: Operand)
+        requires place { self.old.top.place + 1 < 2 ^ 32 }
+        requires located { IsTrue (is_located max_cells location) }
+        requires known { cell_of location self.old.top.registers < length self.old.memory.items }
+        ensures { state_of self.new ≡ with_store (with_top (state_of self.old) (moved self.old.top (self.old.top.place + 1) (with_ok 1 self.old.top.registers)))
+            (with_cell (store_of (state_of self.old)) (cell_of location self.old.top.registers)
+            ((slice_index self.old.memory.items (cell_of location self.old.top.registers) + value_of operand self.old.top.registers) % 2 ^ 64)) }
+    {
+        let cell = cell_of(&self.top.registers, location) as usize;
+        let value = value_of(&self.top.registers, operand);
+        self.memory[cell] = self.memory[cell].wrapping_add(value);
+        self.top.registers[0] = 1;
+        self.top.place += 1;
+    }
+
+    /// `update`.
+    fn update(&mut self, reducer: u32, operand: Operand)
+        requires place { self.old.top.place + 1 < 2 ^ 32 }
+        requires known { reducer < length self.old.views.items }
+        requires count { length self.old.views.items ≡ length self.old.monoids }
+        requires fits { FitsMonoid (monoid_of self.old.monoids reducer) (view_at (store_of (state_of self.old)) reducer) }
+        ensures state { state_of self.new ≡ with_store (with_top (state_of self.old) (moved self.old.top (self.old.top.place + 1) (with_ok 1 self.old.top.registers)))
+            (with_view (store_of (state_of self.old)) reducer
+            (product_of (monoid_of self.old.monoids reducer) (view_at (store_of (state_of self.old)) reducer) (update_view (monoid_of self.old.monoids reducer) (value_of operand self.old.top.registers)))) }
+        ensures fits { FitsMonoid (monoid_of self.old.monoids reducer)
+            (product_of (monoid_of self.old.monoids reducer) (view_at (store_of (state_of self.old)) reducer) (update_view (monoid_of self.old.monoids reducer) (value_of operand self.old.top.registers))) }
+    {
+        let monoid = self.monoids.as_slice()[reducer as usize];
+        let value = value_of(&self.top.registers, operand);
+        let view = self.views[reducer as usize];
+        self.views[reducer as usize] = combine(monoid, view, of_update(monoid, value));
+        self.top.registers[0] = 1;
+        self.top.place += 1;
+    }
+
+    /// `put`.
+    fn put(&mut self, reducer: u32, operand: Operand)
+        requires place { self.old.top.place + 1 < 2 ^ 32 }
+        requires known { reducer < length self.old.views.items }
+        requires count { length self.old.views.items ≡ length self.old.monoids }
+        ensures state { state_of self.new ≡ with_store (with_top (state_of self.old) (moved self.old.top (self.old.top.place + 1) (with_ok 1 self.old.top.registers)))
+            (with_view (store_of (state_of self.old)) reducer (put_view (monoid_of self.old.monoids reducer) (value_of operand self.old.top.registers))) }
+        ensures fits { FitsMonoid (monoid_of self.old.monoids reducer) (put_view (monoid_of self.old.monoids reducer) (value_of operand self.old.top.registers)) }
+    {
+        let monoid = self.monoids.as_slice()[reducer as usize];
+        self.views[reducer as usize] = of_put(monoid, value_of(&self.top.registers, operand));
+        self.top.registers[0] = 1;
+        self.top.place += 1;
+    }
+
+    /// `get`.
+    fn get(&mut self, register: Register, reducer: u32)
+        requires place { self.old.top.place + 1 < 2 ^ 32 }
+        requires known { reducer < length self.old.views.items }
+        ensures { state_of self.new ≡ with_top (state_of self.old) (moved self.old.top (self.old.top.place + 1)
+            (with_register (with_ok 1 self.old.top.registers) register (got (store_of (state_of self.old)) reducer))) }
+    {
+        self.top.registers[0] = 1;
+        self.top.registers[usize::from(register.index)] = value(
+            self.views[reducer as usize],
+        ).unwrap_or(0);
+        self.top.place += 1;
+    }
+
+    /// `pfor`: its turns are to come.
+    fn repeat(&mut self, line: u32, register: Register, count: Operand, function: u32)
+        requires { self.old.top.place + 1 < 2 ^ 32 }
+        ensures fits { value_of count self.old.top.registers < 2 ^ 64 }
+        ensures state { state_of self.new ≡ with_top (state_of self.old) (turning (moved self.old.top (self.old.top.place + 1) self.old.top.registers)
+            (Some (record { line = line; register = register; function = function; number = 0; left = value_of count self.old.top.registers }))) }
+    {
+        let left = value_of(&self.top.registers, count);
+        self.top.turns = Some(Turns {
+            line,
+            register,
+            function,
+            number: 0,
+            left,
+        });
+        self.top.place += 1;
+    }
+
+    /// Begins a function above the topmost one.
+    fn begin(&mut self, function: u32, argument: u64) -> Result<(), AllocError>
+        ensures { OnOk result (state_of self.new ≡ with_begun (state_of self.old) self.old.top function argument) }
+    {
+        self.callers.push(self.top)?;
+        self.top = Activation::begin(function, argument);
+        Ok(())
+    }
+
+    /// Goes back to the caller, or ends.
+    fn leave(&mut self)
+        requires { self.old.over ≡ false }
+        ensures { IsLeft (state_of self.old) (state_of self.new) }
+    {
+        match self.callers.pop() {
+            Some(caller) => self.top = caller,
+            None => self.over = true,
+        }
+    }
+
+    /// Goes on by a turn of a `pfor`, by a line of the topmost function, or by its end, and says how many requests that made.
+    fn step<B: Allocator>(&mut self, program: &Program<B>) -> Result<u32, AllocError>
+        requires stands { Stands program.now.functions (monoids_in program.now) (cells_of program.now.mems) (state_of self.old) }
+        requires going { self.old.over ≡ false }
+        ensures stands { OnOk result (Stands program.now.functions (monoids_in program.now) (cells_of program.now.mems) (state_of self.new)) }
+        ensures makes { IfOk result (λ asked. Makes program.now.functions (monoids_in program.now) asked (state_of self.old) (state_of self.new)) }
+    {
+        if let Some(turns) = self.top.turns {
+            return self.turn(program, turns);
+        }
+        let function = function_at(program, self.top.function);
+        match function.body.as_slice().get(self.top.place as usize) {
+            Some(statement) => self.perform(program, function, *statement),
+            None => {
+                self.leave();
+                Ok(2)
+            }
+        }
+    }
+
+    /// A turn of a `pfor`, or the sync behind the last one.
+    fn turn<B: Allocator>(&mut self, program: &Program<B>, turns: Turns) -> Result<u32, AllocError>
+        requires stands { Stands program.now.functions (monoids_in program.now) (cells_of program.now.mems) (state_of self.old) }
+        requires going { self.old.over ≡ false }
+        requires turns { self.old.top.turns ≡ Some turns }
+        ensures stands { OnOk result (Stands program.now.functions (monoids_in program.now) (cells_of program.now.mems) (state_of self.new)) }
+        ensures makes { IfOk result (λ asked. Makes program.now.functions (monoids_in program.now) asked (state_of self.old) (state_of self.new)) }
+    {
+        if turns.left == 0 {
+            self.top.turns = None;
+        } else {
+            self.top.registers[usize::from(turns.register.index)] = turns.number;
+            self.top.turns = Some(Turns {
+                number: turns.number + 1,
+                left: turns.left - 1,
+                ..turns
+            });
+            self.begin(turns.function, turns.number)?;
+        }
+        Ok(1)
+    }
+
+    /// Does a line of the topmost function, and says how many requests that made.
+    fn perform<B: Allocator>(
+        &mut self,
+        program: &Program<B>,
+        function: &Function<B>,
+        statement: Statement,
+    ) -> Result<u32, AllocError>
+        requires stands { Stands program.now.functions (monoids_in program.now) (cells_of program.now.mems) (state_of self.old) }
+        requires going { self.old.over ≡ false }
+        requires quiet { self.old.top.turns ≡ None }
+        requires here { slice_get program.now.functions self.old.top.function ≡ Some function.now }
+        requires at { slice_get function.now.body self.old.top.place ≡ Some statement }
+        ensures stands { OnOk result (Stands program.now.functions (monoids_in program.now) (cells_of program.now.mems) (state_of self.new)) }
+        ensures makes { IfOk result (λ asked. Makes program.now.functions (monoids_in program.now) asked (state_of self.old) (state_of self.new)) }
+    {
+        match statement {
+            Statement::Let {
+                register,
+                value,
+                ..
+            } => {
+                self.assign(register, value);
+                Ok(0)
+            }
+            Statement::Read {
+                register,
+                location,
+                ..
+            } => {
+                self.read(register, location);
+                Ok(1)
+            }
+            Statement::Write {
+                location,
+                value,
+                ..
+            } => {
+                self.write(location, value);
+                Ok(1)
+            }
+            Statement::Bump {
+                location,
+                value,
+                ..
+            } => {
+                self.bump(location, value);
+                Ok(1)
+            }
+            Statement::Update { reducer, value, .. } => {
+                self.update(reducer, value);
+                Ok(1)
+            }
+            Statement::Put { reducer, value, .. } => {
+                self.put(reducer, value);
+                Ok(1)
+            }
+            Statement::Get {
+                register,
+                reducer,
+                ..
+            } => {
+                self.get(register, reducer);
+                Ok(1)
+            }
+            Statement::Spawn {
+                function,
+                argument,
+                ..
+            } => {
+                self.enter(function, argument)?;
+                Ok(1)
+            }
+            Statement::Call {
+                function,
+                argument,
+                ..
+            } => {
+                self.enter(function, argument)?;
+                Ok(1)
+            }
+            Statement::Sync { .. } => {
+                self.go(self.top.place + 1);
+                Ok(1)
+            }
+            Statement::ParallelFor {
+                line,
+                register,
+                count,
+                function,
+            } => {
+                self.repeat(line, register, count, function);
+                Ok(0)
+            }
+            Statement::If {
+                register,
+                otherwise,
+                ..
+            } => {
+                self.choose(register, otherwise);
+                Ok(0)
+            }
+            Statement::Else { after, .. } => {
+                let place = behind_else(function.body.as_slice(), self.top.place, after);
+                self.go(place);
+                Ok(0)
+            }
+            Statement::End { .. } => {
+                self.go(self.top.place + 1);
+                Ok(0)
+            }
+        }
+    }
+
+    /// `if`.
+    fn choose(&mut self, register: Register, otherwise: u32)
+        requires { self.old.top.place + 1 < 2 ^ 32 }
+        ensures first { slice_index self.old.top.registers register.index ≢ 0 → state_of self.new ≡ with_top (state_of self.old) (moved self.old.top (self.old.top.place + 1) self.old.top.registers) }
+        ensures second { slice_index self.old.top.registers register.index ≡ 0 → state_of self.new ≡ with_top (state_of self.old) (moved self.old.top otherwise self.old.top.registers) }
+    {
+        if self.top.registers[usize::from(register.index)] != 0 {
+            self.top.place += 1;
+        } else {
+            self.top.place = otherwise;
+        }
+    }
+
+    /// `spawn` or `call`.
+    fn enter(&mut self, function: u32, argument: Operand) -> Result<(), AllocError>
+        requires { self.old.top.place + 1 < 2 ^ 32 }
+        ensures { OnOk result (state_of self.new ≡ with_begun (state_of self.old) (moved self.old.top (self.old.top.place + 1) self.old.top.registers) function (value_of argument self.old.top.registers)) }
+    {
+        let argument = value_of(&self.top.registers, argument);
+        self.top.place += 1;
+        self.begin(function, argument)
+    }
+}
