@@ -11,6 +11,3 @@ mod phase;
 
 pub use frame::{Frame, FrameFault};
 pub use phase::Phase;
-
-#[cfg(test)]
-mod tests;

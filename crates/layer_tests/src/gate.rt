@@ -75,11 +75,7 @@ fn check_with(
     let mut number = 0u32;
     for (strand, act, answer) in acts {
         number = number.wrapping_add(1);
-        let request = Request {
-            strand: *strand,
-            act: *act,
-            line: number,
-        };
+        let request = request(*strand, *act, number);
         let expected = Receipt {
             number,
             request,
@@ -91,13 +87,23 @@ fn check_with(
     Ok(())
 }
 
+/// The strand's act on a line.
+fn request(strand: u32, act: Act, line: u32) -> Request {
+    Request { strand, act, line }
+}
+
+/// The reply that the request is answered so under this number.
+fn done(number: u32, request: Request, answer: Answer) -> Reply {
+    Reply::Done(Receipt {
+        number,
+        request,
+        answer,
+    })
+}
+
 /// The gate answers the act of the strand by the fault.
 fn check_fault(rt: &impl Abort, gate: &mut Gate<Global>, strand: u32, act: Act, fault: GateFault) {
-    let request = Request {
-        strand,
-        act,
-        line: 1,
-    };
+    let request = request(strand, act, 1);
     assert_eq!(rt; gate.judge(request), Err(fault), "{act:?} by {strand}");
 }
 
@@ -260,17 +266,8 @@ fn faults_come_in_their_order(rt: HostRuntime) -> Result<(), Fail> {
     check_fault(&rt, &mut gate, 0, Read(1), GateFault::BadName);
     check_fault(&rt, &mut gate, 9, Read(1), GateFault::NotRunning);
     check_fault(&rt, &mut gate, 0, Get(0), GateFault::BadName);
-    let spawn = Request {
-        strand: 0,
-        act: Spawn,
-        line: 1,
-    };
-    let read = Request {
-        strand: 2,
-        act: Read(0),
-        line: 3,
-    };
-    assert!(rt; gate.judge(spawn).is_ok());
+    let read = request(2, Read(0), 3);
+    assert!(rt; gate.judge(request(0, Spawn, 1)).is_ok());
     check_fault(&rt, &mut gate, 2, Return, GateFault::Unsynced);
     assert_eq!(rt;
         gate.judge(read),
@@ -288,27 +285,35 @@ fn faults_come_in_their_order(rt: HostRuntime) -> Result<(), Fail> {
     Ok(())
 }
 
+/// The gate replies so to the requests, one to each.
+fn check_replies(
+    rt: &impl Abort,
+    alloc: Global,
+    gate: &mut Gate<Global>,
+    requests: &[Request],
+    expected: &[Reply],
+) -> Result<(), Fail> {
+    let replies = judge_all(gate, alloc, requests)?;
+    assert_eq!(rt; replies.as_slice(), expected);
+    Ok(())
+}
+
 #[test]
 fn a_list_has_one_reply_to_each_request(rt: HostRuntime) -> Result<(), Fail> {
     let mut gate = opening(rt.alloc(), 3)?;
-    let write = |line: u32| Request {
-        strand: 0,
-        act: Write(0, 1),
-        line,
-    };
-    let done = |number: u32| {
-        Reply::Done(Receipt {
-            number,
-            request: write(number),
-            answer: Granted,
-        })
-    };
-    let requests = [write(1), write(2), write(3), write(4)];
-    let replies = judge_all(&mut gate, rt.alloc(), &requests)?;
-    assert_eq!(rt;
-        replies.as_slice(),
-        [done(1), done(2), done(3), Reply::Illegal(GateFault::Limit)].as_slice()
-    );
+    let write = request(0, Write(0, 1), 1);
+    check_replies(
+        &rt,
+        rt.alloc(),
+        &mut gate,
+        &[write, write, write, write],
+        &[
+            done(1, write, Granted),
+            done(2, write, Granted),
+            done(3, write, Granted),
+            Reply::Illegal(GateFault::Limit),
+        ],
+    )?;
     assert_eq!(rt; gate.memory(), [1].as_slice());
     Ok(())
 }
@@ -316,29 +321,19 @@ fn a_list_has_one_reply_to_each_request(rt: HostRuntime) -> Result<(), Fail> {
 #[test]
 fn the_root_function_finishes(rt: HostRuntime) -> Result<(), Fail> {
     let mut gate = opening(rt.alloc(), 1_000_000)?;
-    let by_root = |act: Act| Request {
-        strand: 0,
-        act,
-        line: 1,
-    };
-    let done = |number: u32, act: Act, answer: Answer| {
-        Reply::Done(Receipt {
-            number,
-            request: by_root(act),
-            answer,
-        })
-    };
-    let requests = [by_root(Sync), by_root(Return), by_root(Read(0))];
-    let replies = judge_all(&mut gate, rt.alloc(), &requests)?;
-    assert_eq!(rt;
-        replies.as_slice(),
-        [
-            done(1, Sync, Same),
-            done(2, Return, Finished),
+    let sync = request(0, Sync, 1);
+    let ret = request(0, Return, 2);
+    check_replies(
+        &rt,
+        rt.alloc(),
+        &mut gate,
+        &[sync, ret, request(0, Read(0), 3)],
+        &[
+            done(1, sync, Same),
+            done(2, ret, Finished),
             Reply::Illegal(GateFault::NotRunning),
-        ]
-        .as_slice()
-    );
+        ],
+    )?;
     assert!(rt; gate.is_finished());
     assert_eq!(rt; gate.history().len(), 2);
     laws::race_law();
@@ -349,6 +344,20 @@ fn the_root_function_finishes(rt: HostRuntime) -> Result<(), Fail> {
     Ok(())
 }
 
+/// The number of the entry in which the strand's act is answered so.
+fn entered(rt: &impl Abort, gate: &mut Gate<Global>, strand: u32, act: Act, answer: Answer) -> u32 {
+    match gate.judge(request(strand, act, 1)) {
+        Ok(receipt) => {
+            assert_eq!(rt; receipt.answer, answer, "{act:?} by {strand}");
+            receipt.number
+        }
+        Err(_) => {
+            assert!(rt; false);
+            0
+        }
+    }
+}
+
 #[test]
 fn spawns_in_a_long_loop(rt: HostRuntime) -> Result<(), Fail> {
     let mut gate = opening(rt.alloc(), 1_000_000)?;
@@ -356,58 +365,22 @@ fn spawns_in_a_long_loop(rt: HostRuntime) -> Result<(), Fail> {
     let mut last = 0;
     for k in 1..10_001u32 {
         let child = if k == 1 { 1 } else { 2 * k };
-        for (strand, act) in [(newest, Spawn), (child, Return)] {
-            let request = Request {
-                strand,
-                act,
-                line: 1,
-            };
-            match gate.judge(request) {
-                Ok(receipt) => {
-                    let expected = if act == Return {
-                        Ended
-                    } else {
-                        split(child, child + 1, 3, k == 1)
-                    };
-                    assert_eq!(rt; receipt.answer, expected);
-                }
-                Err(_) => assert!(rt; false),
-            }
-        }
+        entered(
+            &rt,
+            &mut gate,
+            newest,
+            Spawn,
+            split(child, child + 1, 3, k == 1),
+        );
+        entered(&rt, &mut gate, child, Return, Ended);
         newest = child + 1;
         if k % 100 == 0 {
-            let request = Request {
-                strand: newest,
-                act: Write(0, 7),
-                line: 1,
-            };
-            match gate.judge(request) {
-                Ok(receipt) => {
-                    assert_eq!(rt; receipt.answer, Granted);
-                    last = receipt.number;
-                }
-                Err(_) => assert!(rt; false),
-            }
+            last = entered(&rt, &mut gate, newest, Write(0, 7), Granted);
         }
     }
     assert_eq!(rt; last, 20_100);
-    for (number, strand, act, answer) in [
-        (20_101, 20_001, Sync, Joined(3)),
-        (20_102, 3, Return, Finished),
-    ] {
-        let request = Request {
-            strand,
-            act,
-            line: 1,
-        };
-        assert_eq!(rt;
-            gate.judge(request),
-            Ok(Receipt {
-                number,
-                request,
-                answer
-            })
-        );
-    }
+    assert_eq!(rt; entered(&rt, &mut gate, newest, Sync, Joined(3)), 20_101);
+    assert_eq!(rt; newest, 20_001);
+    assert_eq!(rt; entered(&rt, &mut gate, 3, Return, Finished), 20_102);
     Ok(())
 }

@@ -11,13 +11,27 @@ mod branches;
 #[cfg(test)]
 mod draws;
 #[cfg(test)]
+mod elisions;
+#[cfg(test)]
+mod frames;
+#[cfg(test)]
 mod gate;
 #[cfg(test)]
 mod kinds;
 #[cfg(test)]
+mod lines;
+#[cfg(test)]
 mod order;
 #[cfg(test)]
+mod printing;
+#[cfg(test)]
+mod programs;
+#[cfg(test)]
 mod reads;
+#[cfg(test)]
+mod replays;
+#[cfg(test)]
+mod steps;
 #[cfg(test)]
 mod strands;
 #[cfg(test)]

@@ -1,6 +1,7 @@
 -- Words in their places: what means something has no fault, and the lowest cause of more words is the lower one.
 use Rattle.std.proofs.Common.{◌≡◌, ℕ, ◌<◌, ◌≤◌, ◌+◌, ◌∷◌, [], List, length, true, false, Bool, cond, arith, refl, sym, ap, subst, inl, inr}
-use Rattle.std.specs.Prelude.{Option, Some, None, Result, Ok, Err, option_map, nat_lt}
+use Rattle.std.specs.Prelude.{Option, Some, None, Result, Ok, Err, MatchResult, option_map, nat_lt}
+use Rattle.std.specs.Result.{result_and}
 use Rattle.std.proofs.lemmas.Bool.Decides.{nat_tests}
 use Rattle.trace_text.specs.declared.fault.Cause.{Cause}
 use Rattle.trace_text.specs.declared.fault.Cause.TheVariants.{NotText, BadHeader, BadWord, BadNumber, UnknownName, TwiceNamed, BadNesting, NoMain, TooMany}
@@ -156,6 +157,13 @@ module _ (scope : Scope) where
       (value : A → Value) (values : B → List Value) → Reads scope place word a value → Fits scope places last words b values
       → Fits scope (place ∷ places) last (word ∷ words) (both_of a b) (λ r. value r.0 ∷ values r.1)
   reads place places last word words a b value values m f = takes_some place word places last words value values a b m f
+
+  -- a keyword behind which no word stands
+  pub stands_alone : {A : Type 0} (words : List (List ℕ)) (Holds : A → Type 0) (item : A) (r : Result (Unit {0}) Cause) → Fits scope [] [] words r (λ _. [])
+      → ((pairs : List Placed) × (placed [] [] words ≡ Some pairs) × WordsMean scope pairs [] → Holds item)
+      → MatchResult (result_and r (Ok item)) Holds (λ cause. IsPlacedFault scope (placed [] [] words) cause)
+  stands_alone words Holds item (Ok done) f h = h f
+  stands_alone words Holds item (Err cause) f h = f
 
   -- ---- places as in traces
 

@@ -24,6 +24,3 @@ pub use line::read_line;
 pub use print::put_statement;
 pub use scope::{FUNCTION_NAMES, FunctionNames, Scope};
 pub use statement::{Expression, Location, Operand, REGISTERS, Register, Statement};
-
-#[cfg(test)]
-mod tests;

@@ -218,7 +218,7 @@ fn does(statement: Statement) -> Item<'static>
     }
 }
 
-/// What the words behind `read` or `get` say.
+/// What the words behind `read` say.
 fn behind_read<'a, A: Allocator + Copy>(
     at: u32,
     scope: &Scope<'_, '_, A>,
@@ -260,6 +260,67 @@ fn behind_get<'a, A: Allocator + Copy>(
     }
 }
 
+/// What the words behind `write` or `bump` say.
+fn behind_write<A: Allocator + Copy>(
+    at: u32,
+    scope: &Scope<'_, '_, A>,
+    bumps: bool,
+    words: &mut Words<'_>,
+) -> Result<Item<'static>, Cause>
+    requires { HasKeyword scope.now.known.version (Access (cond bumps kind.Bump kind.Write)) }
+    ensures { IsRead at scope.now (Access (cond bumps kind.Bump kind.Write)) words.old result }
+{
+    let line = at;
+    match of_write(scope, words) {
+        Ok((location, (value, ()))) => {
+            if bumps {
+                Ok(does(Statement::Bump {
+                    line,
+                    location,
+                    value,
+                }))
+            } else {
+                Ok(does(Statement::Write {
+                    line,
+                    location,
+                    value,
+                }))
+            }
+        }
+        Err(why) => Err(why),
+    }
+}
+
+/// What the words behind `update` or `put` say.
+fn behind_update<A: Allocator + Copy>(
+    at: u32,
+    scope: &Scope<'_, '_, A>,
+    puts: bool,
+    words: &mut Words<'_>,
+) -> Result<Item<'static>, Cause>
+    ensures { IsRead at scope.now (Access (cond puts kind.Put kind.Update)) words.old result }
+{
+    let line = at;
+    match of_update(scope, words) {
+        Ok((reducer, (value, ()))) => {
+            if puts {
+                Ok(does(Statement::Put {
+                    line,
+                    reducer,
+                    value,
+                }))
+            } else {
+                Ok(does(Statement::Update {
+                    line,
+                    reducer,
+                    value,
+                }))
+            }
+        }
+        Err(why) => Err(why),
+    }
+}
+
 /// What the words behind the keyword of an access say.
 fn access<'a, A: Allocator + Copy>(
     at: u32,
@@ -270,42 +331,13 @@ fn access<'a, A: Allocator + Copy>(
     requires { HasKeyword scope.now.known.version (Access kind) }
     ensures { IsRead at scope.now (Access kind) words.old result }
 {
-    let line = at;
     match kind {
         Kind::Read => behind_read(at, scope, words),
-        Kind::Write => match of_write(scope, words) {
-            Ok((location, (value, ()))) => Ok(does(Statement::Write {
-                line,
-                location,
-                value,
-            })),
-            Err(why) => Err(why),
-        },
-        Kind::Bump => match of_write(scope, words) {
-            Ok((location, (value, ()))) => Ok(does(Statement::Bump {
-                line,
-                location,
-                value,
-            })),
-            Err(why) => Err(why),
-        },
+        Kind::Write => behind_write(at, scope, false, words),
+        Kind::Bump => behind_write(at, scope, true, words),
+        Kind::Update => behind_update(at, scope, false, words),
+        Kind::Put => behind_update(at, scope, true, words),
         Kind::Get => behind_get(at, scope, words),
-        Kind::Put => match of_update(scope, words) {
-            Ok((reducer, (value, ()))) => Ok(does(Statement::Put {
-                line,
-                reducer,
-                value,
-            })),
-            Err(why) => Err(why),
-        },
-        Kind::Update => match of_update(scope, words) {
-            Ok((reducer, (value, ()))) => Ok(does(Statement::Update {
-                line,
-                reducer,
-                value,
-            })),
-            Err(why) => Err(why),
-        },
     }
 }
 
@@ -389,23 +421,14 @@ fn behind_keyword<'a, A: Allocator + Copy>(
         Keyword::Access(kind) => access(at, scope, kind, words),
         Keyword::Spawn => behind_call(at, scope, true, words),
         Keyword::Call => behind_call(at, scope, false, words),
-        Keyword::Sync => match end(words) {
-            Ok(()) => Ok(does(Statement::Sync { line: at })),
-            Err(why) => Err(why),
-        },
+        Keyword::Sync => end(words).and(Ok(does(Statement::Sync { line: at }))),
         Keyword::ParallelFor => behind_parallel_for(at, scope, words),
         Keyword::If => match of_if(scope, words) {
             Ok((register, ())) => Ok(Item::Decides { register }),
             Err(why) => Err(why),
         },
-        Keyword::Else => match end(words) {
-            Ok(()) => Ok(Item::Otherwise),
-            Err(why) => Err(why),
-        },
-        Keyword::End => match end(words) {
-            Ok(()) => Ok(Item::Ends),
-            Err(why) => Err(why),
-        },
+        Keyword::Else => end(words).and(Ok(Item::Otherwise)),
+        Keyword::End => end(words).and(Ok(Item::Ends)),
     }
 }
 

@@ -1,8 +1,8 @@
 //! The plain words of statements.
 
-ghost use Rattle.std.specs.Prelude.{◌≡◌, ◌++◌, ◌∷◌, ℕ, [], List, OnOk, codes, string_bytes};
+ghost use Rattle.std.specs.Prelude.{◌≡◌, ◌++◌, ◌∷◌, ℕ, [], List, IsTrue, OnOk, codes, string_bytes};
 ghost use Rattle.trace_text.specs.declared.value.Version.{Version};
-ghost use Rattle.trace_text.specs.Shapes.{name_of_cell};
+ghost use Rattle.trace_text.specs.Shapes.{is_numbered};
 ghost use Rattle.trace_text.specs.Printing.{behind_space, name_of_reducer, spaced};
 ghost use Rattle.program_lines.specs.Grammar.{keyword_of_statement};
 ghost use Rattle.program_lines.specs.Printing.{IsAccess, IsNamedFunction, argument_words, expression_words, location_word, name_of_array, name_of_register, operand_word, printed_scope, statement_words};
@@ -12,7 +12,7 @@ use crate::statement::{Expression, Location, Operand, Register, Statement};
 use access_table::{Kind, word};
 use std::alloc::{AllocError, Allocator};
 use std::fmt::Write;
-use trace_text::{Mem, Name, Reducer, memory_of, put_word};
+use trace_text::{Mem, Name, Reducer, memory_at, put_cell, put_word};
 
 /// The name of a register.
 fn register_name(registers: &[Name], register: Register) -> &str
@@ -39,9 +39,10 @@ fn reducer_name(reducers: &[Reducer], number: u32) -> &str
 
 /// The name of the array that has this cell.
 fn array_name(mems: &[Mem], first: u32) -> &str
+    requires numbered { IsTrue (is_numbered 0 mems.now) }
     ensures { result.now ≡ name_of_array mems.now first }
 {
-    match memory_of(mems, first) {
+    match memory_at(mems, first) {
         Some(mem) => mem.name.as_str(),
         None => "",
     }
@@ -79,27 +80,6 @@ fn put_value<A: Allocator>(
     put_operand(out, registers, operand)
 }
 
-/// Appends a space and the name of a cell.
-fn put_cell<A: Allocator>(
-    out: &mut String<A>,
-    mems: &[Mem],
-    location: u32,
-) -> Result<(), AllocError>
-    ensures { OnOk result (string_bytes out.new ≡ string_bytes out.old ++ 32 ∷ name_of_cell mems.now location) }
-{
-    match memory_of(mems, location) {
-        Some(mem) => {
-            put_word(out, mem.name.as_str())?;
-            if mem.array {
-                let index = location - mem.first;
-                write!(out, "[{index}]")?;
-            }
-            Ok(())
-        }
-        None => put_word(out, ""),
-    }
-}
-
 /// Appends a space and a location.
 fn put_location<A: Allocator>(
     out: &mut String<A>,
@@ -107,6 +87,7 @@ fn put_location<A: Allocator>(
     registers: &[Name],
     location: Location,
 ) -> Result<(), AllocError>
+    requires numbered { IsTrue (is_numbered 0 mems.now) }
     ensures { OnOk result (string_bytes out.new ≡ string_bytes out.old ++ 32 ∷ location_word mems.now registers.now location) }
 {
     match location {
@@ -165,6 +146,7 @@ fn put_located<A: Allocator>(
     location: Location,
     value: Operand,
 ) -> Result<(), AllocError>
+    requires numbered { IsTrue (is_numbered 0 mems.now) }
     ensures { OnOk result (string_bytes out.new ≡ string_bytes out.old ++ behind_space (location_word mems.now registers.now location ∷ operand_word registers.now value ∷ [])) }
 {
     put_location(out, mems, registers, location)?;
@@ -221,6 +203,7 @@ fn put_read<A: Allocator>(
     register: Register,
     from: Location,
 ) -> Result<(), AllocError>
+    requires numbered { IsTrue (is_numbered 0 mems.now) }
     ensures { OnOk result (string_bytes out.new ≡ string_bytes out.old ++ behind_space (name_of_register registers.now register.index ∷ location_word mems.now registers.now from ∷ [])) }
 {
     put_word(out, register_name(registers, register))?;
@@ -270,7 +253,8 @@ fn put_access<A: Allocator>(
     registers: &[Name],
     statement: &Statement,
 ) -> Result<(), AllocError>
-    requires { IsAccess statement.now }
+    requires numbered { IsTrue (is_numbered 0 mems.now) }
+    requires access { IsAccess statement.now }
     ensures { (version : Version) (functions : List (List ℕ))
         → OnOk result (string_bytes out.new ≡ string_bytes out.old ++ behind_space (argument_words (printed_scope version mems.now reducers.now functions registers.now) statement.now)) }
 {
@@ -284,24 +268,15 @@ fn put_access<A: Allocator>(
             location,
             value,
             ..
-        } => put_located(out, mems, registers, location, value),
-        Statement::Bump {
+        }
+        | Statement::Bump {
             location,
             value,
             ..
-        } => put_located(out, mems, registers, location, value),
-        Statement::Update { reducer, value, .. } => put_named(
-            out,
-            reducer_name(reducers, reducer),
-            registers,
-            value,
-        ),
-        Statement::Put { reducer, value, .. } => put_named(
-            out,
-            reducer_name(reducers, reducer),
-            registers,
-            value,
-        ),
+        } => { put_located(out, mems, registers, location, value) }
+        Statement::Update { reducer, value, .. } | Statement::Put { reducer, value, .. } => {
+            put_named(out, reducer_name(reducers, reducer), registers, value)
+        }
         Statement::Get {
             register,
             reducer,
@@ -320,6 +295,7 @@ fn put_arguments<A: Allocator>(
     function: &str,
     statement: &Statement,
 ) -> Result<(), AllocError>
+    requires numbered { IsTrue (is_numbered 0 mems.now) }
     ensures { (version : Version) (functions : List (List ℕ)) → IsNamedFunction functions statement.now function.now
         → OnOk result (string_bytes out.new ≡ string_bytes out.old ++ behind_space (argument_words (printed_scope version mems.now reducers.now functions registers.now) statement.now)) }
 {
@@ -354,6 +330,7 @@ pub fn put_statement<A: Allocator>(
     function: &str,
     statement: &Statement,
 ) -> Result<(), AllocError>
+    requires numbered { IsTrue (is_numbered 0 mems.now) }
     ensures { (version : Version) (functions : List (List ℕ)) → IsNamedFunction functions statement.now function.now
         → OnOk result (string_bytes out.new ≡ string_bytes out.old ++ spaced (statement_words (printed_scope version mems.now reducers.now functions registers.now) statement.now)) }
 {

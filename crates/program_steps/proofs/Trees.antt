@@ -116,10 +116,10 @@ if_left line register otherwise rest =
     by first [] = (Done, Done, refl, refl, refl)
     by first (one ∷ more) = (one.second, and_then one.rest (behind more), refl, refl, refl)
 
--- the line that closes a part: an `end`, or an `else`
-pub data Closes : Statement → List Statement → Tree → Type 0 where
-  by_end : {line : ℕ} {rest : List Statement} {outer : Tree} → left_of rest ≡ outer → Closes (End line) rest outer
-  by_else : {line after : ℕ} {rest : List Statement} {outer : Tree} → left_of (Else line after ∷ rest) ≡ outer → Closes (Else line after) rest outer
+-- the line that closes a part: where it is an `end`, what follows the `if` is left behind it
+abbrev pub Closes : Statement → List Statement → Tree → Type 0
+Closes (End line) later outer = left_of later ≡ outer
+Closes statement later outer = Unit {0}
 
 -- a part is closed by a line behind which the others stand, or nothing closes it and nothing follows
 pub record Closed (statements later : List Statement) (outer : Tree) : Type 0 where
@@ -135,9 +135,9 @@ one_more statement statements later outer outer' e (inr d) = inr (d.0, sym e ∙
 closed_part : (depth : ℕ) (statements : List Statement) → Closed statements (behind_part depth statements) (outer_of depth (read_of statements).around) ⊎ ((behind_part depth statements ≡ []) × (outer_of depth (read_of statements).around ≡ Done))
 closed_part depth [] = inr (refl, refl)
 closed_part depth (If line register otherwise ∷ rest) = one_more _ rest _ _ _ (chosen_outer depth line register (read_of rest).here (read_of rest).around) (closed_part (suc depth) rest)
-closed_part zero (Else line after ∷ rest) = inl (record { place = 0; closing = Else line after; at = refl; closes = by_else (else_left line after rest) })
+closed_part zero (Else line after ∷ rest) = inl (record { place = 0; closing = Else line after; at = refl; closes = tt })
 closed_part (suc depth) (Else line after ∷ rest) = one_more _ rest _ _ _ (divided_outer depth (read_of rest).here (read_of rest).around) (closed_part (suc depth) rest)
-closed_part zero (End line ∷ rest) = inl (record { place = 0; closing = End line; at = refl; closes = by_end refl })
+closed_part zero (End line ∷ rest) = inl (record { place = 0; closing = End line; at = refl; closes = refl })
 closed_part (suc depth) (End line ∷ rest) = one_more _ rest _ _ _ refl (closed_part depth rest)
 closed_part depth (Let line register value ∷ rest) = one_more _ rest _ _ _ refl (closed_part depth rest)
 closed_part depth (Read line register location ∷ rest) = one_more _ rest _ _ _ refl (closed_part depth rest)

@@ -1,14 +1,14 @@
 //! Calls of functions.
 
-ghost use Rattle.std.specs.Prelude.{◌≡◌, ℕ, ◌+◌, ◌<◌, ◌≤◌, ◌∷◌, Some, None, length, drop, IfSome, IsTrue};
+ghost use Rattle.std.specs.Prelude.{◌≡◌, ℕ, ◌+◌, ◌<◌, ◌≤◌, ◌∷◌, Some, None, length, IfSome, IsTrue};
 ghost use Rattle.trace_text.specs.Grammar.{cells_of};
 ghost use Rattle.program_lines.specs.declared.statement.Register.{Register};
 ghost use Rattle.program_lines.specs.declared.statement.Expression.{Expression};
 ghost use Rattle.program_lines.specs.declared.statement.Statement.{Statement};
-ghost use Rattle.program_lines.specs.declared.statement.Statement.TheVariants.{Let, Else};
-ghost use Rattle.program_text.specs.Bodies.{EndsAt, IsLinked};
+ghost use Rattle.program_lines.specs.declared.statement.Statement.TheVariants.{Let};
+ghost use Rattle.program_text.specs.Bodies.{IsLinked, IsDivided};
 ghost use Rattle.program_text.specs.Sound.{is_within, max_statements};
-ghost use Rattle.program_text.specs.Trees.{Step, left_of};
+ghost use Rattle.program_text.specs.Trees.{Step};
 ghost use Rattle.program_steps.specs.Values.{first_registers};
 ghost use Rattle.program_steps.specs.Scripts.{PassesAll};
 ghost use Rattle.program_steps.specs.Requests.{Asks, IsNamed, IsTargeted, act_of};
@@ -194,6 +194,7 @@ impl Activation {
         requires stands { (functions : ℕ) × StandsIn functions function.now.body self.old }
         requires few { length function.now.body < max_statements }
         requires linked { IsLinked function.now.body }
+        requires divided { IsDivided function.now.body }
         requires at { statement_in function.now self.old ≡ Some statement }
         requires silent { act_of statement self.old.registers ≡ None }
         ensures same { (self.new.function ≡ self.old.function) × (self.new.join ≡ self.old.join) }
@@ -222,7 +223,7 @@ impl Activation {
                 }
             }
             Statement::Else { after, .. } => {
-                self.place = behind_else(function.body.as_slice(), self.place, after as usize);
+                self.place = after as usize;
             }
             Statement::End { .. } => self.place += 1,
             Statement::ParallelFor {
@@ -290,21 +291,5 @@ impl Activation {
         ensures behind { (statement : Statement) → statement_of program.now.functions self.old ≡ Some statement → IsTrue (is_plain statement) → left program.now.functions self.old ≡ Step statement (left program.now.functions self.new) }
     {
         self.step_in(&program.functions.as_slice()[self.function as usize]);
-    }
-}
-
-/// Where a function goes on that has come to an `else`, behind which a part ends before `after`: at the line that closes that part where
-/// it is another `else`, and otherwise at `after`.
-fn behind_else(body: &[Statement], place: usize, after: usize) -> usize
-    requires ends { EndsAt body.now place after }
-    ensures later { place < result }
-    ensures within { result ≤ length body.now }
-    ensures left { (line to : ℕ) → left_of (drop result body.now) ≡ left_of (Else line to ∷ drop (place + 1) body.now) }
-{
-    let closes = matches!(body[after - 1], Statement::Else { .. });
-    if closes && place + 1 < after {
-        after - 1
-    } else {
-        after
     }
 }

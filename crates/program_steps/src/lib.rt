@@ -16,6 +16,3 @@ pub use activation::{Activation, Turn};
 pub use answer::answered;
 pub use request::{Target, Want, act_of, line_of};
 pub use value::{cell_of, result_of, value_of};
-
-#[cfg(test)]
-mod tests;

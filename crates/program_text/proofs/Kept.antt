@@ -1,40 +1,35 @@
 -- What every program keeps, a line at a time.
-use Rattle.std.proofs.Common.{◌≡◌, ◌≢◌, ℕ, zero, suc, ◌<◌, ◌≤◌, ◌+◌, ◌∷◌, ◌++◌, [], List, Bool, true, false, length, length as len, map, set, arith, refl, sym, ap, subst, ◌∙◌, zero-add}
-use Rattle.std.specs.Prelude.{Option, Some, None, ◌&&◌, option_map, unwrap_or, IsTrue, slice_get, nat_lt, nat_le}
+use Rattle.std.proofs.Common.{◌≡◌, ℕ, suc, ◌<◌, ◌≤◌, ◌+◌, ◌∷◌, ◌++◌, [], List, Bool, true, false, length, length as len, arith, refl, sym, ap, subst, ◌∙◌, zero-add}
+use Rattle.std.specs.Prelude.{Option, Some, None, MatchOption, ◌&&◌, option_map, IsTrue, nat_lt, nat_le}
 use Rattle.std.specs.List.{All, list_all}
 use Rattle.std.proofs.lemmas.Bool.Decides.{nat_tests}
 use Rattle.std.proofs.lemmas.List.{length_push}
 use Rattle.std.proofs.lemmas.List.Folds.{list_all-map}
 use Rattle.std.proofs.lemmas.List.Sums.{AllPass-from_list_all, list_all-from_AllPass}
 use Rattle.std.proofs.lemmas.List.Elements.{All-append, All-from_recursion}
-use Rattle.trace_text.specs.declared.value.Monoid.{Monoid}
 use Rattle.trace_text.specs.declared.value.Mem.{Mem}
 use Rattle.trace_text.specs.declared.value.Version.{Version}
 use Rattle.trace_text.specs.Text.{words, lines}
 use Rattle.trace_text.specs.Limits.{max_cells, max_reducers}
-use Rattle.trace_text.specs.Lines.{OfName, OfNumber, OfMonoid, Number}
 use Rattle.trace_text.specs.Grammar.{cells_of, memory_at, reducer_at}
 use Rattle.trace_text.specs.Shapes.{is_numbered}
 use Rattle.trace_text.proofs.Kept.{cells_push, numbered_push}
-use Rattle.program_lines.specs.declared.keyword.Keyword.TheVariants as word
 use Rattle.program_lines.specs.declared.statement.Register.{Register}
 use Rattle.program_lines.specs.declared.statement.Location.{Location}
 use Rattle.program_lines.specs.declared.statement.Location.TheVariants.{Cell, Element}
 use Rattle.program_lines.specs.declared.statement.Statement.{Statement}
-use Rattle.program_lines.specs.declared.statement.Statement.TheVariants.{Let, Read, Write, Bump, Update, Put, Get, Spawn, Call, Sync, ParallelFor, If, Else, End}
+use Rattle.program_lines.specs.declared.statement.Statement.TheVariants.{Read, Write, Bump, Update, Put, Get, Spawn, Call, ParallelFor, If, Else, End}
 use Rattle.program_lines.specs.Scopes.{Scope}
-use Rattle.program_lines.specs.Places.{FreshName, Common, Plain}
-use Rattle.program_lines.specs.Table.{Placed, WordsMean}
-use Rattle.program_lines.specs.Grammar.{Item, Blank, Declared, Reduces, Begins, Does, Decides, Otherwise, Ends, ItemMeans, number_if_there}
+use Rattle.program_lines.specs.Grammar.{Item, Blank, Declared, Reduces, Begins, Does, Decides, Otherwise, Ends, ItemMeans}
 use Rattle.program_text.specs.declared.open_function.Part.{Part}
 use Rattle.program_text.specs.Codes.{Code}
 use Rattle.program_text.specs.Sound.{max_functions, max_statements, is_located, is_within, IsSoundBody}
 use Rattle.program_text.specs.Bodies.{part_end}
-use Rattle.program_text.specs.Drafts.{Open, Draft, Contents, begun, begun_by, scope_of, with_register, with_statement, with_choice, with_else, divided_by, with_part_ended, with_end, ended_at, ending, first_open, code_of, held}
-use Rattle.program_text.specs.Grammar.{IsInOrder, HasRoom, LineMeans, LinesMean, extended, ended, ended_by, with_open, nothing, EndMeans}
+use Rattle.program_text.specs.Drafts.{Open, Draft, Contents, begun, begun_by, scope_of, with_register, with_statement, with_choice, with_else, divided_by, with_part_ended, with_end, ending, code_of, held}
+use Rattle.program_text.specs.Grammar.{IsFirst, LineMeans, LinesMean, extended, ended, ended_by, with_open, nothing}
 use Rattle.program_lines.proofs.Within.{IsLocated, IsWithinScope, does_within}
-use Rattle.program_text.proofs.Said.{first_said, length_said}
-use Rattle.program_text.proofs.Linked.{IsBuilt, shape, Plain as PlainShape, built_nothing, built_plain, built_choice, built_else, built_end, linked_whole, closed_whole}
+use Rattle.program_text.proofs.Said.{length_said}
+use Rattle.program_text.proofs.Linked.{IsBuilt, shape, Plain as PlainShape, built_nothing, built_plain, built_choice, built_else, built_end, map_ended, ended_size, linked_whole, divided_whole, balanced_whole}
 
 -- ---- bodies
 
@@ -67,35 +62,13 @@ module _ (cells reducers functions : ℕ) where
   within_ending to (Else line after) = refl
   within_ending to statement = refl
 
-  map_set_within : (to : ℕ) (statement : Statement) (body : List Statement) (place : ℕ) → slice_get body place ≡ Some statement
-      → map (is_within cells reducers functions) (set body place (ending to statement)) ≡ map (is_within cells reducers functions) body
-  map_set_within to statement [] place e = cc
-  map_set_within to statement (first ∷ body) zero e =
-      let same : first ≡ statement = cc in
-      ap (λ (b : Bool). b ∷ map (is_within cells reducers functions) body) (within_ending to statement ∙ ap (is_within cells reducers functions) (sym same))
-  map_set_within to statement (first ∷ body) (suc place) e = ap (λ (bs : List Bool). is_within cells reducers functions first ∷ bs) (map_set_within to statement body place e)
-
-  map_ended : (found : Option Statement) (place to : ℕ) (body : List Statement) → slice_get body place ≡ found
-      → map (is_within cells reducers functions) (ended_at found place to body) ≡ map (is_within cells reducers functions) body
-  map_ended None place to body e = refl
-  map_ended (Some statement) place to body e = map_set_within to statement body place e
-
-  size_by : (test : Statement → Bool) (xs ys : List Statement) → map test xs ≡ map test ys → length xs ≡ length ys
-  size_by test [] [] e = refl
-  size_by test [] (y ∷ ys) e = cc
-  size_by test (x ∷ xs) [] e = cc
-  size_by test (x ∷ xs) (y ∷ ys) e = let rest : map test xs ≡ map test ys = cc in ap suc (size_by test xs ys rest)
-
-  ended_size : (place to : ℕ) (body : List Statement) → length (with_end place to body) ≡ length body
-  ended_size place to body = size_by (is_within cells reducers functions) (with_end place to body) body (map_ended (slice_get body place) place to body refl)
-
   within_ended : (place to : ℕ) (body : List Statement) → AreWithin cells reducers functions body → AreWithin cells reducers functions (with_end place to body)
   within_ended place to body h =
       let test = is_within cells reducers functions in
       let before : list_all test body ≡ true = list_all-from_AllPass test body h in
       let same : list_all test (with_end place to body) ≡ list_all test body =
       sym (list_all-map (λ (b : Bool). b) test (with_end place to body))
-      ∙ (ap (list_all (λ (b : Bool). b)) (map_ended (slice_get body place) place to body refl) ∙ list_all-map (λ (b : Bool). b) test body) in
+      ∙ (ap (list_all (λ (b : Bool). b)) (map_ended test within_ending place to body) ∙ list_all-map (λ (b : Bool). b) test body) in
       AllPass-from_list_all test (with_end place to body) (same ∙ before)
 
   -- ---- one more line of the open function
@@ -121,11 +94,11 @@ module _ (cells reducers functions : ℕ) where
       within_push current.body (If at register 0) h.2 refl,
     )
 
-    kept_else : (current : Open) (parts : List Part) → current.parts ≡ parts → OpenKept cells reducers functions n current → OpenKept cells reducers functions (n + 1) (divided_by at current parts)
-    kept_else current [] e h = (h.0, omega (arith, h.1), h.2)
-    kept_else current (part ∷ parts) e h =
+    kept_else : (current : Open) (parts : List Part) → current.parts ≡ parts → IsFirst parts → OpenKept cells reducers functions n current → OpenKept cells reducers functions (n + 1) (divided_by at current parts)
+    kept_else current [] e first h = absurd first
+    kept_else current (part ∷ parts) e first h =
         let body = with_end part.place (length current.body + 1) current.body in (
-          built_else current.body part parts at (subst (λ (ps : List Part). IsBuilt current.body ps) e h.0),
+          built_else current.body part parts at (subst (λ (ps : List Part). IsBuilt current.body ps) e h.0) first,
           (let l = length_push body (Else at 0) in let s = ended_size part.place (length current.body + 1) current.body in omega (arith, l, s, h.1)),
           within_push body (Else at 0) (within_ended part.place (length current.body + 1) current.body h.2) refl,
         )
@@ -139,10 +112,10 @@ module _ (cells reducers functions : ℕ) where
           within_push body (End at) (within_ended part.place (length current.body + 1) current.body h.2) refl,
         )
 
-    current_map : (f : Open → Open) (current : Option Open) → ((o : Open) → OpenKept cells reducers functions n o → OpenKept cells reducers functions (n + 1) (f o))
+    current_map : (f : Open → Open) (current : Option Open) → ((o : Open) → current ≡ Some o → OpenKept cells reducers functions n o → OpenKept cells reducers functions (n + 1) (f o))
         → CurrentKept cells reducers functions n current → CurrentKept cells reducers functions (n + 1) (option_map f current)
     current_map f None h k = tt
-    current_map f (Some current) h k = h current k
+    current_map f (Some current) h k = h current refl k
 
 -- ---- drafts
 
@@ -206,7 +179,7 @@ plain_shape at scope ws statement named m = (refl, refl)
 module _ (names : List (List ℕ)) (at : ℕ) (before : Draft) (line : List ℕ) (kept : IsKept names before) where
   -- the open function grew
   kept_open : (f : Open → Open) → before.lines ≤ max_statements
-      → ((o : Open) → OpenKept (cells_of before.known.mems) (len before.known.reducers) (len names) before.lines o
+      → ((o : Open) → before.current ≡ Some o → OpenKept (cells_of before.known.mems) (len before.known.reducers) (len names) before.lines o
       → OpenKept (cells_of before.known.mems) (len before.known.reducers) (len names) (before.lines + 1) (f o))
       → IsKept names (with_open before (option_map f before.current))
   kept_open f room h = record {
@@ -234,7 +207,7 @@ module _ (names : List (List ℕ)) (at : ℕ) (before : Draft) (line : List ℕ)
         few_lines = omega (arith, room);
         sound = All-append (λ (code : Code). IsSoundBody (cells_of before.known.mems) (len before.known.reducers) (len names) code.body) before.functions (code_of at current ∷ []) kept.sound
             (All-from_recursion (λ (code : Code). IsSoundBody (cells_of before.known.mems) (len before.known.reducers) (len names) code.body) (code_of at current ∷ [])
-            (record { few = omega (arith, h.1, room); within = h.2; linked = linked_whole current.body built; closed = closed_whole current.body built }, tt));
+            (record { few = omega (arith, h.1, room); within = h.2; linked = linked_whole current.body built; divided = divided_whole current.body built; balanced = balanced_whole current.body built }, tt));
         current = tt;
       }
   ended_kept_by current (part ∷ parts) room e some h = record {
@@ -296,13 +269,14 @@ module _ (names : List (List ℕ)) (at : ℕ) (before : Draft) (line : List ℕ)
       let within = within_scope (scope_of names before) statement
       (does_within (scope_of names before) kept.numbered kept.not_empty at (words line) statement named m.2) in
       kept_open (λ current. with_statement (with_register current named) statement) m.4
-      (λ o. kept_statement (cells_of before.known.mems) (len before.known.reducers) (len names) before.lines at o named statement plain.0 plain.1 within)
+      (λ o is. kept_statement (cells_of before.known.mems) (len before.known.reducers) (len names) before.lines at o named statement plain.0 plain.1 within)
   kept_extended (Decides register) m =
       kept_open (λ current. with_choice at current register) m.4.0
-      (λ o. kept_choice (cells_of before.known.mems) (len before.known.reducers) (len names) before.lines at o register)
+      (λ o is. kept_choice (cells_of before.known.mems) (len before.known.reducers) (len names) before.lines at o register)
   kept_extended Otherwise m =
       kept_open (λ current. with_else at current) m.4
-      (λ o. kept_else (cells_of before.known.mems) (len before.known.reducers) (len names) before.lines at o o.parts refl)
+      (λ o is. kept_else (cells_of before.known.mems) (len before.known.reducers) (len names) before.lines at o o.parts refl
+      (subst (λ (current : Option Open). MatchOption current ⊥ (λ (c : Open). IsFirst c.parts)) is m.3))
   kept_extended Ends m = ended_kept before.current m.4 refl kept.current
 
 pub kept_nothing : (names : List (List ℕ)) (version : Version) → IsKept names (nothing version)

@@ -6,8 +6,6 @@ pub mod Taken
 pub mod Kept
 pub mod Listed
 pub mod Whole
-pub mod PrintedFunctions
-pub mod PrintedKept
 pub mod PrintedRows
 pub mod PrintedLaw
 pub mod Printed

@@ -1,248 +1,244 @@
--- The functions that have begun are the first of those that the text makes known.
-use Rattle.std.proofs.Common.{◌≡◌, ◌≢◌, ℕ, zero, suc, ◌<◌, ◌≤◌, ◌+◌, ◌-◌, ◌∷◌, ◌++◌, [], List, Bool, true, false, cond, length, take, map, arith, refl, sym, ap, subst, ◌∙◌}
-use Rattle.std.specs.Prelude.{Option, Some, None, ◌&&◌, ◌||◌, option_map, IsTrue, codes}
-use Rattle.std.specs.List.{All, AllByRecursion, list_all, list_any, position_from, before_first, position_or_len}
+-- The functions that the lines of a program make known are those that it has.
+use Rattle.std.proofs.Common.{◌≡◌, ℕ, suc, ◌+◌, ◌-◌, ◌<◌, ◌≤◌, ◌∷◌, ◌++◌, [], List, Bool, true, false, cond, length, arith, refl, sym, ap, ◌∙◌, subst, append_assoc}
+use Rattle.std.proofs.Common.{length-append}
+use Rattle.std.specs.Prelude.{◌&&◌, ◌||◌, IsTrue, Option, Some, None, codes, option_map}
+use Rattle.std.specs.List.{list_all, list_any, position_from, position_or_len, before_first}
 use Rattle.std.specs.Str.{bytes_eq}
-use Rattle.std.proofs.lemmas.List.{append-nil}
+use Rattle.std.proofs.lemmas.List.{append-nil, length-map, map_push, take_all}
 use Rattle.std.proofs.lemmas.List.Sums.{list_all-from_AllPass}
-use Rattle.std.proofs.lemmas.List.Elements.{All-from_recursion, recursion_from_All}
-use Rattle.access_table.specs.declared.kind.Kind.TheVariants as kind
-use Rattle.trace_text.specs.Text.{words, IsTextLine, is_text_byte, is_hash, IsName}
-use Rattle.trace_text.specs.Lines.{OfName, OfMonoid}
+use Rattle.std.proofs.lemmas.List.Elements.{All-take}
+use Rattle.trace_text.specs.Text.{words, IsTextLine, is_hash, is_text_byte}
+use Rattle.trace_text.specs.Limits.{max_lines}
+use Rattle.trace_text.specs.declared.value.Version.{Version}
 use Rattle.program_lines.specs.declared.keyword.Keyword.{Keyword}
 use Rattle.program_lines.specs.declared.keyword.Keyword.TheVariants as word
 use Rattle.program_lines.specs.declared.statement.Statement.{Statement}
 use Rattle.program_lines.specs.declared.statement.Statement.TheVariants.{Let, Read, Write, Bump, Update, Put, Get, Spawn, Call, Sync, ParallelFor, If, Else, End}
-use Rattle.program_lines.specs.Scopes.{Scope, HasNotBegun, with_name}
-use Rattle.program_lines.specs.Places.{Place, FreshName, ParameterName, Value, Plain}
-use Rattle.program_lines.specs.Table.{Placed, placed, spelling, WordsMean, Says}
-use Rattle.program_lines.specs.Grammar.{Item, Blank, Declared, Reduces, Begins, Does, Decides, Otherwise, Ends, ItemMeans, keyword_of_statement}
+use Rattle.program_lines.specs.Scopes.{Scope}
+use Rattle.program_lines.specs.Places.{Value}
+use Rattle.program_lines.specs.Table.{spelling, Says}
+use Rattle.program_lines.specs.Grammar.{Item, Blank, Declared, Reduces, Begins, Does, Decides, Otherwise, Ends, keyword_of_statement}
 use Rattle.program_text.specs.declared.open_function.Part.{Part}
 use Rattle.program_text.specs.Codes.{Code}
-use Rattle.program_text.specs.Functions.{is_name_word, function_in, function_named, with_function, functions_from}
-use Rattle.program_text.specs.Drafts.{Open, Draft, Contents, begun, begun_by, scope_of, with_register, with_statement, with_choice, with_else, divided_by, with_part_ended, code_of, held}
-use Rattle.program_text.specs.Grammar.{LineMeans, LinesMean, extended, ended, ended_by}
+use Rattle.program_text.specs.Functions.{is_name_word, function_in, function_named, with_function, functions_from, functions_of}
+use Rattle.program_text.specs.Drafts.{Open, Draft, Contents, begun, begun_by, scope_of, code_of, with_register, divided_by}
+use Rattle.program_text.specs.Grammar.{IsInOrder, LineMeans, LinesMean, extended, ended, ended_by, nothing}
+use Rattle.program_text.specs.Printing.{names_of}
 use Rattle.program_text.proofs.Knowing.{word_of_name}
+use Rattle.program_text.proofs.Said.{begins_words}
 
-abbrev pub names_begun : List Code → Option Open → List (List ℕ)
-names_begun functions None = map (λ (code : Code). code.name) functions
-names_begun functions (Some current) = map (λ (code : Code). code.name) functions ++ current.name ∷ []
+-- ---- names of the functions that have begun
 
-map_size : (functions : List Code) → length (map (λ (code : Code). code.name) functions) ≡ length functions
-map_size [] = refl
-map_size (code ∷ functions) = ap suc (map_size functions)
+abbrev pub current_name : Option Open → List (List ℕ)
+current_name None = []
+current_name (Some current) = current.name ∷ []
 
-push_size : {A : Type 0} (xs : List A) (x : A) → length (xs ++ x ∷ []) ≡ length xs + 1
-push_size [] x = omega arith
-push_size (y ∷ xs) x = let e = push_size xs x in omega (arith, e)
+abbrev pub begun_names : Draft → List (List ℕ)
+begun_names so_far = names_of so_far.functions ++ current_name so_far.current
 
-names_size : (functions : List Code) (current : Option Open) → length (names_begun functions current) ≡ begun_by functions current
-names_size functions None = map_size functions
-names_size functions (Some current) =
-    let e = push_size (map (λ (code : Code). code.name) functions) current.name in let s = map_size functions in omega (arith, e, s)
-
-map_push : (functions : List Code) (code : Code) → map (λ (c : Code). c.name) (functions ++ code ∷ []) ≡ map (λ (c : Code). c.name) functions ++ code.name ∷ []
-map_push [] code = refl
-map_push (first ∷ functions) code = ap (λ (t : List (List ℕ)). first.name ∷ t) (map_push functions code)
-
--- ---- names are added behind those that are there
-
-append_twice : (xs ys zs : List (List ℕ)) → (xs ++ ys) ++ zs ≡ xs ++ (ys ++ zs)
-append_twice [] ys zs = refl
-append_twice (x ∷ xs) ys zs = ap (λ (t : List (List ℕ)). x ∷ t) (append_twice xs ys zs)
-
-behind_with : (names : List (List ℕ)) (name : Option (List ℕ)) → (more : List (List ℕ)) × (with_function names name ≡ names ++ more)
-behind_with names None = ([], sym (append-nil names))
-behind_with names (Some name) = by (list_any (bytes_eq name) names)
+count_begun : (so_far : Draft) → length (begun_names so_far) ≡ begun so_far
+count_begun so_far = by so_far.functions so_far.current
   where
-    by : (b : Bool) → (more : List (List ℕ)) × (cond b names (names ++ name ∷ []) ≡ names ++ more)
-    by true = ([], sym (append-nil names))
-    by false = (name ∷ [], refl)
+    by : (functions : List Code) (current : Option Open) → length (names_of functions ++ current_name current) ≡ begun_by functions current
+    by functions None = ap length (append-nil (names_of functions)) ∙ length-map functions _
+    by functions (Some current) =
+        length-append (names_of functions) (current.name ∷ []) ∙ ap (λ (n : ℕ). n + 1) (length-map functions (λ (code : Code). code.name))
 
-behind_from : (names ls : List (List ℕ)) → (more : List (List ℕ)) × (functions_from names ls ≡ names ++ more)
-behind_from names [] = ([], sym (append-nil names))
-behind_from names (line ∷ ls) =
-    let one = behind_with names (function_named line) in
-    let all = behind_from (with_function names (function_named line)) ls in
-    (one.0 ++ all.0, all.1 ∙ (ap (λ (t : List (List ℕ)). t ++ all.0) one.1 ∙ append_twice names one.0 all.0))
+-- the names that one more item makes known
+abbrev pub names_in : Item → List (List ℕ)
+names_in (Begins name parameter) = name ∷ []
+names_in item = []
 
-any_later : (a b : Bool) → a ≡ false → IsTrue (a || b) → b ≡ true
-any_later true b h k = cc
-any_later false b h k = k
+name_kept : (current : Open) (named : Option (List ℕ)) → (with_register current named).name ≡ current.name
+name_kept current None = refl
+name_kept current (Some name) = refl
 
-found_before : (name : List ℕ) (from : ℕ) (names more : List (List ℕ)) → list_any (bytes_eq name) names ≡ true
-    → (number : ℕ) × (position_from (bytes_eq name) from (names ++ more) ≡ Some number) × (number < from + length names)
-found_before name from [] more e = cc
-found_before name from (first ∷ names) more e = by (bytes_eq name first) refl (found_before name (from + 1) names more)
+named_kept : (f : Open → Open) (current : Option Open) → ((c : Open) → (f c).name ≡ c.name) → current_name (option_map f current) ≡ current_name current
+named_kept f None h = refl
+named_kept f (Some current) h = ap (λ (n : List ℕ). n ∷ []) (h current)
+
+ended_names : (at : ℕ) (so_far : Draft) (current : Option Open) → so_far.current ≡ current → begun_names (ended at so_far current) ≡ begun_names so_far
+ended_names at so_far None e = refl
+ended_names at so_far (Some current) e = by current.parts
   where
-    by : (b : Bool) → bytes_eq name first ≡ b
-        → (list_any (bytes_eq name) names ≡ true → (number : ℕ) × (position_from (bytes_eq name) (from + 1) (names ++ more) ≡ Some number) × (number < from + 1 + length names))
-        → (number : ℕ) × (position_from (bytes_eq name) from (first ∷ (names ++ more)) ≡ Some number) × (number < from + length (first ∷ names))
-    by true t later = (from, ap (λ (b : Bool). cond b (Some from) (position_from (bytes_eq name) (from + 1) (names ++ more))) t, omega arith)
-    by false t later =
-        let found = later (any_later (bytes_eq name first) (list_any (bytes_eq name) names) t e) in
-        (found.0, ap (λ (b : Bool). cond b (Some from) (position_from (bytes_eq name) (from + 1) (names ++ more))) t ∙ found.1, omega (arith, found.2))
+    closed : names_of (so_far.functions ++ code_of at current ∷ []) ++ [] ≡ names_of so_far.functions ++ current.name ∷ []
+    closed = append-nil _ ∙ map_push (λ (code : Code). code.name) so_far.functions (code_of at current)
 
-not_there : (name : List ℕ) (names all : List (List ℕ)) (more : List (List ℕ)) (number : ℕ) → all ≡ names ++ more → number ≡ length names
-    → ((n : ℕ) → position_from (bytes_eq name) 0 all ≡ Some n → number ≤ n) → list_any (bytes_eq name) names ≡ false
-not_there name names all more number e s fresh = by (list_any (bytes_eq name) names) refl
-  where
-    by : (b : Bool) → list_any (bytes_eq name) names ≡ b → b ≡ false
-    by false t = refl
-    by true t =
-        let found = found_before name 0 names more t in
-        let l = fresh found.0 (ap (position_from (bytes_eq name) 0) e ∙ found.1) in
-        absurd (omega (arith, l, s, found.2))
-
--- ---- what a line makes known
-
-all_take : (n : ℕ) (line : List ℕ) → AllByRecursion (λ (byte : ℕ). IsTrue (is_text_byte byte)) line → AllByRecursion (λ (byte : ℕ). IsTrue (is_text_byte byte)) (take n line)
-all_take zero line h = tt
-all_take (suc n) [] h = tt
-all_take (suc n) (byte ∷ line) h = (h.0, all_take n line h.1)
-
-text_before : (line : List ℕ) → IsTextLine line → list_all is_text_byte (before_first is_hash line) ≡ true
-text_before line h =
-    list_all-from_AllPass is_text_byte (before_first is_hash line)
-    (All-from_recursion (λ (byte : ℕ). IsTrue (is_text_byte byte)) (before_first is_hash line)
-    (all_take (position_or_len is_hash line) line (recursion_from_All (λ (byte : ℕ). IsTrue (is_text_byte byte)) line h)))
-
-knows : (line name parameter : List ℕ) → IsTextLine line → words line ≡ codes "func" ∷ name ∷ parameter ∷ [] → IsName name → IsName parameter → function_named line ≡ Some name
-knows line name parameter text e n p =
-    ap (λ (b : Bool). cond b (function_in (words line)) None) (text_before line text)
-    ∙ (ap function_in e ∙ ap (λ (b : Bool). cond b (Some name) None) (both (is_name_word name) (is_name_word parameter) (word_of_name name n) (word_of_name parameter p)))
-  where
-    both : (a b : Bool) → IsTrue a → IsTrue b → (true && a && b) ≡ true
-    both true b h k = k
-    both false b h k = cc
-
-other_first : (first : List ℕ) (arguments : List (List ℕ)) → bytes_eq first (codes "func") ≡ false → function_in (first ∷ arguments) ≡ None
-other_first first [] e = refl
-other_first first (x ∷ []) e = refl
-other_first first (x ∷ y ∷ []) e = ap (λ (b : Bool). cond (b && is_name_word x && is_name_word y) (Some x) None) e
-other_first first (x ∷ y ∷ z ∷ rest) e = refl
-
-knows_none : (line : List ℕ) → function_in (words line) ≡ None → function_named line ≡ None
-knows_none line e = by (list_all is_text_byte (before_first is_hash line))
-  where
-    by : (b : Bool) → cond b (function_in (words line)) None ≡ None
-    by true = e
-    by false = refl
-
-knows_other : (line first : List ℕ) (arguments : List (List ℕ)) → words line ≡ first ∷ arguments → bytes_eq first (codes "func") ≡ false → function_named line ≡ None
-knows_other line first arguments e h = knows_none line (ap function_in e ∙ other_first first arguments h)
-
-func_words : (scope : Scope) (name parameter : List ℕ) (arguments : List (List ℕ)) (pairs : List Placed) → placed (FreshName ∷ ParameterName ∷ []) [] arguments ≡ Some pairs
-    → WordsMean scope pairs (Plain (OfName name) ∷ Plain (OfName parameter) ∷ [])
-    → (arguments ≡ name ∷ parameter ∷ []) × IsName name × IsName parameter × HasNotBegun scope name
-func_words scope name parameter [] pairs e m = cc
-func_words scope name parameter (u ∷ []) pairs e m = cc
-func_words scope name parameter (u ∷ v ∷ []) pairs e m =
-    let same : pairs ≡ (FreshName, u) ∷ (ParameterName, v) ∷ [] = cc in
-    let both = subst (λ (ps : List Placed). WordsMean scope ps (Plain (OfName name) ∷ Plain (OfName parameter) ∷ [])) same m in (
-      ap (λ (t : List ℕ). t ∷ v ∷ []) (sym both.0.0) ∙ ap (λ (t : List ℕ). name ∷ t ∷ []) (sym both.1.0.0),
-      subst (λ (t : List ℕ). IsName t) (sym both.0.0) both.0.1,
-      subst (λ (t : List ℕ). IsName t) (sym both.1.0.0) both.1.0.1.0,
-      subst (λ (t : List ℕ). HasNotBegun scope t) (sym both.0.0) both.0.2.1,
-    )
-func_words scope name parameter (u ∷ v ∷ w ∷ arguments) pairs e m = cc
-
-statement_first : (at : ℕ) (scope : Scope) (ws : List (List ℕ)) (statement : Statement) (named : Option (List ℕ)) → ItemMeans at scope ws (Does statement named)
-    → bytes_eq (spelling (keyword_of_statement statement)) (codes "func") ≡ false
-statement_first at scope ws (Let line register value) named m = refl
-statement_first at scope ws (Read line register location) named m = refl
-statement_first at scope ws (Write line location value) named m = refl
-statement_first at scope ws (Bump line location value) named m = refl
-statement_first at scope ws (Update line reducer value) named m = refl
-statement_first at scope ws (Put line reducer value) named m = refl
-statement_first at scope ws (Get line register reducer) named m = refl
-statement_first at scope ws (Spawn line function argument) named m = refl
-statement_first at scope ws (Call line function argument) named m = refl
-statement_first at scope ws (Sync line) named m = refl
-statement_first at scope ws (ParallelFor line register count function) named m = refl
-statement_first at scope ws (If line register otherwise) named m = absurd m.0
-statement_first at scope ws (Else line after) named m = absurd m.0
-statement_first at scope ws (End line) named m = absurd m.0
-
--- ---- one more line
-
-same_names : (functions : List Code) (f : Open → Open) → ((o : Open) → (f o).name ≡ o.name) → (current : Option Open)
-    → names_begun functions current ≡ names_begun functions (option_map f current)
-same_names functions f h None = refl
-same_names functions f h (Some current) = ap (λ (t : List ℕ). map (λ (code : Code). code.name) functions ++ t ∷ []) (sym (h current))
-
-statement_name : (statement : Statement) (named : Option (List ℕ)) (current : Open) → (with_statement (with_register current named) statement).name ≡ current.name
-statement_name statement None current = refl
-statement_name statement (Some name) current = refl
+    by : (parts : List Part) → begun_names (ended_by at so_far current parts) ≡ begun_names so_far
+    by [] = closed ∙ ap (λ (c : Option Open). names_of so_far.functions ++ current_name c) (sym e)
+    by (part ∷ parts) = ap (λ (c : Option Open). names_of so_far.functions ++ current_name c) (sym e)
 
 divided_name : (at : ℕ) (current : Open) (parts : List Part) → (divided_by at current parts).name ≡ current.name
 divided_name at current [] = refl
 divided_name at current (part ∷ parts) = refl
 
-ended_names_by : (at : ℕ) (before : Draft) (current : Open) (parts : List Part)
-    → names_begun before.functions (Some current) ≡ names_begun (ended_by at before current parts).functions (ended_by at before current parts).current
-ended_names_by at before current [] = sym (map_push before.functions (code_of at current))
-ended_names_by at before current (part ∷ parts) = refl
+pub extended_names : (at : ℕ) (so_far : Draft) (item : Item) → IsInOrder so_far item → begun_names (extended at so_far item) ≡ begun_names so_far ++ names_in item
+extended_names at so_far Blank o = sym (append-nil _)
+extended_names at so_far (Declared name count) o = sym (append-nil _)
+extended_names at so_far (Reduces name monoid) o = sym (append-nil _)
+extended_names at so_far (Begins name parameter) o =
+    ap (λ (t : List (List ℕ)). t ++ name ∷ []) (sym (append-nil (names_of so_far.functions)) ∙ ap (λ (c : Option Open). names_of so_far.functions ++ current_name c) (sym o))
+extended_names at so_far (Does statement named) o =
+    ap (λ (t : List (List ℕ)). names_of so_far.functions ++ t) (named_kept _ so_far.current (λ c. name_kept c named)) ∙ sym (append-nil _)
+extended_names at so_far (Decides register) o = ap (λ (t : List (List ℕ)). names_of so_far.functions ++ t) (named_kept _ so_far.current (λ c. refl)) ∙ sym (append-nil _)
+extended_names at so_far Otherwise o = ap (λ (t : List (List ℕ)). names_of so_far.functions ++ t) (named_kept _ so_far.current (λ c. divided_name at c c.parts)) ∙ sym (append-nil _)
+extended_names at so_far Ends o = ended_names at so_far so_far.current refl ∙ sym (append-nil _)
 
-ended_names : (at : ℕ) (before : Draft) (current : Option Open) → before.current ≡ current
-    → names_begun before.functions current ≡ names_begun (ended at before current).functions (ended at before current).current
-ended_names at before None e = ap (names_begun before.functions) (sym e)
-ended_names at before (Some current) e = ended_names_by at before current current.parts
+-- ---- what a line makes known
 
-module _ (names : List (List ℕ)) (at : ℕ) (before : Draft) (line : List ℕ) where
-  nothing_known : function_named line ≡ None → (next : List (List ℕ)) → names_begun before.functions before.current ≡ next
-      → with_function (names_begun before.functions before.current) (function_named line) ≡ next
-  nothing_known e next h = ap (with_function (names_begun before.functions before.current)) e ∙ h
+other_word : (first : List ℕ) (arguments : List (List ℕ)) → bytes_eq first (codes "func") ≡ false → function_in (first ∷ arguments) ≡ None
+other_word first [] e = refl
+other_word first (name ∷ []) e = refl
+other_word first (name ∷ parameter ∷ []) e = ap (λ (b : Bool). cond (b && is_name_word name && is_name_word parameter) (Some name) None) e
+other_word first (name ∷ parameter ∷ more ∷ rest) e = refl
 
-  next_names : (more : List (List ℕ)) → names ≡ names_begun before.functions before.current ++ more → (item : Item) → LineMeans names at before line item
-      → with_function (names_begun before.functions before.current) (function_named line) ≡ names_begun (extended at before item).functions (extended at before item).current
-  next_names more all Blank m = nothing_known (knows_none line (ap function_in m.2)) _ refl
-  next_names more all (Declared name length) m = nothing_known (knows_other line (codes "mem") m.2.1.0 m.2.1.1 refl) _ refl
-  next_names more all (Reduces name monoid) m = nothing_known (knows_other line (codes "reducer") m.2.1.0 m.2.1.1 refl) _ refl
-  next_names more all (Begins name parameter) m =
-      let head = func_words (scope_of names before) name parameter m.2.1.0 m.2.0 m.2.1.3 m.2.2 in
-      let known : function_named line ≡ Some name =
-      knows line name parameter m.1 (m.2.1.1 ∙ ap (λ (t : List (List ℕ)). codes "func" ∷ t) head.0) head.1 head.2 in
-      let absent = not_there name (names_begun before.functions before.current) names more (begun before) all (sym (names_size before.functions before.current)) head.3 in
-      ap (with_function (names_begun before.functions before.current)) known
-      ∙ (ap (λ (b : Bool). cond b (names_begun before.functions before.current) (names_begun before.functions before.current ++ name ∷ [])) absent
-      ∙ ap (λ (c : Option Open). names_begun before.functions c ++ name ∷ []) m.3)
-  next_names more all (Does statement named) m =
-      nothing_known (knows_other line (spelling (keyword_of_statement statement)) m.2.2.1.0 m.2.2.1.1 (statement_first at (scope_of names before) (words line) statement named m.2)) _
-      (same_names before.functions (λ current. with_statement (with_register current named) statement) (statement_name statement named) before.current)
-  next_names more all (Decides register) m =
-      nothing_known (knows_other line (codes "if") m.2.1.0 m.2.1.1 refl) _ (same_names before.functions (λ current. with_choice at current register) (λ o. refl) before.current)
-  next_names more all Otherwise m =
-      nothing_known (knows_other line (codes "else") m.2.1.0 m.2.1.1 refl) _ (same_names before.functions (λ current. with_else at current) (λ o. divided_name at o o.parts) before.current)
-  next_names more all Ends m = nothing_known (knows_other line (codes "end") m.2.1.0 m.2.1.1 refl) _ (ended_names at before before.current refl)
+statement_word : (statement : Statement) → bytes_eq (spelling (keyword_of_statement statement)) (codes "func") ≡ false
+statement_word (Let line register value) = refl
+statement_word (Read line register location) = refl
+statement_word (Write line location value) = refl
+statement_word (Bump line location value) = refl
+statement_word (Update line reducer value) = refl
+statement_word (Put line reducer value) = refl
+statement_word (Get line register reducer) = refl
+statement_word (Spawn line function argument) = refl
+statement_word (Call line function argument) = refl
+statement_word (Sync line) = refl
+statement_word (ParallelFor line register count function) = refl
+statement_word (If line register otherwise) = refl
+statement_word (Else line after) = refl
+statement_word (End line) = refl
 
--- what has begun and the lines that are left make all names known
-abbrev pub Listed : List (List ℕ) → ℕ → Draft → List (List ℕ) → Type 0
-Listed names at before ls = functions_from (names_begun before.functions before.current) (take (4000001 - at) ls) ≡ names
+said_none : (scope : Scope) (ws : List (List ℕ)) (keyword : Keyword) (values : List Value) → bytes_eq (spelling keyword) (codes "func") ≡ false → Says scope ws keyword values → function_in ws ≡ None
+said_none scope ws keyword values e says = ap function_in says.1.1 ∙ other_word (spelling keyword) says.1.0 e
 
-listed_more : (names : List (List ℕ)) (at : ℕ) (before : Draft) (line : List ℕ) (ls : List (List ℕ)) (item : Item) → Listed names at before (line ∷ ls) → LineMeans names at before line item
-    → Listed names (at + 1) (extended at before item) ls
-listed_more names at before line ls item l m =
-    let n : 4000001 - at ≡ suc (4000001 - (at + 1)) = omega (arith, m.0) in
-    let behind = behind_from (names_begun before.functions before.current) (take (4000001 - at) (line ∷ ls)) in
-    let next = next_names names at before line behind.0 (sym l ∙ behind.1) item m in
-    ap (λ (t : List (List ℕ)). functions_from t (take (4000001 - (at + 1)) ls)) (sym next)
-    ∙ (ap (λ (k : ℕ). functions_from (names_begun before.functions before.current) (take k (line ∷ ls))) (sym n) ∙ l)
+-- ---- words of a line
 
-none_taken : (n : ℕ) (ls : List (List ℕ)) → ls ≡ [] → take n ls ≡ []
-none_taken zero ls e = refl
-none_taken (suc n) [] e = refl
-none_taken (suc n) (line ∷ ls) e = cc
+text_before : (line : List ℕ) → IsTextLine line → list_all is_text_byte (before_first is_hash line) ≡ true
+text_before line h =
+    list_all-from_AllPass is_text_byte (before_first is_hash line) (All-take (λ (byte : ℕ). IsTrue (is_text_byte byte)) (position_or_len is_hash line) line h)
 
--- at the end the functions are those that the text makes known
-pub listed_lines : (names : List (List ℕ)) (at : ℕ) (before : Draft) (ls : List (List ℕ)) (contents : Contents) → Listed names at before ls → LinesMean names at before ls contents
-    → length names ≡ length contents.functions
-listed_lines names at before [] contents l m =
-    let all : names_begun before.functions before.current ≡ names = ap (functions_from (names_begun before.functions before.current)) (sym (none_taken (4000001 - at) [] refl)) ∙ l in
-    let e : begun before ≡ length before.functions = ap (begun_by before.functions) m.0 in
-    let s = names_size before.functions before.current in
-    let t : length (names_begun before.functions before.current) ≡ length names = ap length all in
-    let c : length contents.functions ≡ length before.functions = ap (λ (k : Contents). length k.functions) m.2 in
-    omega (arith, e, s, t, c)
-listed_lines names at before (line ∷ ls) contents l m =
-    listed_lines names (at + 1) (extended at before m.0) ls contents (listed_more names at before line ls m.0 l m.1) m.2
+line_names : (line : List ℕ) (r : Option (List ℕ)) → IsTextLine line → function_in (words line) ≡ r → function_named line ≡ r
+line_names line r t e = ap (λ (b : Bool). cond b (function_in (words line)) None) (text_before line t) ∙ e
+
+-- a name that has not begun is none of those that have
+found_below : (name : List ℕ) (from : ℕ) (names more : List (List ℕ)) → list_any (bytes_eq name) names ≡ true
+    → (number : ℕ) × (position_from (bytes_eq name) from (names ++ more) ≡ Some number) × (number < from + length names)
+found_below name from [] more e = cc
+found_below name from (first ∷ names) more e = by (bytes_eq name first) e (found_below name (from + 1) names more)
+  where
+    by : (b : Bool) → (b || list_any (bytes_eq name) names) ≡ true
+        → (list_any (bytes_eq name) names ≡ true → (number : ℕ) × (position_from (bytes_eq name) (from + 1) (names ++ more) ≡ Some number) × (number < from + 1 + length names))
+        → (number : ℕ) × (cond b (Some from) (position_from (bytes_eq name) (from + 1) (names ++ more)) ≡ Some number) × (number < from + suc (length names))
+    by true e f = (from, refl, omega arith)
+    by false e f = let later = f e in (later.0, later.1, omega (arith, later.2))
+
+bool_cases : (b : Bool) → (b ≡ true → ⊥) → b ≡ false
+bool_cases true h = absurd (h refl)
+bool_cases false h = refl
+
+not_there : (name : List ℕ) (names more : List (List ℕ)) (count : ℕ) → length names ≡ count
+    → ((number : ℕ) → position_from (bytes_eq name) 0 (names ++ more) ≡ Some number → count ≤ number) → list_any (bytes_eq name) names ≡ false
+not_there name names more count l h =
+    bool_cases (list_any (bytes_eq name) names) (λ e. let f = found_below name 0 names more e in let k = h f.0 f.1 in absurd (omega (arith, k, f.2, l)))
+
+-- what the line of an item makes known
+module _ (names more : List (List ℕ)) (at : ℕ) (so_far : Draft) (line : List ℕ) (prefix : names ≡ begun_names so_far ++ more) where
+  none_known : function_in (words line) ≡ None → IsTextLine line → with_function (begun_names so_far) (function_named line) ≡ begun_names so_far ++ []
+  none_known e t = ap (with_function (begun_names so_far)) (line_names line None t e) ∙ sym (append-nil _)
+
+  pub known_step : (item : Item) → LineMeans names at so_far line item → with_function (begun_names so_far) (function_named line) ≡ begun_names so_far ++ names_in item
+  known_step Blank m = none_known (ap function_in m.2) m.1
+  known_step (Declared name count) m = none_known (said_none (scope_of names so_far) (words line) word.Mem _ refl m.2) m.1
+  known_step (Reduces name monoid) m = none_known (said_none (scope_of names so_far) (words line) word.Reducer _ refl m.2) m.1
+  known_step (Does statement named) m = none_known (said_none (scope_of names so_far) (words line) (keyword_of_statement statement) _ (statement_word statement) m.2.2) m.1
+  known_step (Decides register) m = none_known (said_none (scope_of names so_far) (words line) word.If _ refl m.2) m.1
+  known_step Otherwise m = none_known (said_none (scope_of names so_far) (words line) word.Else _ refl m.2) m.1
+  known_step Ends m = none_known (said_none (scope_of names so_far) (words line) word.End _ refl m.2) m.1
+  known_step (Begins name parameter) m =
+      let says = m.2 in
+      let b = begins_words (scope_of names so_far) name parameter says.1.0 says.0 says.1.3 says.2 in
+      let ws : words line ≡ codes "func" ∷ name ∷ parameter ∷ [] = says.1.1 ∙ ap (λ (t : List (List ℕ)). codes "func" ∷ t) b.0 in
+      let named : function_in (words line) ≡ Some name =
+      ap function_in ws
+      ∙ (ap (λ (t : Bool). cond (t && is_name_word parameter) (Some name) None) (word_of_name name b.1)
+      ∙ ap (λ (t : Bool). cond t (Some name) None) (word_of_name parameter b.2)) in
+      let new : list_any (bytes_eq name) (begun_names so_far) ≡ false =
+      not_there name (begun_names so_far) more (begun so_far) (count_begun so_far)
+      (subst (λ (ns : List (List ℕ)). (number : ℕ) → position_from (bytes_eq name) 0 ns ≡ Some number → begun so_far ≤ number) prefix b.3) in
+      ap (with_function (begun_names so_far)) (line_names line (Some name) m.1 named)
+      ∙ ap (λ (t : Bool). cond t (begun_names so_far) (begun_names so_far ++ name ∷ [])) new
+
+-- ---- all lines
+
+more_names : (names : List (List ℕ)) (ls : List (List ℕ)) → (more : List (List ℕ)) × (functions_from names ls ≡ names ++ more)
+more_names names [] = ([], sym (append-nil names))
+more_names names (line ∷ ls) =
+    let first = by names (function_named line) in
+    let rest = more_names (with_function names (function_named line)) ls in
+    (first.0 ++ rest.0, rest.1 ∙ (ap (λ (t : List (List ℕ)). t ++ rest.0) first.1 ∙ append_assoc names first.0 rest.0))
+  where
+    by_there : (b : Bool) (names : List (List ℕ)) (name : List ℕ) → (more : List (List ℕ)) × (cond b names (names ++ name ∷ []) ≡ names ++ more)
+    by_there true names name = ([], sym (append-nil names))
+    by_there false names name = (name ∷ [], refl)
+
+    by : (names : List (List ℕ)) (name : Option (List ℕ)) → (more : List (List ℕ)) × (with_function names name ≡ names ++ more)
+    by names None = ([], sym (append-nil names))
+    by names (Some name) = by_there (list_any (bytes_eq name) names) names name
+
+ended_with : (so_far : Draft) (contents : Contents) → so_far.current ≡ None → contents ≡ record { known = so_far.known; functions = so_far.functions } → names_of contents.functions ≡ begun_names so_far
+ended_with so_far contents e f =
+    ap (λ (c : Contents). names_of c.functions) f
+    ∙ (sym (append-nil (names_of so_far.functions)) ∙ ap (λ (c : Option Open). names_of so_far.functions ++ current_name c) (sym e))
+
+-- the text's functions are those of the program
+text_functions : (names : List (List ℕ)) (at : ℕ) (so_far : Draft) (ls : List (List ℕ)) (contents : Contents) → names ≡ functions_from (begun_names so_far) ls
+    → LinesMean names at so_far ls contents → names ≡ names_of contents.functions
+text_functions names at so_far [] contents e m = e ∙ sym (ended_with so_far contents m.0 m.2)
+text_functions names at so_far (line ∷ ls) contents e m =
+    let more = more_names (begun_names so_far) (line ∷ ls) in
+    let step = known_step names more.0 at so_far line (e ∙ more.1) m.0 m.1 ∙ sym (extended_names at so_far m.0 m.1.3) in
+    text_functions names (at + 1) (extended at so_far m.0) ls contents (e ∙ ap (λ (t : List (List ℕ)). functions_from t ls) step) m.2
+
+-- what has begun leads the functions of the program
+leads : (names : List (List ℕ)) (at : ℕ) (so_far : Draft) (ls : List (List ℕ)) (contents : Contents) → LinesMean names at so_far ls contents
+    → (more : List (List ℕ)) × (names_of contents.functions ≡ begun_names so_far ++ more)
+leads names at so_far [] contents m = ([], ended_with so_far contents m.0 m.2 ∙ sym (append-nil _))
+leads names at so_far (line ∷ ls) contents m =
+    let rest = leads names (at + 1) (extended at so_far m.0) ls contents m.2 in
+    (names_in m.0 ++ rest.0, rest.1 ∙ (ap (λ (t : List (List ℕ)). t ++ rest.0) (extended_names at so_far m.0 m.1.3) ∙ append_assoc (begun_names so_far) (names_in m.0) rest.0))
+
+-- lines that are read where the functions are those of the program make these known
+lines_functions : (names : List (List ℕ)) (at : ℕ) (so_far : Draft) (ls : List (List ℕ)) (contents : Contents) → names ≡ names_of contents.functions
+    → LinesMean names at so_far ls contents → functions_from (begun_names so_far) ls ≡ names_of contents.functions
+lines_functions names at so_far [] contents e m = sym (ended_with so_far contents m.0 m.2)
+lines_functions names at so_far (line ∷ ls) contents e m =
+    let more = leads names at so_far (line ∷ ls) contents m in
+    let step = known_step names more.0 at so_far line (e ∙ more.1) m.0 m.1 ∙ sym (extended_names at so_far m.0 m.1.3) in
+    ap (λ (t : List (List ℕ)). functions_from t ls) step ∙ lines_functions names (at + 1) (extended at so_far m.0) ls contents e m.2
+
+-- ---- the number of lines
+
+few_lines : (names : List (List ℕ)) (at : ℕ) (so_far : Draft) (ls : List (List ℕ)) (contents : Contents) → at ≤ max_lines + 1 → LinesMean names at so_far ls contents → at + length ls ≤ max_lines + 1
+few_lines names at so_far [] contents l m = omega (arith, l)
+few_lines names at so_far (line ∷ ls) contents l m =
+    let first : at ≤ max_lines = m.1.0 in
+    let rest = few_lines names (at + 1) (extended at so_far m.0) ls contents (omega (arith, first)) m.2 in
+    omega (arith, rest)
+
+all_lines : (names : List (List ℕ)) (version : Version) (ls : List (List ℕ)) (contents : Contents) → LinesMean names 2 (nothing version) ls contents → functions_of ls ≡ functions_from [] ls
+all_lines names version ls contents m =
+    let few = few_lines names 2 (nothing version) ls contents (omega arith) m in
+    ap (functions_from []) (take_all (max_lines - 1) ls (omega (arith, few)))
+
+-- the functions of a text that means a program are the program's
+pub functions_are : (version : Version) (ls : List (List ℕ)) (contents : Contents) → LinesMean (functions_of ls) 2 (nothing version) ls contents → functions_of ls ≡ names_of contents.functions
+functions_are version ls contents m = text_functions (functions_of ls) 2 (nothing version) ls contents (all_lines (functions_of ls) version ls contents m) m
+
+-- so they are as many
+pub as_many : (version : Version) (ls : List (List ℕ)) (contents : Contents) → LinesMean (functions_of ls) 2 (nothing version) ls contents → length (functions_of ls) ≡ length contents.functions
+as_many version ls contents m = ap length (functions_are version ls contents m) ∙ length-map contents.functions (λ (code : Code). code.name)
+
+-- and lines that mean it with its functions have these
+pub functions_again : (version : Version) (ls : List (List ℕ)) (contents : Contents) → LinesMean (names_of contents.functions) 2 (nothing version) ls contents → functions_of ls ≡ names_of contents.functions
+functions_again version ls contents m =
+    all_lines (names_of contents.functions) version ls contents m ∙ lines_functions (names_of contents.functions) 2 (nothing version) ls contents refl m

@@ -1,9 +1,7 @@
 -- The plain text of what a text means, a line at a time.
-use Rattle.std.proofs.Common.{◌≡◌, ◌≢◌, ℕ, zero, suc, ◌+◌, ◌-◌, ◌≤◌, ◌∷◌, ◌++◌, [], List, length, map, arith, refl, sym, ap, subst, ◌∙◌, append_assoc, replicate, length-append}
+use Rattle.std.proofs.Common.{◌≡◌, ◌≢◌, ℕ, suc, ◌+◌, ◌-◌, ◌≤◌, ◌∷◌, ◌++◌, [], List, length, map, arith, refl, sym, ap, subst, ◌∙◌, append_assoc, replicate, length-append}
 use Rattle.std.specs.Prelude.{Option, Some, None, codes, option_map, MatchOption}
-use Rattle.std.specs.List.{AllByRecursion}
-use Rattle.std.proofs.lemmas.List.{append-nil}
-use Rattle.trace_text.specs.declared.value.Version.{Version}
+use Rattle.std.proofs.lemmas.List.{append-nil, map_push}
 use Rattle.trace_text.specs.declared.value.Mem.{Mem}
 use Rattle.trace_text.specs.declared.value.Reducer.{Reducer}
 use Rattle.trace_text.specs.declared.value.Monoid.{Monoid}
@@ -18,7 +16,7 @@ use Rattle.program_lines.specs.declared.statement.Register.{Register}
 use Rattle.program_lines.specs.declared.statement.Statement.{Statement}
 use Rattle.program_lines.specs.declared.statement.Statement.TheVariants.{If, Else, End}
 use Rattle.program_lines.specs.Scopes.{Scope}
-use Rattle.program_lines.specs.Grammar.{Item, Blank, Declared, Reduces, Begins, Does, Decides, Otherwise, Ends, ItemMeans, line_of}
+use Rattle.program_lines.specs.Grammar.{Item, Blank, Declared, Reduces, Begins, Does, Decides, Otherwise, Ends, line_of}
 use Rattle.program_lines.specs.Printing.{item_words, statement_words, registers_behind, scope_behind}
 use Rattle.program_lines.proofs.PlainItems.{item_text}
 use Rattle.program_text.specs.declared.open_function.Part.{Part}
@@ -26,9 +24,9 @@ use Rattle.program_text.specs.Codes.{Code}
 use Rattle.program_text.specs.Functions.{functions_of}
 use Rattle.program_text.specs.Drafts.{Open, Draft, Contents, begun, begun_by, registers_of, scope_of, first_open, with_register, with_statement, with_choice, divided_by, with_part_ended, code_of, with_end}
 use Rattle.program_text.specs.Grammar.{IsFirst, LineMeans, LinesMean, LinesOfProgram, TextMeans, EndMeans, extended, ended, ended_by, nothing}
-use Rattle.program_text.specs.Printing.{Row, names_of, declared_row, begin_row, statement_row, end_row, body_rows, function_rows, rows_of_functions, rows, lines_from, plain_lines, plain_text}
-use Rattle.program_text.proofs.PrintedFunctions.{map_append, functions_are, functions_again}
-use Rattle.program_text.proofs.PrintedKept.{IsKept, kept_extended, kept_nothing}
+use Rattle.program_text.specs.Printing.{Row, names_of, declared_row, begin_row, statement_row, end_row, body_rows, rows_of_functions, rows, lines_from, plain_lines, plain_text}
+use Rattle.program_text.proofs.Listed.{functions_are, functions_again}
+use Rattle.program_text.proofs.Kept.{IsKept, kept_extended, kept_nothing}
 use Rattle.program_text.proofs.PrintedRows.{end_rows}
 
 abbrev line_of_row : Row → ℕ
@@ -132,13 +130,13 @@ module _ (names : List (List ℕ)) (contents : Contents) where
   }
 
   -- what a line says, its plain words say
-  plain_here : (at : ℕ) (so_far : Draft) (line : List ℕ) (item : Item) (more : List (List ℕ)) → IsKept so_far.known → LineMeans names at so_far line item
+  plain_here : (at : ℕ) (so_far : Draft) (line : List ℕ) (item : Item) (more : List (List ℕ)) → IsKept names so_far → LineMeans names at so_far line item
       → LineMeans names at so_far (spaced (item_words (scope_behind (scope_of names so_far) item more) item)) item
   plain_here at so_far line item more kept m =
       let plain = item_text at (scope_of names so_far) (words line) more item kept.numbered kept.not_empty m.2 in
       (m.0, plain.0, plain.1, m.3, m.4)
 
-  left_memory : (at : ℕ) (so_far : Draft) (line : List ℕ) (name : List ℕ) (count : Option ℕ) → IsKept so_far.known → LineMeans names at so_far line (Declared name count)
+  left_memory : (at : ℕ) (so_far : Draft) (line : List ℕ) (name : List ℕ) (count : Option ℕ) → IsKept names so_far → LineMeans names at so_far line (Declared name count)
       → IsLeft (at + 1) (extended at so_far (Declared name count)) → IsLeft at so_far
   left_memory at so_far line name count kept m left =
       let mem : Mem = memory_at at so_far.known.mems name count in
@@ -167,7 +165,7 @@ module _ (names : List (List ℕ)) (contents : Contents) where
       memory_text at mems name None scope = refl
       memory_text at mems name (Some n) scope = refl
 
-  left_reducer : (at : ℕ) (so_far : Draft) (line : List ℕ) (name : List ℕ) (monoid : Monoid) → IsKept so_far.known → LineMeans names at so_far line (Reduces name monoid)
+  left_reducer : (at : ℕ) (so_far : Draft) (line : List ℕ) (name : List ℕ) (monoid : Monoid) → IsKept names so_far → LineMeans names at so_far line (Reduces name monoid)
       → IsLeft (at + 1) (extended at so_far (Reduces name monoid)) → IsLeft at so_far
   left_reducer at so_far line name monoid kept m left =
       let reducer : Reducer = reducer_at at name monoid in
@@ -225,7 +223,7 @@ module _ (names : List (List ℕ)) (contents : Contents) where
   one_begun : (functions : List Code) (current : Option Open) (d : Open) → current ≡ Some d → 1 ≤ begun_by functions current
   one_begun functions current d e = subst (λ (c : Option Open). 1 ≤ begun_by functions c) (sym e) (omega arith)
 
-  left_begin : (at : ℕ) (so_far : Draft) (line : List ℕ) (name parameter : List ℕ) → IsKept so_far.known → LineMeans names at so_far line (Begins name parameter)
+  left_begin : (at : ℕ) (so_far : Draft) (line : List ℕ) (name parameter : List ℕ) → IsKept names so_far → LineMeans names at so_far line (Begins name parameter)
       → IsLeft (at + 1) (extended at so_far (Begins name parameter)) → IsLeft at so_far
   left_begin at so_far line name parameter kept m left =
       let left_open : IsOpen so_far.functions (first_open at name parameter) left.left = left.rest in
@@ -255,7 +253,7 @@ module _ (names : List (List ℕ)) (contents : Contents) where
       → d.name ≡ c.name → d.parameter ≡ c.parameter → d.line ≡ c.line → d.registers ≡ c.registers ++ named → registers_behind (scope_of names so_far) item ≡ c.registers ++ named
       → ((registers : List (List ℕ)) → rows_of registers d.body ≡ rows_of registers c.body ++ statement_row contents.known names registers statement ∷ [])
       → line_of statement ≡ at → ((scope : Scope) → item_words scope item ≡ statement_words scope statement)
-      → IsKept so_far.known → LineMeans names at so_far line item → IsLeft (at + 1) (extended at so_far item) → IsLeft at so_far
+      → IsKept names so_far → LineMeans names at so_far line item → IsLeft (at + 1) (extended at so_far item) → IsLeft at so_far
   left_statement at so_far line item c d statement named e f functions known name parameter begin registers with body own same_words kept m left =
       let some : 1 ≤ begun (extended at so_far item) = one_begun (extended at so_far item).functions (extended at so_far item).current d f in
       let left_open : IsOpen so_far.functions d left.left =
@@ -291,7 +289,7 @@ module _ (names : List (List ℕ)) (contents : Contents) where
 
   pushed : (registers : List (List ℕ)) (body : List Statement) (statement : Statement)
       → rows_of registers (body ++ statement ∷ []) ≡ rows_of registers body ++ statement_row contents.known names registers statement ∷ []
-  pushed registers body statement = map_append (statement_row contents.known names registers) body (statement ∷ [])
+  pushed registers body statement = map_push (statement_row contents.known names registers) body statement
 
   pushed_behind : (registers : List (List ℕ)) (place to : ℕ) (body : List Statement) (statement : Statement)
       → rows_of registers (with_end place to body ++ statement ∷ []) ≡ rows_of registers body ++ statement_row contents.known names registers statement ∷ []
@@ -299,7 +297,7 @@ module _ (names : List (List ℕ)) (contents : Contents) where
       pushed registers (with_end place to body) statement
       ∙ ap (λ (t : List Row). t ++ statement_row contents.known names registers statement ∷ []) (end_rows contents.known names registers place to body)
 
-  left_does : (at : ℕ) (so_far : Draft) (line : List ℕ) (statement : Statement) (named : Option (List ℕ)) → IsKept so_far.known → LineMeans names at so_far line (Does statement named)
+  left_does : (at : ℕ) (so_far : Draft) (line : List ℕ) (statement : Statement) (named : Option (List ℕ)) → IsKept names so_far → LineMeans names at so_far line (Does statement named)
       → IsLeft (at + 1) (extended at so_far (Does statement named)) → IsLeft at so_far
   left_does at so_far line statement None kept m left =
       let o = some_open so_far.current m.3 in
@@ -311,7 +309,7 @@ module _ (names : List (List ℕ)) (contents : Contents) where
       (ap (option_map (λ c. with_statement (with_register c (Some name)) statement)) o.1) refl refl refl refl refl
       refl (ap (λ (c : Option Open). registers_of c ++ name ∷ []) o.1) (λ registers. pushed registers o.0.body statement) m.2.1 (λ scope. refl) kept m left
 
-  left_decides : (at : ℕ) (so_far : Draft) (line : List ℕ) (register : Register) → IsKept so_far.known → LineMeans names at so_far line (Decides register)
+  left_decides : (at : ℕ) (so_far : Draft) (line : List ℕ) (register : Register) → IsKept names so_far → LineMeans names at so_far line (Decides register)
       → IsLeft (at + 1) (extended at so_far (Decides register)) → IsLeft at so_far
   left_decides at so_far line register kept m left =
       let o = some_open so_far.current m.3 in
@@ -326,7 +324,7 @@ module _ (names : List (List ℕ)) (contents : Contents) where
       by [] e k = absurd k
       by (part ∷ others) e k = (c, part, others, refl, e)
 
-  left_else : (at : ℕ) (so_far : Draft) (line : List ℕ) → IsKept so_far.known → LineMeans names at so_far line Otherwise → IsLeft (at + 1) (extended at so_far Otherwise) → IsLeft at so_far
+  left_else : (at : ℕ) (so_far : Draft) (line : List ℕ) → IsKept names so_far → LineMeans names at so_far line Otherwise → IsLeft (at + 1) (extended at so_far Otherwise) → IsLeft at so_far
   left_else at so_far line kept m left =
       let o = in_part so_far.current m.3 in
       let c = o.0 in
@@ -336,7 +334,7 @@ module _ (names : List (List ℕ)) (contents : Contents) where
       (sym (append-nil c.registers)) (ap registers_of o.3 ∙ sym (append-nil c.registers)) (λ registers. pushed_behind registers o.1.place (length c.body + 1) c.body (Else at 0))
       refl (λ scope. refl) kept m left
 
-  left_end : (at : ℕ) (so_far : Draft) (line : List ℕ) → IsKept so_far.known → LineMeans names at so_far line Ends → IsLeft (at + 1) (extended at so_far Ends) → IsLeft at so_far
+  left_end : (at : ℕ) (so_far : Draft) (line : List ℕ) → IsKept names so_far → LineMeans names at so_far line Ends → IsLeft (at + 1) (extended at so_far Ends) → IsLeft at so_far
   left_end at so_far line kept m left =
       let o = some_open so_far.current m.3 in
       by o.0 o.0.parts o.1 refl
@@ -370,7 +368,7 @@ module _ (names : List (List ℕ)) (contents : Contents) where
           (sym (append-nil c.registers)) (ap registers_of e ∙ sym (append-nil c.registers)) (λ registers. pushed_behind registers part.place (length c.body + 1) c.body (End at))
           refl (λ scope. refl) kept m left
 
-  left_by : (at : ℕ) (so_far : Draft) (line : List ℕ) (item : Item) → IsKept so_far.known → LineMeans names at so_far line item → IsLeft (at + 1) (extended at so_far item) → IsLeft at so_far
+  left_by : (at : ℕ) (so_far : Draft) (line : List ℕ) (item : Item) → IsKept names so_far → LineMeans names at so_far line item → IsLeft (at + 1) (extended at so_far item) → IsLeft at so_far
   left_by at so_far line Blank kept m left = left_blank at so_far m.0 left
   left_by at so_far line (Declared name count) kept m left = left_memory at so_far line name count kept m left
   left_by at so_far line (Reduces name monoid) kept m left = left_reducer at so_far line name monoid kept m left
@@ -380,10 +378,10 @@ module _ (names : List (List ℕ)) (contents : Contents) where
   left_by at so_far line Otherwise kept m left = left_else at so_far line kept m left
   left_by at so_far line Ends kept m left = left_end at so_far line kept m left
 
-  left_lines : (at : ℕ) (so_far : Draft) (ls : List (List ℕ)) → IsKept so_far.known → LinesMean names at so_far ls contents → IsLeft at so_far
+  left_lines : (at : ℕ) (so_far : Draft) (ls : List (List ℕ)) → IsKept names so_far → LinesMean names at so_far ls contents → IsLeft at so_far
   left_lines at so_far [] kept m = left_nothing at so_far m
   left_lines at so_far (line ∷ ls) kept m =
-      left_by at so_far line m.0 kept m.1 (left_lines (at + 1) (extended at so_far m.0) ls (kept_extended names at so_far line m.0 kept m.1) m.2)
+      left_by at so_far line m.0 kept m.1 (left_lines (at + 1) (extended at so_far m.0) ls (kept_extended names at so_far line kept m.0 m.1) m.2)
 
   texts_of : (at : ℕ) (so_far : Draft) (ls : List (List ℕ)) → LinesMean names at so_far ls contents → AreText ls
   texts_of at so_far [] m = tt
@@ -398,7 +396,7 @@ plain_by (first ∷ rest) contents m =
     let names = names_of contents.functions in
     let body : LinesMean names 2 (nothing version) rest contents =
     subst (λ (ns : List (List ℕ)). LinesMean ns 2 (nothing version) rest contents) (functions_are version rest contents m.1) m.1 in
-    let left = left_lines names contents 2 (nothing version) rest (kept_nothing version) body in
+    let left = left_lines names contents 2 (nothing version) rest (kept_nothing names version) body in
     let behind = left.rest in
     let all : all_rows names contents left.ms left.rs left.left ≡ rows contents =
     ap (λ (ms : List Mem). all_rows names contents ms left.rs left.left) (sym left.mems_are)

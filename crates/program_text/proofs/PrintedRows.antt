@@ -1,13 +1,11 @@
 -- Rows of statements: what they say does not hang on the places that an `if` and an `else` name.
-use Rattle.std.proofs.Common.{◌≡◌, ℕ, ◌∷◌, ◌++◌, [], List, map, refl, sym, ap, ◌∙◌, get_or}
-use Rattle.std.specs.Prelude.{Option, Some, None, slice_get, slice_set}
-use Rattle.std.proofs.Math.Seq.{map-set_same}
-use Rattle.std.proofs.lemmas.Option.{get_or_from_slice_get}
+use Rattle.std.proofs.Common.{◌≡◌, ℕ, List, refl}
 use Rattle.trace_text.specs.Values.{Known}
 use Rattle.program_lines.specs.declared.statement.Statement.{Statement}
 use Rattle.program_lines.specs.declared.statement.Statement.TheVariants.{Let, Read, Write, Bump, Update, Put, Get, Spawn, Call, Sync, ParallelFor, If, Else, End}
-use Rattle.program_text.specs.Drafts.{ending, ended_at, with_end}
-use Rattle.program_text.specs.Printing.{Row, statement_row, body_rows}
+use Rattle.program_text.specs.Drafts.{ending, with_end}
+use Rattle.program_text.proofs.Linked.{map_ended}
+use Rattle.program_text.specs.Printing.{statement_row, body_rows}
 
 module _ (known : Known) (names registers : List (List ℕ)) where
   ending_row : (to : ℕ) (statement : Statement) → statement_row known names registers (ending to statement) ≡ statement_row known names registers statement
@@ -26,12 +24,5 @@ module _ (known : Known) (names registers : List (List ℕ)) where
   ending_row to (Else line after) = refl
   ending_row to (End line) = refl
 
-  ended_rows : (statement : Option Statement) (place to : ℕ) (body : List Statement) → slice_get body place ≡ statement
-      → body_rows known names registers (ended_at statement place to body) ≡ body_rows known names registers body
-  ended_rows None place to body e = refl
-  ended_rows (Some statement) place to body e =
-      map-set_same (statement_row known names registers) body place (ending to statement) statement
-      (ending_row to statement ∙ ap (statement_row known names registers) (sym (get_or_from_slice_get body place statement statement e)))
-
   pub end_rows : (place to : ℕ) (body : List Statement) → body_rows known names registers (with_end place to body) ≡ body_rows known names registers body
-  end_rows place to body = ended_rows (slice_get body place) place to body refl
+  end_rows place to body = map_ended (statement_row known names registers) ending_row place to body

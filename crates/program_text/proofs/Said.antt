@@ -1,7 +1,6 @@
 -- What the words of a line tell of its names.
 use Rattle.std.proofs.Common.{◌≡◌, ℕ, ◌<◌, ◌≤◌, ◌∷◌, [], List, length, arith, refl, sym, ap, ◌∙◌, subst}
 use Rattle.std.specs.Prelude.{codes, unwrap_or, Option, Some, None, option_map}
-use Rattle.trace_text.specs.declared.value.Monoid.{Monoid}
 use Rattle.trace_text.specs.Lines.{OfName, OfNumber, OfMonoid}
 use Rattle.trace_text.specs.Text.{IsName}
 use Rattle.program_lines.specs.declared.keyword.Keyword.{Keyword}
@@ -12,8 +11,8 @@ use Rattle.program_lines.specs.declared.statement.Statement.TheVariants.{Let, Re
 use Rattle.trace_text.specs.Names.{IsFresh as IsUndeclaredName}
 use Rattle.trace_text.specs.Lines as trace
 use Rattle.access_table.specs.declared.kind.Kind.TheVariants as kind
-use Rattle.program_lines.specs.Scopes.{Scope, IsFresh}
-use Rattle.program_lines.specs.Places.{Place, Common, FreshName, OperandWord, LocationWord, AssignedRegister, FunctionName, ParameterName, Exactly, Value, Plain, OfOperand, OfLocation, OfAssigned, Nothing, IsRegisterName}
+use Rattle.program_lines.specs.Scopes.{Scope, IsFresh, HasNotBegun}
+use Rattle.program_lines.specs.Places.{Place, Common, FreshName, OperandWord, LocationWord, AssignedRegister, FunctionName, ParameterName, Exactly, Value, Plain, OfOperand, OfLocation, OfAssigned, Nothing}
 use Rattle.program_lines.specs.Table.{Placed, placed, wanted, optional, WordsMean, Says}
 use Rattle.program_lines.specs.Grammar.{Item, Blank, Declared, Reduces, Begins, Does, Decides, Otherwise, Ends, ItemMeans, number_if_there, expression_values}
 use Rattle.program_text.specs.Drafts.{Draft, scope_of}
@@ -52,16 +51,27 @@ module _ (scope : Scope) (ws : List (List ℕ)) where
 fresh_said : (scope : Scope) (w name : List ℕ) → (name ≡ w) × IsName w × IsFresh scope w → IsName name × IsUndeclaredName scope.known name
 fresh_said scope w name h = (subst (λ (t : List ℕ). IsName t) (sym h.0) h.1, subst (λ (t : List ℕ). IsUndeclaredName scope.known t) (sym h.0) h.2.0)
 
-parameter_said : (w parameter : List ℕ) → (parameter ≡ w) × IsRegisterName w → IsName parameter
-parameter_said w parameter h = subst (λ (t : List ℕ). IsName t) (sym h.0) h.1.0
+-- the words of a `func`
+pub begins_words : (scope : Scope) (name parameter : List ℕ) (arguments : List (List ℕ)) (pairs : List Placed)
+    → placed (FreshName ∷ ParameterName ∷ []) [] arguments ≡ Some pairs → WordsMean scope pairs (Plain (OfName name) ∷ Plain (OfName parameter) ∷ [])
+    → (arguments ≡ name ∷ parameter ∷ []) × IsName name × IsName parameter × HasNotBegun scope name
+begins_words scope name parameter [] pairs e m = cc
+begins_words scope name parameter (a ∷ []) pairs e m = cc
+begins_words scope name parameter (a ∷ b ∷ []) pairs e m =
+    let same : pairs ≡ (FreshName, a) ∷ (ParameterName, b) ∷ [] = cc in
+    let k : WordsMean scope ((FreshName, a) ∷ (ParameterName, b) ∷ []) (Plain (OfName name) ∷ Plain (OfName parameter) ∷ []) =
+    subst (λ (ps : List Placed). WordsMean scope ps (Plain (OfName name) ∷ Plain (OfName parameter) ∷ [])) same m in
+    let first : name ≡ a = k.0.0 in
+    let second : parameter ≡ b = k.1.0.0 in (
+      ap (λ (t : List ℕ). t ∷ b ∷ []) (sym first) ∙ ap (λ (t : List ℕ). name ∷ t ∷ []) (sym second),
+      subst (λ (t : List ℕ). IsName t) (sym first) k.0.1,
+      subst (λ (t : List ℕ). IsName t) (sym second) k.1.0.1.0,
+      subst (λ (t : List ℕ). HasNotBegun scope t) (sym first) k.0.2.1,
+    )
+begins_words scope name parameter (a ∷ b ∷ c ∷ rest) pairs e m = cc
 
 begins_said : (scope : Scope) (ws : List (List ℕ)) (name parameter : List ℕ) → Says scope ws word.Func (Plain (OfName name) ∷ Plain (OfName parameter) ∷ []) → IsName name × IsName parameter
-begins_said scope ws name parameter says =
-    let first = first_said scope ws word.Func FreshName (ParameterName ∷ []) (Plain (OfName name)) (Plain (OfName parameter) ∷ []) refl says in
-    let second = first_placed ParameterName [] [] first.2 first.1 first.5 in
-    let m : WordsMean scope ((ParameterName, second.0) ∷ second.2) (Plain (OfName parameter) ∷ []) =
-    subst (λ (t : List Placed). WordsMean scope t (Plain (OfName parameter) ∷ [])) second.3 first.4 in
-    ((fresh_said scope first.0 name first.3.0).0, parameter_said second.0 parameter m.0)
+begins_said scope ws name parameter says = let b = begins_words scope name parameter says.1.0 says.0 says.1.3 says.2 in (b.1, b.2)
 
 does_said : (scope : Scope) (at : ℕ) (ws : List (List ℕ)) (statement : Statement) (name : List ℕ) → ItemMeans at scope ws (Does statement (Some name))
     → IsName name × (length scope.registers < 16)

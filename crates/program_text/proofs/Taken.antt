@@ -1,6 +1,6 @@
 -- One line that is read, and the lines behind the header.
 use Rattle.std.proofs.Common.{◌≡◌, ◌≢◌, ℕ, ◌<◌, ◌+◌, ◌∷◌, [], List, Bool, true, false, cond, length, suc, arith, refl, sym, ◌∙◌, subst, ap, inl, inr}
-use Rattle.std.specs.Prelude.{◌⊎◌, IsTrue, codes, option_map, slice_get, Option, Some, None, Result, Ok, Err, MatchResult}
+use Rattle.std.specs.Prelude.{◌⊎◌, IsTrue, codes, Option, Some, None, Result, Ok, Err, MatchResult}
 use Rattle.trace_text.specs.declared.fault.Cause.{Cause}
 use Rattle.trace_text.specs.declared.fault.Cause.TheVariants.{NotText, BadHeader, BadWord, BadNumber, UnknownName, TwiceNamed, BadNesting, NoMain, TooMany}
 use Rattle.trace_text.specs.declared.fault.TextFault.{TextFault}
@@ -17,11 +17,10 @@ use Rattle.program_lines.specs.Faults.{WordsFault}
 use Rattle.std.specs.List.{position_from}
 use Rattle.std.specs.Str.{bytes_eq}
 use Rattle.std.proofs.lemmas.Slice.Eq.{bytes_eq-Decides}
-use Rattle.program_text.specs.Codes.{Code}
-use Rattle.program_text.specs.Sound.{IsMain}
+use Rattle.program_text.specs.Codes.{Code, main_of}
 use Rattle.program_text.specs.Functions.{functions_of}
 use Rattle.program_text.specs.Drafts.{Draft, Contents, Open, begun, registers_of, scope_of, held}
-use Rattle.program_text.specs.Grammar.{IsInOrder, HasRoom, extended, nothing, main_of, LineMeans, LinesMean, LinesOfProgram, TextMeans, ended, ended_by}
+use Rattle.program_text.specs.Grammar.{IsInOrder, HasRoom, extended, nothing, LineMeans, LinesMean, LinesOfProgram, TextMeans, ended, ended_by}
 use Rattle.program_text.specs.Faults.{LineFault, EndFault, LinesFault, FaultOfLines, IsTextFault, Extends, IsRoomCause, IsRoomFault, IsLineFault, IsBodyFault}
 use Rattle.program_lines.proofs.Once.{item_once}
 use Rattle.program_lines.proofs.LineFaults.{item_clean}
@@ -204,24 +203,6 @@ main_below_by from main (code ∷ functions) e = by (bytes_eq code.name (codes "
 
 pub main_below : (functions : List Code) (main : ℕ) → main_of functions ≡ Some main → main < length functions
 main_below functions main e = let l = main_below_by 0 main functions e in omega (arith, l)
-
-abbrev MainThere : ℕ → ℕ → List Code → Type 0
-MainThere from main functions = (place : ℕ) × (main ≡ from + place) × (option_map (λ (code : Code). code.name) (slice_get functions place) ≡ Some (codes "main"))
-
-main_there : (from main : ℕ) (functions : List Code) → position_from (λ (code : Code). bytes_eq code.name (codes "main")) from functions ≡ Some main → MainThere from main functions
-main_there from main [] e = cc
-main_there from main (code ∷ functions) e = by (bytes_eq code.name (codes "main")) refl e (main_there (from + 1) main functions)
-  where
-    by : (b : Bool) → bytes_eq code.name (codes "main") ≡ b → cond b (Some from) (position_from (λ (c : Code). bytes_eq c.name (codes "main")) (from + 1) functions) ≡ Some main
-        → (position_from (λ (c : Code). bytes_eq c.name (codes "main")) (from + 1) functions ≡ Some main → MainThere (from + 1) main functions) → MainThere from main (code ∷ functions)
-    by true t h later = let same : from ≡ main = cc in (0, omega (arith, same), ap (λ (n : List ℕ). Some n) ((bytes_eq-Decides code.name (codes "main")).0 t))
-    by false t h later = let there = later h in (suc there.0, omega (arith, there.1), there.2)
-
-pub main_is : (functions : List Code) (main : ℕ) → main_of functions ≡ Some main → IsMain functions main
-main_is functions main e =
-    let there = main_there 0 main functions e in
-    let same : there.0 ≡ main = omega (arith, there.1) in
-    subst (λ (n : ℕ). IsMain functions n) same there.2
 
 pub is_none : (current : Option Open) → (current ≢ None → ⊥) → current ≡ None
 is_none None h = refl

@@ -4,8 +4,7 @@ use Rattle.trace_text.specs.declared.value.Version.{Version}
 use Rattle.trace_text.specs.declared.fault.Cause.{Cause}
 use Rattle.trace_text.specs.declared.fault.Cause.TheVariants.{NotText, BadHeader, BadNesting, NoMain, TooMany}
 use Rattle.trace_text.specs.Text.{words, lines}
-use Rattle.trace_text.specs.Grammar.{IsHeader}
-use Rattle.trace_text.specs.Faults.{IsLowest, HeaderFault}
+use Rattle.trace_text.specs.Faults.{HeaderFault}
 use Rattle.trace_text.proofs.Unique.{version_once, header_exclusive, lowest_once}
 use Rattle.program_lines.specs.Grammar.{Item}
 use Rattle.program_text.specs.Functions.{functions_of}

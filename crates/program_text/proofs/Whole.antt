@@ -1,6 +1,6 @@
 -- What every program keeps.
-use Rattle.std.proofs.Common.{◌≡◌, ℕ, ◌≤◌, ◌∷◌, [], List, length, refl, sym, ap, subst, ◌∙◌, arith}
-use Rattle.std.specs.Prelude.{IsTrue, None}
+use Rattle.std.proofs.Common.{◌≡◌, ℕ, ◌≤◌, ◌∷◌, [], List, length, sym, ap, subst, ◌∙◌, arith}
+use Rattle.std.specs.Prelude.{IsTrue}
 use Rattle.trace_text.specs.declared.value.Version.{Version}
 use Rattle.trace_text.specs.declared.value.Mem.{Mem}
 use Rattle.trace_text.specs.declared.value.Reducer.{Reducer}
@@ -15,7 +15,7 @@ use Rattle.program_text.specs.Functions.{functions_of}
 use Rattle.program_text.specs.Drafts.{Draft, Contents, begun, begun_by, held}
 use Rattle.program_text.specs.Grammar.{LinesOfProgram, TextMeans, nothing}
 use Rattle.program_text.proofs.Kept.{AreSound, IsHeld, kept_lines, kept_nothing}
-use Rattle.program_text.proofs.Listed.{listed_lines}
+use Rattle.program_text.proofs.Listed.{as_many}
 
 pub record IsWhole (contents : Contents) : Type 0 where
   pub numbered : IsTrue (is_numbered 0 contents.known.mems)
@@ -42,7 +42,7 @@ whole_by [] contents m = absurd m
 whole_by (first ∷ rest) contents m =
     whole_held (functions_of rest) contents
     (kept_lines (functions_of rest) 2 (nothing contents.known.version) rest contents (kept_nothing (functions_of rest) contents.known.version) m.1)
-    (listed_lines (functions_of rest) 2 (nothing contents.known.version) rest contents refl m.1)
+    (as_many contents.known.version rest contents m.1)
 
 -- what a text means keeps it
 pub whole_of_text : (text : List ℕ) (contents : Contents) → TextMeans text contents → IsWhole contents

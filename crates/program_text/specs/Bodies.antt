@@ -1,5 +1,5 @@
 -- Where the parts of an `if` end.
-use Rattle.std.specs.Prelude.{◌≡◌, ℕ, zero, suc, ◌+◌, ◌<◌, ◌≤◌, List, [], ◌∷◌, Option, Some, None, length, drop, slice_get}
+use Rattle.std.specs.Prelude.{◌≡◌, ℕ, zero, suc, ◌+◌, ◌-◌, ◌<◌, ◌≤◌, Bool, true, false, IsTrue, List, [], ◌∷◌, Option, Some, None, length, drop, slice_get}
 use Rattle.program_lines.specs.declared.statement.Statement.{Statement}
 use Rattle.program_lines.specs.declared.statement.Statement.TheVariants.{If, Else, End}
 
@@ -25,3 +25,26 @@ part_end _ = None
 -- Each `if` and `else` knows where the part behind it ends.
 abbrev pub IsLinked : List Statement → Type 0
 IsLinked body = (place to : ℕ) → part_end (slice_get body place) ≡ Some to → EndsAt body place to
+
+-- Whether an `end` stands there.
+abbrev pub is_end : Option Statement → Bool
+is_end (Some (End line)) = true
+is_end _ = false
+
+-- An `end` stands right before the place that an `else` names. In a linked body it closes the part behind the `else`, so no `if` has a
+-- second `else`.
+abbrev pub IsDivided : List Statement → Type 0
+IsDivided body = (place line after : ℕ) → slice_get body place ≡ Some (Else line after) → IsTrue (is_end (slice_get body (after - 1)))
+
+-- How many parts are open behind these statements, where so many are before them; None where an `else` or an `end` has no part to close.
+abbrev pub open_behind : (open_parts : ℕ) → List Statement → Option ℕ
+open_behind open_parts [] = Some open_parts
+open_behind open_parts (If _ _ _ ∷ rest) = open_behind (suc open_parts) rest
+open_behind zero (Else _ _ ∷ rest) = None
+open_behind zero (End _ ∷ rest) = None
+open_behind (suc open_parts) (End _ ∷ rest) = open_behind open_parts rest
+open_behind open_parts (_ ∷ rest) = open_behind open_parts rest
+
+-- Each `if` has its `end`, and each `else` and `end` its `if`.
+abbrev pub IsBalanced : List Statement → Type 0
+IsBalanced body = open_behind 0 body ≡ Some 0

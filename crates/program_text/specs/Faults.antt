@@ -1,7 +1,7 @@
 -- What is wrong with a text that means no program: the first faulty line, and the lowest cause in it.
 use Rattle.std.specs.Prelude.{◌≡◌, ◌≢◌, ℕ, ◌+◌, ◌<◌, ◌≤◌, ◌⊎◌, None, List, [], ◌∷◌}
 use Rattle.trace_text.specs.declared.fault.Cause.{Cause}
-use Rattle.trace_text.specs.declared.fault.Cause.TheVariants.{NotText, BadHeader, BadWord, BadNumber, UnknownName, TwiceNamed, BadNesting, NoMain, TooMany}
+use Rattle.trace_text.specs.declared.fault.Cause.TheVariants.{NotText, BadHeader, BadNesting, NoMain, TooMany}
 use Rattle.trace_text.specs.declared.fault.TextFault.{TextFault}
 use Rattle.trace_text.specs.declared.fault.TextFault.TheVariants.{At, Memory}
 use Rattle.trace_text.specs.declared.value.Version.{Version}
@@ -14,7 +14,8 @@ use Rattle.program_lines.specs.Grammar.{Item, ItemMeans}
 use Rattle.program_lines.specs.Faults.{WordsFault}
 use Rattle.program_text.specs.Functions.{functions_of}
 use Rattle.program_text.specs.Drafts.{Draft, scope_of}
-use Rattle.program_text.specs.Grammar.{IsInOrder, HasRoom, LineMeans, extended, nothing, main_of}
+use Rattle.program_text.specs.Codes.{main_of}
+use Rattle.program_text.specs.Grammar.{IsInOrder, HasRoom, LineMeans, extended, nothing}
 
 -- ---- lines
 

@@ -1,16 +1,13 @@
 -- What the lines of a program mean: a case for each kind of line.
-use Rattle.std.specs.Prelude.{◌≡◌, ◌≢◌, ℕ, ◌+◌, ◌<◌, ◌≤◌, Bool, false, Option, Some, None, List, [], ◌∷◌, ◌++◌, length, codes, unwrap_or, option_map, MatchOption}
-use Rattle.std.specs.List.{position_from}
-use Rattle.std.specs.Str.{bytes_eq}
+use Rattle.std.specs.Prelude.{◌≡◌, ◌≢◌, ℕ, ◌+◌, ◌<◌, ◌≤◌, false, Option, Some, None, List, [], ◌∷◌, ◌++◌, length, unwrap_or, option_map, MatchOption}
 use Rattle.trace_text.specs.declared.value.Version.{Version}
 use Rattle.trace_text.specs.Text.{lines, words, IsTextLine, IsName}
 use Rattle.trace_text.specs.Limits.{max_cells, max_reducers, max_lines}
-use Rattle.trace_text.specs.Values.{Known}
 use Rattle.trace_text.specs.Names.{IsFresh}
 use Rattle.program_lines.specs.Scopes.{max_registers}
 use Rattle.trace_text.specs.Grammar.{IsHeader, cells_of, with_memory, with_reducer}
 use Rattle.program_lines.specs.Grammar.{Item, Blank, Declared, Reduces, Begins, Does, Decides, Otherwise, Ends, ItemMeans}
-use Rattle.program_text.specs.Codes.{Code}
+use Rattle.program_text.specs.Codes.{Code, main_of}
 use Rattle.program_text.specs.Sound.{max_functions, max_statements}
 use Rattle.program_text.specs.Functions.{functions_of}
 use Rattle.program_text.specs.declared.open_function.Part.{Part}
@@ -87,10 +84,6 @@ LineMeans names at so_far line item =
     (at ≤ max_lines) × IsTextLine line × ItemMeans at (scope_of names so_far) (words line) item × IsInOrder so_far item × HasRoom so_far item
 
 -- ---- texts
-
--- The number of the function `main`.
-abbrev pub main_of : List Code → Option ℕ
-main_of functions = position_from (λ code. bytes_eq code.name (codes "main")) 0 functions
 
 -- At its end each function has ended, and one is `main`.
 abbrev pub EndMeans : Draft → Contents → Type 0

@@ -1,13 +1,12 @@
 -- Programs whose names and places are right.
-use Rattle.std.specs.Prelude.{◌≡◌, ℕ, ◌+◌, ◌<◌, Bool, true, ◌&&◌, nat_lt, nat_le, IsTrue, List, [], Some, length, slice_get, option_map, codes}
+use Rattle.std.specs.Prelude.{◌≡◌, ℕ, ◌+◌, ◌<◌, Bool, true, ◌&&◌, nat_lt, nat_le, IsTrue, List, Some, length}
 use Rattle.std.specs.List.{All}
 use Rattle.program_lines.specs.declared.statement.Location.{Location}
 use Rattle.program_lines.specs.declared.statement.Location.TheVariants.{Cell, Element}
 use Rattle.program_lines.specs.declared.statement.Statement.{Statement}
-use Rattle.program_lines.specs.declared.statement.Statement.TheVariants.{Let, Read, Write, Bump, Update, Put, Get, Spawn, Call, Sync, ParallelFor, If, Else, End}
-use Rattle.program_text.specs.Codes.{Code}
-use Rattle.program_text.specs.Bodies.{IsLinked}
-use Rattle.program_text.specs.Trees.{read_of}
+use Rattle.program_lines.specs.declared.statement.Statement.TheVariants.{Read, Write, Bump, Update, Put, Get, Spawn, Call, ParallelFor}
+use Rattle.program_text.specs.Codes.{Code, main_of}
+use Rattle.program_text.specs.Bodies.{IsLinked, IsDivided, IsBalanced}
 
 abbrev pub max_functions : ℕ
 max_functions = 1000
@@ -33,12 +32,14 @@ is_within cells reducers functions (Call line function argument) = nat_lt functi
 is_within cells reducers functions (ParallelFor line register count function) = nat_lt function functions
 is_within cells reducers functions _ = true
 
--- A body is sound: it is not too long, what it names is there, each `if` and `else` knows where its part ends, and each part ends.
+-- A body is sound: it is not too long, what it names is there, each `if` and `else` knows where the part behind it ends, the part behind
+-- an `else` is closed by an `end`, and each `if` has its `end`, each `else` and `end` its `if`.
 pub record IsSoundBody (cells reducers functions : ℕ) (body : List Statement) : Type 0 where
   pub few : length body < max_statements
   pub within : All (λ statement. IsTrue (is_within cells reducers functions statement)) body
   pub linked : IsLinked body
-  pub closed : length (read_of body).around ≡ 0
+  pub divided : IsDivided body
+  pub balanced : IsBalanced body
 
 -- A program is sound: its bodies are.
 abbrev pub IsSound : (cells reducers : ℕ) → List Code → Type 0
@@ -46,4 +47,4 @@ IsSound cells reducers functions = All (λ code. IsSoundBody cells reducers (len
 
 -- The function with this number is `main`.
 abbrev pub IsMain : List Code → ℕ → Type 0
-IsMain functions main = option_map (λ code. code.name) (slice_get functions main) ≡ Some (codes "main")
+IsMain functions main = main_of functions ≡ Some main

@@ -5,8 +5,9 @@
 //! code meets it: an answer `Ok` is what the text means, and a fault `At` is the first faulty line with the lowest cause in it. `Memory` is
 //! the answer to a refused growth; no clause says when it comes. The laws [`one_meaning`], [`meaning_or_fault`] and [`one_fault`] say that
 //! a text has one meaning or one fault at most. A [`Program`] keeps that some text means it and that it is sound: its statements name
-//! cells, reducers and functions that there are, and each `if` and `else` knows where its part ends. [`Program::print`] gives the plain text,
-//! which means the program and, by these laws, no other; [`plain_meaning`] says the same over the definitions alone.
+//! cells, reducers and functions that there are, each `if` has its `end` and one `else` at most, and each `if` and `else` knows where its
+//! part ends. [`Program::print`] gives the plain text, which means the program and, by these laws, no other; [`plain_meaning`] says the same
+//! over the definitions alone.
 #![tactic(auto)]
 
 mod draft;
@@ -24,8 +25,3 @@ pub use plain_law::plain_meaning;
 pub use program::Program;
 pub use program_lines::{Expression, Location, Operand, REGISTERS, Register, Statement};
 pub use trace_text::{Cause, TextFault};
-
-#[cfg(test)]
-mod print_tests;
-#[cfg(test)]
-mod tests;

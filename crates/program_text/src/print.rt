@@ -1,7 +1,8 @@
 //! A program as text.
 
-ghost use Rattle.std.specs.Prelude.{◌≡◌, ◌∷◌, ◌++◌, [], List, IfOk, string_bytes};
+ghost use Rattle.std.specs.Prelude.{◌≡◌, ◌∷◌, ◌++◌, [], List, IfOk, IsTrue, string_bytes};
 ghost use Rattle.trace_text.specs.declared.value.Version.{Version};
+ghost use Rattle.trace_text.specs.Shapes.{is_numbered};
 ghost use Rattle.trace_text.specs.Printing.{declarations, known_of};
 ghost use Rattle.std.specs.Prelude.{map};
 ghost use Rattle.program_lines.specs.Grammar.{line_of};
@@ -68,6 +69,7 @@ fn put_statement_line<A: Allocator, B: Allocator>(
     registers: &[Name],
     statement: &Statement,
 ) -> Result<u64, AllocError>
+    requires numbered { IsTrue (is_numbered 0 mems.now) }
     ensures { (version : Version) → IfOk result (λ next. PrintsRows (string_bytes out.old) at (statement_row (known_of version mems.now reducers.now) (names_of functions.now) registers.now statement.now ∷ []) (string_bytes out.new) next) }
 {
     let line = statement_line(statement);
@@ -88,6 +90,7 @@ fn put_body<A: Allocator, B: Allocator>(
     registers: &[Name],
     body: &[Statement],
 ) -> Result<u64, AllocError>
+    requires numbered { IsTrue (is_numbered 0 mems.now) }
     ensures { (version : Version) (more : List Row) → IfOk result (λ next. string_bytes out.new ++ text_from next more ≡ string_bytes out.old ++ text_from from (body_rows (known_of version mems.now reducers.now) (names_of functions.now) registers.now body.now ++ more)) }
 {
     let mut at = from;
@@ -136,6 +139,7 @@ fn put_function<A: Allocator, B: Allocator>(
     functions: &[Function<A>],
     function: &Function<A>,
 ) -> Result<u64, AllocError>
+    requires numbered { IsTrue (is_numbered 0 mems.now) }
     ensures { (version : Version) → IfOk result (λ next. PrintsRows (string_bytes out.old) at (function_rows (known_of version mems.now reducers.now) (names_of functions.now) function.now) (string_bytes out.new) next) }
 {
     let inside = put_begin(out, at, function)?;
@@ -154,6 +158,7 @@ fn put_functions<A: Allocator, B: Allocator>(
     reducers: &[Reducer],
     functions: &[Function<A>],
 ) -> Result<u64, AllocError>
+    requires numbered { IsTrue (is_numbered 0 mems.now) }
     ensures { (version : Version) (more : List Row) → IfOk result (λ next. string_bytes out.new ++ text_from next more ≡ string_bytes out.old ++ text_from from (rows_of_functions (known_of version mems.now reducers.now) (names_of functions.now) functions.now ++ more)) }
 {
     let mut at = from;

@@ -1,6 +1,6 @@
 //! A program.
 
-ghost use Rattle.std.specs.Prelude.{◌≡◌, ◌≤◌, ℕ, List, length, IfOk, IsTrue, MatchResult, map};
+ghost use Rattle.std.specs.Prelude.{◌≡◌, ◌<◌, ◌≤◌, ℕ, List, length, IfOk, IsTrue, MatchResult, map};
 ghost use Rattle.trace_text.specs.Shapes.{is_numbered};
 ghost use Rattle.trace_text.specs.Limits.{max_cells, max_reducers};
 ghost use Rattle.trace_text.specs.Grammar.{cells_of};
@@ -14,7 +14,8 @@ use std::alloc::{AllocError, Allocator};
 use trace_text::{Mems, Monoids, Reducers, Shape, TextFault, Version};
 
 /// The meaning of a text, made by [`Program::parse`] alone. Some text means it, its cells are numbered without a gap, and it is sound: its
-/// statements name cells, reducers and functions that there are, and each `if` and `else` knows where its part ends.
+/// statements name cells, reducers and functions that there are, each `if` has its `end` and one `else` at most, and each `if` and `else`
+/// knows where its part ends.
 #[derive(Drop)]
 pub struct Program<A: Allocator> {
     /// The version that the first line names.
@@ -61,9 +62,12 @@ impl<A: Allocator + Copy> Program<A> {
 }
 
 impl<A: Allocator> Program<A> {
+    #[tactic(auto, using(crate::proofs::Taken::main_below))]
     /// The number of the function `main`.
     pub fn main(&self) -> u32
-        ensures { IsMain self.now.functions result }
+        ensures value { result ≡ self.now.main }
+        ensures named { IsMain self.now.functions result }
+        ensures there { result < length self.now.functions }
     {
         self.main
     }

@@ -6,7 +6,8 @@ ghost use Rattle.trace_text.specs.Text.{lines, is_hash};
 ghost use Rattle.trace_text.specs.Limits.{max_lines};
 ghost use Rattle.program_text.specs.Functions.{is_name_word, function_in as named_in, function_named, with_function, functions_of};
 ghost use Rattle.program_text.specs.Drafts.{held};
-ghost use Rattle.program_text.specs.Grammar.{nothing, main_of as main_among, LinesMean, TextMeans};
+ghost use Rattle.program_text.specs.Codes.{main_of as main_among};
+ghost use Rattle.program_text.specs.Grammar.{nothing, LinesMean, TextMeans};
 ghost use Rattle.program_text.specs.Faults.{IsBodyFault, IsTextFault};
 
 use crate::draft::{Draft, fault};

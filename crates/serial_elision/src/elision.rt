@@ -82,21 +82,6 @@ pub fn elide<A: Allocator + Clone, B: Allocator>(
     })
 }
 
-/// Where a function goes on that has come to an `else` behind which a part ends before `after`: at the line that closes that part where
-/// it is another `else`, and otherwise at `after`.
-fn behind_else(body: &[Statement], place: u32, after: u32) -> u32
-    requires ends { EndsAt body.now place after }
-    requires few { length body.now < 2 ^ 32 }
-    ensures later { place < result }
-    ensures within { result ≤ length body.now }
-    ensures left { (line to : ℕ) → left_of (drop result body.now) ≡ left_of (Else line to ∷ drop (place + 1) body.now) }
-{
-    match body[(after - 1) as usize] {
-        Statement::Else { .. } => { if place + 1 < after { after - 1 } else { after } }
-        _ => after,
-    }
-}
-
 /// A function of the program by its number.
 fn function_at<B: Allocator>(program: &Program<B>, index: u32) -> &Function<B>
     requires { index < length program.now.functions }
@@ -436,8 +421,7 @@ impl<A: Allocator> Elision<A> {
                 Ok(0)
             }
             Statement::Else { after, .. } => {
-                let place = behind_else(function.body.as_slice(), self.top.place, after);
-                self.go(place);
+                self.go(after);
                 Ok(0)
             }
             Statement::End { .. } => {

@@ -10,6 +10,3 @@ mod activation;
 mod elision;
 
 pub use elision::{ElideFault, Elided, elide};
-
-#[cfg(test)]
-mod tests;

@@ -12,6 +12,7 @@ pub mod Unique
 pub mod Requests
 pub mod Kept
 pub mod CellNames
+pub mod CellSearch
 pub mod PlainWords
 pub mod PlainPlaces
 pub mod PlainLines

@@ -1,7 +1,8 @@
 //! Names of cells.
 
-ghost use Rattle.std.specs.Prelude.{◌≡◌, ◌<◌, ◌-◌, IfOk, IsTrue, IsSome, option_copied, string_bytes};
+ghost use Rattle.std.specs.Prelude.{◌≡◌, ◌<◌, ◌≤◌, IfOk, IsTrue, length, option_copied, string_bytes};
 ghost use Rattle.std.specs.List.{find};
+ghost use Rattle.std.specs.List.Sorted.{IsPartitionPoint};
 ghost use Rattle.trace_text.specs.Grammar.{cells_of};
 ghost use Rattle.trace_text.specs.Shapes.{is_numbered, has_cell, name_in, name_of_cell};
 
@@ -9,11 +10,31 @@ use crate::value::Mem;
 use std::alloc::{AllocError, Allocator};
 use std::fmt::Write;
 
-/// The memory that has the cell with this number.
-pub fn memory_of(mems: &[Mem], location: u32) -> Option<&Mem>
+/// How many memories begin at this cell or before it.
+fn count_begun(mems: &[Mem], location: u32) -> usize
+    requires numbered { IsTrue (is_numbered 0 mems.now) }
+    ensures bound { result ≤ length mems.now }
+    ensures begun { IsPartitionPoint (λ mem. mem.first ≤ location) (λ mem. location < mem.first) mems.now result }
+{
+    mems.partition_point(|mem| mem.first <= location)
+}
+
+/// The memory that has the cell with this number, found by halving. The memories are those of a trace or a program, or the first of
+/// them.
+pub fn memory_at(mems: &[Mem], location: u32) -> Option<&Mem>
+    requires numbered { IsTrue (is_numbered 0 mems.now) }
     ensures { option_copied result ≡ find (has_cell location) mems.now }
 {
-    mems.iter().find(|mem| mem.first <= location && location - mem.first < mem.cells)
+    let begun = count_begun(mems, location);
+    if begun == 0 {
+        return None;
+    }
+    let mem = &mems[begun - 1];
+    if location - mem.first < mem.cells {
+        Some(mem)
+    } else {
+        None
+    }
 }
 
 /// The name of a memory's cell with this index.
@@ -37,7 +58,7 @@ pub fn cell_name<A: Allocator>(
     requires within { location < cells_of mems.now }
     ensures { IfOk result (λ name. string_bytes name ≡ name_of_cell mems.now location) }
 {
-    match memory_of(mems, location) {
+    match memory_at(mems, location) {
         Some(mem) => name_at(alloc, mem, location - mem.first),
         None => unreachable!(),
     }

@@ -6,7 +6,8 @@
 //! the answer to a refused growth; no clause says when it comes. The laws [`one_meaning`], [`meaning_or_fault`] and [`one_fault`] say that
 //! a text has one meaning or one fault at most. [`Trace::print`] gives the plain text, which means the trace and, by these laws, no other;
 //! [`plain_meaning`] says the same over the definitions alone. A [`Trace`] keeps that some text means it, that its cells are numbered
-//! without a gap, and that its requests name cells and reducers that there are. [`Trace::shape`] and [`cell_name`] are exact.
+//! without a gap, and that its requests name cells and reducers that there are. [`Trace::shape`] and [`cell_name`] are exact, and
+//! [`memory_at`] finds the memory of a cell by halving.
 #![tactic(auto)]
 
 mod cell;
@@ -23,14 +24,16 @@ mod trace;
 mod value;
 mod words;
 
-pub use cell::{cell_name, memory_of};
+pub use cell::{cell_name, memory_at};
 pub use fault::{Cause, TextFault, both};
 pub use keyword::{monoid_of, monoid_word, version_word};
 pub use laws::{meaning_or_fault, one_fault, one_meaning, plain_meaning};
 pub use name::{NAME_LEN, Name, is_name};
 pub use names::{Named, Names};
 pub use place::{CELLS, end, length, monoid, reducer};
-pub use print::{put_declarations, put_feeds, put_memory, put_number, put_reducer, put_word};
+pub use print::{
+    put_cell, put_declarations, put_feeds, put_memory, put_number, put_reducer, put_word,
+};
 pub use trace::{LINES, REDUCERS, Trace, header};
 pub use value::{
     Act, Lines, Mem, Mems, Monoid, Monoids, Reducer, Reducers, Request, Shape, TraceLine, Version,

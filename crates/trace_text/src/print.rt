@@ -1,14 +1,14 @@
 //! A trace as text.
 
-ghost use Rattle.std.specs.Prelude.{◌≡◌, ◌++◌, ◌∷◌, ◌+◌, ◌-◌, ◌<◌, ◌≤◌, ℕ, [], List, OnOk, IfOk, replicate, string_bytes, cond, map};
+ghost use Rattle.std.specs.Prelude.{◌≡◌, ◌++◌, ◌∷◌, ◌+◌, ◌-◌, ◌<◌, ◌≤◌, ℕ, [], List, OnOk, IfOk, IsTrue, replicate, string_bytes, cond, map};
 ghost use Rattle.std.specs.Fmt.{decimal};
 ghost use Rattle.trace_text.specs.declared.value.Version.{Version};
 ghost use Rattle.trace_text.specs.declared.value.Reducer.{Reducer};
 ghost use Rattle.trace_text.specs.Values.{Known};
-ghost use Rattle.trace_text.specs.Shapes.{name_of_cell};
+ghost use Rattle.trace_text.specs.Shapes.{is_numbered, name_of_cell};
 ghost use Rattle.trace_text.specs.Printing.{Entry, OfMemory, OfReducer, OfRequest, declarations, entry_text, name_of_reducer, operand_text, known_of, text_from, PrintsEntry, StartsPast, TakesReducers};
 
-use crate::cell::memory_of;
+use crate::cell::memory_at;
 use crate::keyword::{keyword_for, keyword_word, monoid_word, version_word};
 use crate::trace::Trace;
 use crate::value::{Act, Mem, Reducer, TraceLine};
@@ -32,15 +32,16 @@ pub fn put_word<A: Allocator>(out: &mut String<A>, word: &str) -> Result<(), All
     Ok(())
 }
 
-/// Appends a space and the name of a cell.
-fn put_cell<A: Allocator>(
+/// Appends a space and the name of the cell with this number. The memories are those of a trace or a program, or the first of them.
+pub fn put_cell<A: Allocator>(
     out: &mut String<A>,
     mems: &[Mem],
     location: u32,
 ) -> Result<(), AllocError>
+    requires numbered { IsTrue (is_numbered 0 mems.now) }
     ensures { OnOk result (string_bytes out.new ≡ string_bytes out.old ++ 32 ∷ name_of_cell mems.now location) }
 {
-    match memory_of(mems, location) {
+    match memory_at(mems, location) {
         Some(mem) => {
             put_word(out, mem.name.as_str())?;
             if mem.array {
@@ -70,6 +71,7 @@ fn put_operands<A: Allocator>(
     reducers: &[Reducer],
     act: Act,
 ) -> Result<(), AllocError>
+    requires numbered { IsTrue (is_numbered 0 mems.now) }
     ensures { (version : Version) → OnOk result (string_bytes out.new ≡ string_bytes out.old ++ operand_text (known_of version mems.now reducers.now) act) }
 {
     match act {
@@ -116,6 +118,7 @@ fn put_request<A: Allocator>(
     reducers: &[Reducer],
     line: &TraceLine,
 ) -> Result<(), AllocError>
+    requires numbered { IsTrue (is_numbered 0 mems.now) }
     ensures { (version : Version) → OnOk result (string_bytes out.new ≡ string_bytes out.old ++ entry_text (known_of version mems.now reducers.now) (OfRequest line.now)) }
 {
     out.push_str(keyword_word(keyword_for(line.request.act)))?;
@@ -189,6 +192,7 @@ fn put_request_line<A: Allocator>(
     reducers: &[Reducer],
     line: &TraceLine,
 ) -> Result<u64, AllocError>
+    requires numbered { IsTrue (is_numbered 0 mems.now) }
     ensures { (version : Version) → IfOk result (λ next. PrintsEntry (known_of version mems.now reducers.now) (string_bytes out.old) at (OfRequest line.now) (string_bytes out.new) next) }
 {
     put_feeds(out, at, u64::from(line.at))?;
@@ -261,6 +265,7 @@ fn put_requests<A: Allocator>(
     reducers: &[Reducer],
     lines: &[TraceLine],
 ) -> Result<(), AllocError>
+    requires numbered { IsTrue (is_numbered 0 mems.now) }
     ensures { (version : Version) → OnOk result (string_bytes out.new ≡ string_bytes out.old ++ text_from (known_of version mems.now reducers.now) from (map OfRequest lines.now)) }
 {
     let mut at = from;

@@ -107,35 +107,64 @@ fn compare(
     Ok(())
 }
 
+/// One drawn act of a drawn strand, and the next state of the generator.
+fn play_one(
+    gate: &mut Gate<Global>,
+    reference: &mut Reference,
+    state: u64,
+) -> Result<u64, AllocError> {
+    let (which, state_strand) = draw(state, 64);
+    let (choice, state_act) = draw(state_strand, 22);
+    let (place, state_place) = draw(state_act, 3);
+    let (value, state_next) = draw(state_place, 1_000);
+    let strand = reference.pick(which % 7);
+    if !gate.is_finished() && (strand != 0 || choice <= 3 || choice >= 8) {
+        let act = drawn_act(
+            choice,
+            place,
+            u64::from(value),
+            reference.is_in_block(strand),
+        );
+        ask(gate, reference, strand, act)?;
+    }
+    Ok(state_next)
+}
+
+/// Twenty drawn acts, in every second trace behind a put to each reducer.
+fn play(
+    gate: &mut Gate<Global>,
+    reference: &mut Reference,
+    is_put: bool,
+    state: u64,
+) -> Result<(), AllocError> {
+    if is_put {
+        ask(gate, reference, 0, Act::Put(0, 1))?;
+        ask(gate, reference, 0, Act::Put(1, 500))?;
+    }
+    let mut state = state;
+    for _entry in 0..20u32 {
+        state = play_one(gate, reference, state)?;
+    }
+    finish(gate, reference)
+}
+
+/// The trace of this seed.
+fn agrees(rt: &impl Abort, alloc: Global, seed: u64) -> Result<(), Fail> {
+    let (first, state_first) = draw(seed, 5);
+    let (second, state) = draw(state_first, 5);
+    let monoids = [drawn_monoid(first), drawn_monoid(second)];
+    let mut gate = opening_with(alloc, &monoids, 1_000)?;
+    let mut reference = Reference::new(alloc);
+    play(&mut gate, &mut reference, seed % 2 == 0, state)?;
+    assert!(rt; gate.is_finished(), "{seed}");
+    reference.close();
+    compare(rt, alloc, &reference, gate.history(), &monoids, seed)
+}
+
 #[test]
 fn random_traces_agree_with_the_reference(rt: HostRuntime) -> Result<(), Fail> {
     for seed in 0..300u64 {
-        let (first, state_first) = draw(seed, 5);
-        let (second, mut state) = draw(state_first, 5);
-        let monoids = [drawn_monoid(first), drawn_monoid(second)];
-        let mut gate = opening_with(rt.alloc(), &monoids, 1_000)?;
-        let mut reference = Reference::new(rt.alloc());
-        if seed % 2 == 0 {
-            ask(&mut gate, &mut reference, 0, Act::Put(0, 1))?;
-            ask(&mut gate, &mut reference, 0, Act::Put(1, 500))?;
-        }
-        for _entry in 0..20u32 {
-            let (which, state_strand) = draw(state, 64);
-            let (choice, state_act) = draw(state_strand, 22);
-            let (place, state_place) = draw(state_act, 3);
-            let (value, state_next) = draw(state_place, 1_000);
-            state = state_next;
-            let strand = reference.pick(which % 7);
-            if gate.is_finished() || (strand == 0 && choice > 3 && choice < 8) {
-                continue;
-            }
-            let act = drawn_act(choice, place, value as u64, reference.is_in_block(strand));
-            ask(&mut gate, &mut reference, strand, act)?;
-        }
-        finish(&mut gate, &mut reference)?;
-        assert!(rt; gate.is_finished(), "{seed}");
-        reference.close();
-        compare(&rt, rt.alloc(), &reference, gate.history(), &monoids, seed)?;
+        agrees(&rt, rt.alloc(), seed)?;
     }
     Ok(())
 }

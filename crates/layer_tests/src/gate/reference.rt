@@ -35,16 +35,26 @@ fn place(strand: u32) -> usize
     (strand % 64) as usize
 }
 
+/// No bit for any strand.
+fn no_bits() -> [u64; 64] {
+    [0; 64]
+}
+
+/// No join for any strand.
+fn no_joins() -> [u32; 64] {
+    [0; 64]
+}
+
 impl Reference {
     pub fn new(alloc: Global) -> Reference {
         Reference {
             edges: Vec::new(alloc),
             splits: Vec::new(alloc),
-            reached: [0; 64],
+            reached: no_bits(),
             begun: 1,
             running: 1,
-            home: [0; 64],
-            block: [0; 64],
+            home: no_joins(),
+            block: no_joins(),
         }
     }
 

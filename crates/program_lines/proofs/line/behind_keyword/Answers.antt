@@ -1,17 +1,21 @@
 use Rattle.std.proofs.Common.{refl}
+use Rattle.program_lines.proofs.Outcomes.{stands_alone}
 use Rattle.program_lines.proofs.line.behind_keyword.Goals as goal
 
-pub returns-in-Ok-end : goal.returns-in-Ok-end
-returns-in-Ok-end g c =
-    let f = c.in-Ok-end.ensures c.args.scope.now in
-    rw (c.does.ensures, c.in-Sync.is) (refl, refl, (f.0, (c.args.words.now, refl, tt, f.1), f.2))
+pub returns-in-Sync : goal.returns-in-Sync
+returns-in-Sync g c =
+    let scope = c.args.scope.now in
+    rw (c.and.ensures, c.in-Sync.is)
+    (stands_alone scope c.args.words.now _ _ c.end.result (c.end.ensures scope) (λ f. rw c.does.ensures (refl, refl, (f.0, (c.args.words.now, refl, tt, f.1), f.2))))
 
-pub returns-in-Ok-end-2 : goal.returns-in-Ok-end-2
-returns-in-Ok-end-2 g c =
-    let f = c.in-Ok-end-2.ensures c.args.scope.now in
-    rw c.in-Else.is (f.0, (c.args.words.now, refl, tt, f.1), f.2)
+pub returns-in-Else : goal.returns-in-Else
+returns-in-Else g c =
+    let scope = c.args.scope.now in
+    rw (c.and-in-Else.ensures, c.in-Else.is)
+    (stands_alone scope c.args.words.now _ _ c.end-in-Else.result (c.end-in-Else.ensures scope) (λ f. (f.0, (c.args.words.now, refl, tt, f.1), f.2)))
 
-pub returns-in-Ok-end-3 : goal.returns-in-Ok-end-3
-returns-in-Ok-end-3 g c =
-    let f = c.in-Ok-end-3.ensures c.args.scope.now in
-    rw c.in-End.is (f.0, (c.args.words.now, refl, tt, f.1), f.2)
+pub returns-in-End : goal.returns-in-End
+returns-in-End g c =
+    let scope = c.args.scope.now in
+    rw (c.and-in-End.ensures, c.in-End.is)
+    (stands_alone scope c.args.words.now _ _ c.end-in-End.result (c.end-in-End.ensures scope) (λ f. (f.0, (c.args.words.now, refl, tt, f.1), f.2)))

@@ -1,10 +1,9 @@
-use Rattle.std.proofs.Common.{◌≡◌, ◌+◌, ◌∷◌, ◌≢◌, List, ℕ, arith, sym, ◌∙◌, ap, subst, length}
-use Rattle.std.specs.Prelude.{Some, None}
+use Rattle.std.proofs.Common.{◌≡◌, ◌+◌, ◌∷◌, ◌≢◌, arith, sym}
+use Rattle.std.specs.Prelude.{None}
 use Rattle.std.proofs.lemmas.Bool.Decides.{nat_tests}
 use Rattle.trace_text.specs.Text.{lines}
 use Rattle.trace_text.proofs.RoomFaults.{lines_split}
 use Rattle.program_text.specs.Functions.{functions_of}
-use Rattle.program_text.specs.Drafts.{Draft}
 use Rattle.program_text.proofs.Knowing.{no_lines}
 use Rattle.program_text.proofs.Taken.{decides_more, fault_here, open_here, no_main_here, means_here, main_below, is_none, is_shut}
 use Rattle.program_text.proofs.text.body.Goals as goal

@@ -1,16 +1,11 @@
-use Rattle.std.proofs.Common.{◌+◌, ◌∙◌, ap, sym, subst, refl, Some, length, arith}
+use Rattle.std.proofs.Common.{◌+◌, ◌∙◌, ap, subst, refl, Some, length, arith}
 use Rattle.std.specs.Prelude.{IsTrue}
 use Rattle.std.proofs.lemmas.Bool.{ltb-true}
-use Rattle.program_text.specs.Bodies.{EndsAt, part_end}
+use Rattle.program_text.specs.Bodies.{part_end}
 use Rattle.program_text.specs.Sound.{is_within}
+use Rattle.program_steps.proofs.Places.{left_behind_else}
 use Rattle.program_steps.proofs.Turns.{flat, if_first, if_second, part_over, loop_begins, let_passes, fewer, fewer_numbers}
 use Rattle.program_steps.proofs.activation.Activation.pass.Goals as goal
-
-pub behind_else-self-requires : goal.behind_else-self-requires
-behind_else-self-requires g c =
-    let f = flat c.args.function.now c.args.self.now.place c.args.self.now.turn _ refl c.requires.stands.1.within (c.requires.at ∙ ap Some c.in-Else.is) in
-    let e = c.as_slice.ensures ∙ ap (λ o. o.body) c.function.view_is in
-    record { ends = subst (λ b. EndsAt b c.args.self.now.place c.in-Else.after) (sym e) (c.requires.linked c.args.self.now.place c.in-Else.after (ap part_end f.at)) }
 
 pub returns-in-Let-clause-stands : goal.returns-in-Let-clause-stands
 returns-in-Let-clause-stands g c = λ cells reducers functions w s. c.step_in.ensures.stands functions (record { within = s.within; turn = s.turn })
@@ -53,11 +48,23 @@ returns-else-self-from-ne0-clause-passes g c =
     let ends = c.requires.linked c.args.self.now.place c.in-If.otherwise (ap part_end f.at) in
     if_second c.args.function.now c.args.self.now.place c.args.self.now.turn _ _ _ c.args.self.now.registers f (rw c.from-in-If.ensures at c.if-self-from-ne0.false) ends
 
+pub returns-in-Else-clause-stands : goal.returns-in-Else-clause-stands
+returns-in-Else-clause-stands g c = λ cells reducers functions w s.
+    let f = flat c.args.function.now c.args.self.now.place c.args.self.now.turn _ refl c.requires.stands.1.within (c.requires.at ∙ ap Some c.in-Else.is) in
+    let ends = c.requires.linked c.args.self.now.place c.in-Else.after (ap part_end f.at) in
+    record { within = ends.1; turn = s.turn }
+
+pub returns-in-Else-clause-later : goal.returns-in-Else-clause-later
+returns-in-Else-clause-later g c =
+    let f = flat c.args.function.now c.args.self.now.place c.args.self.now.turn _ refl c.requires.stands.1.within (c.requires.at ∙ ap Some c.in-Else.is) in
+    let ends = c.requires.linked c.args.self.now.place c.in-Else.after (ap part_end f.at) in
+    fewer (length c.args.function.now.body) c.args.self.now.place c.in-Else.after c.args.self.now.turn f.plainly ends.0 f.within
+
 pub returns-in-Else-clause-passes : goal.returns-in-Else-clause-passes
 returns-in-Else-clause-passes g c =
     let f = flat c.args.function.now c.args.self.now.place c.args.self.now.turn _ refl c.requires.stands.1.within (c.requires.at ∙ ap Some c.in-Else.is) in
-    let e = c.as_slice.ensures ∙ ap (λ o. o.body) c.function.view_is in
-    part_over c.args.function.now c.args.self.now.place c.args.self.now.turn _ c.behind_else-self.result c.args.self.now.registers f (rw e at (c.behind_else-self.ensures.left c.in-Else.line c.in-Else.after))
+    part_over c.args.function.now c.args.self.now.place c.args.self.now.turn _ c.in-Else.after c.args.self.now.registers f
+    (left_behind_else c.args.function.now.body c.args.self.now.place c.in-Else.line c.in-Else.after c.requires.linked c.requires.divided f.at)
 
 pub returns-in-End-clause-stands : goal.returns-in-End-clause-stands
 returns-in-End-clause-stands g c = λ cells reducers functions w s.

@@ -135,6 +135,18 @@ pass-requires-clause-linked g c =
     let sound = sound_of cells reducers functions c.args.self.now.function code c.args.program.now.sound h in
     sound.linked
 
+pub pass-requires-clause-divided : goal.pass-requires-clause-divided
+pass-requires-clause-divided g c =
+    let functions = c.args.program.now.functions in
+    let code = c.index-as_slice-self.result in
+    let h = item_of c.as_slice.result.now functions c.args.self.now.function code c.requires.place.code c.as_slice.ensures c.requires.place.known c.index-as_slice-self.is in
+    let now = c.loop-statement.self in
+    let k = same_function functions code c.args.self.now now h c.loop-statement.invariant.function in
+    let cells = cells_of c.args.program.now.mems in
+    let reducers = length c.args.program.now.reducers in
+    let sound = sound_of cells reducers functions c.args.self.now.function code c.args.program.now.sound h in
+    sound.divided
+
 pub loop-statement-preserved : goal.loop-statement-preserved
 loop-statement-preserved g c =
     let functions = c.args.program.now.functions in

@@ -1,6 +1,5 @@
-use Rattle.std.proofs.Common.{◌≡◌, sym, ◌∙◌, ap}
-use Rattle.program_text.specs.Grammar.{main_of}
-use Rattle.program_text.proofs.Taken.{main_is}
+use Rattle.std.proofs.Common.{sym, ◌∙◌, ap}
+use Rattle.program_text.specs.Codes.{main_of}
 use Rattle.program_text.proofs.Whole.{assembled, whole_of_text}
 use Rattle.program_text.proofs.program.Program.parse.Goals as goal
 
@@ -18,6 +17,5 @@ invariant_of-result g c =
       few_reducers = whole.few_reducers;
       few_functions = whole.few_functions;
       sound = whole.sound;
-      main_is = main_is c.new-in-Ok-2.result c.in-Ok.main
-          (ap main_of (c.new-in-Ok-2.ensures ∙ sym c.into_parts-version.ensures.functions) ∙ c.in-Ok.ensures.main);
+      main_is = ap main_of (c.new-in-Ok-2.ensures ∙ sym c.into_parts-version.ensures.functions) ∙ c.in-Ok.ensures.main;
     }

@@ -6,11 +6,9 @@ use Rattle.trace_text.specs.declared.value.Act.{Act}
 use Rattle.program_steps.specs.Values.{cell_of, value_of}
 use Rattle.program_steps.proofs.Located.{placed, named}
 use Rattle.program_lines.specs.declared.statement.Statement.TheVariants.{Read, Write, Bump, Else}
-use Rattle.program_text.specs.Bodies.{EndsAt}
 use Rattle.serial_elision.specs.States.{state_of, store_of, monoids_in, callers_of, left_at, length_in}
-use Rattle.program_text.specs.Trees.{left_of}
-use Rattle.program_steps.proofs.Places.{found}
-use Rattle.serial_elision.proofs.Soundness.{few_statements, next_within, next_fits, part_ends, within, reducer_known}
+use Rattle.program_steps.proofs.Places.{found, left_behind_else}
+use Rattle.serial_elision.proofs.Soundness.{body_sound, next_within, next_fits, part_ends, within, reducer_known}
 use Rattle.serial_elision.proofs.Reducing.{update_makes, put_makes}
 use Rattle.serial_elision.proofs.Evaluations.{let_leads, read_leads, write_leads, bump_leads, get_leads, spawn_leads, call_leads, sync_leads, pfor_leads}
 use Rattle.serial_elision.proofs.Elisions.{moved_stands, stored_stands, viewed_stands, counted_stands, line_makes, counts_makes, begun_stands, enter_makes, same_makes, if_stands, if_makes}
@@ -204,38 +202,23 @@ returns-in-If-clause-makes g c =
     let code = c.args.function.now in
     if_makes p.functions (monoids_in p) (cells_of p.mems) before code c.requires.here c.in-If.line c.in-If.register c.in-If.otherwise (part_ends (cells_of p.mems) (length p.reducers) p.functions p.sound before.top.function code c.requires.here before.top.place _ (c.requires.at ∙ ap Some c.in-If.is) c.in-If.otherwise refl) _ c.requires.going c.requires.quiet (c.requires.at ∙ ap Some c.in-If.is) (slice_index before.top.registers c.in-If.register.index) refl c.choose.ensures.first c.choose.ensures.second
 
-pub behind_else-place-requires-clause-ends : goal.behind_else-place-requires-clause-ends
-behind_else-place-requires-clause-ends g c =
-    let p = c.args.program.now in
-    let before = state_of c.args.self.now in
-    let code = c.args.function.now in
-    let body : c.as_slice.result.now ≡ code.body = c.as_slice.ensures ∙ ap (λ f. f.body) c.function.view_is in
-    subst (λ b. EndsAt b before.top.place c.in-Else.after) (sym body) (part_ends (cells_of p.mems) (length p.reducers) p.functions p.sound before.top.function code c.requires.here before.top.place _ (c.requires.at ∙ ap Some c.in-Else.is) c.in-Else.after refl)
-
-pub behind_else-place-requires-clause-few : goal.behind_else-place-requires-clause-few
-behind_else-place-requires-clause-few g c =
-    let p = c.args.program.now in
-    let before = state_of c.args.self.now in
-    let code = c.args.function.now in
-    let body : c.as_slice.result.now ≡ code.body = c.as_slice.ensures ∙ ap (λ f. f.body) c.function.view_is in
-    subst (λ b. length b < 2 ^ 32) (sym body) (few_statements (cells_of p.mems) (length p.reducers) p.functions p.sound before.top.function code c.requires.here)
-
 pub returns-in-Else-clause-stands : goal.returns-in-Else-clause-stands
 returns-in-Else-clause-stands g c =
     let p = c.args.program.now in
     let before = state_of c.args.self.now in
     let code = c.args.function.now in
-    let body : c.as_slice.result.now ≡ code.body = c.as_slice.ensures ∙ ap (λ f. f.body) c.function.view_is in
-    moved_stands p.functions (monoids_in p) (cells_of p.mems) before code c.requires.here _ _ _ c.requires.stands (subst (λ b. c.behind_else-place.result ≤ length b) body c.behind_else-place.ensures.within) c.go-in-Else.ensures
+    let e = part_ends (cells_of p.mems) (length p.reducers) p.functions p.sound before.top.function code c.requires.here before.top.place _ (c.requires.at ∙ ap Some c.in-Else.is) c.in-Else.after refl in
+    moved_stands p.functions (monoids_in p) (cells_of p.mems) before code c.requires.here _ _ _ c.requires.stands e.1 c.go-in-Else.ensures
 
 pub returns-in-Else-clause-makes : goal.returns-in-Else-clause-makes
 returns-in-Else-clause-makes g c =
     let p = c.args.program.now in
     let before = state_of c.args.self.now in
     let code = c.args.function.now in
-    let body : c.as_slice.result.now ≡ code.body = c.as_slice.ensures ∙ ap (λ f. f.body) c.function.view_is in
-    same_makes p.functions (monoids_in p) (cells_of p.mems) before code c.requires.here c.requires.going c.requires.quiet _ (c.requires.at ∙ ap Some c.in-Else.is) c.behind_else-place.result _ c.behind_else-place.ensures.later
-    (subst (λ b. left_of (drop c.behind_else-place.result b) ≡ left_of (Else c.in-Else.line c.in-Else.after ∷ drop (before.top.place + 1) b)) body (c.behind_else-place.ensures.left c.in-Else.line c.in-Else.after))
+    let e = part_ends (cells_of p.mems) (length p.reducers) p.functions p.sound before.top.function code c.requires.here before.top.place _ (c.requires.at ∙ ap Some c.in-Else.is) c.in-Else.after refl in
+    let sound = body_sound (cells_of p.mems) (length p.reducers) p.functions p.sound before.top.function code c.requires.here in
+    same_makes p.functions (monoids_in p) (cells_of p.mems) before code c.requires.here c.requires.going c.requires.quiet _ (c.requires.at ∙ ap Some c.in-Else.is) c.in-Else.after _ e.0
+    (left_behind_else code.body before.top.place c.in-Else.line c.in-Else.after sound.linked sound.divided (c.requires.at ∙ ap Some c.in-Else.is))
     c.go-in-Else.ensures
 
 pub overflow_add-self-in-End : goal.overflow_add-self-in-End

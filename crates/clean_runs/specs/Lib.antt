@@ -1,0 +1,3 @@
+pub mod Expansions
+pub mod Placed
+pub mod Laws

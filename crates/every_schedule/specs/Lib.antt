@@ -1,0 +1,3 @@
+pub mod Agreement
+pub mod Fronts
+pub mod Traces

@@ -1,0 +1,119 @@
+//! Worked programs, with values from their definitions.
+
+use program_text::Program;
+use serial_elision::{ElideFault, elide};
+use std::alloc::Global;
+use std::process::Abort;
+
+const FIBONACCI: &[u8] =
+    b"cilk 1\nmem x\nreducer h sum\nfunc main z\n  put h 0\n  call fib 10\n  get r h\n  write x r\nend\nfunc fib n\n  let t = n < 2\n  if t\n    update h n\n  else\n    let a = n - 1\n    let b = n - 2\n    spawn fib a\n    call fib b\n    sync\n  end\nend\n";
+
+const PAIR: &[u8] =
+    b"cilk 1\nmem x\nmem y\nfunc main z\n  spawn f 7\n  read r x\nend\nfunc f v\n  write x v\nend\n";
+
+const SERIES: &[u8] =
+    b"cilk 1\nmem x\nmem y\nfunc main z\nspawn f 7\nsync\nread r x\nwrite y r\nend\nfunc f v\nwrite x v\nend\n";
+
+const LASTS: &[u8] =
+    b"cilk 1\nmem x\nreducer h last\nfunc main z\nput h 0\nspawn f 2\nupdate h 3\nsync\nget r h\nwrite x r\nend\nfunc f v\nupdate h v\nend\n";
+
+const DIGITS: &[u8] =
+    b"cilk 2\nmem x\nreducer h digits\nfunc main z\nput h 0\nspawn f 1\nupdate h 2\nsync\nget r h\nwrite x r\nend\nfunc f v\nupdate h v\nend\n";
+
+const FOUR_TURNS: &[u8] =
+    b"cilk 2\nmem a 4\nfunc main z\n  pfor i 4 f\nend\nfunc f n\n  write a[n] n\nend\n";
+
+const NO_TURNS: &[u8] =
+    b"cilk 2\nmem a 4\nmem x\nfunc main z\n  let i = 9\n  pfor i 0 f\n  write x i\nend\nfunc f n\n  write a[n] n\nend\n";
+
+const AFTER_TURNS: &[u8] =
+    b"cilk 2\nmem x\nmem y\nfunc main z\n  let k = 3\n  pfor k k f\n  write y k\nend\nfunc f n\n  bump x n\nend\n";
+
+const ENDLESS: &[u8] = b"cilk 1\nfunc main z\ncall main 0\nend\n";
+
+/// Whether the elision of a text ends with this memory after so many requests.
+fn gives(alloc: Global, text: &[u8], limit: u32, memory: &[u64], requests: u32) -> bool {
+    match Program::parse(alloc, text) {
+        Ok(program) => match elide(alloc, &program, limit) {
+            Ok(elided) => elided.memory.as_slice() == memory && elided.requests == requests,
+            Err(_) => false,
+        },
+        Err(_) => false,
+    }
+}
+
+/// Whether the elision of a text passes the limit.
+fn is_limited(alloc: Global, text: &[u8], limit: u32) -> bool {
+    match Program::parse(alloc, text) {
+        Ok(program) => matches!(elide(alloc, &program, limit), Err(ElideFault::Limit)),
+        Err(_) => false,
+    }
+}
+
+#[test]
+fn fibonacci(rt: HostRuntime) {
+    assert!(rt; gives(rt.alloc(), FIBONACCI, 1_000_000, &[55], 713));
+    assert!(rt; gives(rt.alloc(), FIBONACCI, 713, &[55], 713));
+    assert!(rt; is_limited(rt.alloc(), FIBONACCI, 712));
+    assert!(rt; is_limited(rt.alloc(), FIBONACCI, 0));
+}
+
+#[test]
+fn a_spawn_is_a_call(rt: HostRuntime) {
+    assert!(rt; gives(rt.alloc(), PAIR, 100, &[7, 0], 7));
+    assert!(rt; gives(rt.alloc(), SERIES, 100, &[7, 7], 9));
+}
+
+#[test]
+fn reducers_in_serial_order(rt: HostRuntime) {
+    assert!(rt; gives(rt.alloc(), LASTS, 100, &[3], 11));
+    assert!(rt; gives(rt.alloc(), DIGITS, 100, &[33], 11));
+}
+
+#[test]
+fn a_get_of_no_number_is_zero(rt: HostRuntime) {
+    let text = b"cilk 1\nmem x\nreducer h last\nfunc main z\nwrite x 5\nget r h\nwrite x r\nend\n";
+    assert!(rt; gives(rt.alloc(), text, 100, &[0], 5));
+}
+
+#[test]
+fn turns(rt: HostRuntime) {
+    assert!(rt; gives(rt.alloc(), FOUR_TURNS, 100, &[0, 1, 2, 3], 19));
+    assert!(rt; gives(rt.alloc(), NO_TURNS, 100, &[0, 0, 0, 0, 9], 4));
+    assert!(rt; gives(rt.alloc(), AFTER_TURNS, 100, &[3, 2], 16));
+}
+
+#[test]
+fn recursion_meets_the_limit(rt: HostRuntime) {
+    assert!(rt; is_limited(rt.alloc(), ENDLESS, 5));
+    assert!(rt; is_limited(rt.alloc(), ENDLESS, 100_000));
+}
+
+#[test]
+fn arithmetic(rt: HostRuntime) {
+    let text =
+        b"cilk 1\nmem a 6\nfunc main z\nlet m = 0 - 1\nwrite a[0] m\nlet r = m + 2\nwrite a[1] r\nlet r = m * 2\nwrite a[2] r\nlet r = m < 0\nwrite a[3] r\nlet r = 0 < m\nwrite a[4] r\nwrite a[5] ok\nend\n";
+    let memory = [u64::MAX, 1, u64::MAX - 1, 0, 1, 1];
+    assert!(rt; gives(rt.alloc(), text, 100, &memory, 8));
+}
+
+#[test]
+fn an_index_is_taken_modulo_the_length(rt: HostRuntime) {
+    let text =
+        b"cilk 1\nmem x\nmem a 3\nfunc main z\nlet m = 0 - 2\nwrite a[7] 5\nwrite a[m] 6\nread r a[4]\nwrite x r\nend\n";
+    assert!(rt; gives(rt.alloc(), text, 100, &[5, 0, 5, 6], 6));
+}
+
+#[test]
+fn a_called_function_has_its_own_registers(rt: HostRuntime) {
+    let text =
+        b"cilk 1\nmem x\nmem y\nfunc main z\nlet r = 5\ncall f 1\nwrite x r\nend\nfunc f n\nlet r = n + 8\nwrite y r\nend\n";
+    assert!(rt; gives(rt.alloc(), text, 100, &[5, 9], 7));
+}
+
+#[test]
+fn either_part(rt: HostRuntime) {
+    let text =
+        b"cilk 1\nmem x\nmem y\nfunc main z\nif ok\nif z\nwrite x 1\nelse\nwrite x 2\nend\nelse\nwrite x 3\nend\nif z\nwrite y 4\nend\nend\n";
+    assert!(rt; gives(rt.alloc(), text, 100, &[2, 0], 3));
+}

@@ -1,0 +1,134 @@
+//! Worked runs.
+
+use access_table::{Kind, Rule};
+use program_replay::{ReplayFault, replay};
+use program_text::Program;
+use race_gate::{Answer, Entry};
+use shadow_history::Witness;
+use sp_labels::Spawned;
+use std::alloc::Global;
+use std::test::Fail;
+use trace_text::{Act, Request};
+
+const PAIR: &[u8] =
+    b"cilk 1\nmem x\nmem y\nfunc main z\n  spawn f 7\n  read r x\nend\nfunc f v\n  write x v\nend\n";
+
+const ENDLESS: &[u8] = b"cilk 1\nfunc main z\ncall main 0\nend\n";
+
+fn entry(strand: u32, act: Act, line: u32, answer: Answer) -> Entry {
+    Entry {
+        request: Request { strand, act, line },
+        answer,
+    }
+}
+
+// The program's run in which the child writes before the spawner reads.
+fn pair() -> [Entry; 7] {
+    [
+        entry(
+            0,
+            Act::Spawn,
+            5,
+            Answer::Split(Spawned {
+                child: 1,
+                next: 2,
+                join: 3,
+                first: true,
+            }),
+        ),
+        entry(1, Act::Write(0, 7), 9, Answer::Granted),
+        entry(2, Act::Read(0), 6, refused()),
+        entry(1, Act::Sync, 10, Answer::Same),
+        entry(1, Act::Return, 10, Answer::Ended),
+        entry(2, Act::Sync, 7, Answer::Joined(3)),
+        entry(3, Act::Return, 7, Answer::Finished),
+    ]
+}
+
+fn refused() -> Answer {
+    Answer::Refused {
+        rule: Rule::Race,
+        witness: Witness {
+            entry: 2,
+            strand: 1,
+            kind: Kind::Write,
+        },
+    }
+}
+
+// Whether the replay of these entries is so.
+fn gives(alloc: Global, text: &[u8], entries: &[Entry], wanted: Result<(), ReplayFault>) -> bool {
+    match Program::parse(alloc, text) {
+        Ok(program) => replay(alloc, &program, entries) == wanted,
+        Err(_) => false,
+    }
+}
+
+#[test]
+fn a_run_is_replayed(rt: HostRuntime) -> Result<(), Fail> {
+    let entries = pair();
+    assert!(rt; gives(rt.alloc(), PAIR, &entries, Ok(())));
+    assert!(rt;
+        gives(
+            rt.alloc(),
+            PAIR,
+            &entries[..6],
+            Err(ReplayFault::Unfinished)
+        )
+    );
+    assert!(rt; gives(rt.alloc(), PAIR, &[], Err(ReplayFault::Unfinished)));
+    Ok(())
+}
+
+#[test]
+fn another_answer_is_strange(rt: HostRuntime) -> Result<(), Fail> {
+    let mut entries = pair();
+    entries[1].answer = refused();
+    assert!(rt; gives(rt.alloc(), PAIR, &entries, Err(ReplayFault::Strange(2))));
+    Ok(())
+}
+
+// The first entry whose answer no gate gives is the strange one, wherever it stands.
+#[test]
+fn each_answer_is_compared(rt: HostRuntime) -> Result<(), Fail> {
+    for place in 0..7 {
+        let mut entries = pair();
+        entries[place].answer = Answer::Unset;
+        assert!(rt;
+            gives(
+                rt.alloc(),
+                PAIR,
+                &entries,
+                Err(ReplayFault::Strange(place as u32 + 1))
+            )
+        );
+    }
+    Ok(())
+}
+
+#[test]
+fn nothing_follows_the_end(rt: HostRuntime) -> Result<(), Fail> {
+    let entries = pair();
+    let mut more = Vec::from_slice(rt.alloc(), &entries)?;
+    more.push(entries[6])?;
+    assert!(rt; gives(rt.alloc(), PAIR, &more, Err(ReplayFault::Strange(8))));
+    Ok(())
+}
+
+#[test]
+fn another_request_is_strange(rt: HostRuntime) -> Result<(), Fail> {
+    let mut entries = pair();
+    entries[2].request.act = Act::Read(1);
+    assert!(rt; gives(rt.alloc(), PAIR, &entries, Err(ReplayFault::Strange(3))));
+    let mut entries = pair();
+    entries[3].request.strand = 9;
+    assert!(rt; gives(rt.alloc(), PAIR, &entries, Err(ReplayFault::Strange(4))));
+    Ok(())
+}
+
+#[test]
+fn calls_need_not_end(rt: HostRuntime) -> Result<(), Fail> {
+    let entries = [entry(0, Act::Call, 3, Answer::Same); 5];
+    assert!(rt; gives(rt.alloc(), ENDLESS, &entries, Err(ReplayFault::Unfinished)));
+    Ok(())
+}

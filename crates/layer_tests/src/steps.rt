@@ -1,0 +1,63 @@
+use program_steps::{Activation, act_of, answered, cell_of, line_of, result_of};
+use program_text::{Expression, Location, Operand, REGISTERS, Statement};
+use race_gate::Answer;
+use trace_text::Act;
+
+// The greatest number that a register holds.
+const MOST: u64 = 18446744073709551615;
+
+#[test]
+fn arithmetic_is_modulo_two_to_the_64(rt: HostRuntime) {
+    let registers = [0; REGISTERS];
+    let most = Operand::Number(MOST);
+    let two = Operand::Number(2);
+    assert!(rt; result_of(&registers, Expression::Plain(most)) == MOST);
+    assert!(rt; result_of(&registers, Expression::Sum(most, two)) == 1);
+    assert!(rt; result_of(&registers, Expression::Difference(two, most)) == 3);
+    assert!(rt; result_of(&registers, Expression::Product(most, two)) == MOST - 1);
+    assert!(rt; result_of(&registers, Expression::Less(two, most)) == 1);
+    assert!(rt; result_of(&registers, Expression::Less(two, two)) == 0);
+}
+
+#[test]
+fn an_index_is_modulo_the_length(rt: HostRuntime) {
+    let registers = [0; REGISTERS];
+    let element = |index: u64| Location::Element {
+        first: 5,
+        length: 4,
+        index: Operand::Number(index),
+    };
+    assert!(rt; cell_of(&registers, Location::Cell(3)) == 3);
+    assert!(rt; cell_of(&registers, element(3)) == 8);
+    assert!(rt; cell_of(&registers, element(6)) == 7);
+}
+
+#[test]
+fn a_function_begins_with_ok_and_its_argument(rt: HostRuntime) {
+    let begun = Activation::begin(3, 7);
+    assert!(rt; begun.function == 3 && begun.place == 0 && begun.join == None);
+    assert!(rt; begun.registers[0] == 1 && begun.registers[1] == 7 && begun.registers[2] == 0);
+}
+
+#[test]
+fn a_refused_write_clears_ok(rt: HostRuntime) {
+    let begun = Activation::begin(0, 7);
+    let write = Statement::Write {
+        line: 4,
+        location: Location::Cell(2),
+        value: Operand::Number(9),
+    };
+    assert!(rt; act_of(&begun.registers, write) == Some(Act::Write(2, 9)));
+    assert!(rt; line_of(write) == 4);
+    let Some(after) = answered(begun.registers, write, &Answer::Granted) else {
+        return assert!(rt; false);
+    };
+    assert!(rt; after[0] == 1 && after[1] == 7);
+    assert!(rt; matches!(answered(begun.registers, write, &Answer::Value(1)), None));
+    assert!(rt;
+        matches!(
+            answered(begun.registers, Statement::Sync { line: 5 }, &Answer::Waits),
+            Some(_)
+        )
+    );
+}

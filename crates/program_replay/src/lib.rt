@@ -1,0 +1,11 @@
+//! Replays of runs: whether the entries of a history are a run of a program.
+//!
+//! [`replay`] carries the theorem in its contract: it is Ok only on a finished run, and otherwise says how far the entries are one. One frame for each
+//! spawned function asks, and a fresh gate answers; an entry is strange where it is another request, or has another answer.
+#![tactic(auto)]
+
+mod cast;
+mod replays;
+mod turn;
+
+pub use replays::{ReplayFault, replay};

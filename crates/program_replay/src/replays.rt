@@ -1,0 +1,66 @@
+//! Replays.
+
+ghost use Rattle.std.specs.Prelude.{◌≡◌, ℕ, reverse, OnOk, Err};
+ghost use Rattle.program_runs.specs.Runs.{shape_in, IsFinishedRun};
+ghost use Rattle.program_replay.specs.Replays.{IsUnfinishedRun, IsStrange};
+ghost use Rattle.program_replay.specs.declared.replays.ReplayFault.{ReplayFault};
+
+use crate::cast::Cast;
+use crate::turn::Misfit;
+use program_text::Program;
+use race_gate::Entry;
+use std::alloc::{AllocError, Allocator};
+use thiserror::Error;
+
+/// Why entries are not a finished run.
+#[derive(Clone, Copy, Debug, PartialEq, Eq, Error)]
+pub enum ReplayFault {
+    /// The first entry, by its number from 1 on, that is not the request of a frame that runs there, or has not the gate's answer, or is past the
+    /// 1,000,000th.
+    #[error("strange {0}")]
+    Strange(u32),
+    /// The root function has not returned.
+    #[error("unfinished")]
+    Unfinished,
+    /// There is no memory.
+    #[error("there is no memory")]
+    Memory,
+}
+
+impl From<AllocError> for ReplayFault {
+    ghost use Rattle.std.specs.Prelude.{◌≡◌};
+    ghost use Rattle.program_replay.specs.declared.replays.ReplayFault.TheVariants.{Memory};
+
+    ghost from_gives = { λ _ fault. fault ≡ Memory };
+
+    fn from(_fault: AllocError) -> ReplayFault {
+        ReplayFault::Memory
+    }
+}
+
+/// Plays the entries, the oldest first, with the program's frames before a fresh gate. It is Ok only on a finished run. Of a run that is not finished
+/// it says so, and otherwise which entry is strange; a refused entry can be strange in its witness alone.
+pub fn replay<A: Allocator + Copy, B: Allocator>(
+    alloc: A,
+    program: &Program<B>,
+    entries: &[Entry],
+) -> Result<(), ReplayFault>
+    ensures finished { OnOk result (IsFinishedRun program.now.functions (shape_in program.now) (reverse entries.now)) }
+    ensures unfinished { result ≡ Err ReplayFault.Unfinished → IsUnfinishedRun program.now.functions (shape_in program.now) (reverse entries.now) }
+    ensures strange { (number : ℕ) → result ≡ Err (ReplayFault.Strange number) → IsStrange program.now.functions (shape_in program.now) entries.now number }
+{
+    let mut cast = Cast::open(alloc, program)?;
+    for entry in entries {
+        let number = cast.gate.history().len() as u32 + 1;
+        match cast.play(program, *entry) {
+            Ok(()) => {}
+            Err(Misfit::Strange) => return Err(ReplayFault::Strange(number)),
+            Err(Misfit::Memory) => return Err(ReplayFault::Memory),
+        }
+    }
+    if cast.gate.is_finished() {
+        Ok(())
+    } else {
+        Err(ReplayFault::Unfinished)
+    }
+}

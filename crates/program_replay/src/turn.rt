@@ -1,0 +1,64 @@
+//! One entry: the turn of its frame, and the gate's answer.
+
+ghost use Rattle.std.specs.Prelude.{◌≡◌, IfOk, OnOk, Err};
+ghost use Rattle.frame_steps.specs.Frames.{Stands};
+ghost use Rattle.program_replay.specs.Turns.{IsTurn, HasNoTurn, IsEntered, IsOdd};
+ghost use Rattle.program_replay.specs.declared.turn.Misfit.{Misfit};
+
+use frame_steps::{Frame, FrameFault};
+use program_steps::Target;
+use program_text::Program;
+use race_gate::{Entry, Gate, GateFault};
+use std::alloc::Allocator;
+
+/// Why an entry is not played.
+#[derive(Clone, Copy, Debug, PartialEq, Eq)]
+pub enum Misfit {
+    /// It does not follow, or is not answered so, or is one too many.
+    Strange,
+    /// There is no memory.
+    Memory,
+}
+
+/// Goes on with a frame by an entry, and gives the function that it spawns.
+pub fn turn<A: Allocator, B: Allocator>(
+    frame: &mut Frame<A>,
+    program: &Program<B>,
+    entry: Entry,
+) -> Result<Option<Target>, Misfit>
+    requires stands { Stands program.now.functions frame.old }
+    ensures ok { IfOk result (λ target. IsTurn program.now.functions entry target frame.old frame.new) }
+    ensures strange { result ≡ Err Misfit.Strange → HasNoTurn program.now.functions entry frame.old }
+{
+    if frame.is_over() {
+        return Err(Misfit::Strange);
+    }
+    let want = frame.next(program);
+    if want.act != entry.request.act || want.line != entry.request.line {
+        return Err(Misfit::Strange);
+    }
+    let target = frame.spawns(program);
+    match frame.answer(program, &entry.answer) {
+        Ok(()) => Ok(target),
+        Err(FrameFault::Strange) => Err(Misfit::Strange),
+        Err(FrameFault::Memory) => Err(Misfit::Memory),
+    }
+}
+
+/// Has a gate judge an entry's request, and compares the answer.
+pub fn confirm<A: Allocator + Clone>(gate: &mut Gate<A>, entry: Entry) -> Result<(), Misfit>
+    ensures ok { OnOk result (IsEntered entry gate.old gate.new) }
+    ensures strange { result ≡ Err Misfit.Strange → IsOdd entry gate.old }
+{
+    match gate.judge(entry.request) {
+        Ok(receipt) => {
+            if receipt.answer == entry.answer {
+                Ok(())
+            } else {
+                Err(Misfit::Strange)
+            }
+        }
+        Err(GateFault::Memory) => Err(Misfit::Memory),
+        Err(_) => Err(Misfit::Strange),
+    }
+}

@@ -1,0 +1,52 @@
+-- What holds of all runs of a program.
+use Rattle.std.specs.Prelude.{◌≡◌, ◌<◌, ◌++◌, ℕ, List, length}
+use Rattle.addresses.specs.Address.{Address}
+use Rattle.race_gate.specs.Entries.{Entries}
+use Rattle.race_gate.specs.Shapes.{Shape}
+use Rattle.race_gate.specs.Memory.{value_of, IsMemory}
+use Rattle.race_gate.specs.Extensions.{IsFinished, IsClean}
+use Rattle.reducer_views.specs.declared.view.View.{View}
+use Rattle.program_text.specs.Codes.{Code}
+use Rattle.program_text.specs.Sound.{IsSound}
+use Rattle.serial_elision.specs.Evaluation.{Effect}
+use Rattle.serial_elision.specs.Elisions.{HasMain, EvaluatesProgram}
+use Rattle.program_runs.specs.Runs.{IsRun, IsFinishedRun}
+use Rattle.program_runs.specs.Serial.{Numbered, IsSerialList, effects_of}
+use Rattle.program_runs.specs.Numbers.{AreNumbered}
+use Rattle.program_runs.specs.Coordinates.{effects_at, IsPrefixOf}
+
+-- The entries in serial order are, one by one, the requests of the program's serial elision, with the values that they were given there, and the
+-- memory that the history leaves is the elision's.
+pub record IsElided (functions : List Code) (shape : Shape) (entries : Entries) : Type 0 where
+  pub main : Code
+  pub is_main : HasMain functions main
+  pub listed : List Numbered
+  pub serial : IsSerialList entries listed
+  pub memory : List ℕ
+  pub views : List View
+  pub evaluates : EvaluatesProgram functions shape.monoids shape.cells main (effects_of listed) (record { memory = memory; views = views })
+  pub holds : IsMemory shape.cells entries memory
+
+-- what a run begins with is a run
+abbrev pub PrefixLaw : Type 0
+PrefixLaw = (functions : List Code) (shape : Shape) (later entries : Entries) → IsRun functions shape (later ++ entries) → IsRun functions shape entries
+
+-- a finished run in which nothing was refused, of requests whose values are numbers, is the serial elision
+abbrev pub ElisionLaw : Type 0
+ElisionLaw =
+    (functions : List Code) (shape : Shape) → IsSound shape.cells (length shape.monoids) functions → (entries : Entries) →
+    IsFinishedRun functions shape entries → IsClean entries → AreNumbered entries → IsElided functions shape entries
+
+-- Another run of the program agrees with a clean and finished one: nothing is refused in it, at each address it did what the clean one did there, as
+-- far as it went, and where it is finished it did all of that and left the same memory.
+pub record Agrees (shape : Shape) (clean entries : Entries) : Type 0 where
+  pub is_clean : IsClean entries
+  pub begins : (place : Address) → IsPrefixOf (effects_at entries place) (effects_at clean place)
+  pub equal : IsFinished entries → (place : Address) → effects_at entries place ≡ effects_at clean place
+  pub memory : IsFinished entries → (cell : ℕ) → cell < shape.cells → value_of entries cell ≡ value_of clean cell
+
+-- one clean and finished run speaks for all runs of the program
+abbrev pub CleanLaw : Type 0
+CleanLaw =
+    (functions : List Code) (shape : Shape) → IsSound shape.cells (length shape.monoids) functions → (clean : Entries) →
+    IsFinishedRun functions shape clean → IsClean clean → (entries : Entries) → IsRun functions shape entries → Agrees shape clean entries

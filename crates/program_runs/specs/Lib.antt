@@ -1,0 +1,6 @@
+pub mod Frames
+pub mod Runs
+pub mod Serial
+pub mod Numbers
+pub mod Coordinates
+pub mod Laws
