@@ -3,7 +3,7 @@ use Rattle.std.proofs.Common.{◌≡◌, ℕ, List, Option, ◌∙◌}
 use Rattle.race_gate.specs.declared.answer.Reply.{Reply}
 use Rattle.cilkcheck.specs.declared.fault.CliFault.{CliFault}
 use Rattle.cilkcheck.specs.declared.fault.CliFault.TheVariants.{Usage, Read, Write, TooLong, Trace, Program, Limit, Memory}
-use Rattle.cilkcheck.specs.VerdictText.{verdict_text}
+use Rattle.race_report.specs.VerdictText.{verdict_text}
 use Rattle.cilkcheck.specs.Streams.{AnswersText, IsRead, HasCause, StopsWriting}
 
 -- only a part could be written

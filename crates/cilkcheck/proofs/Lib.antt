@@ -1,4 +1,3 @@
 mod Bytes
-mod GateWords
 mod Causes
 mod ElisionCauses

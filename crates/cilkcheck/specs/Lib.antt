@@ -1,6 +1,5 @@
 pub mod Watched
 pub mod Faults
-pub mod VerdictText
 pub mod Statuses
 pub mod Streams
 pub mod Jobs

@@ -13,7 +13,7 @@ use Rattle.race_gate.specs.Judged.{IsJudged}
 use Rattle.race_gate.specs.Replies.{JudgesAll}
 use Rattle.cilkcheck.specs.declared.fault.CliFault.{CliFault}
 use Rattle.cilkcheck.specs.declared.fault.CliFault.TheVariants.{Usage, Read, Write, TooLong, Trace, Memory}
-use Rattle.cilkcheck.specs.VerdictText.{verdict_text}
+use Rattle.race_report.specs.VerdictText.{verdict_text}
 
 -- the most bytes that are read, and how often a reader is asked for them
 abbrev pub most_bytes : ℕ

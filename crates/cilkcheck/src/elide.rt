@@ -13,9 +13,9 @@ ghost use Rattle.cilkcheck.specs.Elided.{ElidesContents, StopsElision, IsElided,
 
 use crate::fault::CliFault;
 use crate::judge::{read_text, write_text};
-use crate::verdict::{push_number, push_words};
 use crate::watched::Watched;
 use program_text::Program;
+use race_report::{push_number, push_words};
 use serial_elision::{ElideFault, elide};
 use std::alloc::{AllocError, Allocator};
 use std::io::{Read, Write};

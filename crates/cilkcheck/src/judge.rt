@@ -8,15 +8,15 @@ ghost use Rattle.trace_text.specs.Traces.{contents};
 ghost use Rattle.race_gate.specs.Shapes.{most_entries};
 ghost use Rattle.race_gate.specs.declared.answer.Reply.{Reply as SpecReply};
 ghost use Rattle.cilkcheck.specs.Watched.{held, has_failed, calls_of, one_more};
-ghost use Rattle.cilkcheck.specs.VerdictText.{HasWords};
+ghost use Rattle.race_report.specs.VerdictText.{HasWords};
 ghost use Rattle.cilkcheck.specs.Statuses.{status_of_replies};
 ghost use Rattle.cilkcheck.specs.Streams.{most_reads, AreReplies, IsRead, IsReadTooLong, IsAnswered, IsFaultOf, HasCause, TakesPiece, StopsPiece, StopsReading, StopsWriting};
 
 use crate::fault::CliFault;
 use crate::status::status_of;
-use crate::verdict::verdict_lines;
 use crate::watched::Watched;
 use race_gate::{Gate, Reply, judge_all};
+use race_report::verdict_lines;
 use std::alloc::{AllocError, Allocator};
 use std::io::{Read, Write};
 use trace_text::{Request, Trace};

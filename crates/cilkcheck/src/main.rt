@@ -18,7 +18,6 @@ mod elide;
 mod fault;
 mod judge;
 mod status;
-mod verdict;
 mod watched;
 mod words;
 

@@ -11,7 +11,6 @@ use std::io::{ErrorKind, Read, Write};
 use std::process::Abort;
 use std::test::Fail;
 use trace_text::{Act, Cause, Request, TextFault};
-use verdict::verdict_lines;
 
 const MOST: u32 = 1_000_000;
 
@@ -423,29 +422,20 @@ fn a_reader_that_gives_too_much(rt: HostRuntime) -> Result<(), Fail> {
 }
 
 #[test]
-fn lines_of_replies(rt: HostRuntime) -> Result<(), Fail> {
-    let request = Request {
-        strand: 0,
-        act: Act::Get(0),
-        line: 1,
-    };
+fn statuses_of_replies(rt: HostRuntime) {
     let unset = Reply::Done(Receipt {
         number: 1,
-        request,
+        request: Request {
+            strand: 0,
+            act: Act::Get(0),
+            line: 1,
+        },
         answer: Answer::Unset,
     });
-    let replies = [
-        unset,
-        Reply::Illegal(GateFault::Stopped),
-        Reply::Illegal(GateFault::BadName),
-        Reply::Illegal(GateFault::Memory),
-    ];
-    let lines = verdict_lines(rt.alloc(), &replies)?;
-    let wanted = "1 refused unset\nillegal stopped\nillegal bad-name\nillegal memory\n";
-    assert_eq!(rt; lines.as_slice(), wanted.as_bytes());
-    assert_eq!(rt; status::status_of(&replies), 3);
+    let stopped = Reply::Illegal(GateFault::Stopped);
+    let memory = Reply::Illegal(GateFault::Memory);
+    assert_eq!(rt; status::status_of(&[unset, stopped, memory]), 3);
     assert_eq!(rt; status::status_of(&[unset]), 1);
-    Ok(())
 }
 
 /// The words ask to judge with this limit.

@@ -21,6 +21,8 @@ mod kinds;
 #[cfg(test)]
 mod lines;
 #[cfg(test)]
+mod locks;
+#[cfg(test)]
 mod order;
 #[cfg(test)]
 mod printing;
@@ -30,6 +32,8 @@ mod programs;
 mod reads;
 #[cfg(test)]
 mod replays;
+#[cfg(test)]
+mod reports;
 #[cfg(test)]
 mod steps;
 #[cfg(test)]

@@ -1,8 +1,8 @@
 use Rattle.std.specs.List.{All}
 use Rattle.std.proofs.lemmas.Result.{IfOk-weaker}
 use Rattle.race_gate.specs.Replies.{JudgesAll}
-use Rattle.cilkcheck.specs.VerdictText.{HasWords}
-use Rattle.cilkcheck.proofs.GateWords.{replies_have_words}
+use Rattle.race_report.specs.VerdictText.{HasWords}
+use Rattle.race_report.proofs.GateWords.{replies_have_words}
 use Rattle.cilkcheck.proofs.judge.judge.Goals as goal
 
 pub returns-clause-words : goal.returns-clause-words

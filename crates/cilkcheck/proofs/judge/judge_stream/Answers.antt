@@ -1,7 +1,7 @@
 use Rattle.std.proofs.Common.{ap, ◌∙◌}
 use Rattle.trace_text.specs.Traces.{contents}
 use Rattle.cilkcheck.specs.Watched.{held, calls_of}
-use Rattle.cilkcheck.specs.VerdictText.{verdict_text}
+use Rattle.race_report.specs.VerdictText.{verdict_text}
 use Rattle.cilkcheck.proofs.Causes.{writing_cause}
 use Rattle.cilkcheck.proofs.judge.judge_stream.Goals as goal
 

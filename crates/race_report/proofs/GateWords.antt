@@ -24,7 +24,7 @@ use Rattle.race_gate.specs.ReducerVerdicts.{IsRightFor}
 use Rattle.race_gate.specs.Judged.{IsJudged}
 use Rattle.race_gate.specs.States.{State}
 use Rattle.race_gate.specs.Replies.{JudgesAll}
-use Rattle.cilkcheck.specs.VerdictText.{HasWord, HasWords}
+use Rattle.race_report.specs.VerdictText.{HasWord, HasWords}
 
 -- two kinds that race have a word for it, and so have two kinds of reads of reducers
 race_word : (earlier new : Kind) → rule_between earlier new ≡ Race → IsSome (rule_spelling earlier new (rule_between earlier new))
@@ -34,7 +34,7 @@ view_word : (earlier new : Kind) → rule_between earlier new ≡ View → IsSom
 view_word earlier new views = subst (λ rule. IsSome (rule_spelling earlier new rule)) (sym views) refl
 
 -- a legal answer that is right has a word
-answer_has_word : (shape : Shape) (entries : Entries) (strand : ℕ) (act : Act) (answer : Answer) → Belongs act answer →
+pub answer_has_word : (shape : Shape) (entries : Entries) (strand : ℕ) (act : Act) (answer : Answer) → Belongs act answer →
     MatchOption (cell_access act) (Unit {0}) (λ access. IsRightVerdict entries strand access answer) →
     IsRightFor shape.monoids (control_part entries) (steps_of entries) (granted_reads entries) strand act answer → HasWord act answer
 answer_has_word shape entries strand (Read location) (Refused rule witness) belongs right reads = race_word witness.kind kind.Read right.witness.0.2

@@ -2,7 +2,7 @@
 
 ghost use Rattle.std.specs.Prelude.{◌≡◌, ◌++◌, ℕ, List, IfOk, OnOk, IsSome, decimal, unwrap_or};
 ghost use Rattle.std.specs.List.{All};
-ghost use Rattle.cilkcheck.specs.VerdictText.{kind_asked, refusal_word, HasWord, HasWords, answer_word, answer_numbers, answer_text, fault_word as word_of_fault, numbers_text, line_of, verdict_text};
+ghost use Rattle.race_report.specs.VerdictText.{kind_asked, refusal_word, HasWord, HasWords, answer_word, answer_numbers, answer_text, fault_word as word_of_fault, numbers_text, line_of, verdict_text};
 
 use access_table::{Kind, access_table, rule_word};
 use itoa::Buffer;
@@ -26,7 +26,7 @@ fn kind_of_act(act: Act) -> Option<Kind>
 }
 
 /// The word of the rule that an act and an earlier access of this kind come under.
-fn rule_of_refusal(act: Act, witness: Kind) -> &'static str
+pub(crate) fn rule_of_refusal(act: Act, witness: Kind) -> &'static str
     requires { IsSome (refusal_word act witness) }
     ensures { refusal_word act witness ≡ Some result.now }
 {

@@ -1,0 +1,203 @@
+//! Gates that are asked on seats, and what is gathered of them.
+
+ghost use Rattle.std.specs.Prelude.{◌≡◌, ◌≤◌, IfSome};
+ghost use Rattle.race_gate.specs.Shapes.{most_cells};
+
+use locked_replay::{LockedGate, RunFault, WorkerLog, gather};
+use program_text::Program;
+use race_gate::{Gate, GateFault, Receipt};
+use std::alloc::{AllocError, Global};
+use std::marker::Brand;
+use std::process::Abort;
+use std::sync::Wait;
+use std::sync::ledger::{Blank, Ledger};
+use trace_text::{Act, Request};
+
+const PAIR: &[u8] =
+    b"cilk 1\nmem x\nmem y\nfunc main z\n  spawn f 7\n  read r x\nend\nfunc f v\n  write x v\nend\n";
+
+const UNSET: &[u8] = b"cilk 1\nreducer h sum\nfunc main z\nget r h\nend\n";
+
+fn request(strand: u32, act: Act, line: u32) -> Request {
+    Request { strand, act, line }
+}
+
+/// What PAIR's functions ask, where the child writes before the spawner reads.
+fn pair_requests() -> [Request; 7] {
+    [
+        request(0, Act::Spawn, 5),
+        request(1, Act::Write(0, 7), 9),
+        request(2, Act::Read(0), 6),
+        request(1, Act::Sync, 10),
+        request(1, Act::Return, 10),
+        request(2, Act::Sync, 7),
+        request(3, Act::Return, 7),
+    ]
+}
+
+/// What is asked and gathered. Of the requests those at the places `second` are asked on a second seat. The first log keeps the receipts
+/// at the places `kept`, in that order.
+#[derive(Clone, Copy)]
+struct Case<'a> {
+    text: &'a [u8],
+    requests: &'a [Request],
+    second: &'a [usize],
+    kept: &'a [usize],
+}
+
+/// Asks on a log's seat, and adds the receipt to the log.
+fn ask<L: Ledger, R: Wait>(
+    rt: &R,
+    locked: &LockedGate<L>,
+    log: &mut WorkerLog<L>,
+    request: Request,
+) -> Result<(), RunFault> {
+    log.receipts.reserve(1)?;
+    match locked.ask(rt, &mut log.seat, request) {
+        Ok(receipt) => {
+            log.receipts.push_reserved(receipt);
+            Ok(())
+        }
+        Err(GateFault::Stopped) => Err(RunFault::Stopped),
+        Err(_) => Err(RunFault::Limit),
+    }
+}
+
+/// The receipts at these places.
+fn kept(alloc: Global, receipts: &[Receipt], places: &[usize]) -> Result<Vec<Receipt>, AllocError> {
+    let mut kept = Vec::new(alloc);
+    for place in places {
+        if let Some(receipt) = receipts.get(*place) {
+            kept.push(*receipt)?;
+        }
+    }
+    Ok(kept)
+}
+
+/// How much was asked on both seats, and whether the run that was gathered is clean. A gate of other cells has so many. A stopped gate
+/// is stopped once all was asked.
+fn gathered<L: Ledger, R: Wait>(
+    rt: &R,
+    alloc: Global,
+    blank: Blank,
+    case: Case<'_>,
+    cells: Option<u32>,
+    stopped: bool,
+) -> Result<(u64, bool), RunFault>
+    requires name { blank.name ≡ L.name }
+    requires all { blank.parts ≡ L.parts }
+    requires parts { blank.parts ≡ 2 }
+    requires cells { IfSome cells (λ count. count ≤ most_cells) }
+{
+    let Ok(program) = Program::parse(alloc, case.text) else {
+        return Err(RunFault::Limit);
+    };
+    let mut shape = program.shape(alloc)?;
+    if let Some(cells) = cells {
+        shape.cells = cells;
+    }
+    let gate = Gate::new(alloc, &shape, 100)?;
+    let (locked, mut seat) = LockedGate::<L>::new(gate, blank, 2);
+    let mut second = WorkerLog {
+        seat: seat.split(),
+        receipts: Vec::new(alloc),
+    };
+    let mut first = WorkerLog {
+        seat,
+        receipts: Vec::new(alloc),
+    };
+    for at in 0..case.requests.len() {
+        if case.second.contains(&at) {
+            ask(rt, &locked, &mut second, case.requests[at])?;
+        } else {
+            ask(rt, &locked, &mut first, case.requests[at])?;
+        }
+    }
+    if stopped {
+        locked.stop(rt);
+        if ask(rt, &locked, &mut first, request(0, Act::Sync, 1)) != Err(RunFault::Stopped) {
+            return Err(RunFault::Limit);
+        }
+    }
+    let asked = first.seat.asked().wrapping_add(second.seat.asked());
+    first.receipts = kept(alloc, first.receipts.as_slice(), case.kept)?;
+    let mut logs = Vec::with_capacity(alloc, 2)?;
+    logs.push_reserved(first);
+    logs.push_reserved(second);
+    let whole = gather(alloc, &program, locked, logs)?;
+    Ok((asked, whole.clean))
+}
+
+fn outcome<R: Wait>(
+    rt: &R,
+    alloc: Global,
+    case: Case<'_>,
+    cells: Option<u32>,
+    stopped: bool,
+) -> Result<(u64, bool), RunFault>
+    requires { IfSome cells (λ count. count ≤ most_cells) }
+{
+    gathered::<Brand, _>(rt, alloc, Blank::new(2), case, cells, stopped)
+}
+
+#[test]
+fn a_run_with_a_race_is_gathered(rt: HostRuntime) {
+    let requests = pair_requests();
+    let whole = Case {
+        text: PAIR,
+        requests: &requests,
+        second: &[],
+        kept: &[0, 1, 2, 3, 4, 5, 6],
+    };
+    assert!(rt; outcome(&rt, rt.alloc(), whole, None, false) == Ok((7, false)));
+    let shared = Case {
+        second: &[1, 3, 4],
+        kept: &[0, 1, 2, 3],
+        ..whole
+    };
+    assert!(rt; outcome(&rt, rt.alloc(), shared, None, false) == Ok((7, false)));
+    assert!(rt; outcome(&rt, rt.alloc(), whole, Some(3), false) == Err(RunFault::Strange));
+    assert!(rt; outcome(&rt, rt.alloc(), whole, None, true) == Err(RunFault::Stopped));
+}
+
+#[test]
+fn receipts_that_are_not_the_history(rt: HostRuntime) {
+    let requests = pair_requests();
+    let cases: [&[usize]; 4] = [
+        &[],
+        &[0, 1, 2, 4, 5, 6],
+        &[0, 2, 1, 3, 4, 5, 6],
+        &[0, 1, 1, 2, 3, 4, 5, 6],
+    ];
+    for kept in cases {
+        let torn = Case {
+            text: PAIR,
+            requests: &requests,
+            second: &[],
+            kept,
+        };
+        assert!(rt; outcome(&rt, rt.alloc(), torn, None, false) == Err(RunFault::Torn));
+    }
+}
+
+#[test]
+fn an_unset_get_is_not_clean(rt: HostRuntime) {
+    let requests = [
+        request(0, Act::Get(0), 4),
+        request(0, Act::Sync, 5),
+        request(0, Act::Return, 5),
+    ];
+    let unset = Case {
+        text: UNSET,
+        requests: &requests,
+        second: &[],
+        kept: &[0, 1, 2],
+    };
+    assert!(rt; outcome(&rt, rt.alloc(), unset, None, false) == Ok((3, false)));
+    let unfinished = Case {
+        requests: &requests[..2],
+        kept: &[0, 1],
+        ..unset
+    };
+    assert!(rt; outcome(&rt, rt.alloc(), unfinished, None, false) == Err(RunFault::Strange));
+}

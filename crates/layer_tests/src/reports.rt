@@ -1,0 +1,151 @@
+ghost use Rattle.std.specs.Prelude.{◌↔◌, IsTrue};
+ghost use Rattle.race_gate.specs.Extensions.{IsCleanAnswer, IsClean};
+
+use locked_replay::Whole;
+use program_text::Program;
+use race_gate::{Answer, Entry, Gate, GateFault, Receipt, Reply};
+use race_report::{report, verdict_lines};
+use std::alloc::Global;
+use std::process::Abort;
+use std::test::Fail;
+use trace_text::{Act, Request};
+
+fn is_clean_answer(answer: Answer) -> bool
+    ensures { IsTrue result ↔ IsCleanAnswer answer }
+{
+    !matches!(answer, Answer::Refused { .. } | Answer::Unset)
+}
+
+fn is_clean(entries: &[Entry]) -> bool
+    ensures { IsTrue result ↔ IsClean entries.now }
+{
+    entries.iter().all(|entry| is_clean_answer(entry.answer))
+}
+
+fn asked(strand: u32, act: Act, line: u32) -> Request {
+    Request { strand, act, line }
+}
+
+/// The report of what a gate answers to these requests.
+fn report_of(alloc: Global, text: &str, requests: &[Request]) -> Result<Vec<u8>, Fail> {
+    let program = Program::parse(alloc, text.as_bytes())?;
+    let shape = program.shape(alloc)?;
+    let mut gate = Gate::new(alloc, &shape, 1_000)?;
+    for request in requests {
+        gate.judge(*request)?;
+    }
+    let entries = Vec::from_slice(alloc, gate.history())?;
+    let memory = Vec::from_slice(alloc, gate.memory())?;
+    let clean = is_clean(entries.as_slice());
+    let whole = Whole {
+        entries,
+        memory,
+        clean,
+    };
+    Ok(report(alloc, &program, &whole)?)
+}
+
+fn check(
+    rt: &impl Abort,
+    alloc: Global,
+    text: &str,
+    requests: &[Request],
+    wanted: &str,
+) -> Result<(), Fail> {
+    let found = report_of(alloc, text, requests)?;
+    assert_eq!(rt; found.as_slice(), wanted.as_bytes(), "the report of {text}");
+    Ok(())
+}
+
+#[test]
+fn a_race(rt: HostRuntime) -> Result<(), Fail> {
+    let text =
+        "cilk 1\nmem x\nmem y\nfunc main z\n  spawn f 7\n  read r x\nend\nfunc f v\n  write x v\nend\n";
+    let requests = [
+        asked(0, Act::Spawn, 5),
+        asked(1, Act::Write(0, 7), 9),
+        asked(2, Act::Read(0), 6),
+        asked(1, Act::Sync, 10),
+        asked(1, Act::Return, 10),
+        asked(2, Act::Sync, 7),
+        asked(3, Act::Return, 7),
+    ];
+    let wanted =
+        "{\"clean\":false,\"entries\":7,\"memory\":{\"x\":7,\"y\":0},\"refusals\":[{\"entry\":3,\"line\":6,\"name\":\"x\",\"rule\":\"write-read\",\"strand\":2,\"witness\":{\"entry\":2,\"line\":9,\"strand\":1}}]}";
+    check(&rt, rt.alloc(), text, &requests, wanted)
+}
+
+#[test]
+fn reducers(rt: HostRuntime) -> Result<(), Fail> {
+    let text = "cilk 1\nreducer h sum\nfunc main z\n  get r h\nend\n";
+    let unset = [
+        asked(0, Act::Get(0), 4),
+        asked(0, Act::Sync, 5),
+        asked(0, Act::Return, 5),
+    ];
+    let wanted =
+        "{\"clean\":false,\"entries\":3,\"memory\":{},\"refusals\":[{\"entry\":1,\"line\":4,\"name\":\"h\",\"rule\":\"unset\",\"strand\":0,\"witness\":null}]}";
+    check(&rt, rt.alloc(), text, &unset, wanted)?;
+    let other_peers = [
+        asked(0, Act::Put(0, 1), 1),
+        asked(0, Act::Spawn, 2),
+        asked(2, Act::Get(0), 3),
+        asked(1, Act::Get(0), 4),
+    ];
+    let wanted =
+        "{\"clean\":false,\"entries\":4,\"memory\":{},\"refusals\":[{\"entry\":3,\"line\":3,\"name\":\"h\",\"rule\":\"view-read\",\"strand\":2,\"witness\":{\"entry\":1,\"line\":1,\"strand\":0}},{\"entry\":4,\"line\":4,\"name\":\"h\",\"rule\":\"view-read\",\"strand\":1,\"witness\":{\"entry\":1,\"line\":1,\"strand\":0}}]}";
+    check(&rt, rt.alloc(), text, &other_peers, wanted)
+}
+
+#[test]
+fn a_clean_run(rt: HostRuntime) -> Result<(), Fail> {
+    let mut requests = Vec::new(rt.alloc());
+    requests.push(asked(0, Act::Write(0, 55), 4))?;
+    for _ in 0..712 {
+        requests.push(asked(0, Act::Call, 5))?;
+    }
+    let wanted =
+        "{\"clean\":true,\"entries\":713,\"memory\":{\"x\":55},\"refusals\":[],\"schedules\":\"clean for every schedule\"}";
+    check(
+        &rt,
+        rt.alloc(),
+        "cilk 1\nmem x\nfunc main z\nend\n",
+        requests.as_slice(),
+        wanted,
+    )
+}
+
+#[test]
+fn arrays(rt: HostRuntime) -> Result<(), Fail> {
+    let text = "cilk 1\nmem b 1\nmem a 4\nmem c\nfunc main z\nend\n";
+    let requests = [
+        asked(0, Act::Write(2, 1), 1),
+        asked(0, Act::Write(3, 2), 1),
+        asked(0, Act::Write(4, 3), 1),
+        asked(0, Act::Spawn, 1),
+        asked(1, Act::Read(4), 2),
+        asked(2, Act::Write(4, 9), 3),
+    ];
+    let wanted =
+        "{\"clean\":false,\"entries\":6,\"memory\":{\"a\":[0,1,2,3],\"b\":[0],\"c\":0},\"refusals\":[{\"entry\":6,\"line\":3,\"name\":\"a[3]\",\"rule\":\"read-write\",\"strand\":2,\"witness\":{\"entry\":5,\"line\":2,\"strand\":1}}]}";
+    check(&rt, rt.alloc(), text, &requests, wanted)
+}
+
+#[test]
+fn lines_of_replies(rt: HostRuntime) -> Result<(), Fail> {
+    let unset = Receipt {
+        number: 1,
+        request: asked(0, Act::Get(0), 1),
+        answer: Answer::Unset,
+    };
+    let replies = [
+        Reply::Done(unset),
+        Reply::Illegal(GateFault::Stopped),
+        Reply::Illegal(GateFault::BadName),
+        Reply::Illegal(GateFault::Memory),
+    ];
+    let lines = verdict_lines(rt.alloc(), &replies)?;
+    let wanted = "1 refused unset\nillegal stopped\nillegal bad-name\nillegal memory\n";
+    assert_eq!(rt; lines.as_slice(), wanted.as_bytes());
+    Ok(())
+}

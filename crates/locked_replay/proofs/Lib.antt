@@ -1,0 +1,4 @@
+mod Numbered
+mod SortedSame
+mod Reversed
+mod Agreeing

@@ -1,0 +1,26 @@
+-- What the logs of all workers say together.
+use Rattle.std.specs.Prelude.{◌≡◌, ℕ, List, length}
+use Rattle.std.specs.List.{All, flat_map, sum_by}
+use Rattle.std.specs.List.Sorted.{IsPermutation}
+use Rattle.race_gate.specs.declared.answer.Entry.{Entry}
+use Rattle.race_gate.specs.declared.answer.Receipt.{Receipt}
+use Rattle.locked_replay.specs.declared.worker.WorkerLog.{WorkerLog}
+use Rattle.locked_replay.specs.Receipts.{numbered, Rises}
+
+module _ {L : Type 0} where
+  -- the receipts of all logs, one log after the other
+  abbrev pub all_receipts : List (WorkerLog L) → List Receipt
+  all_receipts = flat_map (λ log. log.receipts.items)
+
+  -- what was asked on all seats
+  abbrev pub all_asked : List (WorkerLog L) → ℕ
+  all_asked = sum_by (λ log. log.seat.asked)
+
+-- the logs are those of the entries, the oldest first
+pub record AreWhole {L : Type 0} (entries : List Entry) (logs : List (WorkerLog L)) : Type 0 where
+  -- in each log the receipts rise in number
+  pub rise : All (λ log. Rises log.receipts.items) logs
+  -- all receipts together are those of the entries, each once
+  pub receipts : IsPermutation (all_receipts logs) (numbered 1 entries)
+  -- as much was asked on all seats as there are entries
+  pub counted : all_asked logs ≡ length entries

@@ -1,0 +1,24 @@
+//! A gate behind its lock, and what the workers that ask it bring back.
+//!
+//! Any thread may ask a [`LockedGate`]. What lies under its lock is a gate with the total of all that was asked, and that total is the
+//! length of the gate's history, which is judged. Each worker counts what it asked on a [`Seat`], a share of the total, and keeps the
+//! receipts of the answers. [`gather`] takes the gate out of its lock, and answers Ok only where the receipts of all workers are the
+//! history's entries, each once, and the history is a finished run of the program.
+#![tactic(auto)]
+
+mod fault;
+mod locked;
+mod logs;
+mod receipts;
+mod same;
+mod seat;
+mod whole;
+mod worker;
+
+pub use fault::RunFault;
+pub use locked::{Ask, LockedGate};
+pub use logs::check_logs;
+pub use program_replay::{ReplayFault, replay};
+pub use seat::Seat;
+pub use whole::{Whole, check_run, gather};
+pub use worker::WorkerLog;

@@ -1,0 +1,141 @@
+//! A gate behind its lock.
+
+ghost use Rattle.std.specs.Prelude.{◌≡◌, ◌+◌, ◌<◌, [], ◌∷◌, true, length, MatchResult, IfOk};
+ghost use Rattle.race_gate.specs.Judged.{IsJudged};
+ghost use Rattle.race_gate.specs.Memory.{IsMemory};
+ghost use Rattle.race_gate.specs.Replies.{Judges, reply_of};
+
+use crate::seat::Seat;
+use race_gate::{Gate, GateFault, Receipt};
+use std::alloc::Global;
+use std::sync::ledger::{Blank, Book, Ledger};
+use std::sync::{Mutex, Wait};
+use trace_text::Request;
+
+/// Who asks does not know what stands behind it: a gate's lock, or something round one.
+pub trait Ask<L: Ledger> {
+    /// Asks on this seat. At Ok one more was asked on it, and at Err as much as before.
+    fn ask<R: Wait>(
+        &self,
+        rt: &R,
+        seat: &mut Seat<L>,
+        request: Request,
+    ) -> Result<Receipt, GateFault>
+        ensures parts { seat.new.parts ≡ seat.old.parts }
+        ensures asked { MatchResult result (λ _. seat.new.asked ≡ seat.old.asked + 1) (λ _. seat.new.asked ≡ seat.old.asked) };
+
+    /// Stops the gate.
+    fn stop<R: Wait>(&self, rt: &R);
+}
+
+/// What lies under the lock: a gate, whose history is judged and whose memory is what that leaves, since it is a gate; and the total of
+/// what was asked on all seats, which is the length of the history.
+#[derive(Drop)]
+struct Round<L: Ledger> {
+    gate: Gate<Global>,
+    total: Book<L>,
+    ghost counted: { total.total ≡ length gate.history },
+}
+
+impl<L: Ledger> Round<L> {
+    /// The gate judges the request, and the receipt is of the entry that is then its newest.
+    fn judge(&mut self, seat: &mut Seat<L>, request: Request) -> Result<Receipt, GateFault>
+        ensures replies { Judges self.old.gate request (reply_of result) self.new.gate }
+        ensures receipt { IfOk result (λ receipt. receipt.request ≡ request) }
+        ensures parts { seat.new.parts ≡ seat.old.parts }
+        ensures asked { MatchResult result (λ _. seat.new.asked ≡ seat.old.asked + 1) (λ _. seat.new.asked ≡ seat.old.asked) }
+    {
+        let Round { gate, total } = self;
+        let Seat {
+            asked,
+            parts: _,
+            share,
+        } = seat;
+        // Among all that was asked, what was asked on this seat is at most the length of the history.
+        total.audit(share);
+        let receipt = gate.judge(request)?;
+        total.add(share, 1);
+        *asked += 1;
+        Ok(receipt)
+    }
+
+    fn stop(&mut self)
+        ensures { self.new.gate ≡ record self.old.gate { stopped = true } }
+    {
+        self.gate.stop();
+    }
+}
+
+/// A gate that any thread may ask.
+#[derive(Drop)]
+pub struct LockedGate<L: Ledger> {
+    round: Mutex<Round<L>>,
+}
+
+impl<L: Ledger> LockedGate<L> {
+    /// The gate behind its lock, and a seat on which nothing was asked, with all parts of the blank, which are so many.
+    pub fn new(gate: Gate<Global>, blank: Blank, parts: u64) -> (LockedGate<L>, Seat<L>)
+        requires empty { gate.history ≡ [] }
+        requires name { blank.name ≡ L.name }
+        requires all { blank.parts ≡ L.parts }
+        requires parts { blank.parts ≡ parts }
+        requires some { 0 < parts }
+        ensures { (result.1.asked ≡ 0) × (result.1.parts ≡ parts) }
+    {
+        let (total, share) = blank.open::<L>();
+        let seat = Seat {
+            asked: 0,
+            parts,
+            share,
+        };
+        let round = Mutex::new(Round { gate, total });
+        (LockedGate { round }, seat)
+    }
+
+    /// As [`Ask::ask`], and the receipt is of that request.
+    pub fn ask<R: Wait>(
+        &self,
+        rt: &R,
+        seat: &mut Seat<L>,
+        request: Request,
+    ) -> Result<Receipt, GateFault>
+        ensures receipt { IfOk result (λ receipt. receipt.request ≡ request) }
+        ensures parts { seat.new.parts ≡ seat.old.parts }
+        ensures asked { MatchResult result (λ _. seat.new.asked ≡ seat.old.asked + 1) (λ _. seat.new.asked ≡ seat.old.asked) }
+    {
+        self.round.lock(rt).judge(seat, request)
+    }
+
+    /// Stops the gate.
+    pub fn stop<R: Wait>(&self, rt: &R) {
+        self.round.lock(rt).stop();
+    }
+
+    /// The gate that lies under the lock, whose history is judged and whose memory is what that leaves.
+    pub fn into_gate(self) -> Gate<Global>
+        ensures judged { IsJudged result.shape result.history }
+        ensures values { IsMemory result.shape.cells result.history result.memory }
+    {
+        let LockedGate { round } = self;
+        let Round { gate, total: _ } = round.into_inner();
+        // What is known of each gate is known of this one from here on.
+        let _entries = gate.history();
+        let _cells = gate.memory();
+        gate
+    }
+}
+
+impl<L: Ledger> Ask<L> for LockedGate<L> {
+    fn ask<R: Wait>(
+        &self,
+        rt: &R,
+        seat: &mut Seat<L>,
+        request: Request,
+    ) -> Result<Receipt, GateFault> {
+        LockedGate::ask(self, rt, seat, request)
+    }
+
+    fn stop<R: Wait>(&self, rt: &R) {
+        LockedGate::stop(self, rt)
+    }
+}

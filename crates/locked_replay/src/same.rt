@@ -1,0 +1,62 @@
+//! Whether two receipts, or two shapes, are the same.
+
+ghost use Rattle.std.specs.Prelude.{◌≡◌, ◌↔◌, IsTrue};
+ghost use Rattle.race_gate.specs.Shapes.{shape_of};
+
+use race_gate::{Answer, Receipt};
+use std::alloc::Allocator;
+use trace_text::{Act, Monoid, Request, Shape};
+
+fn is_same_act(one: Act, other: Act) -> bool
+    ensures { IsTrue result ↔ one ≡ other }
+{
+    one == other
+}
+
+fn is_same_request(one: Request, other: Request) -> bool
+    ensures { IsTrue result ↔ one ≡ other }
+{
+    one.strand == other.strand && is_same_act(one.act, other.act) && one.line == other.line
+}
+
+fn is_same_answer(one: Answer, other: Answer) -> bool
+    ensures { IsTrue result ↔ one ≡ other }
+{
+    one == other
+}
+
+/// Whether the two are one receipt.
+pub fn is_same_receipt(one: Receipt, other: Receipt) -> bool
+    ensures { IsTrue result ↔ one ≡ other }
+{
+    one.number == other.number
+        && is_same_request(one.request, other.request)
+        && is_same_answer(one.answer, other.answer)
+}
+
+fn is_same_monoid(one: Monoid, other: Monoid) -> bool
+    ensures { IsTrue result ↔ one ≡ other }
+{
+    one == other
+}
+
+fn are_same_monoids(one: &[Monoid], other: &[Monoid]) -> bool
+    ensures { IsTrue result ↔ one.now ≡ other.now }
+{
+    if one.len() != other.len() {
+        return false;
+    }
+    for at in 0..one.len() {
+        if !is_same_monoid(one[at], other[at]) {
+            return false;
+        }
+    }
+    true
+}
+
+/// Whether the two declare as many cells, and the same monoids.
+pub fn is_same_shape<A: Allocator, B: Allocator>(one: &Shape<A>, other: &Shape<B>) -> bool
+    ensures { IsTrue result ↔ shape_of one.now ≡ shape_of other.now }
+{
+    one.cells == other.cells && are_same_monoids(one.monoids.as_slice(), other.monoids.as_slice())
+}

@@ -1,0 +1,109 @@
+//! Whole runs.
+
+ghost use Rattle.std.specs.Prelude.{◌≡◌, ◌↔◌, reverse, IsTrue, IfOk, OnOk, Err};
+ghost use Rattle.race_gate.specs.Memory.{IsMemory};
+ghost use Rattle.race_gate.specs.Extensions.{IsCleanAnswer, IsClean};
+ghost use Rattle.program_runs.specs.Runs.{shape_in, IsFinishedRun};
+ghost use Rattle.locked_replay.specs.Logs.{AreWhole};
+ghost use Rattle.locked_replay.specs.Strange.{run_fault_of, IsStrangeGate};
+
+use crate::fault::RunFault;
+use crate::locked::LockedGate;
+use crate::logs::check_logs;
+use crate::same::is_same_shape;
+use crate::worker::WorkerLog;
+use program_replay::{ReplayFault, replay};
+use program_text::Program;
+use race_gate::{Answer, Entry, Gate};
+use std::alloc::{Allocator, Global};
+use std::sync::ledger::Ledger;
+
+/// A finished run of a program.
+#[derive(Drop)]
+pub struct Whole {
+    /// The entries of its history, the oldest first.
+    pub entries: Vec<Entry>,
+    /// What the cells hold at its end.
+    pub memory: Vec<u64>,
+    /// Whether nothing was refused.
+    pub clean: bool,
+}
+
+/// Whether the answer is no refusal.
+fn is_clean_answer(answer: Answer) -> bool
+    ensures { IsTrue result ↔ IsCleanAnswer answer }
+{
+    !matches!(answer, Answer::Refused { .. } | Answer::Unset)
+}
+
+/// Whether no answer is a refusal.
+fn is_clean(entries: &[Entry]) -> bool
+    ensures { IsTrue result ↔ IsClean entries.now }
+{
+    for entry in entries {
+        if !is_clean_answer(entry.answer) {
+            return false;
+        }
+    }
+    true
+}
+
+/// The fault of a history that is no finished run.
+fn fault_of(fault: ReplayFault) -> RunFault
+    ensures told { result ≡ run_fault_of fault }
+    ensures faults { ¬ (result ≡ RunFault.Limit) × ¬ (result ≡ RunFault.Stopped) × ¬ (result ≡ RunFault.Torn) }
+{
+    match fault {
+        ReplayFault::Strange(_) | ReplayFault::Unfinished => RunFault::Strange,
+        ReplayFault::Memory => RunFault::Memory,
+    }
+}
+
+/// Whether the gate is of the program's shape, and its history a finished run of the program. Strange where not, and Memory at a refused
+/// growth.
+pub fn check_run<B: Allocator>(
+    alloc: Global,
+    program: &Program<B>,
+    gate: &Gate<Global>,
+) -> Result<(), RunFault>
+    ensures shape { OnOk result (gate.now.shape ≡ shape_in program.now) }
+    ensures run { OnOk result (IsFinishedRun program.now.functions (shape_in program.now) gate.now.history) }
+    ensures strange { result ≡ Err RunFault.Strange → IsStrangeGate program.now.functions (shape_in program.now) gate.now }
+    ensures faults { ¬ (result ≡ Err RunFault.Limit) × ¬ (result ≡ Err RunFault.Stopped) × ¬ (result ≡ Err RunFault.Torn) }
+{
+    let shape = program.shape(alloc)?;
+    if !is_same_shape(gate.shape(), &shape) {
+        return Err(RunFault::Strange);
+    }
+    match replay(alloc, program, gate.history()) {
+        Ok(()) => Ok(()),
+        Err(fault) => Err(fault_of(fault)),
+    }
+}
+
+/// Takes the gate out of its lock. Ok where the logs are whole and the history is a finished run of the program. Otherwise it answers
+/// what [`check_logs`] says of the gate and the logs, and then what [`check_run`] says of the gate, and drops both.
+pub fn gather<L: Ledger, B: Allocator>(
+    alloc: Global,
+    program: &Program<B>,
+    locked: LockedGate<L>,
+    logs: Vec<WorkerLog<L>>,
+) -> Result<Whole, RunFault>
+    ensures run { IfOk result (λ whole. IsFinishedRun program.now.functions (shape_in program.now) (reverse whole.entries.items)) }
+    ensures logs { IfOk result (λ whole. AreWhole whole.entries.items logs.items) }
+    ensures memory { IfOk result (λ whole. IsMemory (shape_in program.now).cells (reverse whole.entries.items) whole.memory.items) }
+    ensures clean { IfOk result (λ whole. IsTrue whole.clean ↔ IsClean (reverse whole.entries.items)) }
+    ensures limit { ¬ (result ≡ Err RunFault.Limit) }
+{
+    let gate = locked.into_gate();
+    check_logs(alloc, &gate, logs.as_slice())?;
+    check_run(alloc, program, &gate)?;
+    let entries = Vec::from_slice(alloc, gate.history())?;
+    let memory = Vec::from_slice(alloc, gate.memory())?;
+    let clean = is_clean(entries.as_slice());
+    Ok(Whole {
+        entries,
+        memory,
+        clean,
+    })
+}

@@ -1,0 +1,6 @@
+pub mod GateWords
+pub mod Reversed
+pub mod Floats
+pub mod CleanRuns
+pub mod JudgedRuns
+pub mod Schedules

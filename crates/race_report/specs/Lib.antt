@@ -1,0 +1,5 @@
+pub mod VerdictText
+pub mod Refusals
+pub mod ReportText
+pub mod Conditions
+pub mod Laws

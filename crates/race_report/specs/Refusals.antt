@@ -1,0 +1,68 @@
+-- What the report tells of refusals.
+use Rattle.std.specs.Prelude.{ℕ, ◌+◌, ◌-◌, Option, Some, None, List, [], ◌∷◌, ◌++◌, codes, unwrap_or, slice_get}
+use Rattle.std.specs.Option.{option_map, option_to_list}
+use Rattle.serde_json.specs.Data.{Data, null, number, unsigned, string, object, member, no_members}
+use Rattle.trace_text.specs.declared.value.Act.{Act}
+use Rattle.trace_text.specs.declared.value.Act.TheVariants.{Read, Write, Bump, Update, Put, Get}
+use Rattle.trace_text.specs.declared.value.Reducer.{Reducer}
+use Rattle.trace_text.specs.declared.value.Request.{Request}
+use Rattle.trace_text.specs.Shapes.{name_of_cell}
+use Rattle.trace_text.specs.Values.{Known}
+use Rattle.shadow_history.specs.declared.witness.Witness.{Witness}
+use Rattle.race_gate.specs.declared.answer.Answer.{Answer}
+use Rattle.race_gate.specs.declared.answer.Answer.TheVariants.{Refused, Unset}
+use Rattle.race_gate.specs.declared.answer.Entry.{Entry}
+use Rattle.race_report.specs.VerdictText.{refusal_word}
+
+-- the name of the reducer with this number
+abbrev pub name_of_reducer : List Reducer → ℕ → List ℕ
+name_of_reducer reducers reducer = unwrap_or (option_map (λ found. found.name) (slice_get reducers reducer)) []
+
+-- the name of the cell or the reducer that an act asks for
+abbrev pub name_asked : Known → Act → List ℕ
+name_asked known (Read location) = name_of_cell known.mems location
+name_asked known (Write location value) = name_of_cell known.mems location
+name_asked known (Bump location value) = name_of_cell known.mems location
+name_asked known (Update reducer value) = name_of_reducer known.reducers reducer
+name_asked known (Put reducer value) = name_of_reducer known.reducers reducer
+name_asked known (Get reducer) = name_of_reducer known.reducers reducer
+name_asked known act = []
+
+-- the line of the entry with this number, which counts from 1; the entries stand oldest first
+abbrev pub line_of_entry : List Entry → ℕ → ℕ
+line_of_entry entries entry_number = unwrap_or (option_map (λ entry. entry.request.line) (slice_get entries (entry_number - 1))) 0
+
+-- the witness of a refusal: its entry, the line of that entry, and its strand
+abbrev pub witness_told : List Entry → Witness → Data
+witness_told entries witness =
+    object (member (codes "entry") (number (unsigned witness.entry))
+    (member (codes "line") (number (unsigned (line_of_entry entries witness.entry)))
+    (member (codes "strand") (number (unsigned witness.strand)) no_members)))
+
+-- a refusal: the number of its entry, the request that was refused, the word of the rule, and the witness
+abbrev pub refusal_told : Known → ℕ → Request → List ℕ → Data → Data
+refusal_told known entry_number request rule witness =
+    object (member (codes "entry") (number (unsigned entry_number))
+    (member (codes "line") (number (unsigned request.line))
+    (member (codes "name") (string (name_asked known request.act))
+    (member (codes "rule") (string rule)
+    (member (codes "strand") (number (unsigned request.strand))
+    (member (codes "witness") witness no_members))))))
+
+-- What is told of the entry with this number: a refused access by the word of its rule and with its witness, an unset one by `unset` and with none, and
+-- nothing of other entries.
+abbrev pub answer_told : Known → List Entry → ℕ → Request → Answer → Option Data
+answer_told known entries entry_number request (Refused rule witness) =
+    Some (refusal_told known entry_number request (unwrap_or (refusal_word request.act witness.kind) []) (witness_told entries witness))
+answer_told known entries entry_number request Unset = Some (refusal_told known entry_number request (codes "unset") null)
+answer_told known entries entry_number request answer = None
+
+-- the refusals among the entries that stand behind so many others, in their order
+abbrev pub refusals_behind : Known → List Entry → ℕ → List Entry → List Data
+refusals_behind known entries before [] = []
+refusals_behind known entries before (entry ∷ rest) =
+    option_to_list (answer_told known entries (before + 1) entry.request entry.answer) ++ refusals_behind known entries (before + 1) rest
+
+-- the refusals of a history, oldest first
+abbrev pub refusals_told : Known → List Entry → List Data
+refusals_told known entries = refusals_behind known entries 0 entries
