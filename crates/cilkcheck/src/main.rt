@@ -10,21 +10,13 @@
 //! [`elide::elide_text`] carries that theorem: at status 0 the bytes that were read mean a program, and what was written are the lines of
 //! the memory and of the number of requests of its one evaluation, which are no more than the limit. At the fault Limit an evaluation, if
 //! there is one, makes more requests. Of the other faults the same holds as of a trace.
-//!
-//! `cilkcheck replay` reads a program and a trace from files and tells whether the trace is a run of the program. [`replay::replay_text`]
-//! carries that theorem: at a status the bytes that were read mean a program and a trace which declare the same, a gate answered each
-//! request of the trace, and what was written tells of the gate's entries that they are a finished run, a run that is not finished, or
-//! which of them is the first strange one.
 #![tactic(auto)]
 
 ghost use Rattle.std.specs.Prelude.{◌≡◌, IfErr};
 
-mod declarations;
 mod elide;
 mod fault;
 mod judge;
-mod outcome;
-mod replay;
 mod status;
 mod watched;
 mod words;
@@ -32,7 +24,6 @@ mod words;
 use elide::elide_text;
 use fault::CliFault;
 use judge::{judge_stream, write_text};
-use replay::replay_text;
 use std::fs::File;
 use std::process::ExitCode;
 use std::{env, io};
@@ -67,11 +58,6 @@ fn run(rt: &HostRuntime) -> Result<u8, CliFault> {
         Job::Elide { file, limit } => {
             let mut program = Watched::new(opened(rt, file.as_str())?);
             elide_text(rt.alloc(), &mut program, &mut output, limit)
-        }
-        Job::Replay { file, trace } => {
-            let mut program = Watched::new(opened(rt, file.as_str())?);
-            let mut trace = Watched::new(opened(rt, trace.as_str())?);
-            replay_text(rt.alloc(), &mut program, &mut trace, &mut output)
         }
         Job::Show { text } => {
             write_text(&mut output, text.as_bytes())?;

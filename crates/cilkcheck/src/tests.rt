@@ -2,7 +2,6 @@ ghost use Rattle.std.specs.Prelude.{◌≤◌};
 ghost use Rattle.race_gate.specs.Shapes.{most_entries};
 
 mod elisions;
-mod replays;
 
 use super::*;
 use fault::CliFault;
@@ -458,17 +457,6 @@ fn check_elide(rt: &impl Abort, alloc: Global, words: &[&str], wanted: &str, mos
     }
 }
 
-/// The words ask for the replay of this trace as a run of this program.
-fn check_files(rt: &impl Abort, alloc: Global, words: &[&str], program: &str, wanted: &str) {
-    match read_words(alloc, words) {
-        Ok(Job::Replay { file, trace }) => {
-            assert_eq!(rt; file.as_str(), program);
-            assert_eq!(rt; trace.as_str(), wanted);
-        }
-        _ => assert!(rt; false, "{words:?} do not ask for a replay"),
-    }
-}
-
 /// The words are refused with this text.
 fn check_usage(rt: &impl Abort, alloc: Global, words: &[&str], wanted: &str) {
     match read_words(alloc, words) {
@@ -511,13 +499,6 @@ fn words_of_the_command_line(rt: HostRuntime) {
         &["elide", "f", "g"],
         "unexpected argument 'g' found",
     );
-    check_files(&rt, alloc, &["replay", "f", "g"], "f", "g");
-    check_usage(
-        &rt,
-        alloc,
-        &["replay", "f"],
-        "no file is given; see 'cilkcheck --help'",
-    );
     check_usage(&rt, alloc, &["judge", "x"], "unexpected argument 'x' found");
     check_usage(&rt, alloc, &["jugde"], "unrecognized subcommand 'jugde'");
     check_usage(
@@ -538,12 +519,6 @@ fn words_of_the_command_line(rt: HostRuntime) {
         alloc,
         &["elide", "--help"],
         "Usage: cilkcheck elide [OPTIONS] <FILE>\n",
-    );
-    check_shown(
-        &rt,
-        alloc,
-        &["replay", "--help"],
-        "Usage: cilkcheck replay <FILE> <TRACE>\n",
     );
     check_shown(&rt, alloc, &["--version"], "cilkcheck 0.1.0\n");
 }

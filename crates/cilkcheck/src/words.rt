@@ -63,18 +63,6 @@ const ELIDE_EXAMPLE: &str =
 
 Exit status: 0 at the end of the program, 2 for a fault of the input, 3 for want of memory, 4 where the limit was passed.";
 
-const REPLAY_ABOUT: &str =
-    "Judges the requests of a trace, and tells whether they are a run of a program";
-
-const REPLAY_EXAMPLE: &str =
-    "The trace declares what the program does, and `@K` names the program's line of a request, as `write 1 x 7 @9`.
-
-Output: `replayed N` where the N entries are a finished run, `unfinished` where they are a run that is not finished, or
-`strange N` where entry N is the first that is no request of the program's.
-
-Exit status: 0 where nothing was refused, 1 where an access was, 2 for a fault of the input, declarations that differ or an
-illegal request, 3 for want of memory, 4 where the entries are no finished run or the limit was passed.";
-
 /// What the words of the command line ask for.
 #[derive(Debug, Drop)]
 pub enum Job {
@@ -82,8 +70,6 @@ pub enum Job {
     Judge { limit: u32 },
     /// To write the elision of the program in this file, with this limit on its requests.
     Elide { file: String, limit: u32 },
-    /// To replay the trace in the second file as a run of the program in the first.
-    Replay { file: String, trace: String },
     /// To show a text: the help or the version.
     Show { text: String },
 }
@@ -110,27 +96,13 @@ fn commands<'a>(alloc: Global) -> Result<Command<'a>, AllocError> {
         .after_help(ELIDE_EXAMPLE)
         .arg(file)?
         .arg(requests)?;
-    let program = Arg::new(alloc, "file")
-        .value_name("FILE")
-        .required(true)
-        .help("The program");
-    let trace = Arg::new(alloc, "trace")
-        .value_name("TRACE")
-        .required(true)
-        .help("The trace");
-    let replay = Command::new(alloc, "replay")
-        .about(REPLAY_ABOUT)
-        .after_help(REPLAY_EXAMPLE)
-        .arg(program)?
-        .arg(trace)?;
     Command::new(alloc, "cilkcheck")
         .bin_name("cilkcheck")?
         .version("0.1.0")
         .about(ABOUT)
         .after_help(EXAMPLE)
         .subcommand(judge)?
-        .subcommand(elide)?
-        .subcommand(replay)
+        .subcommand(elide)
 }
 
 /// A usage fault with this text, which stands in one line; or want of memory.
@@ -186,16 +158,6 @@ fn limit_of(alloc: Global, matches: &ArgMatches<'_>) -> Result<u32, CliFault>
     }
 }
 
-/// The name of a file that the words of a command give.
-fn file_of(alloc: Global, matches: &ArgMatches<'_>, argument: &str) -> Result<String, CliFault>
-    ensures fault { IfErr result IsUsageFault }
-{
-    let Some(name) = matches.get_str(argument) else {
-        return Err(no_file(alloc));
-    };
-    Ok(String::from_str(alloc, name)?)
-}
-
 /// Reads the words behind the program's name. A fault is [`CliFault::Usage`] or [`CliFault::Memory`].
 pub fn read_words(alloc: Global, words: &[&str]) -> Result<Job, CliFault>
     ensures job { IfOk result IsInRange }
@@ -212,14 +174,12 @@ pub fn read_words(alloc: Global, words: &[&str]) -> Result<Job, CliFault>
                 Ok(Job::Judge { limit })
             }
             Some(("elide", matches)) => {
-                let file = file_of(alloc, matches, "file")?;
+                let Some(file) = matches.get_str("file") else {
+                    return Err(no_file(alloc));
+                };
+                let file = String::from_str(alloc, file)?;
                 let limit = limit_of(alloc, matches)?;
                 Ok(Job::Elide { file, limit })
-            }
-            Some(("replay", matches)) => {
-                let file = file_of(alloc, matches, "file")?;
-                let trace = file_of(alloc, matches, "trace")?;
-                Ok(Job::Replay { file, trace })
             }
             _ => Err(usage(alloc, "no command is given; see 'cilkcheck --help'")),
         },
