@@ -229,17 +229,22 @@ module _ (functions : List Code) (monoids : List Monoid) where
           further = λ z. absurd (omega arith);
         })
 
-    -- the function as it waits for a turn's function
-    abbrev pub turned : Activation
-    turned = turning (moved before.top before.top.place (slice_set before.top.registers turns.register.index turns.number)) (Some (record { line = turns.line; register = turns.register; function = turns.function; number = turns.number + 1; left = turns.left - 1 }))
+    -- the function as it waits for a turn's function, its number in this register
+    abbrev pub turned_in : ℕ → Activation
+    turned_in index = turning (moved before.top before.top.place (slice_set before.top.registers index turns.number)) (Some (record { line = turns.line; register = turns.register; function = turns.function; number = turns.number + 1; left = turns.left - 1 }))
 
-    pub turned_stands : (cells : ℕ) (after : State) → Stands functions monoids cells before → 0 < turns.left → after ≡ with_begun before turned turns.function turns.number → Stands functions monoids cells after
-    turned_stands cells after s some e =
+    abbrev turned : Activation
+    turned = turned_in turns.register.index
+
+    pub turned_stands : (cells index : ℕ) (after : State) → index ≡ turns.register.index → Stands functions monoids cells before → 0 < turns.left → after ≡ with_begun before (turned_in index) turns.function turns.number → Stands functions monoids cells after
+    turned_stands cells index after i s some e =
+        let is : after ≡ with_begun before turned turns.function turns.number = e ∙ ap (λ k. with_begun before (turned_in k) turns.function turns.number) i in
         let t = subst (λ o. are_turns functions o) on s.top.turning in
-        begun_stands cells before code here turned turns.function turns.number after s (record { known = s.top.known; within = s.top.within; turning = (t.0, let b = t.1 in omega (arith, b, some)) }) t.0 e
+        begun_stands cells before code here turned turns.function turns.number after s (record { known = s.top.known; within = s.top.within; turning = (t.0, let b = t.1 in omega (arith, b, some)) }) t.0 is
 
-    pub turn_makes : (left : ℕ) (callee : Code) (after : State) → turns.left ≡ suc left → slice_get functions turns.function ≡ Some callee → after ≡ with_begun before turned turns.function turns.number → Makes functions monoids 1 before after
-    turn_makes left callee after e h is =
+    pub turn_makes : (left index : ℕ) (callee : Code) (after : State) → index ≡ turns.register.index → turns.left ≡ suc left → slice_get functions turns.function ≡ Some callee → after ≡ with_begun before (turned_in index) turns.function turns.number → Makes functions monoids 1 before after
+    turn_makes left index callee after i e h f =
+        let is : after ≡ with_begun before turned turns.function turns.number = f ∙ ap (λ k. with_begun before (turned_in k) turns.function turns.number) i in
         let rest = left_at code.end_line (drop before.top.place code.body) in
         let registers = slice_set before.top.registers turns.register.index turns.number in
         let one : turns.number + 1 ≡ suc turns.number = omega arith in

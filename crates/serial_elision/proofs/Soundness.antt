@@ -1,9 +1,12 @@
 -- What is known of a statement of a sound program.
-use Rattle.std.proofs.Common.{◌≡◌, ℕ, ◌+◌, ◌<◌, ◌≤◌, ◌^◌, List, Some, subst, ap, ◌∙◌, arith, length}
-use Rattle.std.specs.Prelude.{slice_get, IsTrue, nat_lt}
+use Rattle.std.proofs.Common.{◌≡◌, ℕ, ◌+◌, ◌<◌, ◌≤◌, ◌^◌, List, Some, sym, subst, ap, ◌∙◌, arith, length}
+use Rattle.std.specs.Prelude.{slice_get, slice_index_or, IsTrue, nat_lt}
 use Rattle.std.proofs.lemmas.Bool.{ltb-true}
 use Rattle.std.proofs.lemmas.List.{length-map}
 use Rattle.trace_text.specs.Grammar.{cells_of}
+use Rattle.reducer_views.specs.declared.view.View.TheVariants.{Nothing}
+use Rattle.reducer_views.specs.Products.{FitsMonoid}
+use Rattle.reducer_views.specs.Touched.{monoid_of}
 use Rattle.program_text.specs.declared.program.Program.{Program}
 use Rattle.serial_elision.specs.declared.activation.Activation.{Activation}
 use Rattle.serial_elision.specs.States.{State, Stands, IsInPlace, length_in, monoids_in}
@@ -17,9 +20,6 @@ use Rattle.program_text.specs.Sound.{IsSoundBody, IsSound, is_within}
 module _ (cells reducers : ℕ) (functions : List Code) (sound : IsSound cells reducers functions) (index : ℕ) (code : Code) (here : slice_get functions index ≡ Some code) where
   pub body_sound : IsSoundBody cells reducers (length functions) code.body
   body_sound = subst (λ c. IsSoundBody cells reducers (length functions) c.body) (get_or_from_slice_get functions index code code here) (sound index code (slice_get_within functions index code here))
-
-  pub few_statements : length code.body < 2 ^ 32
-  few_statements = let few = body_sound.few in omega (arith, few)
 
   module _ (place : ℕ) (statement : Statement) (at : slice_get code.body place ≡ Some statement) where
     -- what the statement names is there
@@ -43,6 +43,13 @@ reducer_known program state s reducer h =
     let b = length-map program.reducers (λ reducer. reducer.monoid) in
     let c = s.views in
     omega (arith, a, b, c)
+
+-- and that view fits its monoid
+pub reducer_fits : {B : Type 0} (program : Program B) (state : State) → Stands program.functions (monoids_in program) (cells_of program.mems) state → (reducer : ℕ) → IsTrue (nat_lt reducer (length program.reducers)) → FitsMonoid (monoid_of state.monoids reducer) (slice_index_or state.views reducer Nothing)
+reducer_fits program state s reducer h =
+    let a = ltb-true reducer (length program.reducers) h in
+    let b = length-map program.reducers (λ reducer. reducer.monoid) in
+    subst (λ monoids. FitsMonoid (monoid_of monoids reducer) (slice_index_or state.views reducer Nothing)) (sym s.same_monoids) (s.fits reducer (omega (arith, a, b)))
 
 -- a function stands at one of few places
 pub few_places : (cells reducers : ℕ) (functions : List Code) → IsSound cells reducers functions → (activation : Activation) → IsInPlace functions activation → activation.place < 100000

@@ -1,3 +1,4 @@
 pub mod Evaluation
 pub mod Elisions
 pub mod States
+pub mod Statements

@@ -116,6 +116,13 @@ pub record Stands (functions : List Code) (monoids : List Monoid) (cells : ℕ) 
   pub same_monoids : state.monoids ≡ monoids
   pub fits : (reducer : ℕ) → reducer < length monoids → FitsMonoid (monoid_of monoids reducer) (slice_index_or state.views reducer Nothing)
 
+-- the evaluator goes on by a line of this function
+pub record IsGoing (functions : List Code) (monoids : List Monoid) (cells : ℕ) (state : State) (code : Code) : Type 0 where
+  pub stands : Stands functions monoids cells state
+  pub going : state.over ≡ false
+  pub quiet : state.top.turns ≡ None
+  pub here : slice_get functions state.top.function ≡ Some code
+
 -- so many requests lead from the one to the other; where there are none, the topmost function has come further
 pub record Makes (functions : List Code) (monoids : List Monoid) (asked : ℕ) (before after : State) : Type 0 where
   pub done : List Effect

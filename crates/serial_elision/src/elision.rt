@@ -1,18 +1,15 @@
 //! The elision of a program, statement by statement.
 
-ghost use Rattle.std.specs.Prelude.{◌≡◌, ◌≢◌, ℕ, ◌+◌, ◌-◌, ◌%◌, ◌^◌, ◌<◌, ◌≤◌, IsTrue, false, true, List, drop, [], ◌∷◌, ◌++◌, Some, None, Err, map, length, replicate, slice_index, slice_index_or, slice_get, OnOk, IfOk};
+ghost use Rattle.std.specs.Prelude.{◌≡◌, ◌≢◌, ◌+◌, ◌-◌, ◌%◌, ◌^◌, ◌<◌, ◌≤◌, IsTrue, false, true, Some, None, Err, map, length, replicate, slice_index, slice_get, OnOk, IfOk};
 ghost use Rattle.trace_text.specs.Grammar.{cells_of};
 ghost use Rattle.trace_text.specs.Limits.{max_cells};
-ghost use Rattle.reducer_views.specs.declared.view.View.TheVariants.{Nothing};
 ghost use Rattle.reducer_views.specs.Products.{FitsMonoid, identity_of, product_of, put_view, update_view};
 ghost use Rattle.reducer_views.specs.Touched.{monoid_of};
-ghost use Rattle.program_lines.specs.declared.statement.Statement.TheVariants.{Else};
-ghost use Rattle.program_text.specs.Bodies.{EndsAt};
 ghost use Rattle.program_text.specs.Sound.{is_located};
-ghost use Rattle.program_text.specs.Trees.{left_of};
 ghost use Rattle.program_steps.specs.Values.{cell_of, result_of, value_of, with_ok};
 ghost use Rattle.serial_elision.specs.Evaluation.{got, view_at, with_cell, with_register, with_view};
-ghost use Rattle.serial_elision.specs.States.{IsLeft, IsOpening, Makes, Stands, moved, monoids_in, state_of, store_of, turning, with_begun, with_store, with_top};
+ghost use Rattle.serial_elision.specs.States.{IsGoing, IsLeft, IsOpening, Makes, Stands, moved, monoids_in, state_of, store_of, turning, with_begun, with_store, with_top};
+ghost use Rattle.serial_elision.specs.Statements.{is_access, is_invocation, is_reduction, is_silent};
 ghost use Rattle.serial_elision.specs.Elisions.{Elides, NeedsMore};
 
 use crate::activation::{Activation, Turns};
@@ -326,108 +323,154 @@ impl<A: Allocator> Elision<A> {
         function: &Function<B>,
         statement: Statement,
     ) -> Result<u32, AllocError>
-        requires stands { Stands program.now.functions (monoids_in program.now) (cells_of program.now.mems) (state_of self.old) }
-        requires going { self.old.over ≡ false }
-        requires quiet { self.old.top.turns ≡ None }
-        requires here { slice_get program.now.functions self.old.top.function ≡ Some function.now }
+        requires going { IsGoing program.now.functions (monoids_in program.now) (cells_of program.now.mems) (state_of self.old) function.now }
         requires at { slice_get function.now.body self.old.top.place ≡ Some statement }
         ensures stands { OnOk result (Stands program.now.functions (monoids_in program.now) (cells_of program.now.mems) (state_of self.new)) }
         ensures makes { IfOk result (λ asked. Makes program.now.functions (monoids_in program.now) asked (state_of self.old) (state_of self.new)) }
     {
         match statement {
-            Statement::Let {
-                register,
-                value,
-                ..
-            } => {
-                self.assign(register, value);
-                Ok(0)
-            }
-            Statement::Read {
-                register,
-                location,
-                ..
-            } => {
-                self.read(register, location);
+            Statement::Read { .. } | Statement::Write { .. } | Statement::Bump { .. } => {
+                self.access(program, function, statement);
                 Ok(1)
             }
-            Statement::Write {
-                location,
-                value,
-                ..
-            } => {
-                self.write(location, value);
+            Statement::Update { .. } | Statement::Put { .. } | Statement::Get { .. } => {
+                self.reduce(program, function, statement);
                 Ok(1)
             }
-            Statement::Bump {
-                location,
-                value,
-                ..
-            } => {
-                self.bump(location, value);
-                Ok(1)
-            }
-            Statement::Update { reducer, value, .. } => {
-                self.update(reducer, value);
-                Ok(1)
-            }
-            Statement::Put { reducer, value, .. } => {
-                self.put(reducer, value);
-                Ok(1)
-            }
-            Statement::Get {
-                register,
-                reducer,
-                ..
-            } => {
-                self.get(register, reducer);
-                Ok(1)
-            }
-            Statement::Spawn {
-                function,
-                argument,
-                ..
-            } => {
-                self.enter(function, argument)?;
-                Ok(1)
-            }
-            Statement::Call {
-                function,
-                argument,
-                ..
-            } => {
-                self.enter(function, argument)?;
+            Statement::Spawn { .. } | Statement::Call { .. } => {
+                self.invoke(program, function, statement)?;
                 Ok(1)
             }
             Statement::Sync { .. } => {
                 self.go(self.top.place + 1);
                 Ok(1)
             }
+            _ => {
+                self.pass(program, function, statement);
+                Ok(0)
+            }
+        }
+    }
+
+    /// Does an access of memory.
+    fn access<B: Allocator>(
+        &mut self,
+        program: &Program<B>,
+        function: &Function<B>,
+        statement: Statement,
+    )
+        requires going { IsGoing program.now.functions (monoids_in program.now) (cells_of program.now.mems) (state_of self.old) function.now }
+        requires at { slice_get function.now.body self.old.top.place ≡ Some statement }
+        requires kind { IsTrue (is_access statement) }
+        ensures stands { Stands program.now.functions (monoids_in program.now) (cells_of program.now.mems) (state_of self.new) }
+        ensures makes { Makes program.now.functions (monoids_in program.now) 1 (state_of self.old) (state_of self.new) }
+    {
+        match statement {
+            Statement::Read {
+                register,
+                location,
+                ..
+            } => self.read(register, location),
+            Statement::Write {
+                location,
+                value,
+                ..
+            } => self.write(location, value),
+            Statement::Bump {
+                location,
+                value,
+                ..
+            } => self.bump(location, value),
+            _ => unreachable!(),
+        }
+    }
+
+    /// Does an access of a reducer.
+    fn reduce<B: Allocator>(
+        &mut self,
+        program: &Program<B>,
+        function: &Function<B>,
+        statement: Statement,
+    )
+        requires going { IsGoing program.now.functions (monoids_in program.now) (cells_of program.now.mems) (state_of self.old) function.now }
+        requires at { slice_get function.now.body self.old.top.place ≡ Some statement }
+        requires kind { IsTrue (is_reduction statement) }
+        ensures stands { Stands program.now.functions (monoids_in program.now) (cells_of program.now.mems) (state_of self.new) }
+        ensures makes { Makes program.now.functions (monoids_in program.now) 1 (state_of self.old) (state_of self.new) }
+    {
+        match statement {
+            Statement::Update { reducer, value, .. } => self.update(reducer, value),
+            Statement::Put { reducer, value, .. } => self.put(reducer, value),
+            Statement::Get {
+                register,
+                reducer,
+                ..
+            } => self.get(register, reducer),
+            _ => unreachable!(),
+        }
+    }
+
+    /// Begins the function that a `spawn` or a `call` names.
+    fn invoke<B: Allocator>(
+        &mut self,
+        program: &Program<B>,
+        function: &Function<B>,
+        statement: Statement,
+    ) -> Result<(), AllocError>
+        requires going { IsGoing program.now.functions (monoids_in program.now) (cells_of program.now.mems) (state_of self.old) function.now }
+        requires at { slice_get function.now.body self.old.top.place ≡ Some statement }
+        requires kind { IsTrue (is_invocation statement) }
+        ensures stands { OnOk result (Stands program.now.functions (monoids_in program.now) (cells_of program.now.mems) (state_of self.new)) }
+        ensures makes { OnOk result (Makes program.now.functions (monoids_in program.now) 1 (state_of self.old) (state_of self.new)) }
+    {
+        match statement {
+            Statement::Spawn {
+                function,
+                argument,
+                ..
+            } => self.enter(function, argument),
+            Statement::Call {
+                function,
+                argument,
+                ..
+            } => self.enter(function, argument),
+            _ => unreachable!(),
+        }
+    }
+
+    /// Does a line that asks nothing.
+    fn pass<B: Allocator>(
+        &mut self,
+        program: &Program<B>,
+        function: &Function<B>,
+        statement: Statement,
+    )
+        requires going { IsGoing program.now.functions (monoids_in program.now) (cells_of program.now.mems) (state_of self.old) function.now }
+        requires at { slice_get function.now.body self.old.top.place ≡ Some statement }
+        requires kind { IsTrue (is_silent statement) }
+        ensures stands { Stands program.now.functions (monoids_in program.now) (cells_of program.now.mems) (state_of self.new) }
+        ensures makes { Makes program.now.functions (monoids_in program.now) 0 (state_of self.old) (state_of self.new) }
+    {
+        match statement {
+            Statement::Let {
+                register,
+                value,
+                ..
+            } => self.assign(register, value),
             Statement::ParallelFor {
                 line,
                 register,
                 count,
                 function,
-            } => {
-                self.repeat(line, register, count, function);
-                Ok(0)
-            }
+            } => self.repeat(line, register, count, function),
             Statement::If {
                 register,
                 otherwise,
                 ..
-            } => {
-                self.choose(register, otherwise);
-                Ok(0)
-            }
-            Statement::Else { after, .. } => {
-                self.go(after);
-                Ok(0)
-            }
-            Statement::End { .. } => {
-                self.go(self.top.place + 1);
-                Ok(0)
-            }
+            } => self.choose(register, otherwise),
+            Statement::Else { after, .. } => self.go(after),
+            Statement::End { .. } => self.go(self.top.place + 1),
+            _ => unreachable!(),
         }
     }
 

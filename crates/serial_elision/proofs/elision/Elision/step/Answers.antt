@@ -15,3 +15,6 @@ returns-in-None-clause-makes g c =
     let body : c.as_slice.result.now ≡ code.body = c.as_slice.ensures ∙ ap (λ f. f.body) c.function.view_is in
     let ends : length code.body ≤ c.args.self.now.top.place = subst (λ b. length b ≤ c.args.self.now.top.place) body (ltb-false _ _ (sym c.in-None.ensures.lookup.0)) in
     left_makes p.functions (monoids_in p) (state_of c.args.self.now) (state_of c.leave.new.self) code c.function_at-function.ensures c.requires.going c.in_default.is ends c.leave.ensures
+
+pub perform-requires-clause-going : goal.perform-requires-clause-going
+perform-requires-clause-going g c = record { stands = c.requires.stands; going = c.requires.going; quiet = c.in_default.is; here = c.function_at-function.ensures }

@@ -1,7 +1,6 @@
-use Rattle.std.proofs.Common.{◌≡◌, ◌+◌, ◌-◌, ◌<◌, suc, Some, refl, ap, ◌∙◌, arith}
-use Rattle.std.specs.Prelude.{slice_set}
+use Rattle.std.proofs.Common.{◌≡◌, ◌-◌, ◌<◌, suc, refl, arith}
 use Rattle.trace_text.specs.Grammar.{cells_of}
-use Rattle.serial_elision.specs.States.{state_of, monoids_in, turning, moved, with_begun}
+use Rattle.serial_elision.specs.States.{state_of, monoids_in}
 use Rattle.program_steps.proofs.Places.{found}
 use Rattle.serial_elision.proofs.Elisions.{turns_over, turned_stands, turn_makes, callee_known}
 use Rattle.serial_elision.proofs.elision.Elision.turn.Goals as goal
@@ -20,8 +19,7 @@ returns-in_ok-begin-clause-stands g c =
     let turns = c.args.turns in
     let f = found p.functions before.top.function c.requires.stands.top.known in
     let some : 0 < turns.left = let k = c.if-turns-eq0.false in omega (arith, k) in
-    let e = c.in_ok-begin.ensures ∙ ap (λ i. with_begun before (turning (moved before.top before.top.place (slice_set before.top.registers i turns.number)) (Some (record { line = turns.line; register = turns.register; function = turns.function; number = turns.number + 1; left = turns.left - 1 }))) turns.function turns.number) c.from.ensures in
-    turned_stands p.functions (monoids_in p) before f.0 turns f.1 c.requires.going c.requires.turns (cells_of p.mems) _ c.requires.stands some e
+    turned_stands p.functions (monoids_in p) before f.0 turns f.1 c.requires.going c.requires.turns (cells_of p.mems) _ _ c.from.ensures c.requires.stands some c.in_ok-begin.ensures
 
 pub returns-in_ok-begin-clause-makes : goal.returns-in_ok-begin-clause-makes
 returns-in_ok-begin-clause-makes g c =
@@ -31,5 +29,4 @@ returns-in_ok-begin-clause-makes g c =
     let f = found p.functions before.top.function c.requires.stands.top.known in
     let h = found p.functions turns.function (callee_known p.functions before turns c.requires.turns c.requires.stands.top.turning) in
     let some : turns.left ≡ suc (turns.left - 1) = let k = c.if-turns-eq0.false in omega (arith, k) in
-    let e = c.in_ok-begin.ensures ∙ ap (λ i. with_begun before (turning (moved before.top before.top.place (slice_set before.top.registers i turns.number)) (Some (record { line = turns.line; register = turns.register; function = turns.function; number = turns.number + 1; left = turns.left - 1 }))) turns.function turns.number) c.from.ensures in
-    turn_makes p.functions (monoids_in p) before f.0 turns f.1 c.requires.going c.requires.turns (turns.left - 1) h.0 _ some h.1 e
+    turn_makes p.functions (monoids_in p) before f.0 turns f.1 c.requires.going c.requires.turns (turns.left - 1) _ h.0 _ c.from.ensures some h.1 c.in_ok-begin.ensures
