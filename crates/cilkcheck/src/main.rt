@@ -1,44 +1,15 @@
 //! The program `cilkcheck`: a race detector for spawn-sync programs.
 //!
-//! `cilkcheck judge` reads a trace from standard input and writes a verdict line for each of its requests. [`judge::judge_stream`]
-//! carries the theorem in its contract: at a status the bytes that were read mean a trace, what was written are the verdict lines of the
-//! replies of a gate to its requests, in their order, the history of that gate is judged, and the status follows from the replies. A
-//! fault in the text is the first one of the bytes that were read, a fault of a device is answered exactly where the device has failed,
-//! and nothing is written then.
-//!
-//! `cilkcheck elide` reads a program from a file and writes the memory that its serial elision leaves, in which each spawn is a call.
-//! [`elide::elide_text`] carries that theorem: at status 0 the bytes that were read mean a program, and what was written are the lines of
-//! the memory and of the number of requests of its one evaluation, which are no more than the limit. At the fault Limit an evaluation, if
-//! there is one, makes more requests. Of the other faults the same holds as of a trace.
+//! `cilkcheck judge` reads a trace from standard input and writes a verdict line for each of its requests; [`judge_stream`] carries the
+//! theorem in its contract. `cilkcheck elide` reads a program from a file and writes the memory that its serial elision leaves;
+//! [`elide_text`] carries that theorem. Here stands only what no library can name: the words, the streams and the exit status of the process.
 #![tactic(auto)]
 
-ghost use Rattle.std.specs.Prelude.{◌≡◌, IfErr};
-
-mod elide;
-mod fault;
-mod judge;
-mod status;
-mod watched;
-mod words;
-
-use elide::elide_text;
-use fault::CliFault;
-use judge::{judge_stream, write_text};
-use std::fs::File;
 use std::process::ExitCode;
 use std::{env, io};
-use watched::Watched;
-use words::{Job, read_words, usage};
-
-/// The file with this name, to be read. It answers [`CliFault::Read`] where it can't be opened.
-fn opened(rt: &HostRuntime, name: &str) -> Result<File, CliFault>
-    ensures { IfErr result (λ fault. fault ≡ CliFault.Read) }
-{
-    match File::open(rt, name) {
-        Ok(file) => Ok(file),
-        Err(_) => Err(CliFault::Read),
-    }
-}
+use text_commands::{
+    CliFault, Job, Watched, elide_text, judge_stream, opened, read_words, usage, write_text,
+};
 
 /// Does what the words of the command line ask for.
 fn run(rt: &HostRuntime) -> Result<u8, CliFault> {
@@ -76,6 +47,3 @@ fn main(rt: HostRuntime) -> ExitCode {
         }
     }
 }
-
-#[cfg(test)]
-mod tests;

@@ -1,0 +1,64 @@
+-- Bytes that are read or written in pieces, and calls that are counted.
+use Rattle.std.proofs.Common.{◌≡◌, ◌≤◌, ◌<◌, ℕ, ◌+◌, List, [], ◌++◌, Option, Some, None, take, drop, refl, ap, sym, subst, ◌∙◌, inl, append_assoc, arith}
+use Rattle.std.specs.Prelude.{Bool, false, ◌==◌, ◌&&◌, ◌||◌, not}
+use Rattle.std.proofs.lemmas.List.{take-append-drop}
+use Rattle.std.proofs.lemmas.Bool.{ne_eqb}
+use Rattle.std.specs.Io.KnownBytes.{Consumes, Appends}
+use Rattle.text_commands.specs.declared.fault.CliFault.{CliFault}
+use Rattle.text_commands.specs.declared.fault.CliFault.TheVariants.{Usage, Read, Write, TooLong, Trace, Program, Limit, Memory}
+use Rattle.text_commands.specs.Watched.{one_more}
+use Rattle.text_commands.specs.Streams.{with_calls, TakesPiece, StopsPiece, StopsReading}
+
+-- nothing was read
+pub consumes-none : (known : Option (List ℕ)) → Consumes known known []
+consumes-none None = tt
+consumes-none (Some bytes) = refl
+
+-- one piece after another
+pub consumes-more : (first between last : Option (List ℕ)) (bytes more : List ℕ) → Consumes first between bytes → Consumes between last more → Consumes first last (bytes ++ more)
+consumes-more None between last bytes more taken more_taken = tt
+consumes-more (Some xs) None last bytes more taken more_taken = absurd taken
+consumes-more (Some xs) (Some ys) None bytes more taken more_taken = absurd more_taken
+consumes-more (Some xs) (Some ys) (Some zs) bytes more taken more_taken = taken ∙ ap (λ rest. bytes ++ rest) more_taken ∙ sym (append_assoc bytes more zs)
+
+-- one piece after another
+pub appends-more : (first between last : Option (List ℕ)) (bytes more : List ℕ) → Appends first between bytes → Appends between last more → Appends first last (bytes ++ more)
+appends-more None between last bytes more written more_taken = tt
+appends-more (Some xs) None last bytes more written more_taken = absurd written
+appends-more (Some xs) (Some ys) None bytes more written more_taken = absurd more_taken
+appends-more (Some xs) (Some ys) (Some zs) bytes more written more_taken = more_taken ∙ ap (λ front. front ++ more) written ∙ append_assoc xs bytes more
+
+-- what is left behind a part
+pub rest-left : (part rest left text : List ℕ) (count : ℕ) → part ++ rest ≡ text → left ≡ drop count rest → (part ++ take count rest) ++ left ≡ text
+rest-left part rest left text count whole is =
+    append_assoc part (take count rest) left ∙ ap (λ (more : List ℕ). part ++ (take count rest ++ more)) is ∙ ap (λ (more : List ℕ). part ++ more) (take-append-drop count rest) ∙ whole
+
+-- a write that took something has not failed
+pub write-fresh : (failed now : Bool) (count bytes : ℕ) → 0 < count → failed ≡ false → now ≡ (failed || ((count == 0) && not (bytes == 0))) → now ≡ false
+write-fresh failed now count bytes some fresh is =
+    is ∙ ap (λ (b : Bool). b || ((count == 0) && not (bytes == 0))) fresh ∙ ap (λ (b : Bool). b && not (bytes == 0)) (ne_eqb count 0 (λ none. omega arith))
+
+-- so many calls, and one more
+pub calls-asked : (calls more now : ℕ) → with_calls calls more ≤ now → with_calls calls (more + 1) ≤ one_more now
+calls-asked calls more now asked = omega arith
+
+pub calls-bound : (calls more now next : ℕ) → now ≤ calls + more → next ≡ one_more now → next ≤ calls + (more + 1)
+calls-bound calls more now next bound is = omega arith
+
+-- why reading a piece stops is why reading stops
+pub piece_cause : (first between last : Option (List ℕ)) (old_calls new_calls : ℕ) (text : List ℕ) (fault : CliFault) →
+    Consumes first between text → StopsPiece between last text fault → StopsReading first last old_calls new_calls fault
+piece_cause first between last old_calls new_calls text Read taken stops = tt
+piece_cause first between last old_calls new_calls text Memory taken stops = tt
+piece_cause first between last old_calls new_calls text TooLong taken stops =
+    inl (record { text = text ++ stops.0; taken = consumes-more first between last text stops.0 taken stops.1; long = stops.2 })
+piece_cause first between last old_calls new_calls text (Usage words) taken stops = absurd stops
+piece_cause first between last old_calls new_calls text Write taken stops = absurd stops
+piece_cause first between last old_calls new_calls text (Trace fault) taken stops = absurd stops
+piece_cause first between last old_calls new_calls text (Program fault) taken stops = absurd stops
+piece_cause first between last old_calls new_calls text Limit taken stops = absurd stops
+
+-- a text and one more piece
+pub text-more : (first between last : Option (List ℕ)) (old new : List ℕ) (more : Bool) → Consumes first between old → TakesPiece between last old new more → Consumes first last new
+text-more first between last old new more taken piece =
+    subst (λ (bytes : List ℕ). Consumes first last bytes) (sym piece.added) (consumes-more first between last old piece.piece taken piece.taken)

@@ -1,0 +1,16 @@
+use Rattle.std.proofs.Common.{ap, ◌∙◌}
+use Rattle.trace_text.specs.Traces.{contents}
+use Rattle.text_commands.specs.Watched.{held, calls_of}
+use Rattle.race_report.specs.VerdictText.{verdict_text}
+use Rattle.text_commands.proofs.Causes.{writing_cause}
+use Rattle.text_commands.proofs.judge.judge_stream.Goals as goal
+
+pub returns-clause-fault : goal.returns-clause-fault
+returns-clause-fault g c =
+    writing_cause (g.R.Read.remaining (held c.args.input.now)) (g.R.Read.remaining (held c.read_text.new.input))
+    (g.W.Write.contents (held c.args.output.now)) (g.W.Write.contents (held c.write_text.new.output))
+    (calls_of c.args.input.now) (calls_of c.read_text.new.input) c.args.limit c.in-Ok.text.items c.as_slice-3.result.now c.in_ok-replies.replies.items
+    c.in-Err-write_text.fault c.in-Ok.ensures.ok
+    (record { contents = contents c.in-Ok-parse.trace; means = c.in-Ok-parse.ensures.ok; replied = c.in_ok-replies.ensures.replies })
+    (c.as_slice-3.ensures.value ∙ c.in_ok-lines.ensures ∙ ap verdict_text c.as_slice.ensures.value)
+    c.in-Err-write_text.ensures.fault

@@ -1,0 +1,30 @@
+-- The faults of commands.
+use Rattle.std.specs.Prelude.{ℕ}
+use Rattle.trace_text.specs.declared.fault.TextFault.{TextFault}
+use Rattle.trace_text.specs.declared.fault.TextFault.TheVariants.{Memory as TextMemory}
+use Rattle.text_commands.specs.declared.fault.CliFault.{CliFault}
+use Rattle.text_commands.specs.declared.fault.CliFault.TheVariants.{Usage, Trace, Program, Limit, Memory}
+
+-- the exit status: 3 for want of memory, 4 where the limit was passed, and else 2
+abbrev pub status_of_fault : CliFault → ℕ
+status_of_fault Memory = 3
+status_of_fault (Trace TextMemory) = 3
+status_of_fault (Program TextMemory) = 3
+status_of_fault Limit = 4
+status_of_fault fault = 2
+
+-- the fault of a text as one of the command: want of memory is want of memory wherever it comes
+abbrev pub fault_of_text : TextFault → CliFault
+fault_of_text TextMemory = Memory
+fault_of_text fault = Trace fault
+
+-- the same of the text of a program
+abbrev pub fault_of_program : TextFault → CliFault
+fault_of_program TextMemory = Memory
+fault_of_program fault = Program fault
+
+-- a fault of the words of the command line
+abbrev pub IsUsageFault : CliFault → Type 0
+IsUsageFault (Usage text) = Unit {0}
+IsUsageFault Memory = Unit {0}
+IsUsageFault fault = ⊥

@@ -1,0 +1,27 @@
+//! What the commands of the program do with their texts: words of the command line to a job, a text that is read to a text that is written.
+//!
+//! [`judge_stream`] carries the theorem of `judge` in its contract: at a status the bytes that were read mean a trace, what was written
+//! are the verdict lines of the replies of a gate to its requests, in their order, the history of that gate is judged, and the status
+//! follows from the replies. A fault in the text is the first one of the bytes that were read, a fault of a device is answered exactly
+//! where the device has failed, and nothing is written then. [`elide_text`] carries that of `elide`: at status 0 the bytes that were read
+//! mean a program, and what was written are the lines of the memory and of the number of requests of its one evaluation, in which each
+//! spawn is a call, and which makes no more requests than the limit. At the fault Limit an evaluation, if there is one, makes more. Of
+//! the other faults the same holds as of a trace. [`read_words`] gives a job with its numbers in their ranges; which words give which job
+//! is shown by tests.
+#![tactic(auto)]
+
+mod elide;
+mod fault;
+mod files;
+mod judge;
+mod status;
+mod watched;
+mod words;
+
+pub use elide::elide_text;
+pub use fault::CliFault;
+pub use files::opened;
+pub use judge::{judge_stream, write_text};
+pub use status::status_of;
+pub use watched::Watched;
+pub use words::{Job, read_words, usage};
