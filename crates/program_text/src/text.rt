@@ -111,6 +111,39 @@ fn main_of<A: Allocator>(functions: &[Function<A>]) -> Option<usize>
         .position(|function| function.name.as_str() == "main")
 }
 
+/// Reads the lines behind the first, where the text has these functions.
+fn body_with<'a, A: Allocator + Copy>(
+    alloc: A,
+    version: Version,
+    names: &FunctionNames<'a, A>,
+    text: &'a [u8],
+) -> Result<(Draft<'a, A>, u32), TextFault>
+    requires { names.now ≡ functions_of (lines text.now) }
+    ensures means { MatchResult result
+        (λ read. LinesMean (functions_of (lines text.now)) 2 (nothing version) (lines text.now) (held read.0))
+        (IsBodyFault version text.now) }
+    ensures main { IfOk result (λ read. main_among read.0.functions ≡ Some read.1) }
+{
+    let mut draft = Draft::new(alloc, version);
+    let mut rest = text;
+    let mut at = 1;
+    while !rest.is_empty() {
+        let (line, after) = split_line(rest);
+        at += 1;
+        if let Err(fault) = draft.take(alloc, names, at, without_return(line)) {
+            return Err(fault);
+        }
+        rest = after;
+    }
+    if draft.is_open() {
+        return Err(fault(at + 1, Cause::BadNesting));
+    }
+    match main_of(draft.functions()) {
+        Some(main) => Ok((draft, main as u32)),
+        None => Err(fault(at + 1, Cause::NoMain)),
+    }
+}
+
 /// Reads the lines behind the first.
 fn body<'a, A: Allocator + Copy>(
     alloc: A,
@@ -123,24 +156,7 @@ fn body<'a, A: Allocator + Copy>(
     ensures main { IfOk result (λ read. main_among read.0.functions ≡ Some read.1) }
 {
     let names = function_names(alloc, text)?;
-    let mut draft = Draft::new(alloc, version);
-    let mut rest = text;
-    let mut at = 1;
-    while !rest.is_empty() {
-        let (line, after) = split_line(rest);
-        at += 1;
-        if let Err(fault) = draft.take(alloc, &names, at, without_return(line)) {
-            return Err(fault);
-        }
-        rest = after;
-    }
-    if draft.is_open() {
-        return Err(fault(at + 1, Cause::BadNesting));
-    }
-    match main_of(draft.functions()) {
-        Some(main) => Ok((draft, main as u32)),
-        None => Err(fault(at + 1, Cause::NoMain)),
-    }
+    body_with(alloc, version, &names, text)
 }
 
 /// Reads a text.

@@ -1,5 +1,9 @@
+use Rattle.std.proofs.Common.{rules}
 use Rattle.program_lines.proofs.LocationWords.{number_operand}
 use Rattle.program_lines.proofs.place.operand_of.Goals as goal
+
+pub returns-in-None : goal.returns-in-None
+returns-in-None g c = search rules
 
 pub returns-in-Ok : goal.returns-in-Ok
 returns-in-Ok g c = c.in-Ok.ensures.reads c.args.scope.now.known

@@ -1,4 +1,4 @@
-use Rattle.std.proofs.Common.{refl}
+use Rattle.std.proofs.Common.{refl, rules}
 use Rattle.trace_text.proofs.IndexLemmas.{lowest_no_reducer}
 use Rattle.trace_text.proofs.place.reducer_of.Goals as goal
 
@@ -13,3 +13,6 @@ returns-in-Some-Array g c =
 pub returns-in-None : goal.returns-in-None
 returns-in-None g c =
     lowest_no_reducer c.args.names.now c.args.name.now _ (c.if-not-is_name.ensures.0 refl) c.in-None.ensures.named refl c.in-None.ensures.apart
+
+pub returns-in-Some-Reducer : goal.returns-in-Some-Reducer
+returns-in-Some-Reducer g c = search rules

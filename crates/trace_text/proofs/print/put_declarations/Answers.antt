@@ -1,4 +1,4 @@
-use Rattle.std.proofs.Common.{◌+◌, ◌++◌, List, drop, arith, sym, ap, ◌∙◌}
+use Rattle.std.proofs.Common.{◌+◌, ◌++◌, List, drop, arith, refl, sym, ap, ◌∙◌}
 use Rattle.std.specs.Prelude.{string_bytes}
 use Rattle.trace_text.specs.declared.value.Mem.{Mem}
 use Rattle.trace_text.specs.Printing.{declarations, text_from}
@@ -14,3 +14,6 @@ loop-mem-preserved g c = λ known requests.
     (string_bytes c.put_memory_line.new.out) _ c.loop-mem.at c.in_ok-next.next c.in_ok-at.at c.loop-mem.rest.now c.in_ok-next.left.now
     c.from.ensures c.in_ok-next.ensures.past (c.in_ok-next.ensures.prints known) (c.in_ok-at.ensures known)
     (ap (λ (ms : List Mem). string_bytes c.loop-mem.out ++ text_from known c.loop-mem.at (declarations ms c.loop-mem.rest.now ++ requests)) (sym here) ∙ c.loop-mem.invariant known requests)
+
+pub loop-mem-init : goal.loop-mem-init
+loop-mem-init g c = λ known requests. refl

@@ -1,9 +1,14 @@
-use Rattle.std.proofs.Common.{◌≡◌, false}
+use Rattle.std.proofs.Common.{◌≡◌, false, true, refl}
 use Rattle.std.specs.Prelude.{Some, None}
 use Rattle.std.specs.Str.{bytes_eq}
 use Rattle.program_lines.specs.Scopes.{ok_word}
 use Rattle.program_lines.proofs.NameLists.{register_found}
 use Rattle.program_lines.proofs.scope.Scope.register.Goals as goal
+
+pub returns-then-eq : goal.returns-then-eq
+returns-then-eq g c =
+    let is_ok : bytes_eq c.args.name.now ok_word ≡ true = (let e = c.eq.ensures in let f = c.if-eq.true in cc) in
+    rw is_ok refl
 
 pub returns-in-Some : goal.returns-in-Some
 returns-in-Some g c =
