@@ -81,6 +81,31 @@ pub fn check_run<B: Allocator>(
     }
 }
 
+/// What [`gather`] answers of the gate that it took out of its lock.
+fn whole_of<L: Ledger, B: Allocator>(
+    alloc: Global,
+    program: &Program<B>,
+    gate: &Gate<Global>,
+    logs: &[WorkerLog<L>],
+) -> Result<Whole, RunFault>
+    ensures run { IfOk result (λ whole. IsFinishedRun program.now.functions (shape_in program.now) (reverse whole.entries.items)) }
+    ensures logs { IfOk result (λ whole. AreWhole whole.entries.items logs.now) }
+    ensures memory { IfOk result (λ whole. IsMemory (shape_in program.now).cells (reverse whole.entries.items) whole.memory.items) }
+    ensures clean { IfOk result (λ whole. IsTrue whole.clean ↔ IsClean (reverse whole.entries.items)) }
+    ensures limit { ¬ (result ≡ Err RunFault.Limit) }
+{
+    check_logs(alloc, gate, logs)?;
+    check_run(alloc, program, gate)?;
+    let entries = Vec::from_slice(alloc, gate.history())?;
+    let memory = Vec::from_slice(alloc, gate.memory())?;
+    let clean = is_clean(entries.as_slice());
+    Ok(Whole {
+        entries,
+        memory,
+        clean,
+    })
+}
+
 /// Takes the gate out of its lock. Ok where the logs are whole and the history is a finished run of the program. Otherwise it answers
 /// what [`check_logs`] says of the gate and the logs, and then what [`check_run`] says of the gate, and drops both.
 pub fn gather<L: Ledger, B: Allocator>(
@@ -96,14 +121,5 @@ pub fn gather<L: Ledger, B: Allocator>(
     ensures limit { ¬ (result ≡ Err RunFault.Limit) }
 {
     let gate = locked.into_gate();
-    check_logs(alloc, &gate, logs.as_slice())?;
-    check_run(alloc, program, &gate)?;
-    let entries = Vec::from_slice(alloc, gate.history())?;
-    let memory = Vec::from_slice(alloc, gate.memory())?;
-    let clean = is_clean(entries.as_slice());
-    Ok(Whole {
-        entries,
-        memory,
-        clean,
-    })
+    whole_of(alloc, program, &gate, logs.as_slice())
 }

@@ -1,7 +1,8 @@
 -- What a gate keeps at first.
-use Rattle.std.proofs.Common.{◌≡◌, ℕ, ◌≤◌, List, [], length, replicate, reverse, false, Option, Some, None, arith}
+use Rattle.std.proofs.Common.{◌≡◌, ℕ, ◌≤◌, List, [], length, replicate, reverse, false, Option, Some, None, refl, arith}
 use Rattle.std.proofs.lemmas.List.{get_or-replicate}
 use Rattle.std.proofs.Math.ListN.{length-replicate}
+use Rattle.trace_text.specs.declared.value.Monoid.{Monoid}
 use Rattle.sp_labels.specs.Roster.{Roster, Follows}
 use Rattle.shadow_history.specs.declared.cell.Cell.{Cell}
 use Rattle.shadow_history.specs.Shadow.{Remembers}
@@ -35,3 +36,8 @@ pub kept-opening : (shape : Shape) (limit : ℕ) (entries : List Entry) (memory 
     OpensBooks books shape.monoids → IsKept (record { shape = shape; limit = limit; stopped = false; history = reverse entries; memory = memory }) strands shadow books
 kept-opening shape limit entries memory strands shadow books no_entries zeros follows remembers len small opens =
     rw (no_entries, zeros) (kept-at_first shape limit strands shadow books follows remembers len small opens)
+
+pub is-opening : (cells limit : ℕ) (monoids declared : List Monoid) (entries : List Entry) (memory : List ℕ) → monoids ≡ declared → entries ≡ [] →
+    memory ≡ replicate cells 0 → opening (record { cells = cells; monoids = declared }) limit ≡
+    record { shape = record { cells = cells; monoids = monoids }; limit = limit; stopped = false; history = reverse entries; memory = memory }
+is-opening cells limit monoids declared entries memory same no_entries zeros = rw (same, no_entries, zeros) refl

@@ -1,10 +1,7 @@
-use Rattle.locked_replay.proofs.Reversed.{clean_either}
-use Rattle.std.proofs.Common.{List, reverse, IsTrue, subst}
-use Rattle.race_gate.specs.declared.answer.Entry.{Entry}
-use Rattle.race_gate.specs.Extensions.{IsClean}
+use Rattle.std.proofs.Common.{subst}
+use Rattle.std.specs.Prelude.{IfOk}
+use Rattle.locked_replay.specs.Logs.{AreWhole}
 use Rattle.locked_replay.proofs.whole.gather.Goals as goal
 
-pub returns-clause-clean : goal.returns-clause-clean
-returns-clause-clean g c =
-    let tells = clean_either c.as_slice-2.result.now c.is_clean-clean.result c.is_clean-clean.ensures in
-    subst (λ (l : List Entry). (IsTrue c.is_clean-clean.result → IsClean (reverse l)) × (IsClean (reverse l) → IsTrue c.is_clean-clean.result)) c.as_slice-2.ensures.value tells
+pub returns-clause-logs : goal.returns-clause-logs
+returns-clause-logs g c = subst (λ logs. IfOk c.whole_of.result (λ whole. AreWhole whole.entries.items logs)) c.as_slice.ensures.value c.whole_of.ensures.logs

@@ -1,13 +1,17 @@
-use Rattle.std.proofs.Common.{◌≡◌, ◌↔◌, None, true, sym, subst}
+use Rattle.std.proofs.Common.{◌≡◌, ◌↔◌, ℕ, None, true, refl, sym, subst}
 use Rattle.std.specs.Option.{IsSome}
 use Rattle.std.proofs.lemmas.List.{append-nil}
 use Rattle.access_table.specs.declared.kind.Rule.{Rule}
+use Rattle.trace_text.specs.declared.value.Act.{Act}
+use Rattle.trace_text.specs.declared.value.Act.TheVariants as act
 use Rattle.shadow_history.specs.declared.witness.Witness.{Witness}
 use Rattle.shadow_history.specs.Shadow.{Remembers}
 use Rattle.shadow_history.specs.Witnesses.{witness_of}
 use Rattle.race_gate.specs.declared.answer.Answer.{Answer}
 use Rattle.race_gate.specs.declared.answer.Answer.TheVariants.{Split, Same, Joined, Waits, Resumed, Ended, EndedJoined, Finished, Granted, Value, Refused, Unset}
 use Rattle.race_gate.specs.Accesses.{is_granted}
+use Rattle.race_gate.specs.Memory.{effect}
+use Rattle.race_gate.specs.Steps.{after}
 use Rattle.race_gate.specs.Verdicts.{IsRefused, IfRefused}
 use Rattle.race_gate.proofs.step.judge_access.Goals as goal
 
@@ -40,6 +44,19 @@ names_nothing Granted Names not = tt
 names_nothing (Value value) Names not = tt
 names_nothing Unset Names not = tt
 
+-- a refused access leaves each cell
+leaves_each : (act : Act) (rule : Rule) (witness : Witness) (cell value : ℕ) → value ≡ after (effect act (Refused rule witness)) cell value
+leaves_each (act.Read location) rule witness cell value = refl
+leaves_each (act.Write location written) rule witness cell value = refl
+leaves_each (act.Bump location added) rule witness cell value = refl
+leaves_each (act.Update reducer update) rule witness cell value = refl
+leaves_each (act.Put reducer put) rule witness cell value = refl
+leaves_each (act.Get reducer) rule witness cell value = refl
+leaves_each act.Spawn rule witness cell value = refl
+leaves_each act.Sync rule witness cell value = refl
+leaves_each act.Call rule witness cell value = refl
+leaves_each act.Return rule witness cell value = refl
+
 no_race : (Race : Type 0) → (IsSome {T = Witness} None ↔ Race) → Race → ⊥
 no_race Race tells race = let some = tells.1 race in absurd (cc)
 
@@ -51,6 +68,12 @@ returns-in-Some-clause-judged g c history accesses follows remembers =
       witness = (found.races, c.rule.ensures.value);
       remembers = subst (λ xs. Remembers c.args.shadow.now history xs) (sym (append-nil accesses)) remembers;
     }
+
+pub returns-in-Some-clause-memory : goal.returns-in-Some-clause-memory
+returns-in-Some-clause-memory g c = record {
+  len = refl;
+  each = λ cell below. leaves_each c.args.act c.rule.result c.in-Some.witness cell _;
+}
 
 pub returns-clause-judged : goal.returns-clause-judged
 returns-clause-judged g c history accesses follows remembers =

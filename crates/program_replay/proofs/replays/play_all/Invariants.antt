@@ -1,7 +1,7 @@
 use Rattle.std.proofs.Common.{◌≡◌, reverse, take}
 use Rattle.program_runs.specs.Runs.{shape_in}
 use Rattle.program_replay.specs.Casts.{Plays}
-use Rattle.program_replay.proofs.replays.replay.Given as goal
+use Rattle.program_replay.proofs.replays.play_all.Given as goal
 
 abbrev pub invariant-loop-entry : goal.invariant-loop-entry
 invariant-loop-entry g l = record {
