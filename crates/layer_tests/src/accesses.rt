@@ -5,6 +5,7 @@ ghost use Rattle.shadow_history.specs.Shadow.{StandsOn};
 
 mod dag;
 
+use crate::checks::equal;
 use crate::draws::draw;
 use access_table::{Kind, Rule, is_memory, rule};
 use dag::Dag;
@@ -99,7 +100,7 @@ fn check(rt: &impl Abort, alloc: Global, acts: &[(u32, Act, Option<Witness>)]) -
     for (strand, asked, expected) in acts {
         entry = entry.wrapping_add(1);
         let found = step(&mut strands, &mut shadow, entry, *strand, *asked);
-        assert_eq!(rt; found, *expected, "{asked:?} by {strand}");
+        equal(rt, &(*strand, *asked), &found, expected);
     }
     Ok(())
 }
@@ -215,32 +216,68 @@ fn bytes_of(alloc: Global, locations: u32) -> Result<usize, AllocError> {
     Ok(heap.used())
 }
 
-// A heap of just the cells' bytes has no room for a second allocation.
+/// The strand's access of location 1 finds nothing.
+fn finds_nothing<A: Allocator>(
+    rt: &impl Abort,
+    strands: &mut Strands<Global>,
+    shadow: &mut Shadow<A>,
+    kind: Kind,
+)
+    requires stands { StandsOn shadow.old strands.old }
+    requires locations { 2 ≤ length shadow.old }
+    ensures stands { StandsOn shadow.new strands.new }
+    ensures locations { length shadow.new ≡ length shadow.old }
+{
+    let found = step(strands, shadow, 1, 0, Access(kind, 1));
+    assert!(rt; found.is_none(), "{kind:?}");
+}
+
+/// Accesses take no bytes beyond those of the cells of so many locations, and a heap of these has no room for a second allocation.
+fn takes_only(
+    rt: &impl Abort,
+    alloc: Global,
+    locations: u32,
+    bytes: usize,
+) -> Result<(), AllocError>
+    requires { 2 ≤ locations }
+{
+    let heap = LocalHeap::new(alloc, bytes)?;
+    let (mut strands, mut shadow) = opening(alloc, &heap, locations)?;
+    assert_eq!(rt; heap.used(), bytes);
+    assert!(rt; Shadow::new(&heap, 1).is_err());
+    finds_nothing(rt, &mut strands, &mut shadow, Kind::Write);
+    finds_nothing(rt, &mut strands, &mut shadow, Kind::Read);
+    assert_eq!(rt; heap.used(), bytes);
+    Ok(())
+}
+
+fn laws_hold() {
+    laws::later_law();
+    laws::place_law();
+}
+
 #[test]
 fn many_locations_take_one_allocation(rt: HostRuntime) -> Result<(), Fail> {
     let bytes = bytes_of(rt.alloc(), 1_000_000)?;
     assert!(rt; 16 < bytes && bytes <= 64_000_000);
     assert_eq!(rt; bytes_of(rt.alloc(), 1_000)?.saturating_mul(1_000), bytes);
-    let heap = LocalHeap::new(rt.alloc(), bytes)?;
-    let (mut strands, mut shadow) = opening(rt.alloc(), &heap, 1_000_000)?;
-    assert_eq!(rt; heap.used(), bytes);
-    assert!(rt; Shadow::new(&heap, 1).is_err());
-    for kind in [Kind::Write, Kind::Read] {
-        let found = step(&mut strands, &mut shadow, 1, 0, Access(kind, 1));
-        assert_eq!(rt; found, None);
-    }
-    assert_eq!(rt; heap.used(), bytes);
-    laws::later_law();
-    laws::place_law();
+    takes_only(&rt, rt.alloc(), 1_000_000, bytes)?;
+    laws_hold();
     Ok(())
+}
+
+/// Whether a heap of so many bytes has room for so many locations.
+fn has_room(alloc: Global, bytes: usize, locations: u32) -> Result<bool, AllocError> {
+    let heap = LocalHeap::new(alloc, bytes)?;
+    Ok(Shadow::new(&heap, locations).is_ok())
 }
 
 #[test]
 fn a_heap_without_room_for_all_locations_is_refused(rt: HostRuntime) -> Result<(), Fail> {
     let bytes = bytes_of(rt.alloc(), 1_000_000)?;
     assert!(rt; 16 < bytes && bytes <= 64_000_000);
-    let smaller = LocalHeap::new(rt.alloc(), bytes - 16)?;
-    assert!(rt; Shadow::new(&smaller, 1_000_000).is_err());
+    assert!(rt; has_room(rt.alloc(), bytes, 1_000_000)?);
+    assert!(rt; !has_room(rt.alloc(), bytes - 16, 1_000_000)?);
     Ok(())
 }
 
@@ -366,42 +403,100 @@ fn run_alike(strands: &Strands<Global>, dag: &Dag) -> bool {
     true
 }
 
+/// An act that is drawn for a seed, with the number of its entry.
+#[derive(Clone, Copy, Debug)]
+struct Drawn {
+    seed: u64,
+    entry: u32,
+    strand: u32,
+    asked: Act,
+}
+
+/// A drawn act of a strand that runs in the reference, and the next state of the generator.
+fn draw_one(dag: &Dag, seed: u64, entry: u32, state: u64) -> (Drawn, u64) {
+    let (most, state_then) = draw(state, 60);
+    let (choice, state_last) = draw(state_then, 14);
+    let (location, state_next) = draw(state_last, 2);
+    let strand = running_below(dag, most);
+    let asked = drawn_act(choice, location);
+    let drawn = Drawn {
+        seed,
+        entry,
+        strand,
+        asked,
+    };
+    (drawn, state_next)
+}
+
+/// Keeps the access, with its location, where the act is one of a running strand that found no witness.
+fn remember(
+    granted: &mut Vec<(u32, Witness)>,
+    drawn: Drawn,
+    runs: bool,
+    found: Option<Witness>,
+) -> Result<(), AllocError> {
+    if let Access(kind, location) = drawn.asked {
+        if runs && found.is_none() {
+            let access = Witness {
+                entry: drawn.entry,
+                strand: drawn.strand,
+                kind,
+            };
+            granted.push((location, access))?;
+        }
+    }
+    Ok(())
+}
+
+/// What is found is the reference's witness, and one exactly where any access races.
+fn compare(rt: &impl Abort, drawn: Drawn, found: Option<Witness>, wanted: (Option<Witness>, bool)) {
+    equal(rt, &drawn, &(found, found.is_some()), &wanted);
+}
+
+/// Does an act in both, compares what they find, and says whether it races.
+fn play_one(
+    rt: &impl Abort,
+    strands: &mut Strands<Global>,
+    shadow: &mut Shadow<Global>,
+    dag: &mut Dag,
+    granted: &mut Vec<(u32, Witness)>,
+    drawn: Drawn,
+) -> Result<bool, AllocError>
+    requires stands { StandsOn shadow.old strands.old }
+    requires locations { 2 ≤ length shadow.old }
+    ensures stands { StandsOn shadow.new strands.new }
+    ensures locations { length shadow.new ≡ length shadow.old }
+{
+    let runs = dag.runs(drawn.strand as usize);
+    let wanted = expected(dag, granted.as_slice(), drawn.strand as usize, drawn.asked)?;
+    let found = step(strands, shadow, drawn.entry, drawn.strand, drawn.asked);
+    compare(rt, drawn, found, wanted);
+    assert!(rt; run_alike(strands, dag), "{drawn:?}");
+    remember(granted, drawn, runs, found)?;
+    Ok(wanted.1)
+}
+
+/// How many of the 79 acts of this seed's run race.
+fn play(rt: &impl Abort, alloc: Global, seed: u64) -> Result<u32, AllocError> {
+    let (mut strands, mut shadow) = opening(alloc, alloc, 2)?;
+    let mut dag = Dag::new(alloc)?;
+    let mut granted = Vec::new(alloc);
+    let mut state = seed;
+    let mut raced = 0u32;
+    for entry in 1..80u32 {
+        let (drawn, state_next) = draw_one(&dag, seed, entry, state);
+        state = state_next;
+        let is_race = play_one(rt, &mut strands, &mut shadow, &mut dag, &mut granted, drawn)?;
+        raced = raced.saturating_add(u32::from(is_race));
+    }
+    Ok(raced)
+}
+
 #[test]
 fn random_runs_agree_with_the_scan(rt: HostRuntime) -> Result<(), Fail> {
     let mut raced = 0u32;
     for seed in 0..400u64 {
-        let mut state = seed;
-        let (mut strands, mut shadow) = opening(rt.alloc(), rt.alloc(), 2)?;
-        let mut dag = Dag::new(rt.alloc())?;
-        let mut granted = Vec::new(rt.alloc());
-        for entry in 1..80u32 {
-            let (most, state_then) = draw(state, 60);
-            let (choice, state_last) = draw(state_then, 14);
-            let (location, state_next) = draw(state_last, 2);
-            state = state_next;
-            let strand = running_below(&dag, most);
-            let asked = drawn_act(choice, location);
-            let runs = dag.runs(strand as usize);
-            let (witness, is_race) = expected(&mut dag, &granted, strand as usize, asked)?;
-            let found = step(&mut strands, &mut shadow, entry, strand, asked);
-            assert_eq!(rt; found, witness, "{asked:?} by {strand} in {seed}");
-            assert_eq!(rt; found.is_some(), is_race, "{asked:?} by {strand} in {seed}");
-            assert!(rt;
-                run_alike(&strands, &dag),
-                "{asked:?} by {strand} in {seed}"
-            );
-            raced = raced.saturating_add(u32::from(is_race));
-            if let Access(kind, location) = asked {
-                if runs && found.is_none() {
-                    let access = Witness {
-                        entry,
-                        strand,
-                        kind,
-                    };
-                    granted.push((location, access))?;
-                }
-            }
-        }
+        raced = raced.saturating_add(play(&rt, rt.alloc(), seed)?);
     }
     assert!(rt; raced > 1_000);
     Ok(())

@@ -62,6 +62,30 @@ fn says(
     Ok(())
 }
 
+/// Checks what a frame asks, act by act with its line, and answers each by what stands beside it.
+fn plays(
+    rt: &impl Abort,
+    program: &Program<Global>,
+    frame: &mut Frame<Global>,
+    steps: &[(Act, u32, Answer)],
+) -> Result<(), Fail>
+    requires { Stands program.now.functions frame.old }
+    ensures { Stands program.now.functions frame.new }
+{
+    for (act, line, answer) in steps {
+        says(rt, program, frame, *act, *line, *answer)?;
+    }
+    Ok(())
+}
+
+/// Checks that an answer is not one to what a frame asks.
+fn is_strange(rt: &impl Abort, program: &Program<Global>, frame: &mut Frame<Global>, answer: Answer)
+    requires { Stands program.now.functions frame.old }
+    ensures { Stands program.now.functions frame.new }
+{
+    assert!(rt; frame.answer(program, &answer) == Err(FrameFault::Strange));
+}
+
 /// Whether a frame spawns this function with this argument.
 fn spawns(program: &Program<Global>, frame: &Frame<Global>, function: u32, argument: u64) -> bool
     requires { Stands program.now.functions frame.now }
@@ -72,24 +96,66 @@ fn spawns(program: &Program<Global>, frame: &Frame<Global>, function: u32, argum
     }
 }
 
+/// Checks that a frame asks for a spawn of function 1 with this argument, again when it is asked again, and answers it.
+fn splits(
+    rt: &impl Abort,
+    program: &Program<Global>,
+    frame: &mut Frame<Global>,
+    line: u32,
+    argument: u64,
+) -> Result<(), Fail>
+    requires { Stands program.now.functions frame.old }
+    ensures { Stands program.now.functions frame.new }
+{
+    wants(rt, program, frame, Act::Spawn, line);
+    wants(rt, program, frame, Act::Spawn, line);
+    assert!(rt; spawns(program, frame, 1, argument));
+    is_strange(rt, program, frame, Answer::Granted);
+    frame.answer(program, &split())?;
+    Ok(())
+}
+
+/// Checks that a frame wants to return, and answers it, but for an answer that is not one.
+fn returns(
+    rt: &impl Abort,
+    program: &Program<Global>,
+    frame: &mut Frame<Global>,
+    line: u32,
+    strange: Answer,
+    answer: Answer,
+) -> Result<(), Fail>
+    requires { Stands program.now.functions frame.old }
+    ensures { Stands program.now.functions frame.new }
+{
+    wants(rt, program, frame, Act::Return, line);
+    is_strange(rt, program, frame, strange);
+    frame.answer(program, &answer)?;
+    Ok(())
+}
+
 // A spawn, a refused read, the sync at the end.
 #[test]
 fn a_frame_is_answered(rt: HostRuntime) -> Result<(), Fail> {
     let program = Program::parse(rt.alloc(), PAIR)?;
     let mut frame = Frame::new(rt.alloc(), &program, 0, 0);
-    assert!(rt; frame.answer(&program, &Answer::Granted) == Err(FrameFault::Strange));
-    wants(&rt, &program, &mut frame, Act::Spawn, 5);
-    wants(&rt, &program, &mut frame, Act::Spawn, 5);
-    assert!(rt; spawns(&program, &frame, 1, 7));
-    assert!(rt; frame.answer(&program, &Answer::Granted) == Err(FrameFault::Strange));
-    frame.answer(&program, &split())?;
+    is_strange(&rt, &program, &mut frame, Answer::Granted);
+    splits(&rt, &program, &mut frame, 5, 7)?;
     assert!(rt; frame.block_join() == Some(3));
-    says(&rt, &program, &mut frame, Act::Read(0), 6, refused())?;
-    says(&rt, &program, &mut frame, Act::Sync, 7, Answer::Waits)?;
+    plays(
+        &rt,
+        &program,
+        &mut frame,
+        &[(Act::Read(0), 6, refused()), (Act::Sync, 7, Answer::Waits)],
+    )?;
     assert!(rt; frame.block_join() == None);
-    wants(&rt, &program, &mut frame, Act::Return, 7);
-    assert!(rt; frame.answer(&program, &Answer::Resumed) == Err(FrameFault::Strange));
-    frame.answer(&program, &Answer::Finished)?;
+    returns(
+        &rt,
+        &program,
+        &mut frame,
+        7,
+        Answer::Resumed,
+        Answer::Finished,
+    )?;
     assert!(rt; frame.is_over());
     Ok(())
 }
@@ -101,28 +167,27 @@ fn a_refused_read_keeps_its_register(rt: HostRuntime) -> Result<(), Fail> {
         b"cilk 1\nmem x\nfunc main z\n  let r = 4\n  read r x\n  if ok\n    write x 1\n  else\n    write x r\n  end\nend\n";
     let program = Program::parse(rt.alloc(), text)?;
     let mut frame = Frame::new(rt.alloc(), &program, 0, 0);
-    says(&rt, &program, &mut frame, Act::Read(0), 5, refused())?;
-    says(
+    plays(
         &rt,
         &program,
         &mut frame,
-        Act::Write(0, 4),
-        9,
-        Answer::Granted,
+        &[
+            (Act::Read(0), 5, refused()),
+            (Act::Write(0, 4), 9, Answer::Granted),
+            (Act::Sync, 11, Answer::Same),
+        ],
     )?;
-    says(&rt, &program, &mut frame, Act::Sync, 11, Answer::Same)?;
     let mut other = Frame::new(rt.alloc(), &program, 0, 0);
-    says(&rt, &program, &mut other, Act::Read(0), 5, Answer::Value(6))?;
-    says(
+    plays(
         &rt,
         &program,
         &mut other,
-        Act::Write(0, 1),
-        7,
-        Answer::Granted,
-    )?;
-    says(&rt, &program, &mut other, Act::Sync, 11, Answer::Same)?;
-    Ok(())
+        &[
+            (Act::Read(0), 5, Answer::Value(6)),
+            (Act::Write(0, 1), 7, Answer::Granted),
+            (Act::Sync, 11, Answer::Same),
+        ],
+    )
 }
 
 // A called function has registers of its own, and returns to the statement behind the call.
@@ -134,19 +199,24 @@ fn a_call_has_registers_of_its_own(rt: HostRuntime) -> Result<(), Fail> {
     let mut frame = Frame::new(rt.alloc(), &program, 0, 0);
     frame.reserve_call()?;
     assert!(rt; frame.has_room());
-    says(&rt, &program, &mut frame, Act::Call, 5, Answer::Same)?;
-    says(
+    plays(
         &rt,
         &program,
         &mut frame,
-        Act::Write(0, 10),
-        10,
-        Answer::Granted,
+        &[
+            (Act::Call, 5, Answer::Same),
+            (Act::Write(0, 10), 10, Answer::Granted),
+            (Act::Sync, 11, Answer::Same),
+        ],
     )?;
-    says(&rt, &program, &mut frame, Act::Sync, 11, Answer::Same)?;
-    wants(&rt, &program, &mut frame, Act::Return, 11);
-    assert!(rt; frame.answer(&program, &Answer::Ended) == Err(FrameFault::Strange));
-    frame.answer(&program, &Answer::Resumed)?;
+    returns(
+        &rt,
+        &program,
+        &mut frame,
+        11,
+        Answer::Ended,
+        Answer::Resumed,
+    )?;
     says(
         &rt,
         &program,
@@ -154,8 +224,7 @@ fn a_call_has_registers_of_its_own(rt: HostRuntime) -> Result<(), Fail> {
         Act::Write(0, 4),
         6,
         Answer::Granted,
-    )?;
-    Ok(())
+    )
 }
 
 // A `pfor` spawns once for each number, and then syncs; its register keeps the last number. With no number it syncs alone.
@@ -165,29 +234,24 @@ fn a_pfor_spawns_for_each_number(rt: HostRuntime) -> Result<(), Fail> {
         b"cilk 2\nmem x\nfunc main z\n  let i = 5\n  pfor i 0 f\n  write x i\n  pfor i 2 f\n  write x i\nend\nfunc f n\nend\n";
     let program = Program::parse(rt.alloc(), text)?;
     let mut frame = Frame::new(rt.alloc(), &program, 0, 0);
-    says(&rt, &program, &mut frame, Act::Sync, 5, Answer::Same)?;
-    says(
+    plays(
         &rt,
         &program,
         &mut frame,
-        Act::Write(0, 5),
-        6,
-        Answer::Granted,
+        &[
+            (Act::Sync, 5, Answer::Same),
+            (Act::Write(0, 5), 6, Answer::Granted),
+        ],
     )?;
-    wants(&rt, &program, &mut frame, Act::Spawn, 7);
-    assert!(rt; spawns(&program, &frame, 1, 0));
-    frame.answer(&program, &split())?;
-    wants(&rt, &program, &mut frame, Act::Spawn, 7);
-    assert!(rt; spawns(&program, &frame, 1, 1));
-    frame.answer(&program, &split())?;
-    says(&rt, &program, &mut frame, Act::Sync, 7, Answer::Waits)?;
-    says(
+    splits(&rt, &program, &mut frame, 7, 0)?;
+    splits(&rt, &program, &mut frame, 7, 1)?;
+    plays(
         &rt,
         &program,
         &mut frame,
-        Act::Write(0, 1),
-        8,
-        Answer::Granted,
-    )?;
-    Ok(())
+        &[
+            (Act::Sync, 7, Answer::Waits),
+            (Act::Write(0, 1), 8, Answer::Granted),
+        ],
+    )
 }

@@ -7,6 +7,7 @@ mod random;
 mod reducers;
 mod reference;
 
+use crate::checks::equal;
 use Act::{Bump, Call, Get, Read, Return, Spawn, Sync, Write};
 use Answer::{Ended, EndedJoined, Finished, Granted, Joined, Resumed, Same, Value, Waits};
 use access_table::{Kind, Rule};
@@ -57,6 +58,27 @@ fn refused(entry: u32, strand: u32, kind: Kind) -> Answer {
     }
 }
 
+/// The gate answers the request so under this number.
+fn answers(
+    rt: &impl Abort,
+    gate: &mut Gate<Global>,
+    number: u32,
+    request: Request,
+    answer: Answer,
+) {
+    let expected = Receipt {
+        number,
+        request,
+        answer,
+    };
+    equal(rt, &request, &gate.judge(request), &Ok(expected));
+}
+
+/// Whether the gate has so many entries.
+fn has_entries(gate: &Gate<Global>, entries: usize) -> bool {
+    gate.history().len() == entries
+}
+
 /// Each act, by its strand, is answered by what stands beside it.
 fn check(rt: &impl Abort, alloc: Global, acts: &[(u32, Act, Answer)]) -> Result<(), Fail> {
     check_with(rt, alloc, &[], acts)
@@ -76,14 +98,9 @@ fn check_with(
     for (strand, act, answer) in acts {
         number = number.wrapping_add(1);
         let request = request(*strand, *act, number);
-        let expected = Receipt {
-            number,
-            request,
-            answer: *answer,
-        };
-        assert_eq!(rt; gate.judge(request), Ok(expected), "{act:?} by {strand}");
+        answers(rt, &mut gate, number, request, *answer);
     }
-    assert_eq!(rt; gate.history().len(), acts.len());
+    assert!(rt; has_entries(&gate, acts.len()));
     Ok(())
 }
 
@@ -92,28 +109,45 @@ fn request(strand: u32, act: Act, line: u32) -> Request {
     Request { strand, act, line }
 }
 
-/// The reply that the request is answered so under this number.
-fn done(number: u32, request: Request, answer: Answer) -> Reply {
-    Reply::Done(Receipt {
-        number,
-        request,
-        answer,
-    })
+/// The reply that the request has this outcome, with this number where it is answered.
+fn reply(number: u32, request: Request, outcome: Result<Answer, GateFault>) -> Reply {
+    match outcome {
+        Ok(answer) => Reply::Done(Receipt {
+            number,
+            request,
+            answer,
+        }),
+        Err(fault) => Reply::Illegal(fault),
+    }
 }
 
 /// The gate answers the act of the strand by the fault.
 fn check_fault(rt: &impl Abort, gate: &mut Gate<Global>, strand: u32, act: Act, fault: GateFault) {
     let request = request(strand, act, 1);
-    assert_eq!(rt; gate.judge(request), Err(fault), "{act:?} by {strand}");
+    equal(rt, &request, &gate.judge(request), &Err(fault));
+}
+
+/// Whether the gate has so many entries, is finished, and is stopped.
+fn stands(gate: &Gate<Global>, entries: usize, finished: bool, stopped: bool) -> bool {
+    has_entries(gate, entries) && gate.is_finished() == finished && gate.is_stopped() == stopped
+}
+
+/// Whether these numbers are in the gate's cells.
+fn holds(gate: &Gate<Global>, memory: &[u64]) -> bool {
+    gate.memory() == memory
+}
+
+/// The gate's limit, and how many cells it has.
+fn limit_and_cells(gate: &Gate<Global>) -> (u32, u32) {
+    (gate.limit(), gate.shape().cells)
 }
 
 #[test]
 fn a_gate_begins_without_entries(rt: HostRuntime) -> Result<(), Fail> {
     let gate = opening(rt.alloc(), 7)?;
-    assert!(rt; gate.history().is_empty() && !gate.is_finished() && !gate.is_stopped());
-    assert_eq!(rt; gate.memory(), [0].as_slice());
-    assert_eq!(rt; gate.limit(), 7);
-    assert_eq!(rt; gate.shape().cells, 1);
+    assert!(rt; stands(&gate, 0, false, false));
+    assert!(rt; holds(&gate, &[0]));
+    assert_eq!(rt; limit_and_cells(&gate), (7, 1));
     Ok(())
 }
 
@@ -266,26 +300,40 @@ fn faults_come_in_their_order(rt: HostRuntime) -> Result<(), Fail> {
     check_fault(&rt, &mut gate, 0, Read(1), GateFault::BadName);
     check_fault(&rt, &mut gate, 9, Read(1), GateFault::NotRunning);
     check_fault(&rt, &mut gate, 0, Get(0), GateFault::BadName);
-    let read = request(2, Read(0), 3);
-    assert!(rt; gate.judge(request(0, Spawn, 1)).is_ok());
-    check_fault(&rt, &mut gate, 2, Return, GateFault::Unsynced);
-    assert_eq!(rt;
-        gate.judge(read),
-        Ok(Receipt {
-            number: 2,
-            request: read,
-            answer: Value(0)
-        })
+    answers(
+        &rt,
+        &mut gate,
+        1,
+        request(0, Spawn, 1),
+        split(1, 2, 3, true),
     );
+    check_fault(&rt, &mut gate, 2, Return, GateFault::Unsynced);
+    answers(&rt, &mut gate, 2, request(2, Read(0), 3), Value(0));
     check_fault(&rt, &mut gate, 9, Read(1), GateFault::Limit);
     gate.stop();
-    assert!(rt; gate.is_stopped());
     check_fault(&rt, &mut gate, 0, Sync, GateFault::Stopped);
-    assert_eq!(rt; gate.history().len(), 2);
+    assert!(rt; stands(&gate, 2, false, true));
     Ok(())
 }
 
-/// The gate replies so to the requests, one to each.
+/// What strand 0 asks on line 1, and the replies that the outcomes make.
+fn lists(
+    alloc: Global,
+    cases: &[(Act, Result<Answer, GateFault>)],
+) -> Result<(Vec<Request>, Vec<Reply>), AllocError> {
+    let mut requests = Vec::new(alloc);
+    let mut replies = Vec::new(alloc);
+    let mut number = 0u32;
+    for (act, outcome) in cases {
+        number = number.wrapping_add(1);
+        let request = request(0, *act, 1);
+        requests.push(request)?;
+        replies.push(reply(number, request, *outcome))?;
+    }
+    Ok((requests, replies))
+}
+
+/// A gate replies so to the requests, one to each.
 fn check_replies(
     rt: &impl Abort,
     alloc: Global,
@@ -294,61 +342,80 @@ fn check_replies(
     expected: &[Reply],
 ) -> Result<(), Fail> {
     let replies = judge_all(gate, alloc, requests)?;
-    assert_eq!(rt; replies.as_slice(), expected);
+    equal(rt, &requests, &replies.as_slice(), &expected);
+    Ok(())
+}
+
+/// A gate of this limit gives strand 0 these outcomes, one to each act, and then has so many entries, has finished or not, and holds this
+/// number.
+fn check_list(
+    rt: &impl Abort,
+    alloc: Global,
+    limit: u32,
+    cases: &[(Act, Result<Answer, GateFault>)],
+    end: (usize, bool, u64),
+) -> Result<(), Fail>
+    requires { limit ≤ most_entries }
+{
+    let mut gate = opening(alloc, limit)?;
+    let (requests, expected) = lists(alloc, cases)?;
+    check_replies(
+        rt,
+        alloc,
+        &mut gate,
+        requests.as_slice(),
+        expected.as_slice(),
+    )?;
+    assert!(rt; stands(&gate, end.0, end.1, false));
+    assert!(rt; holds(&gate, &[end.2]));
     Ok(())
 }
 
 #[test]
 fn a_list_has_one_reply_to_each_request(rt: HostRuntime) -> Result<(), Fail> {
-    let mut gate = opening(rt.alloc(), 3)?;
-    let write = request(0, Write(0, 1), 1);
-    check_replies(
+    check_list(
         &rt,
         rt.alloc(),
-        &mut gate,
-        &[write, write, write, write],
+        3,
         &[
-            done(1, write, Granted),
-            done(2, write, Granted),
-            done(3, write, Granted),
-            Reply::Illegal(GateFault::Limit),
+            (Write(0, 1), Ok(Granted)),
+            (Write(0, 1), Ok(Granted)),
+            (Write(0, 1), Ok(Granted)),
+            (Write(0, 1), Err(GateFault::Limit)),
         ],
-    )?;
-    assert_eq!(rt; gate.memory(), [1].as_slice());
-    Ok(())
+        (3, false, 1),
+    )
 }
 
 #[test]
 fn the_root_function_finishes(rt: HostRuntime) -> Result<(), Fail> {
-    let mut gate = opening(rt.alloc(), 1_000_000)?;
-    let sync = request(0, Sync, 1);
-    let ret = request(0, Return, 2);
-    check_replies(
+    laws_hold();
+    check_list(
         &rt,
         rt.alloc(),
-        &mut gate,
-        &[sync, ret, request(0, Read(0), 3)],
+        1_000_000,
         &[
-            done(1, sync, Same),
-            done(2, ret, Finished),
-            Reply::Illegal(GateFault::NotRunning),
+            (Sync, Ok(Same)),
+            (Return, Ok(Finished)),
+            (Read(0), Err(GateFault::NotRunning)),
         ],
-    )?;
-    assert!(rt; gate.is_finished());
-    assert_eq!(rt; gate.history().len(), 2);
+        (2, true, 0),
+    )
+}
+
+fn laws_hold() {
     laws::race_law();
     laws::verdict_law();
     laws::read_law();
     laws::value_law();
     laws::examples_law();
-    Ok(())
 }
 
 /// The number of the entry in which the strand's act is answered so.
 fn entered(rt: &impl Abort, gate: &mut Gate<Global>, strand: u32, act: Act, answer: Answer) -> u32 {
     match gate.judge(request(strand, act, 1)) {
         Ok(receipt) => {
-            assert_eq!(rt; receipt.answer, answer, "{act:?} by {strand}");
+            equal(rt, &receipt.request, &receipt.answer, &answer);
             receipt.number
         }
         Err(_) => {
@@ -358,6 +425,13 @@ fn entered(rt: &impl Abort, gate: &mut Gate<Global>, strand: u32, act: Act, answ
     }
 }
 
+/// The strand spawns a child, which returns at once. The first spawn is that of strand 0.
+fn spawn_and_return(rt: &impl Abort, gate: &mut Gate<Global>, strand: u32, child: u32, next: u32) {
+    let answer = split(child, next, 3, strand == 0);
+    entered(rt, gate, strand, Spawn, answer);
+    entered(rt, gate, child, Return, Ended);
+}
+
 #[test]
 fn spawns_in_a_long_loop(rt: HostRuntime) -> Result<(), Fail> {
     let mut gate = opening(rt.alloc(), 1_000_000)?;
@@ -365,22 +439,17 @@ fn spawns_in_a_long_loop(rt: HostRuntime) -> Result<(), Fail> {
     let mut last = 0;
     for k in 1..10_001u32 {
         let child = if k == 1 { 1 } else { 2 * k };
-        entered(
-            &rt,
-            &mut gate,
-            newest,
-            Spawn,
-            split(child, child + 1, 3, k == 1),
-        );
-        entered(&rt, &mut gate, child, Return, Ended);
+        spawn_and_return(&rt, &mut gate, newest, child, child + 1);
         newest = child + 1;
         if k % 100 == 0 {
             last = entered(&rt, &mut gate, newest, Write(0, 7), Granted);
         }
     }
-    assert_eq!(rt; last, 20_100);
-    assert_eq!(rt; entered(&rt, &mut gate, newest, Sync, Joined(3)), 20_101);
-    assert_eq!(rt; newest, 20_001);
-    assert_eq!(rt; entered(&rt, &mut gate, 3, Return, Finished), 20_102);
+    let joined = entered(&rt, &mut gate, newest, Sync, Joined(3));
+    let finished = entered(&rt, &mut gate, 3, Return, Finished);
+    assert_eq!(rt;
+        [newest, last, joined, finished],
+        [20_001, 20_100, 20_101, 20_102]
+    );
     Ok(())
 }

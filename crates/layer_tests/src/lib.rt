@@ -9,6 +9,10 @@ mod accesses;
 #[cfg(test)]
 mod branches;
 #[cfg(test)]
+mod checks;
+#[cfg(test)]
+mod commands;
+#[cfg(test)]
 mod draws;
 #[cfg(test)]
 mod elisions;

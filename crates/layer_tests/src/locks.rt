@@ -1,6 +1,6 @@
 //! Gates that are asked on seats, and what is gathered of them.
 
-ghost use Rattle.std.specs.Prelude.{◌≡◌, ◌≤◌, IfSome};
+ghost use Rattle.std.specs.Prelude.{◌≡◌, ◌≤◌, [], IfOk, IfSome};
 ghost use Rattle.race_gate.specs.Shapes.{most_cells};
 
 use locked_replay::{LockedGate, RunFault, WorkerLog, gather};
@@ -74,6 +74,67 @@ fn kept(alloc: Global, receipts: &[Receipt], places: &[usize]) -> Result<Vec<Rec
     Ok(kept)
 }
 
+/// A gate for the program, or one of other cells, which has so many.
+fn gate_for(
+    alloc: Global,
+    program: &Program<Global>,
+    cells: Option<u32>,
+) -> Result<Gate<Global>, AllocError>
+    requires { IfSome cells (λ count. count ≤ most_cells) }
+    ensures { IfOk result (λ gate. gate.history ≡ []) }
+{
+    let mut shape = program.shape(alloc)?;
+    if let Some(cells) = cells {
+        shape.cells = cells;
+    }
+    Gate::new(alloc, &shape, 100)
+}
+
+/// Asks for the case's requests on the seats that it says.
+fn ask_all<L: Ledger, R: Wait>(
+    rt: &R,
+    locked: &LockedGate<L>,
+    first: &mut WorkerLog<L>,
+    second: &mut WorkerLog<L>,
+    case: Case<'_>,
+) -> Result<(), RunFault> {
+    for at in 0..case.requests.len() {
+        if case.second.contains(&at) {
+            ask(rt, locked, second, case.requests[at])?;
+        } else {
+            ask(rt, locked, first, case.requests[at])?;
+        }
+    }
+    Ok(())
+}
+
+/// Stops the gate, which then answers nothing more.
+fn stop<L: Ledger, R: Wait>(
+    rt: &R,
+    locked: &LockedGate<L>,
+    log: &mut WorkerLog<L>,
+) -> Result<(), RunFault> {
+    locked.stop(rt);
+    if ask(rt, locked, log, request(0, Act::Sync, 1)) != Err(RunFault::Stopped) {
+        return Err(RunFault::Limit);
+    }
+    Ok(())
+}
+
+/// Whether the run that is gathered is clean.
+fn is_clean<L: Ledger>(
+    alloc: Global,
+    program: &Program<Global>,
+    locked: LockedGate<L>,
+    first: WorkerLog<L>,
+    second: WorkerLog<L>,
+) -> Result<bool, RunFault> {
+    let mut logs = Vec::with_capacity(alloc, 2)?;
+    logs.push_reserved(first);
+    logs.push_reserved(second);
+    Ok(gather(alloc, program, locked, logs)?.clean)
+}
+
 /// How much was asked on both seats, and whether the run that was gathered is clean. A gate of other cells has so many. A stopped gate
 /// is stopped once all was asked.
 fn gathered<L: Ledger, R: Wait>(
@@ -92,11 +153,7 @@ fn gathered<L: Ledger, R: Wait>(
     let Ok(program) = Program::parse(alloc, case.text) else {
         return Err(RunFault::Limit);
     };
-    let mut shape = program.shape(alloc)?;
-    if let Some(cells) = cells {
-        shape.cells = cells;
-    }
-    let gate = Gate::new(alloc, &shape, 100)?;
+    let gate = gate_for(alloc, &program, cells)?;
     let (locked, mut seat) = LockedGate::<L>::new(gate, blank, 2);
     let mut second = WorkerLog {
         seat: seat.split(),
@@ -106,26 +163,14 @@ fn gathered<L: Ledger, R: Wait>(
         seat,
         receipts: Vec::new(alloc),
     };
-    for at in 0..case.requests.len() {
-        if case.second.contains(&at) {
-            ask(rt, &locked, &mut second, case.requests[at])?;
-        } else {
-            ask(rt, &locked, &mut first, case.requests[at])?;
-        }
-    }
+    ask_all(rt, &locked, &mut first, &mut second, case)?;
     if stopped {
-        locked.stop(rt);
-        if ask(rt, &locked, &mut first, request(0, Act::Sync, 1)) != Err(RunFault::Stopped) {
-            return Err(RunFault::Limit);
-        }
+        stop(rt, &locked, &mut first)?;
     }
     let asked = first.seat.asked().wrapping_add(second.seat.asked());
     first.receipts = kept(alloc, first.receipts.as_slice(), case.kept)?;
-    let mut logs = Vec::with_capacity(alloc, 2)?;
-    logs.push_reserved(first);
-    logs.push_reserved(second);
-    let whole = gather(alloc, &program, locked, logs)?;
-    Ok((asked, whole.clean))
+    let clean = is_clean(alloc, &program, locked, first, second)?;
+    Ok((asked, clean))
 }
 
 fn outcome<R: Wait>(

@@ -1,8 +1,14 @@
 //! Programs as text: each cause, each limit, each kind of line.
-use program_text::{Cause, Expression, Operand, Program, Register, Statement, TextFault};
+
+ghost use Rattle.std.specs.Prelude.{◌<◌};
+ghost use Rattle.trace_text.specs.Grammar.{cells_of};
+
+use crate::checks::equal;
+use program_text::{Cause, Expression, Function, Operand, Program, Register, Statement, TextFault};
 use std::alloc::Global;
 use std::process::Abort;
 use std::test::Fail;
+use trace_text::Name;
 
 /// The fault of a text, or none where it means a program.
 fn fault_of(alloc: Global, text: &[u8]) -> Option<(u32, Cause)> {
@@ -17,6 +23,42 @@ fn is_program(alloc: Global, text: &[u8]) -> bool {
     Program::parse(alloc, text).is_ok()
 }
 
+/// Each text has the fault beside it.
+fn check_faults(rt: &impl Abort, alloc: Global, cases: &[(&[u8], u32, Cause)]) {
+    for (text, line, why) in cases {
+        equal(rt, text, &fault_of(alloc, text), &Some((*line, *why)));
+    }
+}
+
+/// Each text means a program.
+fn check_programs(rt: &impl Abort, alloc: Global, texts: &[&[u8]]) {
+    for text in texts {
+        assert!(rt; is_program(alloc, text), "{text:?}");
+    }
+}
+
+/// Each text means a program, and the text behind it has too many of something on that line.
+fn check_limit(rt: &impl Abort, alloc: Global, most: &str, more: &str, line: u32) {
+    assert!(rt; is_program(alloc, most.as_bytes()));
+    let found = fault_of(alloc, more.as_bytes());
+    equal(rt, &line, &found, &Some((line, Cause::TooMany)));
+}
+
+/// The names are these.
+fn are_named(rt: &impl Abort, names: &[Name], wanted: &[&str]) {
+    assert!(rt; names.len() == wanted.len());
+    for (name, word) in names.iter().zip(wanted) {
+        assert!(rt; name.as_str() == *word, "{word}");
+    }
+}
+
+/// The statements stand at the places beside them.
+fn stand_at(rt: &impl Abort, body: &[Statement], wanted: &[(usize, Statement)]) {
+    for (place, statement) in wanted {
+        equal(rt, place, &body.get(*place), &Some(statement));
+    }
+}
+
 const FIB: &[u8] =
     b"cilk 1\nmem x\nreducer h sum\nfunc main z\n  put h 0\n  call fib 10\n  get r h\n  write x r\nend\nfunc fib n\n  let t = n < 2\n  if t\n    update h n\n  else\n    let a = n - 1\n    let b = n - 2\n    spawn fib a\n    call fib b\n    sync\n  end\nend\n";
 
@@ -29,59 +71,72 @@ fn held(index: u8) -> Operand {
     }
 }
 
+/// The function has these names and lines, and so many statements.
+fn is_function(
+    rt: &impl Abort,
+    function: &Function<Global>,
+    names: (&str, &str),
+    lines: (u32, u32),
+    statements: usize,
+) {
+    let found = (function.name.as_str(), function.parameter.as_str());
+    equal(rt, &names, &found, &names);
+    equal(rt, &names, &(function.line, function.end_line), &lines);
+    equal(rt, &names, &function.body.as_slice().len(), &statements);
+}
+
 #[test]
 fn fibonacci(rt: HostRuntime) -> Result<(), Fail> {
     let program = Program::parse(rt.alloc(), FIB)?;
     assert_eq!(rt; program.main(), 0);
-    let functions = program.functions.as_slice();
-    assert_eq!(rt; functions.len(), 2);
-    let main = &functions[0];
-    let fib = &functions[1];
-    assert_eq!(rt; main.name.as_str(), "main");
-    assert_eq!(rt; main.line, 4);
-    assert_eq!(rt; main.end_line, 9);
-    assert_eq!(rt; fib.name.as_str(), "fib");
-    assert_eq!(rt; fib.parameter.as_str(), "n");
-    assert_eq!(rt; fib.end_line, 21);
-    let names = fib.registers.as_slice();
-    assert_eq!(rt; names.len(), 4);
-    assert_eq!(rt; names[0].as_str(), "n");
-    assert_eq!(rt; names[1].as_str(), "t");
-    assert_eq!(rt; names[3].as_str(), "b");
-    let body = fib.body.as_slice();
-    assert_eq!(rt; body.len(), 10);
-    assert_eq!(rt;
-        body[0],
-        Statement::Let {
-            line: 11,
-            register: Register { index: 2 },
-            value: Expression::Less(held(1), Operand::Number(2))
-        }
+    let [main, fib] = program.functions.as_slice() else {
+        assert!(rt; false);
+        return Ok(());
+    };
+    is_function(&rt, main, ("main", "z"), (4, 9), 4);
+    is_function(&rt, fib, ("fib", "n"), (10, 21), 10);
+    are_named(&rt, fib.registers.as_slice(), &["n", "t", "a", "b"]);
+    let register = Register { index: 2 };
+    let value = Expression::Less(held(1), Operand::Number(2));
+    let argument = held(3);
+    stand_at(
+        &rt,
+        fib.body.as_slice(),
+        &[
+            (
+                0,
+                Statement::Let {
+                    line: 11,
+                    register,
+                    value,
+                },
+            ),
+            (
+                1,
+                Statement::If {
+                    line: 12,
+                    register,
+                    otherwise: 4,
+                },
+            ),
+            (
+                3,
+                Statement::Else {
+                    line: 14,
+                    after: 10,
+                },
+            ),
+            (
+                6,
+                Statement::Spawn {
+                    line: 17,
+                    function: 1,
+                    argument,
+                },
+            ),
+            (9, Statement::End { line: 20 }),
+        ],
     );
-    assert_eq!(rt;
-        body[1],
-        Statement::If {
-            line: 12,
-            register: Register { index: 2 },
-            otherwise: 4
-        }
-    );
-    assert_eq!(rt;
-        body[3],
-        Statement::Else {
-            line: 14,
-            after: 10
-        }
-    );
-    assert_eq!(rt;
-        body[6],
-        Statement::Spawn {
-            line: 17,
-            function: 1,
-            argument: held(3)
-        }
-    );
-    assert_eq!(rt; body[9], Statement::End { line: 20 });
     Ok(())
 }
 
@@ -97,59 +152,59 @@ fn prefixes(rt: HostRuntime) {
 
 #[test]
 fn causes(rt: HostRuntime) {
-    let alloc = rt.alloc();
-    let cases: [(&[u8], u32, Cause); 12] = [
-        (b"", 1, Cause::BadHeader),
-        (b"cilk 1\nmem x # \x01\n", 2, Cause::NotText),
-        (b"cilk 1\nmem\n", 2, Cause::BadWord),
-        (b"cilk 1\nmem a 0\n", 2, Cause::BadNumber),
-        (
-            b"cilk 1\nfunc main z\n  write x z\nend\n",
-            3,
-            Cause::UnknownName,
-        ),
-        (b"cilk 1\nmem g\nfunc g z\nend\n", 3, Cause::TwiceNamed),
-        (b"cilk 1\nfunc main z\n  else\nend\n", 3, Cause::BadNesting),
-        (b"cilk 1\nfunc f z\nend\n", 4, Cause::NoMain),
-        (b"cilk 1\nfunc main z\nend\nmem x\n", 4, Cause::BadNesting),
-        (b"cilk 1\nfunc main z\n  func f z\n", 3, Cause::BadNesting),
-        (b"cilk 1\nfunc f z\n", 3, Cause::BadNesting),
-        (b"cilk 1\nsync\n", 2, Cause::BadNesting),
-    ];
-    for case in cases {
-        assert_eq!(rt; fault_of(alloc, case.0), Some((case.1, case.2)));
-    }
+    check_faults(
+        &rt,
+        rt.alloc(),
+        &[
+            (b"", 1, Cause::BadHeader),
+            (b"cilk 1\nmem x # \x01\n", 2, Cause::NotText),
+            (b"cilk 1\nmem\n", 2, Cause::BadWord),
+            (b"cilk 1\nmem a 0\n", 2, Cause::BadNumber),
+            (
+                b"cilk 1\nfunc main z\n  write x z\nend\n",
+                3,
+                Cause::UnknownName,
+            ),
+            (b"cilk 1\nmem g\nfunc g z\nend\n", 3, Cause::TwiceNamed),
+            (b"cilk 1\nfunc main z\n  else\nend\n", 3, Cause::BadNesting),
+            (b"cilk 1\nfunc f z\nend\n", 4, Cause::NoMain),
+            (b"cilk 1\nfunc main z\nend\nmem x\n", 4, Cause::BadNesting),
+            (b"cilk 1\nfunc main z\n  func f z\n", 3, Cause::BadNesting),
+            (b"cilk 1\nfunc f z\n", 3, Cause::BadNesting),
+            (b"cilk 1\nsync\n", 2, Cause::BadNesting),
+        ],
+    );
 }
 
 #[test]
 fn nesting(rt: HostRuntime) {
-    let alloc = rt.alloc();
-    let cases: [(&[u8], u32, Cause); 9] = [
-        (b"cilk 1\nend\n", 2, Cause::BadNesting),
-        (b"cilk 1\nif ok\n", 2, Cause::BadNesting),
-        (b"cilk 1\nif r\n", 2, Cause::UnknownName),
-        (
-            b"cilk 1\nfunc main z\nif z\nelse\nelse\nend\nend\n",
-            5,
-            Cause::BadNesting,
-        ),
-        (
-            b"cilk 1\nfunc main z\nif z\nend\nelse\nend\n",
-            5,
-            Cause::BadNesting,
-        ),
-        (b"cilk 1\nfunc main z\nif z\nend\n", 5, Cause::BadNesting),
-        (b"cilk 1\nfunc main z\nend\nend\n", 4, Cause::BadNesting),
-        (b"cilk 1\nfunc main z\nfunc main n\n", 3, Cause::TwiceNamed),
-        (
-            b"cilk 1\nfunc main z\nend\nfunc main z\nend\n",
-            4,
-            Cause::TwiceNamed,
-        ),
-    ];
-    for case in cases {
-        assert_eq!(rt; fault_of(alloc, case.0), Some((case.1, case.2)));
-    }
+    check_faults(
+        &rt,
+        rt.alloc(),
+        &[
+            (b"cilk 1\nend\n", 2, Cause::BadNesting),
+            (b"cilk 1\nif ok\n", 2, Cause::BadNesting),
+            (b"cilk 1\nif r\n", 2, Cause::UnknownName),
+            (
+                b"cilk 1\nfunc main z\nif z\nelse\nelse\nend\nend\n",
+                5,
+                Cause::BadNesting,
+            ),
+            (
+                b"cilk 1\nfunc main z\nif z\nend\nelse\nend\n",
+                5,
+                Cause::BadNesting,
+            ),
+            (b"cilk 1\nfunc main z\nif z\nend\n", 5, Cause::BadNesting),
+            (b"cilk 1\nfunc main z\nend\nend\n", 4, Cause::BadNesting),
+            (b"cilk 1\nfunc main z\nfunc main n\n", 3, Cause::TwiceNamed),
+            (
+                b"cilk 1\nfunc main z\nend\nfunc main z\nend\n",
+                4,
+                Cause::TwiceNamed,
+            ),
+        ],
+    );
 }
 
 #[test]
@@ -160,40 +215,40 @@ fn names_of_the_whole_text(rt: HostRuntime) -> Result<(), Fail> {
         b"cilk 1\nfunc f n\n  call g n\nend\nfunc main z\n  let main = 1\n  call f main\nend\n func  g\tx # c\nend",
     )?;
     assert_eq!(rt; program.main(), 1);
-    let functions = program.functions.as_slice();
-    assert_eq!(rt; functions.len(), 3);
-    let first = &functions[0];
-    let main = &functions[1];
-    let calls = first.body.as_slice();
-    assert_eq!(rt; calls.len(), 1);
-    let body = main.body.as_slice();
-    assert_eq!(rt; body.len(), 2);
-    assert_eq!(rt;
-        calls[0],
-        Statement::Call {
-            line: 3,
-            function: 2,
-            argument: held(1)
-        }
-    );
-    assert_eq!(rt;
-        body[1],
-        Statement::Call {
-            line: 7,
-            function: 0,
-            argument: held(2)
-        }
-    );
-    assert_eq!(rt;
-        fault_of(
-            alloc,
-            b"cilk 1\nfunc main z\n  call g z\nend\nfunc g z # \xFF\n"
-        ),
-        Some((5, Cause::NotText))
-    );
-    assert_eq!(rt;
-        fault_of(alloc, b"cilk 1\nfunc main z\n  call g z\nend\nfunc g z 1\n"),
-        Some((3, Cause::UnknownName))
+    let [first, main, last] = program.functions.as_slice() else {
+        assert!(rt; false);
+        return Ok(());
+    };
+    is_function(&rt, first, ("f", "n"), (2, 4), 1);
+    is_function(&rt, main, ("main", "z"), (5, 8), 2);
+    is_function(&rt, last, ("g", "x"), (9, 10), 0);
+    let first_call = Statement::Call {
+        line: 3,
+        function: 2,
+        argument: held(1),
+    };
+    let main_call = Statement::Call {
+        line: 7,
+        function: 0,
+        argument: held(2),
+    };
+    stand_at(&rt, first.body.as_slice(), &[(0, first_call)]);
+    stand_at(&rt, main.body.as_slice(), &[(1, main_call)]);
+    check_faults(
+        &rt,
+        alloc,
+        &[
+            (
+                b"cilk 1\nfunc main z\n  call g z\nend\nfunc g z # \xFF\n",
+                5,
+                Cause::NotText,
+            ),
+            (
+                b"cilk 1\nfunc main z\n  call g z\nend\nfunc g z 1\n",
+                3,
+                Cause::UnknownName,
+            ),
+        ],
     );
     Ok(())
 }
@@ -201,23 +256,30 @@ fn names_of_the_whole_text(rt: HostRuntime) -> Result<(), Fail> {
 #[test]
 fn versions(rt: HostRuntime) {
     let alloc = rt.alloc();
-    let first = b"cilk 1\nmem a 2\nfunc main z\n  bump a[z] 1\n  pfor i 3 main\nend\n";
-    let second = b"cilk 2\nmem a 2\nfunc main z\n  bump a[z] 1\n  pfor i 3 main\nend\n";
-    assert_eq!(rt; fault_of(alloc, first), Some((4, Cause::BadWord)));
-    assert!(rt; is_program(alloc, second));
-    assert_eq!(rt;
-        fault_of(alloc, b"cilk 1\nfunc main z\n  pfor i 3 main\nend\n"),
-        Some((3, Cause::BadWord))
+    check_faults(
+        &rt,
+        alloc,
+        &[
+            (
+                b"cilk 1\nmem a 2\nfunc main z\n  bump a[z] 1\n  pfor i 3 main\nend\n",
+                4,
+                Cause::BadWord,
+            ),
+            (
+                b"cilk 1\nfunc main z\n  pfor i 3 main\nend\n",
+                3,
+                Cause::BadWord,
+            ),
+            (b"cilk 1\nreducer h digits\n", 2, Cause::BadWord),
+        ],
     );
-    assert_eq!(rt;
-        fault_of(alloc, b"cilk 1\nreducer h digits\n"),
-        Some((2, Cause::BadWord))
-    );
-    assert!(rt;
-        is_program(
-            alloc,
-            b"cilk 1\nmem bump\nreducer digits sum\nfunc main pfor\nend\n"
-        )
+    check_programs(
+        &rt,
+        alloc,
+        &[
+            b"cilk 2\nmem a 2\nfunc main z\n  bump a[z] 1\n  pfor i 3 main\nend\n",
+            b"cilk 1\nmem bump\nreducer digits sum\nfunc main pfor\nend\n",
+        ],
     );
 }
 
@@ -278,25 +340,33 @@ fn reducers(alloc: Global, count: u32) -> Result<String, Fail> {
 #[test]
 fn limits(rt: HostRuntime) -> Result<(), Fail> {
     let alloc = rt.alloc();
-    assert!(rt; is_program(alloc, nested(alloc, 64)?.as_bytes()));
-    assert_eq!(rt;
-        fault_of(alloc, nested(alloc, 65)?.as_bytes()),
-        Some((67, Cause::TooMany))
+    check_limit(
+        &rt,
+        alloc,
+        nested(alloc, 64)?.as_str(),
+        nested(alloc, 65)?.as_str(),
+        67,
     );
-    assert!(rt; is_program(alloc, long(alloc, 99_999)?.as_bytes()));
-    assert_eq!(rt;
-        fault_of(alloc, long(alloc, 100_000)?.as_bytes()),
-        Some((200_004, Cause::TooMany))
+    check_limit(
+        &rt,
+        alloc,
+        long(alloc, 99_999)?.as_str(),
+        long(alloc, 100_000)?.as_str(),
+        200_004,
     );
-    assert!(rt; is_program(alloc, crowd(alloc, 999)?.as_bytes()));
-    assert_eq!(rt;
-        fault_of(alloc, crowd(alloc, 1_000)?.as_bytes()),
-        Some((2_002, Cause::TooMany))
+    check_limit(
+        &rt,
+        alloc,
+        crowd(alloc, 999)?.as_str(),
+        crowd(alloc, 1_000)?.as_str(),
+        2_002,
     );
-    assert!(rt; is_program(alloc, registers(alloc, 15)?.as_bytes()));
-    assert_eq!(rt;
-        fault_of(alloc, registers(alloc, 16)?.as_bytes()),
-        Some((18, Cause::TooMany))
+    check_limit(
+        &rt,
+        alloc,
+        registers(alloc, 15)?.as_str(),
+        registers(alloc, 16)?.as_str(),
+        18,
     );
     Ok(())
 }
@@ -304,31 +374,66 @@ fn limits(rt: HostRuntime) -> Result<(), Fail> {
 #[test]
 fn limits_of_declarations(rt: HostRuntime) -> Result<(), Fail> {
     let alloc = rt.alloc();
-    assert!(rt; is_program(alloc, b"cilk 1\nmem a 1000000\nfunc main z\nend\n"));
-    assert!(rt; is_program(alloc, b"cilk 1\nmem a 999999\nmem x\nfunc main z\nend\n"));
-    assert_eq!(rt;
-        fault_of(alloc, b"cilk 1\nmem a 1000000\nmem x\nfunc main z\nend\n"),
-        Some((3, Cause::TooMany))
+    check_programs(
+        &rt,
+        alloc,
+        &[
+            b"cilk 1\nmem a 1000000\nfunc main z\nend\n",
+            b"cilk 1\nmem a 999999\nmem x\nfunc main z\nend\n",
+        ],
     );
-    assert!(rt; is_program(alloc, reducers(alloc, 256)?.as_bytes()));
-    assert_eq!(rt;
-        fault_of(alloc, reducers(alloc, 257)?.as_bytes()),
-        Some((258, Cause::TooMany))
+    check_faults(
+        &rt,
+        alloc,
+        &[(
+            b"cilk 1\nmem a 1000000\nmem x\nfunc main z\nend\n",
+            3,
+            Cause::TooMany,
+        )],
+    );
+    check_limit(
+        &rt,
+        alloc,
+        reducers(alloc, 256)?.as_str(),
+        reducers(alloc, 257)?.as_str(),
+        258,
     );
     Ok(())
+}
+
+/// A program of so many lines behind its three.
+fn with_lines(alloc: Global, count: u32) -> Result<String, Fail> {
+    let mut text = String::from_str(alloc, "cilk 1\nfunc main z\nend\n")?;
+    append(&mut text, "\n", count)?;
+    Ok(text)
 }
 
 #[test]
 fn many_lines(rt: HostRuntime) -> Result<(), Fail> {
     let alloc = rt.alloc();
-    let mut text = String::from_str(alloc, "cilk 1\nfunc main z\nend\n")?;
-    append(&mut text, "\n", 3_999_997)?;
-    assert!(rt; is_program(alloc, text.as_bytes()));
-    text.push_str("\n")?;
-    assert_eq!(rt;
-        fault_of(alloc, text.as_bytes()),
-        Some((4_000_001, Cause::TooMany))
+    let most = with_lines(alloc, 3_999_997)?;
+    check_limit(
+        &rt,
+        alloc,
+        most.as_str(),
+        with_lines(alloc, 3_999_998)?.as_str(),
+        4_000_001,
     );
+    Ok(())
+}
+
+/// Checks what a cell of a program is called.
+fn is_called(
+    rt: &impl Abort,
+    alloc: Global,
+    program: &Program<Global>,
+    cell: u32,
+    name: &str,
+) -> Result<(), Fail>
+    requires { cell < cells_of program.now.mems }
+{
+    let found = trace_text::cell_name(alloc, program.mems.as_slice(), cell)?;
+    equal(rt, &cell, &found.as_str(), &name);
     Ok(())
 }
 
@@ -338,9 +443,6 @@ fn names_of_cells(rt: HostRuntime) -> Result<(), Fail> {
     let program = Program::parse(alloc, b"cilk 1\nmem x\nmem a 2\nfunc main z\nend\n")?;
     let shape = program.shape(alloc)?;
     assert_eq!(rt; shape.cells, 3);
-    let first = trace_text::cell_name(alloc, program.mems.as_slice(), 0)?;
-    assert_eq!(rt; first.as_str(), "x");
-    let last = trace_text::cell_name(alloc, program.mems.as_slice(), 2)?;
-    assert_eq!(rt; last.as_str(), "a[1]");
-    Ok(())
+    is_called(&rt, alloc, &program, 0, "x")?;
+    is_called(&rt, alloc, &program, 2, "a[1]")
 }

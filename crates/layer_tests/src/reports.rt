@@ -1,11 +1,17 @@
-ghost use Rattle.std.specs.Prelude.{◌↔◌, IsTrue};
-ghost use Rattle.race_gate.specs.Extensions.{IsCleanAnswer, IsClean};
+//! Reports of what a gate answered.
 
+ghost use Rattle.std.specs.Prelude.{◌≡◌, ◌↔◌, IsTrue, IfOk, OnOk, length, reverse};
+ghost use Rattle.trace_text.specs.Grammar.{cells_of};
+ghost use Rattle.program_text.specs.Programs.{contents};
+ghost use Rattle.race_gate.specs.Extensions.{IsCleanAnswer, IsClean};
+ghost use Rattle.race_report.specs.Conditions.{shape_known, AreTellable};
+
+use crate::checks::equal;
 use locked_replay::Whole;
 use program_text::Program;
 use race_gate::{Answer, Entry, Gate, GateFault, Receipt, Reply};
 use race_report::{report, verdict_lines};
-use std::alloc::Global;
+use std::alloc::{AllocError, Global};
 use std::process::Abort;
 use std::test::Fail;
 use trace_text::{Act, Request};
@@ -26,22 +32,52 @@ fn asked(strand: u32, act: Act, line: u32) -> Request {
     Request { strand, act, line }
 }
 
-/// The report of what a gate answers to these requests.
-fn report_of(alloc: Global, text: &str, requests: &[Request]) -> Result<Vec<u8>, Fail> {
-    let program = Program::parse(alloc, text.as_bytes())?;
+/// A gate of the program, which was asked nothing.
+fn opened(alloc: Global, program: &Program<Global>) -> Result<Gate<Global>, AllocError>
+    ensures { IfOk result (λ gate. gate.shape ≡ shape_known (contents program.now).known) }
+{
     let shape = program.shape(alloc)?;
-    let mut gate = Gate::new(alloc, &shape, 1_000)?;
+    let gate = Gate::new(alloc, &shape, 1_000)?;
+    Ok(gate)
+}
+
+/// Asks the gate these.
+fn ask_all(gate: &mut Gate<Global>, requests: &[Request]) -> Result<(), Fail>
+    ensures { OnOk result (gate.new.shape ≡ gate.old.shape) }
+{
     for request in requests {
         gate.judge(*request)?;
     }
+    Ok(())
+}
+
+/// What the gate of this program keeps.
+fn whole_of(
+    alloc: Global,
+    program: &Program<Global>,
+    gate: &Gate<Global>,
+) -> Result<Whole, AllocError>
+    requires { gate.now.shape ≡ shape_known (contents program.now).known }
+    ensures entries { IfOk result (λ whole. AreTellable (shape_known (contents program.now).known) whole.entries.items) }
+    ensures memory { IfOk result (λ whole. length whole.memory.items ≡ cells_of program.now.mems) }
+    ensures clean { IfOk result (λ whole. IsTrue whole.clean ↔ IsClean (reverse whole.entries.items)) }
+{
     let entries = Vec::from_slice(alloc, gate.history())?;
     let memory = Vec::from_slice(alloc, gate.memory())?;
     let clean = is_clean(entries.as_slice());
-    let whole = Whole {
+    Ok(Whole {
         entries,
         memory,
         clean,
-    };
+    })
+}
+
+/// The report of what a gate answers to these requests.
+fn report_of(alloc: Global, text: &str, requests: &[Request]) -> Result<Vec<u8>, Fail> {
+    let program = Program::parse(alloc, text.as_bytes())?;
+    let mut gate = opened(alloc, &program)?;
+    ask_all(&mut gate, requests)?;
+    let whole = whole_of(alloc, &program, &gate)?;
     Ok(report(alloc, &program, &whole)?)
 }
 
@@ -53,7 +89,7 @@ fn check(
     wanted: &str,
 ) -> Result<(), Fail> {
     let found = report_of(alloc, text, requests)?;
-    assert_eq!(rt; found.as_slice(), wanted.as_bytes(), "the report of {text}");
+    equal(rt, &text, &found.as_slice(), &wanted.as_bytes());
     Ok(())
 }
 

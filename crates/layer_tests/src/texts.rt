@@ -1,8 +1,13 @@
 //! Traces as text: each cause, each limit, each kind of line.
+
+ghost use Rattle.std.specs.Prelude.{◌<◌};
+ghost use Rattle.trace_text.specs.Grammar.{cells_of};
+
+use crate::checks::equal;
 use std::alloc::Global;
 use std::process::Abort;
 use std::test::Fail;
-use trace_text::{Act, Cause, Monoid, Request, TextFault, Trace, cell_name};
+use trace_text::{Act, Cause, Monoid, Request, TextFault, Trace, TraceLine, cell_name};
 
 /// The fault of a text, or none where it means a trace.
 fn fault_of(alloc: Global, text: &[u8]) -> Option<(u32, Cause)> {
@@ -17,212 +22,153 @@ fn is_trace(alloc: Global, text: &[u8]) -> bool {
     Trace::parse(alloc, text).is_ok()
 }
 
+/// Each text has the fault beside it.
+fn check_faults(rt: &impl Abort, alloc: Global, cases: &[(&[u8], u32, Cause)]) {
+    for (text, line, why) in cases {
+        equal(rt, text, &fault_of(alloc, text), &Some((*line, *why)));
+    }
+}
+
+/// Each text means a trace.
+fn check_traces(rt: &impl Abort, alloc: Global, texts: &[&[u8]]) {
+    for text in texts {
+        assert!(rt; is_trace(alloc, text), "{text:?}");
+    }
+}
+
 #[test]
 fn headers(rt: HostRuntime) {
     let alloc = rt.alloc();
-    assert_eq!(rt; fault_of(alloc, b""), Some((1, Cause::BadHeader)));
-    assert_eq!(rt; fault_of(alloc, b"cilk 3\n"), Some((1, Cause::BadHeader)));
-    assert_eq!(rt; fault_of(alloc, b"cilk 01\n"), Some((1, Cause::BadHeader)));
-    assert_eq!(rt; fault_of(alloc, b"\ncilk 1\n"), Some((1, Cause::BadHeader)));
-    assert_eq!(rt; fault_of(alloc, b"cilk 1 1\n"), Some((1, Cause::BadHeader)));
-    assert_eq!(rt; fault_of(alloc, b"cilk \xFF\n"), Some((1, Cause::NotText)));
-    assert!(rt; is_trace(alloc, b"cilk 1"));
-    assert!(rt; is_trace(alloc, b"\tcilk  2 # the second\r\n"));
+    check_faults(
+        &rt,
+        alloc,
+        &[
+            (b"", 1, Cause::BadHeader),
+            (b"cilk 3\n", 1, Cause::BadHeader),
+            (b"cilk 01\n", 1, Cause::BadHeader),
+            (b"\ncilk 1\n", 1, Cause::BadHeader),
+            (b"cilk 1 1\n", 1, Cause::BadHeader),
+            (b"cilk \xFF\n", 1, Cause::NotText),
+        ],
+    );
+    check_traces(&rt, alloc, &[b"cilk 1", b"\tcilk  2 # the second\r\n"]);
 }
 
 #[test]
 fn words_and_numbers(rt: HostRuntime) {
     let alloc = rt.alloc();
-    assert_eq!(rt;
-        fault_of(alloc, b"cilk 1\n\xFF\n"),
-        Some((2, Cause::NotText))
+    check_faults(
+        &rt,
+        alloc,
+        &[
+            (b"cilk 1\n\xFF\n", 2, Cause::NotText),
+            (b"cilk 1\nmem x # \x7F\n", 2, Cause::NotText),
+            (b"cilk 1\nmem x\rmem y\n", 2, Cause::NotText),
+            (b"cilk 1\nmem x\r\r\n", 2, Cause::NotText),
+            (b"cilk 1\nmem x\njump 0\n", 3, Cause::BadWord),
+            (b"cilk 1\nmem x\nread 0\n", 3, Cause::BadWord),
+            (b"cilk 1\nmem x\nread 0 @0\n", 3, Cause::BadWord),
+            (b"cilk 1\nsync 0 0\n", 2, Cause::BadWord),
+            (b"cilk 1\nmem 5\n", 2, Cause::BadWord),
+            (b"cilk 1\nmem X\n", 2, Cause::BadWord),
+            (b"cilk 1\nmem x\nread 0 x @1 @2\n", 3, Cause::BadWord),
+            (b"cilk 1\nmem a 2\nread 0 a[2\n", 3, Cause::BadWord),
+            (b"cilk 1\nmem a 2\nread 0 a[1][1]\n", 3, Cause::BadNumber),
+            (b"cilk 1\nmem a 2\nread 0 a[5x]\n", 3, Cause::BadNumber),
+            (b"cilk 1\nmem a 2\nread 0 a[2]\n", 3, Cause::BadNumber),
+            (b"cilk 1\nmem x\nread 4294967296 x\n", 3, Cause::BadNumber),
+            (
+                b"cilk 1\nmem x\nwrite 0 x 18446744073709551616\n",
+                3,
+                Cause::BadNumber,
+            ),
+            (b"cilk 1\nmem x\nread 0 x @0\n", 3, Cause::BadNumber),
+            (
+                b"cilk 1\nmem x\nread 0 x @4294967296\n",
+                3,
+                Cause::BadNumber,
+            ),
+        ],
     );
-    assert_eq!(rt;
-        fault_of(alloc, b"cilk 1\nmem x # \x7F\n"),
-        Some((2, Cause::NotText))
-    );
-    assert_eq!(rt;
-        fault_of(alloc, b"cilk 1\nmem x\rmem y\n"),
-        Some((2, Cause::NotText))
-    );
-    assert_eq!(rt;
-        fault_of(alloc, b"cilk 1\nmem x\r\r\n"),
-        Some((2, Cause::NotText))
-    );
-    assert_eq!(rt;
-        fault_of(alloc, b"cilk 1\nmem x\njump 0\n"),
-        Some((3, Cause::BadWord))
-    );
-    assert_eq!(rt;
-        fault_of(alloc, b"cilk 1\nmem x\nread 0\n"),
-        Some((3, Cause::BadWord))
-    );
-    assert_eq!(rt;
-        fault_of(alloc, b"cilk 1\nmem x\nread 0 @0\n"),
-        Some((3, Cause::BadWord))
-    );
-    assert_eq!(rt;
-        fault_of(alloc, b"cilk 1\nsync 0 0\n"),
-        Some((2, Cause::BadWord))
-    );
-    assert_eq!(rt;
-        fault_of(alloc, b"cilk 1\nmem 5\n"),
-        Some((2, Cause::BadWord))
-    );
-    assert_eq!(rt;
-        fault_of(alloc, b"cilk 1\nmem X\n"),
-        Some((2, Cause::BadWord))
-    );
-    assert_eq!(rt;
-        fault_of(alloc, b"cilk 1\nmem x\nread 0 x @1 @2\n"),
-        Some((3, Cause::BadWord))
-    );
-    assert_eq!(rt;
-        fault_of(alloc, b"cilk 1\nmem a 2\nread 0 a[2\n"),
-        Some((3, Cause::BadWord))
-    );
-    assert_eq!(rt;
-        fault_of(alloc, b"cilk 1\nmem a 2\nread 0 a[1][1]\n"),
-        Some((3, Cause::BadNumber))
-    );
-    assert_eq!(rt;
-        fault_of(alloc, b"cilk 1\nmem a 2\nread 0 a[5x]\n"),
-        Some((3, Cause::BadNumber))
-    );
-    assert_eq!(rt;
-        fault_of(alloc, b"cilk 1\nmem a 2\nread 0 a[2]\n"),
-        Some((3, Cause::BadNumber))
-    );
-    assert_eq!(rt;
-        fault_of(alloc, b"cilk 1\nmem x\nread 4294967296 x\n"),
-        Some((3, Cause::BadNumber))
-    );
-    assert_eq!(rt;
-        fault_of(alloc, b"cilk 1\nmem x\nwrite 0 x 18446744073709551616\n"),
-        Some((3, Cause::BadNumber))
-    );
-    assert_eq!(rt;
-        fault_of(alloc, b"cilk 1\nmem x\nread 0 x @0\n"),
-        Some((3, Cause::BadNumber))
-    );
-    assert_eq!(rt;
-        fault_of(alloc, b"cilk 1\nmem x\nread 0 x @4294967296\n"),
-        Some((3, Cause::BadNumber))
-    );
-    assert!(rt;
-        is_trace(
-            alloc,
-            b"cilk 1\nmem x\nwrite 4294967295 x 18446744073709551615 @4294967295\n"
-        )
+    check_traces(
+        &rt,
+        alloc,
+        &[b"cilk 1\nmem x\nwrite 4294967295 x 18446744073709551615 @4294967295\n"],
     );
 }
 
 #[test]
 fn names_and_order(rt: HostRuntime) {
     let alloc = rt.alloc();
-    assert_eq!(rt;
-        fault_of(alloc, b"cilk 1\nmem x\nread 0 y\n"),
-        Some((3, Cause::UnknownName))
+    check_faults(
+        &rt,
+        alloc,
+        &[
+            (b"cilk 1\nmem x\nread 0 y\n", 3, Cause::UnknownName),
+            (b"cilk 1\nmem x\nread 0 x[0]\n", 3, Cause::UnknownName),
+            (b"cilk 1\nmem a 1\nread 0 a\n", 3, Cause::UnknownName),
+            (b"cilk 1\nmem x\nget 0 x\n", 3, Cause::UnknownName),
+            (b"cilk 1\nreducer h sum\nread 0 h\n", 3, Cause::UnknownName),
+            (b"cilk 1\nread 0 x\nmem x\n", 2, Cause::UnknownName),
+            (b"cilk 1\nmem x\nmem x\n", 3, Cause::TwiceNamed),
+            (b"cilk 1\nmem x\nreducer x sum\n", 3, Cause::TwiceNamed),
+            (b"cilk 1\nreducer x sum\nmem x\n", 3, Cause::TwiceNamed),
+            (b"cilk 1\nmem x\nmem x 0\n", 3, Cause::BadNumber),
+            (b"cilk 1\nmem x\nsync 0\nmem x\n", 4, Cause::TwiceNamed),
+            (b"cilk 1\nmem x\nsync 0\nmem y\n", 4, Cause::BadNesting),
+            (b"cilk 1\nsync 0\nreducer h min\n", 3, Cause::BadNesting),
+        ],
     );
-    assert_eq!(rt;
-        fault_of(alloc, b"cilk 1\nmem x\nread 0 x[0]\n"),
-        Some((3, Cause::UnknownName))
-    );
-    assert_eq!(rt;
-        fault_of(alloc, b"cilk 1\nmem a 1\nread 0 a\n"),
-        Some((3, Cause::UnknownName))
-    );
-    assert_eq!(rt;
-        fault_of(alloc, b"cilk 1\nmem x\nget 0 x\n"),
-        Some((3, Cause::UnknownName))
-    );
-    assert_eq!(rt;
-        fault_of(alloc, b"cilk 1\nreducer h sum\nread 0 h\n"),
-        Some((3, Cause::UnknownName))
-    );
-    assert_eq!(rt;
-        fault_of(alloc, b"cilk 1\nread 0 x\nmem x\n"),
-        Some((2, Cause::UnknownName))
-    );
-    assert_eq!(rt;
-        fault_of(alloc, b"cilk 1\nmem x\nmem x\n"),
-        Some((3, Cause::TwiceNamed))
-    );
-    assert_eq!(rt;
-        fault_of(alloc, b"cilk 1\nmem x\nreducer x sum\n"),
-        Some((3, Cause::TwiceNamed))
-    );
-    assert_eq!(rt;
-        fault_of(alloc, b"cilk 1\nreducer x sum\nmem x\n"),
-        Some((3, Cause::TwiceNamed))
-    );
-    assert_eq!(rt;
-        fault_of(alloc, b"cilk 1\nmem x\nmem x 0\n"),
-        Some((3, Cause::BadNumber))
-    );
-    assert_eq!(rt;
-        fault_of(alloc, b"cilk 1\nmem x\nsync 0\nmem x\n"),
-        Some((4, Cause::TwiceNamed))
-    );
-    assert_eq!(rt;
-        fault_of(alloc, b"cilk 1\nmem x\nsync 0\nmem y\n"),
-        Some((4, Cause::BadNesting))
-    );
-    assert_eq!(rt;
-        fault_of(alloc, b"cilk 1\nsync 0\nreducer h min\n"),
-        Some((3, Cause::BadNesting))
-    );
-    assert!(rt;
-        is_trace(
-            alloc,
-            b"cilk 1\nmem mem\nmem read\nreducer bump last\nmem digits\nread 0 read\n"
-        )
+    check_traces(
+        &rt,
+        alloc,
+        &[b"cilk 1\nmem mem\nmem read\nreducer bump last\nmem digits\nread 0 read\n"],
     );
 }
 
 #[test]
 fn versions(rt: HostRuntime) {
     let alloc = rt.alloc();
-    assert_eq!(rt;
-        fault_of(alloc, b"cilk 1\nmem x\nbump 0 x 1\n"),
-        Some((3, Cause::BadWord))
+    check_faults(
+        &rt,
+        alloc,
+        &[
+            (b"cilk 1\nmem x\nbump 0 x 1\n", 3, Cause::BadWord),
+            (b"cilk 1\nreducer h digits\n", 2, Cause::BadWord),
+            (b"cilk 2\nreducer h product\n", 2, Cause::BadWord),
+        ],
     );
-    assert_eq!(rt;
-        fault_of(alloc, b"cilk 1\nreducer h digits\n"),
-        Some((2, Cause::BadWord))
-    );
-    assert_eq!(rt;
-        fault_of(alloc, b"cilk 2\nreducer h product\n"),
-        Some((2, Cause::BadWord))
-    );
-    assert!(rt;
-        is_trace(
-            alloc,
-            b"cilk 2\nmem x\nreducer h digits\nbump 0 x 1\nupdate 0 h 2\n"
-        )
+    check_traces(
+        &rt,
+        alloc,
+        &[b"cilk 2\nmem x\nreducer h digits\nbump 0 x 1\nupdate 0 h 2\n"],
     );
 }
 
 #[test]
 fn limits(rt: HostRuntime) {
     let alloc = rt.alloc();
-    assert_eq!(rt;
-        fault_of(alloc, b"cilk 1\nmem a 0\n"),
-        Some((2, Cause::BadNumber))
+    check_faults(
+        &rt,
+        alloc,
+        &[
+            (b"cilk 1\nmem a 0\n", 2, Cause::BadNumber),
+            (b"cilk 1\nmem a 1000001\n", 2, Cause::BadNumber),
+            (b"cilk 1\nmem a 1000000\nmem b\n", 3, Cause::TooMany),
+            (
+                b"cilk 1\nmem a23456789012345678901234567890123\n",
+                2,
+                Cause::BadWord,
+            ),
+        ],
     );
-    assert_eq!(rt;
-        fault_of(alloc, b"cilk 1\nmem a 1000001\n"),
-        Some((2, Cause::BadNumber))
-    );
-    assert!(rt; is_trace(alloc, b"cilk 1\nmem a 999999\nmem b\nread 0 a[999998]\n"));
-    assert_eq!(rt;
-        fault_of(alloc, b"cilk 1\nmem a 1000000\nmem b\n"),
-        Some((3, Cause::TooMany))
-    );
-    assert!(rt; is_trace(alloc, b"cilk 1\nmem a2345678901234567890123456789012\n"));
-    assert_eq!(rt;
-        fault_of(alloc, b"cilk 1\nmem a23456789012345678901234567890123\n"),
-        Some((2, Cause::BadWord))
+    check_traces(
+        &rt,
+        alloc,
+        &[
+            b"cilk 1\nmem a 999999\nmem b\nread 0 a[999998]\n",
+            b"cilk 1\nmem a2345678901234567890123456789012\n",
+        ],
     );
 }
 
@@ -247,22 +193,23 @@ fn many_reducers(rt: HostRuntime) -> Result<(), Fail> {
     Ok(())
 }
 
+/// Checks what the lines ask for, each of strand 3 and of the line of its own number.
+fn ask_for(rt: &impl Abort, lines: &[TraceLine], acts: &[Act]) {
+    assert!(rt; lines.len() == acts.len());
+    for (line, act) in lines.iter().zip(acts) {
+        let request = Request {
+            strand: 3,
+            act: *act,
+            line: line.at,
+        };
+        assert!(rt; line.request == request && !line.marked, "{line:?}");
+    }
+}
+
 /// Checks that a text means these requests, each of strand 3 and of the line of its own number.
 fn asks(rt: &impl Abort, alloc: Global, text: &[u8], acts: &[Act]) -> Result<(), Fail> {
     let trace = Trace::parse(alloc, text)?;
-    let lines = trace.lines.as_slice();
-    assert_eq!(rt; lines.len(), acts.len());
-    for (line, act) in lines.iter().zip(acts) {
-        assert_eq!(rt;
-            line.request,
-            Request {
-                strand: 3,
-                act: *act,
-                line: line.at
-            }
-        );
-        assert!(rt; !line.marked);
-    }
+    ask_for(rt, trace.lines.as_slice(), acts);
     Ok(())
 }
 
@@ -312,12 +259,15 @@ fn marks_and_blanks(rt: HostRuntime) -> Result<(), Fail> {
     Ok(())
 }
 
+/// A text's trace, printed.
+fn printed_of(alloc: Global, text: &[u8]) -> Result<Vec<u8>, Fail> {
+    Ok(Trace::parse(alloc, text)?.print(alloc)?)
+}
+
 /// Checks that a text is printed so, and that the printed text is printed alike.
 fn prints(rt: &impl Abort, alloc: Global, text: &[u8], plain: &[u8]) -> Result<(), Fail> {
-    let printed = Trace::parse(alloc, text)?.print(alloc)?;
-    assert_eq!(rt; printed.as_slice(), plain);
-    let again = Trace::parse(alloc, plain)?.print(alloc)?;
-    assert_eq!(rt; again.as_slice(), plain);
+    equal(rt, &text, &printed_of(alloc, text)?.as_slice(), &plain);
+    equal(rt, &plain, &printed_of(alloc, plain)?.as_slice(), &plain);
     Ok(())
 }
 
@@ -339,6 +289,21 @@ fn printed(rt: HostRuntime) -> Result<(), Fail> {
     )
 }
 
+/// Checks what a cell of a trace is called.
+fn is_called(
+    rt: &impl Abort,
+    alloc: Global,
+    trace: &Trace<Global>,
+    cell: u32,
+    name: &str,
+) -> Result<(), Fail>
+    requires { cell < cells_of trace.now.mems }
+{
+    let found = cell_name(alloc, trace.mems.as_slice(), cell)?;
+    equal(rt, &cell, &found.as_str(), &name);
+    Ok(())
+}
+
 #[test]
 fn shapes_and_names(rt: HostRuntime) -> Result<(), Fail> {
     let alloc = rt.alloc();
@@ -352,9 +317,6 @@ fn shapes_and_names(rt: HostRuntime) -> Result<(), Fail> {
         shape.monoids.as_slice(),
         [Monoid::Digits, Monoid::Min].as_slice()
     );
-    let first = cell_name(alloc, trace.mems.as_slice(), 0)?;
-    assert_eq!(rt; first.as_str(), "x");
-    let last = cell_name(alloc, trace.mems.as_slice(), 2)?;
-    assert_eq!(rt; last.as_str(), "a[1]");
-    Ok(())
+    is_called(&rt, alloc, &trace, 0, "x")?;
+    is_called(&rt, alloc, &trace, 2, "a[1]")
 }

@@ -2,6 +2,7 @@
 
 ghost use Rattle.std.specs.Prelude.{◌≡◌, ◌+◌, ◌<◌, length};
 
+use crate::checks::equal;
 use reducer_views::{View, Views, combine, fits, identity, of_put, of_update, value};
 use sp_labels::Spawned;
 use std::alloc::{AllocError, Global};
@@ -10,28 +11,56 @@ use std::test::Fail;
 use trace_text::Monoid;
 
 /// What a get gives after a put and two updates.
-fn gathered(monoid: Monoid, put: u64, first: u64, second: u64) -> Option<u64> {
+fn gathered(monoid: Monoid, numbers: [u64; 3]) -> Option<u64> {
+    let [put, first, second] = numbers;
     let view = combine(monoid, of_put(monoid, put), of_update(monoid, first));
     value(combine(monoid, view, of_update(monoid, second)))
 }
 
+/// A get gives the number after the put and two updates before it.
+fn check_gathered(rt: &impl Abort, cases: &[(Monoid, [u64; 3], u64)]) {
+    for (monoid, numbers, wanted) in cases {
+        equal(rt, monoid, &gathered(*monoid, *numbers), &Some(*wanted));
+    }
+}
+
 #[test]
 fn views_gather_updates(rt: HostRuntime) {
-    assert_eq!(rt; gathered(Monoid::Sum, u64::MAX, 1, 1), Some(1));
-    assert_eq!(rt; gathered(Monoid::Min, 9, 4, 6), Some(4));
-    assert_eq!(rt; gathered(Monoid::Max, 3, 9, 4), Some(9));
-    assert_eq!(rt; gathered(Monoid::Last, 1, 5, 7), Some(7));
-    assert_eq!(rt; gathered(Monoid::Digits, 0, 1, 2), Some(33));
+    check_gathered(
+        &rt,
+        &[
+            (Monoid::Sum, [u64::MAX, 1, 1], 1),
+            (Monoid::Min, [9, 4, 6], 4),
+            (Monoid::Max, [3, 9, 4], 9),
+            (Monoid::Last, [1, 5, 7], 7),
+            (Monoid::Digits, [0, 1, 2], 33),
+        ],
+    );
+}
+
+/// The product of two views, which fit the monoid.
+fn check_product(rt: &impl Abort, monoid: Monoid, left: View, right: View, wanted: View) {
+    assert!(rt; fits(monoid, left) && fits(monoid, right));
+    equal(rt, &monoid, &combine(monoid, left, right), &wanted);
 }
 
 #[test]
 fn views_combine_in_serial_order(rt: HostRuntime) {
-    let sum = combine(Monoid::Sum, View::One(u64::MAX), View::One(2));
-    assert_eq!(rt; sum, View::One(1));
-    let last = combine(Monoid::Last, View::One(5), View::Nothing);
-    assert_eq!(rt; last, View::One(5));
-    let digits = combine(Monoid::Digits, View::Pair(31, 1), View::Pair(31, 2));
-    assert_eq!(rt; digits, View::Pair(961, 33));
+    check_product(
+        &rt,
+        Monoid::Sum,
+        View::One(u64::MAX),
+        View::One(2),
+        View::One(1),
+    );
+    check_product(&rt, Monoid::Last, View::One(5), View::Nothing, View::One(5));
+    check_product(
+        &rt,
+        Monoid::Digits,
+        View::Pair(31, 1),
+        View::Pair(31, 2),
+        View::Pair(961, 33),
+    );
 }
 
 /// Whether the identity changes a view on neither side.
@@ -44,12 +73,17 @@ fn is_neutral(monoid: Monoid, number: u64) -> bool {
 
 #[test]
 fn identities_change_nothing(rt: HostRuntime) {
-    for number in [0, 1, u64::MAX] {
-        assert!(rt; is_neutral(Monoid::Sum, number));
-        assert!(rt; is_neutral(Monoid::Min, number));
-        assert!(rt; is_neutral(Monoid::Max, number));
-        assert!(rt; is_neutral(Monoid::Last, number));
-        assert!(rt; is_neutral(Monoid::Digits, number));
+    let monoids = [
+        Monoid::Sum,
+        Monoid::Min,
+        Monoid::Max,
+        Monoid::Last,
+        Monoid::Digits,
+    ];
+    for monoid in monoids {
+        assert!(rt; is_neutral(monoid, 0), "{monoid:?}");
+        assert!(rt; is_neutral(monoid, 1), "{monoid:?}");
+        assert!(rt; is_neutral(monoid, u64::MAX), "{monoid:?}");
     }
     assert_eq!(rt;
         value(identity(Monoid::Min)),
@@ -58,14 +92,26 @@ fn identities_change_nothing(rt: HostRuntime) {
     assert_eq!(rt; value(identity(Monoid::Last)), None);
 }
 
+/// Whether each view fits the monoid beside it.
+fn check_fits(rt: &impl Abort, cases: &[(Monoid, View, bool)]) {
+    for (monoid, view, wanted) in cases {
+        equal(rt, &(*monoid, *view), &fits(*monoid, *view), wanted);
+    }
+}
+
 #[test]
 fn views_fit_their_monoids(rt: HostRuntime) {
-    assert!(rt; fits(Monoid::Last, View::Nothing));
-    assert!(rt; !fits(Monoid::Sum, View::Nothing));
-    assert!(rt; fits(Monoid::Max, View::One(7)));
-    assert!(rt; !fits(Monoid::Digits, View::One(7)));
-    assert!(rt; fits(Monoid::Digits, View::Pair(1, 7)));
-    assert!(rt; !fits(Monoid::Sum, View::Pair(1, 7)));
+    check_fits(
+        &rt,
+        &[
+            (Monoid::Last, View::Nothing, true),
+            (Monoid::Sum, View::Nothing, false),
+            (Monoid::Max, View::One(7), true),
+            (Monoid::Digits, View::One(7), false),
+            (Monoid::Digits, View::Pair(1, 7), true),
+            (Monoid::Sum, View::Pair(1, 7), false),
+        ],
+    );
 }
 
 #[test]
@@ -127,48 +173,91 @@ fn add_to(
     Ok(())
 }
 
-/// The strand updates reducer 0.
-fn add(
+/// The strand sets a reducer.
+fn put_to(
     rt: &impl Abort,
     views: &mut Views<Global>,
     strand: u32,
+    reducer: u32,
     number: u64,
 ) -> Result<(), AllocError>
-    requires { 0 < length views.old.monoids }
-    ensures { views.new.monoids ≡ views.old.monoids }
-{
-    add_to(rt, views, strand, 0, number)
-}
-
-/// The strand sets reducer 0.
-fn write(
-    rt: &impl Abort,
-    views: &mut Views<Global>,
-    strand: u32,
-    number: u64,
-) -> Result<(), AllocError>
-    requires { 0 < length views.old.monoids }
+    requires { reducer < length views.old.monoids }
     ensures { views.new.monoids ≡ views.old.monoids }
 {
     views.reserve_event()?;
     assert!(rt; views.has_room() && views.is_there(strand));
-    views.put(strand, 0, number);
+    views.put(strand, reducer, number);
     Ok(())
 }
 
-/// What the strand sees in a reducer.
-fn seen_in(rt: &impl Abort, views: &Views<Global>, strand: u32, reducer: u32) -> Option<u64>
+/// Checks what the strand sees in a reducer.
+fn sees(rt: &impl Abort, views: &Views<Global>, strand: u32, reducer: u32, wanted: Option<u64>)
     requires { reducer < length views.now.monoids }
 {
     assert!(rt; views.is_there(strand));
-    views.get(strand, reducer)
+    equal(rt, &(strand, reducer), &views.get(strand, reducer), &wanted);
 }
 
-/// What the strand sees in reducer 0.
-fn seen(rt: &impl Abort, views: &Views<Global>, strand: u32) -> Option<u64>
-    requires { 0 < length views.now.monoids }
-{
-    seen_in(rt, views, strand, 0)
+/// What is done with views. Strands and joins come first, then reducers.
+#[derive(Clone, Copy)]
+enum Step {
+    /// A strand spawns a child, in the block with this join, or as the first of its block.
+    Spawn(u32, u32, Option<u32>),
+    /// A join begins.
+    Begin(u32),
+    /// A strand updates a reducer.
+    Add(u32, u32, u64),
+    /// A strand sets a reducer.
+    Put(u32, u32, u64),
+    /// A strand sees this in a reducer.
+    Sees(u32, u32, Option<u64>),
+}
+
+use Step::{Add, Begin, Put, Sees, Spawn};
+
+/// Views of so many reducers.
+#[derive(Drop)]
+struct Run {
+    views: Views<Global>,
+    count: usize,
+    ghost counted: { count ≡ length views.monoids },
+}
+
+/// Does a step, or checks what is seen.
+fn take(rt: &impl Abort, run: &mut Run, step: Step) -> Result<(), AllocError> {
+    match step {
+        Spawn(strand, child, join) => {
+            assert!(rt; 0 < child && child < 100);
+            spawn(rt, &mut run.views, strand, child, join)
+        }
+        Begin(join) => begin(rt, &mut run.views, join),
+        Add(strand, reducer, number) => {
+            assert!(rt; (reducer as usize) < run.count);
+            add_to(rt, &mut run.views, strand, reducer, number)
+        }
+        Put(strand, reducer, number) => {
+            assert!(rt; (reducer as usize) < run.count);
+            put_to(rt, &mut run.views, strand, reducer, number)
+        }
+        Sees(strand, reducer, wanted) => {
+            assert!(rt; (reducer as usize) < run.count);
+            sees(rt, &run.views, strand, reducer, wanted);
+            Ok(())
+        }
+    }
+}
+
+/// Takes the steps with views of these reducers.
+fn check(rt: &impl Abort, alloc: Global, monoids: &[Monoid], steps: &[Step]) -> Result<(), Fail> {
+    let views = Views::new(alloc, monoids)?;
+    let mut run = Run {
+        views,
+        count: monoids.len(),
+    };
+    for step in steps {
+        take(rt, &mut run, *step)?;
+    }
+    Ok(())
 }
 
 #[test]
@@ -178,93 +267,135 @@ fn a_join_combines_in_order_of_spawning(rt: HostRuntime) -> Result<(), Fail> {
         (Monoid::Min, 9, 6, 4, 4),
         (Monoid::Digits, 0, 2, 1, 33),
     ] {
-        let mut views = Views::new(rt.alloc(), &[monoid])?;
-        write(&rt, &mut views, 0, put)?;
-        spawn(&rt, &mut views, 0, 1, None)?;
-        add(&rt, &mut views, 2, later)?;
-        add(&rt, &mut views, 1, earlier)?;
-        begin(&rt, &mut views, 3)?;
-        assert_eq!(rt; seen(&rt, &views, 3), Some(wanted));
+        check(
+            &rt,
+            rt.alloc(),
+            &[monoid],
+            &[
+                Put(0, 0, put),
+                Spawn(0, 1, None),
+                Add(2, 0, later),
+                Add(1, 0, earlier),
+                Begin(3),
+                Sees(3, 0, Some(wanted)),
+            ],
+        )?;
     }
     Ok(())
 }
 
 #[test]
 fn the_child_that_returns_first_is_not_combined_first(rt: HostRuntime) -> Result<(), Fail> {
-    let mut views = Views::new(rt.alloc(), &[Monoid::Last])?;
-    write(&rt, &mut views, 0, 1)?;
-    spawn(&rt, &mut views, 0, 1, None)?;
-    spawn(&rt, &mut views, 2, 4, Some(3))?;
-    add(&rt, &mut views, 1, 5)?;
-    add(&rt, &mut views, 4, 7)?;
-    begin(&rt, &mut views, 3)?;
-    assert_eq!(rt; seen(&rt, &views, 3), Some(7));
-    Ok(())
+    check(
+        &rt,
+        rt.alloc(),
+        &[Monoid::Last],
+        &[
+            Put(0, 0, 1),
+            Spawn(0, 1, None),
+            Spawn(2, 4, Some(3)),
+            Add(1, 0, 5),
+            Add(4, 0, 7),
+            Begin(3),
+            Sees(3, 0, Some(7)),
+        ],
+    )
 }
 
 #[test]
 fn a_put_in_a_child_is_gone_on_with(rt: HostRuntime) -> Result<(), Fail> {
-    let mut views = Views::new(rt.alloc(), &[Monoid::Sum])?;
-    spawn(&rt, &mut views, 0, 1, None)?;
-    write(&rt, &mut views, 1, 5)?;
-    spawn(&rt, &mut views, 1, 4, None)?;
-    add(&rt, &mut views, 4, 1)?;
-    begin(&rt, &mut views, 6)?;
-    assert_eq!(rt; seen(&rt, &views, 6), Some(6));
-    assert_eq!(rt; seen(&rt, &views, 2), Some(0));
-    Ok(())
+    check(
+        &rt,
+        rt.alloc(),
+        &[Monoid::Sum],
+        &[
+            Spawn(0, 1, None),
+            Put(1, 0, 5),
+            Spawn(1, 4, None),
+            Add(4, 0, 1),
+            Begin(6),
+            Sees(6, 0, Some(6)),
+            Sees(2, 0, Some(0)),
+        ],
+    )
 }
 
 #[test]
 fn other_strands_keep_their_views(rt: HostRuntime) -> Result<(), Fail> {
-    let mut views = Views::new(rt.alloc(), &[Monoid::Sum])?;
-    write(&rt, &mut views, 0, 1)?;
-    spawn(&rt, &mut views, 0, 1, None)?;
-    begin(&rt, &mut views, 3)?;
-    assert_eq!(rt; seen(&rt, &views, 3), Some(1));
-    let mut views = Views::new(rt.alloc(), &[Monoid::Sum])?;
-    spawn(&rt, &mut views, 0, 1, None)?;
-    write(&rt, &mut views, 1, 5)?;
-    spawn(&rt, &mut views, 2, 4, Some(3))?;
-    assert_eq!(rt; seen(&rt, &views, 1), Some(5));
-    Ok(())
+    check(
+        &rt,
+        rt.alloc(),
+        &[Monoid::Sum],
+        &[
+            Put(0, 0, 1),
+            Spawn(0, 1, None),
+            Begin(3),
+            Sees(3, 0, Some(1)),
+        ],
+    )?;
+    check(
+        &rt,
+        rt.alloc(),
+        &[Monoid::Sum],
+        &[
+            Spawn(0, 1, None),
+            Put(1, 0, 5),
+            Spawn(2, 4, Some(3)),
+            Sees(1, 0, Some(5)),
+        ],
+    )
 }
 
 #[test]
 fn a_strand_sees_its_own_updates(rt: HostRuntime) -> Result<(), Fail> {
-    let mut views = Views::new(rt.alloc(), &[Monoid::Sum])?;
+    let views = Views::new(rt.alloc(), &[Monoid::Sum])?;
     assert!(rt; !views.has_room());
-    assert_eq!(rt; seen(&rt, &views, 0), Some(0));
-    write(&rt, &mut views, 0, 18_446_744_073_709_551_615)?;
-    add(&rt, &mut views, 0, 2)?;
-    assert_eq!(rt; seen(&rt, &views, 0), Some(1));
-    let mut views = Views::new(rt.alloc(), &[Monoid::Max])?;
-    write(&rt, &mut views, 0, 3)?;
-    add(&rt, &mut views, 0, 9)?;
-    add(&rt, &mut views, 0, 4)?;
-    assert_eq!(rt; seen(&rt, &views, 0), Some(9));
-    let views = Views::new(rt.alloc(), &[Monoid::Last])?;
-    assert_eq!(rt; seen(&rt, &views, 0), None);
-    Ok(())
+    check(
+        &rt,
+        rt.alloc(),
+        &[Monoid::Sum],
+        &[
+            Sees(0, 0, Some(0)),
+            Put(0, 0, 18_446_744_073_709_551_615),
+            Add(0, 0, 2),
+            Sees(0, 0, Some(1)),
+        ],
+    )?;
+    check(
+        &rt,
+        rt.alloc(),
+        &[Monoid::Max],
+        &[
+            Put(0, 0, 3),
+            Add(0, 0, 9),
+            Add(0, 0, 4),
+            Sees(0, 0, Some(9)),
+        ],
+    )?;
+    check(&rt, rt.alloc(), &[Monoid::Last], &[Sees(0, 0, None)])
 }
 
 #[test]
 fn reducers_keep_apart(rt: HostRuntime) -> Result<(), Fail> {
-    let monoids = [Monoid::Sum, Monoid::Sum, Monoid::Sum, Monoid::Sum];
-    let mut views = Views::new(rt.alloc(), &monoids)?;
-    add_to(&rt, &mut views, 0, 2, 3000)?;
-    spawn(&rt, &mut views, 0, 1, None)?;
-    add_to(&rt, &mut views, 1, 0, 1)?;
-    add_to(&rt, &mut views, 1, 2, 20)?;
-    add_to(&rt, &mut views, 1, 3, 300)?;
-    add_to(&rt, &mut views, 2, 3, 5)?;
-    add_to(&rt, &mut views, 2, 1, 7)?;
-    add_to(&rt, &mut views, 2, 2, 9)?;
-    assert_eq!(rt; seen_in(&rt, &views, 2, 0), Some(0));
-    begin(&rt, &mut views, 3)?;
-    assert_eq!(rt; seen_in(&rt, &views, 3, 0), Some(1));
-    assert_eq!(rt; seen_in(&rt, &views, 3, 1), Some(7));
-    assert_eq!(rt; seen_in(&rt, &views, 3, 2), Some(3029));
-    assert_eq!(rt; seen_in(&rt, &views, 3, 3), Some(305));
-    Ok(())
+    check(
+        &rt,
+        rt.alloc(),
+        &[Monoid::Sum, Monoid::Sum, Monoid::Sum, Monoid::Sum],
+        &[
+            Add(0, 2, 3000),
+            Spawn(0, 1, None),
+            Add(1, 0, 1),
+            Add(1, 2, 20),
+            Add(1, 3, 300),
+            Add(2, 3, 5),
+            Add(2, 1, 7),
+            Add(2, 2, 9),
+            Sees(2, 0, Some(0)),
+            Begin(3),
+            Sees(3, 0, Some(1)),
+            Sees(3, 1, Some(7)),
+            Sees(3, 2, Some(3029)),
+            Sees(3, 3, Some(305)),
+        ],
+    )
 }

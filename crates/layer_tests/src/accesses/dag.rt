@@ -190,24 +190,32 @@ impl Dag {
     fn arrive(&mut self, strand: usize, join: usize) -> Result<(), AllocError> {
         self.end(strand);
         self.arrivals.push((strand, join))?;
-        let come = self
-            .arrivals
-            .iter()
-            .filter(|arrival| arrival.1 == join)
-            .count();
-        let children = self.children(join);
-        if come > children {
+        if self.come(join) > self.children(join) {
             self.begin(join)?;
         }
         Ok(())
     }
 
+    /// How many strands ended at this join.
+    fn come(&self, join: usize) -> usize {
+        let mut count = 0usize;
+        for (_, place) in &self.arrivals {
+            if *place == join {
+                count = count.wrapping_add(1);
+            }
+        }
+        count
+    }
+
     /// How many functions were spawned in the block with this join.
     fn children(&self, join: usize) -> usize {
-        self.functions
-            .iter()
-            .filter(|function| function.entry == Entry::Spawned(join))
-            .count()
+        let mut count = 0usize;
+        for function in &self.functions {
+            if function.entry == Entry::Spawned(join) {
+                count = count.wrapping_add(1);
+            }
+        }
+        count
     }
 
     fn begin(&mut self, join: usize) -> Result<(), AllocError> {

@@ -1,7 +1,11 @@
 //! Random legal traces, against the slow reference.
 
+ghost use Rattle.std.specs.Prelude.{◌≤◌, length};
+ghost use Rattle.race_gate.specs.Shapes.{most_reducers};
+
 use super::opening_with;
 use super::reference::Reference;
+use crate::checks::equal;
 use crate::draws::draw;
 use access_table::Rule;
 use race_gate::{Answer, Entry, Gate};
@@ -75,7 +79,33 @@ fn finish(gate: &mut Gate<Global>, reference: &mut Reference) -> Result<(), Allo
     Ok(())
 }
 
-/// Each access among the entries was answered as the reference answers it in the finished dag.
+fn is_race(answer: Answer) -> bool {
+    matches!(
+        answer,
+        Answer::Refused {
+            rule: Rule::Race,
+            ..
+        }
+    )
+}
+
+/// The entry, an access at this place in the trace of this seed, was answered as the reference answers it in the finished dag.
+fn compare_one(
+    rt: &impl Abort,
+    reference: &Reference,
+    earlier: &[Entry],
+    entry: &Entry,
+    expected: Option<Answer>,
+    case: (usize, u64),
+) {
+    let races = reference.races(earlier, entry.request.strand, entry.request.act);
+    equal(rt, &case, &is_race(entry.answer), &races);
+    if let Some(answer) = expected {
+        equal(rt, &case, &entry.answer, &answer);
+    }
+}
+
+/// Each access among the entries was answered as the reference answers it.
 fn compare(
     rt: &impl Abort,
     alloc: Global,
@@ -83,26 +113,13 @@ fn compare(
     entries: &[Entry],
     monoids: &[Monoid],
     seed: u64,
-) -> Result<(), Fail> {
+) -> Result<(), AllocError> {
     for (place, entry) in entries.iter().enumerate() {
         let earlier = entries.get(..place).unwrap_or(&[]);
         let strand = entry.request.strand;
         let act = entry.request.act;
-        if let Some(expected) = reference.answer_to_read(alloc, earlier, monoids, strand, act)? {
-            assert_eq!(rt; entry.answer, expected, "entry {place} of {seed}");
-        }
-        let is_race = matches!(
-            entry.answer,
-            Answer::Refused {
-                rule: Rule::Race,
-                ..
-            }
-        );
-        assert_eq!(rt;
-            is_race,
-            reference.races(earlier, strand, act),
-            "entry {place} of {seed}"
-        );
+        let expected = reference.answer_to_read(alloc, earlier, monoids, strand, act)?;
+        compare_one(rt, reference, earlier, entry, expected, (place, seed));
     }
     Ok(())
 }
@@ -148,17 +165,42 @@ fn play(
     finish(gate, reference)
 }
 
+/// The trace of the finished gate is the reference's.
+fn compare_all(
+    rt: &impl Abort,
+    alloc: Global,
+    reference: &Reference,
+    gate: &Gate<Global>,
+    monoids: &[Monoid],
+    seed: u64,
+) -> Result<(), AllocError> {
+    assert!(rt; gate.is_finished(), "{seed}");
+    compare(rt, alloc, reference, gate.history(), monoids, seed)
+}
+
+/// The trace of this seed, with these reducers and from this state of the generator.
+fn agrees_with(
+    rt: &impl Abort,
+    alloc: Global,
+    monoids: &[Monoid],
+    seed: u64,
+    state: u64,
+) -> Result<(), AllocError>
+    requires { length monoids.now ≤ most_reducers }
+{
+    let mut gate = opening_with(alloc, monoids, 1_000)?;
+    let mut reference = Reference::new(alloc);
+    play(&mut gate, &mut reference, seed % 2 == 0, state)?;
+    reference.close();
+    compare_all(rt, alloc, &reference, &gate, monoids, seed)
+}
+
 /// The trace of this seed.
-fn agrees(rt: &impl Abort, alloc: Global, seed: u64) -> Result<(), Fail> {
+fn agrees(rt: &impl Abort, alloc: Global, seed: u64) -> Result<(), AllocError> {
     let (first, state_first) = draw(seed, 5);
     let (second, state) = draw(state_first, 5);
     let monoids = [drawn_monoid(first), drawn_monoid(second)];
-    let mut gate = opening_with(alloc, &monoids, 1_000)?;
-    let mut reference = Reference::new(alloc);
-    play(&mut gate, &mut reference, seed % 2 == 0, state)?;
-    assert!(rt; gate.is_finished(), "{seed}");
-    reference.close();
-    compare(rt, alloc, &reference, gate.history(), &monoids, seed)
+    agrees_with(rt, alloc, &monoids, seed, state)
 }
 
 #[test]

@@ -1,5 +1,5 @@
 use Rattle.std.proofs.Common.{◌≡◌}
-use Rattle.layer_tests.proofs.reports.report_of.Given as goal
+use Rattle.layer_tests.proofs.reports.ask_all.Given as goal
 
 -- the gate keeps its shape
 abbrev pub invariant-loop-request : goal.invariant-loop-request

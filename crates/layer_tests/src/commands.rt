@@ -1,0 +1,363 @@
+//! The commands, from texts that are read to texts that are written.
+
+ghost use Rattle.std.specs.Prelude.{◌≤◌};
+ghost use Rattle.race_gate.specs.Shapes.{most_entries};
+
+mod devices;
+mod elisions;
+mod failures;
+mod words;
+
+use race_gate::{Answer, GateFault, Receipt, Reply};
+use std::alloc::{AllocError, Global};
+use std::io::{Read, Write};
+use std::process::Abort;
+use std::test::Fail;
+use text_commands::{CliFault, Watched, judge_stream, status_of};
+use trace_text::{Act, Request, TextFault};
+
+const MOST: u32 = 1_000_000;
+
+/// What a command answers, and how its reader and its writer have fared.
+#[derive(Drop)]
+struct Outcome<W> {
+    answer: Result<u8, CliFault>,
+    output: W,
+    reads: u64,
+    read_failed: bool,
+    write_failed: bool,
+}
+
+/// Judges what a reader gives.
+fn judged<R: Read + Drop, W: Write>(alloc: Global, reader: R, writer: W, limit: u32) -> Outcome<W>
+    requires { limit ≤ most_entries }
+{
+    let mut input = Watched::new(reader);
+    let mut output = Watched::new(writer);
+    let answer = judge_stream(alloc, &mut input, &mut output, limit);
+    Outcome {
+        answer,
+        reads: input.calls(),
+        read_failed: input.failed(),
+        write_failed: output.failed(),
+        output: output.into_inner(),
+    }
+}
+
+/// The command has ended with this status and has written this text.
+fn check_written(
+    rt: &impl Abort,
+    outcome: &Outcome<Vec<u8>>,
+    status: u8,
+    wanted: &str,
+    what: &str,
+) {
+    assert!(rt; !outcome.read_failed && !outcome.write_failed, "{what}");
+    assert!(rt;
+        matches!(outcome.answer, Ok(found) if found == status),
+        "the status of {what}"
+    );
+    assert_eq!(rt; outcome.output.as_slice(), wanted.as_bytes(), "{what}");
+}
+
+/// The command has written nothing, and answers a fault with this text and status.
+fn check_fault(
+    rt: &impl Abort,
+    alloc: Global,
+    outcome: &Outcome<Vec<u8>>,
+    status: u8,
+    wanted: &str,
+) -> Result<(), Fail> {
+    match &outcome.answer {
+        Ok(_) => assert!(rt; false, "{wanted} is not answered"),
+        Err(fault) => {
+            let told = format!(in alloc; "{fault}")?;
+            assert_eq!(rt; told.as_str(), wanted);
+            assert_eq!(rt; fault.status(), status, "{wanted}");
+        }
+    }
+    assert!(rt; outcome.output.is_empty());
+    Ok(())
+}
+
+/// The text with a line feed in place of each separator, and one behind it.
+fn lined(alloc: Global, text: &str, separator: &str) -> Result<String, AllocError> {
+    let mut lines = String::new(alloc);
+    if !text.is_empty() {
+        for line in text.split(separator) {
+            lines.push_str(line)?;
+            lines.push_str("\n")?;
+        }
+    }
+    Ok(lines)
+}
+
+/// The trace is judged with this status and these verdict lines, which stand between slashes.
+fn check(
+    rt: &impl Abort,
+    alloc: Global,
+    trace: &str,
+    limit: u32,
+    verdicts: &str,
+    status: u8,
+) -> Result<(), Fail>
+    requires { limit ≤ most_entries }
+{
+    let text = lined(alloc, trace, "; ")?;
+    let wanted = lined(alloc, verdicts, " / ")?;
+    let outcome = judged(alloc, text.as_bytes(), Vec::new(alloc), limit);
+    check_written(rt, &outcome, status, wanted.as_str(), trace);
+    Ok(())
+}
+
+/// The same of the requests behind `cilk 1` and `mem x`.
+fn check_x(
+    rt: &impl Abort,
+    alloc: Global,
+    requests: &str,
+    verdicts: &str,
+    status: u8,
+) -> Result<(), Fail> {
+    let trace = format!(in alloc; "cilk 1; mem x; {requests}")?;
+    check(rt, alloc, trace.as_str(), MOST, verdicts, status)
+}
+
+#[test]
+fn control_and_values(rt: HostRuntime) -> Result<(), Fail> {
+    check(&rt, rt.alloc(), "cilk 1; mem x", MOST, "", 0)?;
+    for (requests, verdicts, status) in [
+        ("write 0 x 5; read 0 x", "1 granted / 2 value 5", 0u8),
+        (
+            "spawn 0; read 1 x; read 2 x",
+            "1 split 1 2 3 / 2 value 0 / 3 value 0",
+            0,
+        ),
+        (
+            "spawn 0; read 1 x; sync 2; return 1; write 3 x 4",
+            "1 split 1 2 3 / 2 value 0 / 3 waits / 4 ended-joined 3 / 5 granted",
+            0,
+        ),
+        (
+            "sync 0; return 0; read 0 x",
+            "1 same / 2 finished / illegal not-running",
+            2,
+        ),
+        (
+            "spawn 0; call 2; spawn 2; return 4; sync 5; return 6; sync 6; return 1",
+            "1 split 1 2 3 / 2 same / 3 split 4 5 6 / 4 ended / 5 joined 6 / 6 resumed / 7 waits / 8 ended-joined 3",
+            0,
+        ),
+        (
+            "spawn 0; return 2; read 2 x",
+            "1 split 1 2 3 / illegal unsynced / 2 value 0",
+            2,
+        ),
+    ] {
+        check_x(&rt, rt.alloc(), requests, verdicts, status)?;
+    }
+    Ok(())
+}
+
+#[test]
+fn races(rt: HostRuntime) -> Result<(), Fail> {
+    for (requests, verdicts) in [
+        (
+            "spawn 0; read 1 x; read 2 x; write 2 x 9",
+            "1 split 1 2 3 / 2 value 0 / 3 value 0 / 4 refused read-write 2",
+        ),
+        (
+            "spawn 0; read 2 x; write 1 x 9",
+            "1 split 1 2 3 / 2 value 0 / 3 refused read-write 2",
+        ),
+        (
+            "spawn 0; write 1 x 5; write 2 x 6; read 1 x",
+            "1 split 1 2 3 / 2 granted / 3 refused write-write 2 / 4 value 5",
+        ),
+    ] {
+        check_x(&rt, rt.alloc(), requests, verdicts, 1)?;
+    }
+    Ok(())
+}
+
+#[test]
+fn bumps(rt: HostRuntime) -> Result<(), Fail> {
+    for (requests, verdicts, status) in [
+        (
+            "write 0 x 1; spawn 0; bump 1 x 2; bump 2 x 3; read 2 x; sync 2; return 1; read 3 x",
+            "1 granted / 2 split 1 2 3 / 3 granted / 4 granted / 5 refused bump-read 3 / 6 waits / 7 ended-joined 3 / 8 value 6",
+            1u8,
+        ),
+        (
+            "write 0 x 18446744073709551615; bump 0 x 2; read 0 x",
+            "1 granted / 2 granted / 3 value 1",
+            0,
+        ),
+        (
+            "spawn 0; bump 1 x 2; write 2 x 9",
+            "1 split 1 2 3 / 2 granted / 3 refused bump-write 2",
+            1,
+        ),
+        (
+            "spawn 0; write 1 x 9; bump 2 x 2",
+            "1 split 1 2 3 / 2 granted / 3 refused write-bump 2",
+            1,
+        ),
+        (
+            "spawn 0; read 1 x; bump 2 x 1",
+            "1 split 1 2 3 / 2 value 0 / 3 refused read-bump 2",
+            1,
+        ),
+    ] {
+        let trace = format!(in rt.alloc(); "cilk 2; mem x; {requests}")?;
+        check(&rt, rt.alloc(), trace.as_str(), MOST, verdicts, status)?;
+    }
+    Ok(())
+}
+
+#[test]
+fn reducers(rt: HostRuntime) -> Result<(), Fail> {
+    for (trace, verdicts, status) in [
+        (
+            "cilk 1; reducer h sum; put 0 h 0; spawn 0; update 1 h 5; get 2 h; return 1; sync 2; get 3 h",
+            "1 granted / 2 split 1 2 3 / 3 granted / 4 refused view-read 1 / 5 ended / 6 joined 3 / 7 value 5",
+            1u8,
+        ),
+        (
+            "cilk 1; reducer h last; put 0 h 1; spawn 0; update 2 h 7; update 1 h 5; return 1; sync 2; get 3 h",
+            "1 granted / 2 split 1 2 3 / 3 granted / 4 granted / 5 ended / 6 joined 3 / 7 value 7",
+            0,
+        ),
+        ("cilk 1; reducer h last; get 0 h", "1 refused unset", 1),
+        (
+            "cilk 1; reducer h sum; spawn 0; put 1 h 5; get 2 h",
+            "1 split 1 2 3 / 2 granted / 3 refused view-read 2",
+            1,
+        ),
+        (
+            "cilk 2; reducer h digits; put 0 h 0; spawn 0; update 2 h 2; update 1 h 1; return 1; sync 2; get 3 h",
+            "1 granted / 2 split 1 2 3 / 3 granted / 4 granted / 5 ended / 6 joined 3 / 7 value 33",
+            0,
+        ),
+    ] {
+        check(&rt, rt.alloc(), trace, MOST, verdicts, status)?;
+    }
+    Ok(())
+}
+
+#[test]
+fn a_limit_ends_the_history(rt: HostRuntime) -> Result<(), Fail> {
+    check(
+        &rt,
+        rt.alloc(),
+        "cilk 1; mem x; write 0 x 1; write 0 x 2; write 0 x 3; write 0 x 4",
+        3,
+        "1 granted / 2 granted / 3 granted / illegal limit",
+        4,
+    )?;
+    check(
+        &rt,
+        rt.alloc(),
+        "cilk 1; mem x; return 5",
+        0,
+        "illegal limit",
+        4,
+    )
+}
+
+/// A long loop that is written: the trace, its verdict lines, the strand that spawns next, and the last entry.
+#[derive(Drop)]
+struct SpawnLoop {
+    text: String,
+    wanted: String,
+    newest: u32,
+    entry: u32,
+}
+
+impl SpawnLoop {
+    /// Spawns a child, which ends.
+    fn spawn(&mut self, child: u32) -> Result<(), Fail> {
+        write!(self.text, "spawn {}\nreturn {child}\n", self.newest)?;
+        self.newest = child.wrapping_add(1);
+        let (spawn, end) = (self.entry.wrapping_add(1), self.entry.wrapping_add(2));
+        write!(
+            self.wanted,
+            "{spawn} split {child} {} 3\n{end} ended\n",
+            self.newest
+        )?;
+        self.entry = end;
+        Ok(())
+    }
+
+    fn access(&mut self, value: u32) -> Result<(), Fail> {
+        self.entry = self.entry.wrapping_add(1);
+        write!(self.text, "write {} x {value}\n", self.newest)?;
+        write!(self.wanted, "{} granted\n", self.entry)?;
+        Ok(())
+    }
+}
+
+/// 10,000 spawns with a write behind each hundredth.
+fn long_loop(alloc: Global) -> Result<SpawnLoop, Fail> {
+    let mut made = SpawnLoop {
+        text: String::from_str(alloc, "cilk 1\nmem x\n")?,
+        wanted: String::new(alloc),
+        newest: 0,
+        entry: 0,
+    };
+    for k in 1..10_001u32 {
+        made.spawn(if k == 1 { 1 } else { 2 * k })?;
+        if k % 100 == 0 {
+            made.access(k)?;
+        }
+    }
+    made.text.push_str("sync 20001\nreturn 3\n")?;
+    made.wanted.push_str("20101 joined 3\n20102 finished\n")?;
+    Ok(made)
+}
+
+#[test]
+fn spawns_in_a_long_loop(rt: HostRuntime) -> Result<(), Fail> {
+    let made = long_loop(rt.alloc())?;
+    let outcome = judged(rt.alloc(), made.text.as_bytes(), Vec::new(rt.alloc()), MOST);
+    check_written(&rt, &outcome, 0, made.wanted.as_str(), "a long loop");
+    Ok(())
+}
+
+#[test]
+fn faults_of_the_text(rt: HostRuntime) -> Result<(), Fail> {
+    for (text, wanted) in [
+        ("", "trace line 1: BadHeader"),
+        ("cilk 1\nmem x\nmem x\n", "trace line 3: TwiceNamed"),
+        ("cilk 1\nmem a 2\nread 0 a[2]\n", "trace line 3: BadNumber"),
+    ] {
+        let outcome = judged(rt.alloc(), text.as_bytes(), Vec::new(rt.alloc()), MOST);
+        check_fault(&rt, rt.alloc(), &outcome, 2, wanted)?;
+    }
+    Ok(())
+}
+
+#[test]
+fn want_of_memory_for_a_text(rt: HostRuntime) -> Result<(), Fail> {
+    let fault = CliFault::from(TextFault::Memory);
+    let told = format!(in rt.alloc(); "{fault}")?;
+    assert_eq!(rt; fault.status(), 3);
+    assert_eq!(rt; told.as_str(), "memory");
+    Ok(())
+}
+
+#[test]
+fn statuses_of_replies(rt: HostRuntime) {
+    let unset = Reply::Done(Receipt {
+        number: 1,
+        request: Request {
+            strand: 0,
+            act: Act::Get(0),
+            line: 1,
+        },
+        answer: Answer::Unset,
+    });
+    let stopped = Reply::Illegal(GateFault::Stopped);
+    let memory = Reply::Illegal(GateFault::Memory);
+    assert_eq!(rt; status_of(&[unset, stopped, memory]), 3);
+    assert_eq!(rt; status_of(&[unset]), 1);
+}

@@ -1,0 +1,77 @@
+//! Readers and writers that fail, or never end.
+
+use std::io::{Error, ErrorKind, Read, Result, Write};
+
+/// Gives a byte at each read, and answers an error at the read behind `left` more.
+#[derive(Drop)]
+pub(super) struct Breaking<'a> {
+    pub(super) text: &'a [u8],
+    pub(super) left: u32,
+}
+
+impl Read for Breaking<'_> {
+    fn read(&mut self, buf: &mut [u8]) -> Result<usize> {
+        if self.left == 0 {
+            return Err(Error::from(ErrorKind::Other));
+        }
+        self.left -= 1;
+        let (Some((byte, rest)), Some(place)) = (self.text.split_first(), buf.first_mut()) else {
+            return Ok(0);
+        };
+        *place = *byte;
+        self.text = rest;
+        Ok(1)
+    }
+}
+
+/// Takes a byte at each write. Behind `left` more it takes none, or answers an error.
+#[derive(Drop)]
+pub(super) struct Filling {
+    pub(super) held: Vec<u8>,
+    pub(super) left: u32,
+    pub(super) answers_an_error: bool,
+}
+
+impl Write for Filling {
+    fn write(&mut self, buf: &[u8]) -> Result<usize> {
+        if self.left == 0 {
+            return if self.answers_an_error {
+                Err(Error::from(ErrorKind::Other))
+            } else {
+                Ok(0)
+            };
+        }
+        self.left -= 1;
+        match buf.first() {
+            Some(byte) => {
+                self.held.push(*byte)?;
+                Ok(1)
+            }
+            None => Ok(0),
+        }
+    }
+
+    fn flush(&mut self) -> Result<()> {
+        if self.left == 0 {
+            return Err(Error::from(ErrorKind::Other));
+        }
+        self.left -= 1;
+        Ok(())
+    }
+}
+
+/// Gives one space at each read, and never ends.
+#[derive(Drop)]
+pub(super) struct Spaces;
+
+impl Read for Spaces {
+    fn read(&mut self, buf: &mut [u8]) -> Result<usize> {
+        match buf.first_mut() {
+            Some(place) => {
+                *place = b' ';
+                Ok(1)
+            }
+            None => Ok(0),
+        }
+    }
+}

@@ -1,0 +1,200 @@
+//! Elisions, from programs that are read to lines that are written.
+
+ghost use Rattle.std.specs.Prelude.{◌≤◌};
+ghost use Rattle.race_gate.specs.Shapes.{most_entries};
+
+use super::devices::{Breaking, Filling};
+use super::{MOST, Outcome, check_fault, check_written, lined};
+use std::alloc::Global;
+use std::io::{Read, Write};
+use std::process::Abort;
+use std::test::Fail;
+use text_commands::{CliFault, Watched, elide_text, opened};
+
+/// The tenth Fibonacci number, summed by a reducer in 713 requests.
+const FIB: &str =
+    "cilk 1; mem x; reducer h sum; func main z; put h 0; call fib 10; get r h; write x r; end; func fib n; let t = n < 2; if t; update h n; else; let a = n - 1; let b = n - 2; spawn fib a; call fib b; sync; end; end";
+
+/// A program that never ends.
+const ENDLESS: &str = "cilk 1; func main z; call main 0; end";
+
+/// A program of 29 bytes whose elision has 15.
+const SHORT: &str = "cilk 1\nmem x\nfunc main z\nend\n";
+
+const LEFT_BY_SHORT: &str = "x 0\nrequests 2\n";
+
+/// Writes the elision of the program that a reader gives.
+fn elided<R: Read + Drop, W: Write>(alloc: Global, reader: R, writer: W, limit: u32) -> Outcome<W>
+    requires { limit ≤ most_entries }
+{
+    let mut input = Watched::new(reader);
+    let mut output = Watched::new(writer);
+    let answer = elide_text(alloc, &mut input, &mut output, limit);
+    Outcome {
+        answer,
+        reads: input.calls(),
+        read_failed: input.failed(),
+        write_failed: output.failed(),
+        output: output.into_inner(),
+    }
+}
+
+/// The elision of the program is written so, with lines between slashes.
+fn check_elision(
+    rt: &impl Abort,
+    alloc: Global,
+    program: &str,
+    limit: u32,
+    wanted: &str,
+) -> Result<(), Fail>
+    requires { limit ≤ most_entries }
+{
+    let text = lined(alloc, program, "; ")?;
+    let wanted = lined(alloc, wanted, " / ")?;
+    let outcome = elided(alloc, text.as_bytes(), Vec::new(alloc), limit);
+    check_written(rt, &outcome, 0, wanted.as_str(), program);
+    Ok(())
+}
+
+/// No elision of the program is written, for a fault with this text and status.
+fn check_no_elision(
+    rt: &impl Abort,
+    alloc: Global,
+    program: &str,
+    limit: u32,
+    wanted: &str,
+    status: u8,
+) -> Result<(), Fail>
+    requires { limit ≤ most_entries }
+{
+    let text = lined(alloc, program, "; ")?;
+    let outcome = elided(alloc, text.as_bytes(), Vec::new(alloc), limit);
+    check_fault(rt, alloc, &outcome, status, wanted)
+}
+
+#[test]
+fn elisions(rt: HostRuntime) -> Result<(), Fail> {
+    for (program, limit, wanted) in [
+        (FIB, MOST, "x 55 / requests 713"),
+        (FIB, 713u32, "x 55 / requests 713"),
+        (
+            "cilk 1; mem x; mem y; func main z; spawn f 7; read r x; end; func f v; write x v; end",
+            MOST,
+            "x 7 / y 0 / requests 7",
+        ),
+        (
+            "cilk 2; mem a 4; func main z; pfor i 4 f; end; func f n; write a[n] n; end",
+            MOST,
+            "a[0] 0 / a[1] 1 / a[2] 2 / a[3] 3 / requests 19",
+        ),
+        (
+            "cilk 1; mem x; mem a 2; mem y; func main z; write a[1] 5; write y 6; end",
+            MOST,
+            "x 0 / a[0] 0 / a[1] 5 / y 6 / requests 4",
+        ),
+        ("cilk 1; func main z; end", 2, "requests 2"),
+    ] {
+        check_elision(&rt, rt.alloc(), program, limit, wanted)?;
+    }
+    Ok(())
+}
+
+#[test]
+fn faults_of_elisions(rt: HostRuntime) -> Result<(), Fail> {
+    for (program, limit, wanted, status) in [
+        (FIB, 712u32, "limit", 4u8),
+        (FIB, 0, "limit", 4),
+        (ENDLESS, 5, "limit", 4),
+        (ENDLESS, MOST, "limit", 4),
+        ("", MOST, "program line 1: BadHeader", 2),
+        ("cilk 1; mem a 0", MOST, "program line 2: BadNumber", 2),
+        (
+            "cilk 1; func main z; sync",
+            MOST,
+            "program line 4: BadNesting",
+            2,
+        ),
+        (
+            "cilk 1; func main z; spawn g 1; end",
+            MOST,
+            "program line 3: UnknownName",
+            2,
+        ),
+    ] {
+        check_no_elision(&rt, rt.alloc(), program, limit, wanted, status)?;
+    }
+    Ok(())
+}
+
+#[test]
+fn a_file_that_cannot_be_opened(rt: HostRuntime) -> Result<(), Fail> {
+    match opened(&rt, "no/such/file") {
+        Ok(_) => assert!(rt; false, "it is opened"),
+        Err(fault) => {
+            let told = format!(in rt.alloc(); "{fault}")?;
+            assert_eq!(rt; told.as_str(), "read");
+            assert_eq!(rt; fault.status(), 2);
+        }
+    }
+    Ok(())
+}
+
+fn elided_breaking(alloc: Global, left: u32) -> Outcome<Vec<u8>> {
+    let text = SHORT.as_bytes();
+    elided(alloc, Breaking { text, left }, Vec::new(alloc), MOST)
+}
+
+#[test]
+fn a_program_that_cannot_be_read(rt: HostRuntime) {
+    for left in 0..30u32 {
+        let outcome = elided_breaking(rt.alloc(), left);
+        assert!(rt;
+            matches!(outcome.answer, Err(CliFault::Read)),
+            "at read {left}"
+        );
+        assert!(rt;
+            outcome.read_failed && outcome.output.is_empty(),
+            "at read {left}"
+        );
+    }
+    for left in 30..32u32 {
+        let outcome = elided_breaking(rt.alloc(), left);
+        assert!(rt; matches!(outcome.answer, Ok(0)) && !outcome.read_failed);
+        assert_eq!(rt; outcome.output.as_slice(), LEFT_BY_SHORT.as_bytes());
+    }
+}
+
+fn elided_filling(alloc: Global, left: u32) -> Outcome<Filling> {
+    let filling = Filling {
+        held: Vec::new(alloc),
+        left,
+        answers_an_error: true,
+    };
+    elided(alloc, SHORT.as_bytes(), filling, MOST)
+}
+
+#[test]
+fn an_elision_that_cannot_be_written(rt: HostRuntime) {
+    for left in 0..17u32 {
+        let outcome = elided_filling(rt.alloc(), left);
+        let has_failed = matches!(outcome.answer, Err(CliFault::Write));
+        let held = outcome.output.held.as_slice();
+        assert_eq!(rt; outcome.write_failed, left < 16, "{left} writes");
+        assert_eq!(rt; has_failed, left < 16, "{left} writes");
+        assert!(rt; left < 16 || matches!(outcome.answer, Ok(0)));
+        assert!(rt; LEFT_BY_SHORT.as_bytes().starts_with(held));
+        assert_eq!(rt; held.len(), (left as usize).min(15));
+    }
+}
+
+#[test]
+fn memory_that_an_elision_wants_is_told(rt: HostRuntime) {
+    let outcome = elided(rt.alloc(), SHORT.as_bytes(), Vec::new(rt.alloc()), MOST);
+    let written = outcome.output.as_slice();
+    match outcome.answer {
+        Ok(0) => assert_eq!(rt; written, LEFT_BY_SHORT.as_bytes()),
+        // The writer takes memory too.
+        Err(CliFault::Memory | CliFault::Write) => assert!(rt; written.is_empty()),
+        _ => assert!(rt; false, "{:?}", outcome.answer),
+    }
+}
