@@ -6,6 +6,7 @@ ghost use Rattle.race_gate.specs.Shapes.{most_entries};
 mod devices;
 mod elisions;
 mod failures;
+mod replays;
 mod words;
 
 use race_gate::{Answer, GateFault, Receipt, Reply};

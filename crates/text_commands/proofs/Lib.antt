@@ -1,3 +1,6 @@
 mod Bytes
 mod Causes
 mod ElisionCauses
+mod Pairs
+mod Answering
+mod ReplayCauses
