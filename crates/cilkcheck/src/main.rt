@@ -2,15 +2,13 @@
 //!
 //! `cilkcheck judge` reads a trace from standard input and writes a verdict line for each of its requests; [`judge_stream`] carries the
 //! theorem in its contract. `cilkcheck elide` reads a program from a file and writes the memory that its serial elision leaves;
-//! [`elide_text`] carries that theorem. `cilkcheck replay` reads a program and a trace from files and tells whether the trace is a run of
-//! the program; [`replay_text`] carries that. Here stands only what no library can name: the words, the streams and the exit status of the process.
+//! [`elide_text`] carries that theorem. Here stands only what no library can name: the words, the streams and the exit status of the process.
 #![tactic(auto)]
 
 use std::process::ExitCode;
 use std::{env, io};
 use text_commands::{
-    CliFault, Job, Watched, elide_text, judge_stream, opened, read_words, replay_text, usage,
-    write_text,
+    CliFault, Job, Watched, elide_text, judge_stream, opened, read_words, usage, write_text,
 };
 
 /// Does what the words of the command line ask for.
@@ -31,11 +29,6 @@ fn run(rt: &HostRuntime) -> Result<u8, CliFault> {
         Job::Elide { file, limit } => {
             let mut program = Watched::new(opened(rt, file.as_str())?);
             elide_text(rt.alloc(), &mut program, &mut output, limit)
-        }
-        Job::Replay { file, trace } => {
-            let mut program = Watched::new(opened(rt, file.as_str())?);
-            let mut trace = Watched::new(opened(rt, trace.as_str())?);
-            replay_text(rt.alloc(), &mut program, &mut trace, &mut output)
         }
         Job::Show { text } => {
             write_text(&mut output, text.as_bytes())?;

@@ -6,7 +6,6 @@ ghost use Rattle.race_gate.specs.Shapes.{most_entries};
 mod devices;
 mod elisions;
 mod failures;
-mod replays;
 mod words;
 
 use race_gate::{Answer, GateFault, Receipt, Reply};

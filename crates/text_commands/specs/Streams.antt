@@ -31,15 +31,11 @@ declared_shape contents = record { cells = cells_of contents.known.mems; monoids
 abbrev pub requests_of : Contents → List Request
 requests_of contents = map (λ line. line.request) contents.lines
 
--- The gate judged the requests of the trace, in their order, with these replies, and the history that it then has is judged rightly.
-pub record JudgesTrace (contents : Contents) (limit : ℕ) (replies : List Reply) (gate : State) : Type 0 where
-  pub judges : JudgesAll (opening (declared_shape contents) limit) (requests_of contents) replies gate
-  pub judged : IsJudged gate.shape gate.history
-
--- These are the replies of such a gate.
+-- These are the replies of a gate to the requests of the trace, in their order, and the history that it then has is judged rightly.
 pub record AreReplies (contents : Contents) (limit : ℕ) (replies : List Reply) : Type 0 where
   pub last : State
-  pub judges : JudgesTrace contents limit replies last
+  pub judges : JudgesAll (opening (declared_shape contents) limit) (requests_of contents) replies last
+  pub judged : IsJudged last.shape last.history
 
 -- The text means a trace, and these are the replies to it.
 pub record AnswersText (text : List ℕ) (limit : ℕ) (replies : List Reply) : Type 0 where

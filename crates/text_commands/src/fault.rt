@@ -29,13 +29,7 @@ pub enum CliFault {
     /// The input means no program.
     #[error("program {0}")]
     Program(TextFault),
-    /// The program and the trace do not declare the same.
-    #[error("shape")]
-    Shape,
-    /// The request of the trace with this number, from 1 on, is illegal.
-    #[error("illegal request {0}")]
-    Illegal(u32),
-    /// There are more requests than the limit.
+    /// The program makes more requests than the limit.
     #[error("limit")]
     Limit,
     /// There is no memory.

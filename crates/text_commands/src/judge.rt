@@ -4,14 +4,13 @@ ghost use Rattle.std.specs.Prelude.{◌≡◌, ◌↔◌, ◌≤◌, ◌≢◌, 
 ghost use Rattle.std.specs.List.{All};
 ghost use Rattle.std.specs.Io.KnownBytes.{Appends};
 ghost use Rattle.trace_text.specs.Grammar.{TextMeans};
-ghost use Rattle.trace_text.specs.Limits.{max_requests};
 ghost use Rattle.trace_text.specs.Traces.{contents};
 ghost use Rattle.race_gate.specs.Shapes.{most_entries};
 ghost use Rattle.race_gate.specs.declared.answer.Reply.{Reply as SpecReply};
 ghost use Rattle.text_commands.specs.Watched.{held, has_failed, calls_of, one_more};
 ghost use Rattle.race_report.specs.VerdictText.{HasWords};
 ghost use Rattle.text_commands.specs.Statuses.{status_of_replies};
-ghost use Rattle.text_commands.specs.Streams.{most_reads, JudgesTrace, AreReplies, IsRead, IsReadTooLong, IsAnswered, IsFaultOf, HasCause, TakesPiece, StopsPiece, StopsReading, StopsWriting};
+ghost use Rattle.text_commands.specs.Streams.{most_reads, AreReplies, IsRead, IsReadTooLong, IsAnswered, IsFaultOf, HasCause, TakesPiece, StopsPiece, StopsReading, StopsWriting};
 
 use crate::fault::CliFault;
 use crate::status::status_of;
@@ -103,7 +102,7 @@ pub fn write_text<W: Write>(output: &mut Watched<W>, text: &[u8]) -> Result<(), 
 }
 
 /// The trace that a text means, which is let go.
-pub fn parse<A: Allocator + Copy>(alloc: A, text: Vec<u8, A>) -> Result<Trace<A>, CliFault>
+fn parse<A: Allocator + Copy>(alloc: A, text: Vec<u8, A>) -> Result<Trace<A>, CliFault>
     ensures ok { IfOk result (λ trace. TextMeans text.items (contents trace)) }
     ensures fault { IfErr result (IsFaultOf text.items) }
 {
@@ -125,25 +124,6 @@ fn requests<A: Allocator + Copy>(alloc: A, trace: &Trace<A>) -> Result<Vec<Reque
         .collect(alloc)
 }
 
-/// A gate that has judged the requests of a trace, which is let go, and its replies.
-pub fn judged<A: Allocator + Copy>(
-    alloc: A,
-    trace: Trace<A>,
-    limit: u32,
-) -> Result<(Gate<A>, Vec<Reply, A>), AllocError>
-    requires limit { limit ≤ most_entries }
-    ensures judges { IfOk result (λ pair. JudgesTrace (contents trace) limit pair.1.items pair.0) }
-    ensures count { IfOk result (λ pair. length pair.1.items ≤ max_requests) }
-    ensures words { IfOk result (λ pair. All HasWords pair.1.items) }
-{
-    let shape = trace.shape(alloc)?;
-    let requests = requests(alloc, &trace)?;
-    drop(trace);
-    let mut gate = Gate::new(alloc, &shape, limit)?;
-    let replies = judge_all(&mut gate, alloc, requests.as_slice())?;
-    Ok((gate, replies))
-}
-
 /// The replies of a gate to the requests of a trace, which is let go.
 fn judge<A: Allocator + Copy>(
     alloc: A,
@@ -154,8 +134,11 @@ fn judge<A: Allocator + Copy>(
     ensures replies { IfOk result (λ replies. AreReplies (contents trace) limit replies.items) }
     ensures words { IfOk result (λ replies. All HasWords replies.items) }
 {
-    let (_gate, replies) = judged(alloc, trace, limit)?;
-    Ok(replies)
+    let shape = trace.shape(alloc)?;
+    let requests = requests(alloc, &trace)?;
+    drop(trace);
+    let mut gate = Gate::new(alloc, &shape, limit)?;
+    judge_all(&mut gate, alloc, requests.as_slice())
 }
 
 /// Reads a trace to its end, judges its requests in their order by a gate with this limit on the entries of its history, and writes

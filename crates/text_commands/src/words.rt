@@ -63,18 +63,6 @@ const ELIDE_EXAMPLE: &str =
 
 Exit status: 0 at the end of the program, 2 for a fault of the input, 3 for want of memory, 4 where the limit was passed.";
 
-const REPLAY_ABOUT: &str =
-    "Judges the requests of a trace, and tells whether they are a run of a program";
-
-const REPLAY_EXAMPLE: &str =
-    "The trace declares what the program does, and `@K` names the program's line of a request, as `write 1 x 7 @9`.
-
-Output: `replayed N` where the N entries are a finished run, `unfinished` where they are a run that is not finished, or
-`strange N` where entry N is the first that is no request of the program's.
-
-Exit status: 0 where nothing was refused, 1 where an access was, 2 for a fault of the input, declarations that differ or an
-illegal request, 3 for want of memory, 4 where the entries are no finished run or the limit was passed.";
-
 /// What the words of the command line ask for.
 #[derive(Debug, Drop)]
 pub enum Job {
@@ -82,8 +70,6 @@ pub enum Job {
     Judge { limit: u32 },
     /// To write the elision of the program in this file, with this limit on its requests.
     Elide { file: String, limit: u32 },
-    /// To replay the trace in the second file as a run of the program in the first.
-    Replay { file: String, trace: String },
     /// To show a text: the help or the version.
     Show { text: String },
 }
@@ -102,14 +88,6 @@ fn file<'a>(alloc: Global) -> Arg<'a> {
         .value_name("FILE")
         .required(true)
         .help("The program")
-}
-
-/// The argument that names a trace's file.
-fn trace<'a>(alloc: Global) -> Arg<'a> {
-    Arg::new(alloc, "trace")
-        .value_name("TRACE")
-        .required(true)
-        .help("The trace")
 }
 
 /// A command with its texts, and nothing else yet.
@@ -135,12 +113,6 @@ fn elide_command<'a>(alloc: Global) -> Result<Command<'a>, AllocError> {
         .arg(limit)
 }
 
-fn replay_command<'a>(alloc: Global) -> Result<Command<'a>, AllocError> {
-    described(alloc, "replay", REPLAY_ABOUT, REPLAY_EXAMPLE)
-        .arg(file(alloc))?
-        .arg(trace(alloc))
-}
-
 /// The program's command without its subcommands.
 fn program<'a>(alloc: Global) -> Result<Command<'a>, AllocError> {
     described(alloc, "cilkcheck", ABOUT, EXAMPLE)
@@ -162,18 +134,12 @@ fn with_elide<'a>(alloc: Global, program: Command<'a>) -> Result<Command<'a>, Al
     }
 }
 
-fn with_replay<'a>(alloc: Global, program: Command<'a>) -> Result<Command<'a>, AllocError> {
-    match replay_command(alloc) {
-        Ok(replay) => program.subcommand(replay),
-        Err(fault) => Err(fault),
-    }
-}
-
 /// The program's commands.
 fn commands<'a>(alloc: Global) -> Result<Command<'a>, AllocError> {
-    let judging = with_judge(alloc, program(alloc)?)?;
-    let eliding = with_elide(alloc, judging)?;
-    with_replay(alloc, eliding)
+    match with_judge(alloc, program(alloc)?) {
+        Ok(program) => with_elide(alloc, program),
+        Err(fault) => Err(fault),
+    }
 }
 
 /// A usage fault with this text, which stands in one line; or want of memory.
@@ -229,19 +195,6 @@ fn limit_of(alloc: Global, matches: &ArgMatches<'_>) -> Result<u32, CliFault>
     }
 }
 
-/// The name of a file that the words of a command give.
-fn file_of(alloc: Global, matches: &ArgMatches<'_>, argument: &str) -> Result<String, CliFault>
-    ensures fault { IfErr result IsUsageFault }
-{
-    let Some(name) = matches.get_str(argument) else {
-        return Err(no_file(alloc));
-    };
-    match String::from_str(alloc, name) {
-        Ok(name) => Ok(name),
-        Err(_) => Err(CliFault::Memory),
-    }
-}
-
 fn judge_job(alloc: Global, matches: &ArgMatches<'_>) -> Result<Job, CliFault>
     ensures job { IfOk result IsInRange }
     ensures fault { IfErr result IsUsageFault }
@@ -256,26 +209,14 @@ fn elide_job(alloc: Global, matches: &ArgMatches<'_>) -> Result<Job, CliFault>
     ensures job { IfOk result IsInRange }
     ensures fault { IfErr result IsUsageFault }
 {
-    let file = match file_of(alloc, matches, "file") {
-        Ok(file) => file,
-        Err(fault) => return Err(fault),
+    let Some(file) = matches.get_str("file") else {
+        return Err(no_file(alloc));
+    };
+    let Ok(file) = String::from_str(alloc, file) else {
+        return Err(CliFault::Memory);
     };
     match limit_of(alloc, matches) {
         Ok(limit) => Ok(Job::Elide { file, limit }),
-        Err(fault) => Err(fault),
-    }
-}
-
-fn replay_job(alloc: Global, matches: &ArgMatches<'_>) -> Result<Job, CliFault>
-    ensures job { IfOk result IsInRange }
-    ensures fault { IfErr result IsUsageFault }
-{
-    let file = match file_of(alloc, matches, "file") {
-        Ok(file) => file,
-        Err(fault) => return Err(fault),
-    };
-    match file_of(alloc, matches, "trace") {
-        Ok(trace) => Ok(Job::Replay { file, trace }),
         Err(fault) => Err(fault),
     }
 }
@@ -288,7 +229,6 @@ fn job_of(alloc: Global, matches: &ArgMatches<'_>) -> Result<Job, CliFault>
     match matches.subcommand() {
         Some(("judge", matches)) => judge_job(alloc, matches),
         Some(("elide", matches)) => elide_job(alloc, matches),
-        Some(("replay", matches)) => replay_job(alloc, matches),
         _ => Err(usage(alloc, "no command is given; see 'cilkcheck --help'")),
     }
 }

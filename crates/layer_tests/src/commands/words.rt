@@ -36,19 +36,6 @@ fn check_elide(rt: &impl Abort, alloc: Global, words: &str, wanted: u32) -> Resu
     Ok(())
 }
 
-/// The words ask for the replay of the trace in the file `g` as a run of the program in the file `f`.
-fn check_files(rt: &impl Abort, alloc: Global, words: &str) -> Result<(), Fail> {
-    let found = job(alloc, words)?;
-    match &found {
-        Ok(Job::Replay { file, trace }) => {
-            assert_eq!(rt; file.as_str(), "f");
-            assert_eq!(rt; trace.as_str(), "g");
-        }
-        _ => assert!(rt; false, "{words} does not ask for a replay"),
-    }
-    Ok(())
-}
-
 /// The words are refused with this text.
 fn check_usage(rt: &impl Abort, alloc: Global, words: &str, wanted: &str) -> Result<(), Fail> {
     let found = job(alloc, words)?;
@@ -95,11 +82,6 @@ fn words_of_elide(rt: HostRuntime) -> Result<(), Fail> {
 }
 
 #[test]
-fn words_of_replay(rt: HostRuntime) -> Result<(), Fail> {
-    check_files(&rt, rt.alloc(), "replay f g")
-}
-
-#[test]
 fn words_that_are_refused(rt: HostRuntime) -> Result<(), Fail> {
     for (words, wanted) in [
         ("judge --limit 1000001", NO_LIMIT),
@@ -107,8 +89,6 @@ fn words_that_are_refused(rt: HostRuntime) -> Result<(), Fail> {
         ("elide f --limit 1000001", NO_LIMIT),
         ("elide", "no file is given; see 'cilkcheck --help'"),
         ("elide f g", "unexpected argument 'g' found"),
-        ("replay f", "no file is given; see 'cilkcheck --help'"),
-        ("replay f g h", "unexpected argument 'h' found"),
         ("judge x", "unexpected argument 'x' found"),
         ("jugde", "unrecognized subcommand 'jugde'"),
         ("", "no command is given; see 'cilkcheck --help'"),
@@ -124,7 +104,6 @@ fn texts_that_are_shown(rt: HostRuntime) -> Result<(), Fail> {
         ("--help", "Usage: cilkcheck [COMMAND]\n"),
         ("judge --help", "Usage: cilkcheck judge [OPTIONS]\n"),
         ("elide --help", "Usage: cilkcheck elide [OPTIONS] <FILE>\n"),
-        ("replay --help", "Usage: cilkcheck replay <FILE> <TRACE>\n"),
         ("--version", "cilkcheck 0.1.0\n"),
     ] {
         check_shown(&rt, rt.alloc(), words, part)?;
