@@ -1,3 +1,4 @@
+use Rattle.std.proofs.Common.{arith}
 use Rattle.order_list.proofs.Rings.{insert-tied, order_of-items, in_order}
 use Rattle.order_list.proofs.ring.Ring.insert_reserved.Goals as goal
 
@@ -8,3 +9,6 @@ invariant_of-self-clause-tied g c =
 pub returns-clause-items : goal.returns-clause-items
 returns-clause-items g c =
     order_of-items (insert-tied _ _ c.args.after c.next-following.result c.len-item.result c.args.self.now.tied c.requires.known c.next-following.ensures.value c.len-item.ensures c.push_reserved.ensures.items c.push_reserved-2.ensures.items)
+
+pub invariant_of-self-clause-few : goal.invariant_of-self-clause-few
+invariant_of-self-clause-few g c = omega (arith, c.args.self.now.few)
