@@ -36,6 +36,7 @@ pub use print::{
 };
 pub use trace::{LINES, REDUCERS, Trace, header};
 pub use value::{
-    Act, Lines, Mem, Mems, Monoid, Monoids, Reducer, Reducers, Request, Shape, TraceLine, Version,
+    Act, Items, Lines, Mem, Mems, Monoid, Monoids, Reducer, Reducers, Request, Shape, TraceLine,
+    Version,
 };
 pub use words::{Words, as_text, split_line, without_return};

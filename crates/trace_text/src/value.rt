@@ -103,29 +103,23 @@ pub struct TraceLine {
     pub marked: bool,
 }
 
-/// Memories in order of declaration, which contracts see as a list.
+/// Values in their order, which contracts see as a list.
 #[derive(Drop)]
-pub struct Mems<A: Allocator> {
-    mems: Vec<Mem, A>,
+pub struct Items<T: Drop, A: Allocator> {
+    items: Vec<T, A>,
 }
 
-/// Reducers in order of declaration, which contracts see as a list.
-#[derive(Drop)]
-pub struct Reducers<A: Allocator> {
-    reducers: Vec<Reducer, A>,
-}
+/// Memories in order of declaration.
+pub type Mems<A> = Items<Mem, A>;
 
-/// The lines of a trace that ask for something, in their order, which contracts see as a list.
-#[derive(Drop)]
-pub struct Lines<A: Allocator> {
-    lines: Vec<TraceLine, A>,
-}
+/// Reducers in order of declaration.
+pub type Reducers<A> = Items<Reducer, A>;
 
-/// The monoids of the reducers in order of declaration, which contracts see as a list.
-#[derive(Drop)]
-pub struct Monoids<A: Allocator> {
-    monoids: Vec<Monoid, A>,
-}
+/// The lines of a trace that ask for something, in their order.
+pub type Lines<A> = Items<TraceLine, A>;
+
+/// The monoids of the reducers in order of declaration.
+pub type Monoids<A> = Items<Monoid, A>;
 
 /// How many cells a program has, and the monoids of its reducers.
 #[derive(Drop)]
@@ -136,102 +130,26 @@ pub struct Shape<A: Allocator> {
     pub monoids: Monoids<A>,
 }
 
-impl<A: Allocator> Model for Mems<A> {
+impl<T: Drop, A: Allocator> Model for Items<T, A> {
     ghost use Rattle.std.specs.Prelude.{List};
-    ghost use Rattle.trace_text.specs.declared.value.Mem.{Mem};
 
-    ghost Value = { List Mem };
+    ghost Value = { List T };
 
-    ghost view = { λ mems. mems.mems.items };
+    ghost view = { λ items. items.items.items };
 }
 
-impl<A: Allocator> Model for Reducers<A> {
-    ghost use Rattle.std.specs.Prelude.{List};
-    ghost use Rattle.trace_text.specs.declared.value.Reducer.{Reducer};
-
-    ghost Value = { List Reducer };
-
-    ghost view = { λ reducers. reducers.reducers.items };
-}
-
-impl<A: Allocator> Model for Lines<A> {
-    ghost use Rattle.std.specs.Prelude.{List};
-    ghost use Rattle.trace_text.specs.declared.value.TraceLine.{TraceLine};
-
-    ghost Value = { List TraceLine };
-
-    ghost view = { λ lines. lines.lines.items };
-}
-
-impl<A: Allocator> Model for Monoids<A> {
-    ghost use Rattle.std.specs.Prelude.{List};
-    ghost use Rattle.trace_text.specs.declared.value.Monoid.{Monoid};
-
-    ghost Value = { List Monoid };
-
-    ghost view = { λ monoids. monoids.monoids.items };
-}
-
-impl<A: Allocator> Mems<A> {
-    /// These memories.
-    pub fn new(mems: Vec<Mem, A>) -> Mems<A>
-        ensures { result ≡ mems.items }
+impl<T: Drop, A: Allocator> Items<T, A> {
+    /// These values.
+    pub fn new(items: Vec<T, A>) -> Items<T, A>
+        ensures { result ≡ items.items }
     {
-        Mems { mems }
+        Items { items }
     }
 
-    /// The memories as a slice.
-    pub fn as_slice(&self) -> &[Mem]
+    /// The values as a slice.
+    pub fn as_slice(&self) -> &[T]
         ensures { result.now ≡ self.now }
     {
-        self.mems.as_slice()
-    }
-}
-
-impl<A: Allocator> Reducers<A> {
-    /// These reducers.
-    pub fn new(reducers: Vec<Reducer, A>) -> Reducers<A>
-        ensures { result ≡ reducers.items }
-    {
-        Reducers { reducers }
-    }
-
-    /// The reducers as a slice.
-    pub fn as_slice(&self) -> &[Reducer]
-        ensures { result.now ≡ self.now }
-    {
-        self.reducers.as_slice()
-    }
-}
-
-impl<A: Allocator> Lines<A> {
-    /// These lines.
-    pub fn new(lines: Vec<TraceLine, A>) -> Lines<A>
-        ensures { result ≡ lines.items }
-    {
-        Lines { lines }
-    }
-
-    /// The lines as a slice.
-    pub fn as_slice(&self) -> &[TraceLine]
-        ensures { result.now ≡ self.now }
-    {
-        self.lines.as_slice()
-    }
-}
-
-impl<A: Allocator> Monoids<A> {
-    /// These monoids.
-    pub fn new(monoids: Vec<Monoid, A>) -> Monoids<A>
-        ensures { result ≡ monoids.items }
-    {
-        Monoids { monoids }
-    }
-
-    /// The monoids as a slice.
-    pub fn as_slice(&self) -> &[Monoid]
-        ensures { result.now ≡ self.now }
-    {
-        self.monoids.as_slice()
+        self.items.as_slice()
     }
 }
