@@ -16,3 +16,6 @@ invariant_of-self g c =
           (insert-rising labels _ c.args.after c.label_behind-label.result ring.numbered ring.listing found.rising known found.above found.below),
       omega (arith, c.push_reserved.ensures.len, c.push_reserved.ensures.capacity, c.insert_reserved.ensures.reserved, c.self.invariant.1),
     )
+
+pub returns-clause-items : goal.returns-clause-items
+returns-clause-items g c = rw (← c.self.view_is) c.insert_reserved.ensures.items

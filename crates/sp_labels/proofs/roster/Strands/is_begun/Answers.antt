@@ -1,4 +1,4 @@
-use Rattle.std.proofs.Common.{sym, subst, arith}
+use Rattle.std.proofs.Common.{rules, sym, subst, arith}
 use Rattle.std.proofs.lemmas.Bool.{ltb-true}
 use Rattle.sp_labels.specs.Roster.{Follows, HasBegun}
 use Rattle.sp_labels.proofs.Queries.{begun-standing, has-begun-known}
@@ -14,3 +14,9 @@ returns-else-strand-len-clause-begun g c = (
   (λ t. absurd (let l = ltb-true _ _ t in omega (arith, l, c.if-strand-len.false))),
   (λ begun. let seen = subst (λ r. HasBegun r c.args.strand) (sym c.self.view_is) begun in absurd (omega (arith, c.if-strand-len.false, c.len.ensures, c.self.inside.records.ok, has-begun-known _ c.args.strand seen))),
 )
+
+pub returns-in-Running-clause-each : goal.returns-in-Running-clause-each
+returns-in-Running-clause-each g c = search rules
+
+pub returns-in-Running-clause-begun : goal.returns-in-Running-clause-begun
+returns-in-Running-clause-begun g c = search rules

@@ -1,4 +1,4 @@
-use Rattle.std.proofs.Common.{◌∷◌, sym, subst, refl}
+use Rattle.std.proofs.Common.{rules, ◌∷◌, sym, subst, refl}
 use Rattle.control_history.specs.Strands.{Running}
 use Rattle.control_history.specs.History.{resumed, finished}
 use Rattle.control_history.specs.Blocks.{IsSynced}
@@ -55,3 +55,6 @@ returns-in-Root-clause-unsynced g c history now =
     let run : Running history c.args.strand = (c.is_running.ensures.running history now).0 c.if-not-is_running.false in
     let at = in-root _ history f c.args.strand _ run c.record_of-kept.ensures c.in-Root.is in
     ((λ t. absurd (cc)), (λ t. absurd (t.1 (subst IsSynced (sym at) tt))))
+
+pub returns-in-Block-clause-err : goal.returns-in-Block-clause-err
+returns-in-Block-clause-err g c = search rules

@@ -24,6 +24,23 @@ returns-then-same-clause-all_same g c reads history remembers follows one grante
     let same : branch history first.strand ≡ branch history c.args.strand = ap (λ (witness : Witness). branch history witness.strand) (sym is) ∙ (c.same.ensures.branches history follows).0 c.if-same.true in
     all-same history reads c.args.reducer c.args.strand first one (first-of reads c.args.reducer first found) same
 
+same-read : {one other : ReducerRead} → Some one ≡ Some other → one ≡ other
+same-read e = cc
+
+pub returns-then-same-clause-refused : goal.returns-then-same-clause-refused
+returns-then-same-clause-refused g c reads history remembers follows witness =
+    let at = kept-read _ _ c.args.reducer c.index.result.now c.self.view_is c.requires.in_range c.index.ensures ∙ c.in-Some.is in
+    let (first, found, is) = some-kept _ reads c.args.reducer c.in-Some.first remembers c.requires.in_range at in
+    let same : branch history first.strand ≡ branch history c.args.strand = ap (λ (witness : Witness). branch history witness.strand) (sym is) ∙ (c.same.ensures.branches history follows).0 c.if-same.true in
+    ((λ e. absurd (cc)), (λ (read, found_read, is_read, differs). absurd (differs (ap (λ (one : ReducerRead). branch history one.strand) (same-read (sym found_read ∙ found)) ∙ same))))
+
+pub returns-then-same-clause-granted : goal.returns-then-same-clause-granted
+returns-then-same-clause-granted g c reads history remembers follows =
+    let at = kept-read _ _ c.args.reducer c.index.result.now c.self.view_is c.requires.in_range c.index.ensures ∙ c.in-Some.is in
+    let (first, found, is) = some-kept _ reads c.args.reducer c.in-Some.first remembers c.requires.in_range at in
+    let same : branch history first.strand ≡ branch history c.args.strand = ap (λ (witness : Witness). branch history witness.strand) (sym is) ∙ (c.same.ensures.branches history follows).0 c.if-same.true in
+    ((λ e. rw found same), (λ t. refl))
+
 pub returns-then-same-clause-others : goal.returns-then-same-clause-others
 returns-then-same-clause-others g c reads history remembers follows one =
     ((λ none. absurd none), (λ (read, is_read, differs). differs (returns-then-same-clause-all_same g c reads history remembers follows one refl read is_read)))
@@ -64,6 +81,21 @@ returns-else-same-clause-peers g c reads history longer remembers follows one ex
     ((λ refused. peers.0 (others.0 refused)), (λ read. others.1 (peers.1 read)))
 
 -- no read was taken in
+
+pub returns-in-Get-clause-unset : goal.returns-in-Get-clause-unset
+returns-in-Get-clause-unset g c reads remembers =
+    let at = kept-read _ _ c.args.reducer c.index.result.now c.self.view_is c.requires.in_range c.index.ensures ∙ c.in-None.is in
+    ((λ e. (c.in-Get.is, rw (none-kept _ reads c.args.reducer remembers c.requires.in_range at) refl)), (λ get. refl))
+
+pub returns-in-Get-clause-granted : goal.returns-in-Get-clause-granted
+returns-in-Get-clause-granted g c reads history remembers follows =
+    let at = kept-read _ _ c.args.reducer c.index.result.now c.self.view_is c.requires.in_range c.index.ensures ∙ c.in-None.is in
+    ((λ e. absurd (cc)), (λ t. let put = rw (none-kept _ reads c.args.reducer remembers c.requires.in_range at) at t in absurd (cc)))
+
+pub returns-in-Get-clause-all_same : goal.returns-in-Get-clause-all_same
+returns-in-Get-clause-all_same g c reads history remembers follows one e read is_read =
+    let at = kept-read _ _ c.args.reducer c.index.result.now c.self.view_is c.requires.in_range c.index.ensures ∙ c.in-None.is in
+    absurd (none-of reads c.args.reducer read (none-kept _ reads c.args.reducer remembers c.requires.in_range at) is_read)
 
 pub returns-in-Get-clause-others : goal.returns-in-Get-clause-others
 returns-in-Get-clause-others g c reads history remembers follows one =
