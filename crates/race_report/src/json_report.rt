@@ -1,6 +1,6 @@
 //! The report of a run.
 
-ghost use Rattle.std.specs.Prelude.{◌≡◌, ◌<◌, ◌≤◌, ◌↔◌, length, map, option_map, reverse, string_bytes, IfOk, IsTrue, IsSome};
+ghost use Rattle.std.specs.Prelude.{◌≡◌, ◌<◌, ◌≤◌, ◌↔◌, true, false, length, map, option_map, reverse, string_bytes, IfOk, IsTrue, IsSome};
 ghost use Rattle.serde_json.specs.Data.{number, unsigned};
 ghost use Rattle.serde_json.specs.View.{view};
 ghost use Rattle.trace_text.specs.Grammar.{cells_of};
@@ -178,6 +178,41 @@ fn memory_value(alloc: Global, mems: &[Mem], values: &[u64]) -> Result<Value, Al
     Ok(Value::from(members))
 }
 
+/// The report of a clean run of so many entries.
+fn clean_report(
+    alloc: Global,
+    entries: usize,
+    memory: Value,
+    refusals: Vec<Value>,
+) -> Result<Value, AllocError>
+    ensures { IfOk result (λ value. view value ≡ report_with true entries (view memory) (map view refusals.items)) }
+{
+    json!(in alloc; {
+        "clean": true,
+        "entries": entries,
+        "memory": memory,
+        "refusals": refusals,
+        "schedules": "clean for every schedule",
+    })
+}
+
+/// The report of a run of so many entries that is not clean.
+fn refused_report(
+    alloc: Global,
+    entries: usize,
+    memory: Value,
+    refusals: Vec<Value>,
+) -> Result<Value, AllocError>
+    ensures { IfOk result (λ value. view value ≡ report_with false entries (view memory) (map view refusals.items)) }
+{
+    json!(in alloc; {
+        "clean": false,
+        "entries": entries,
+        "memory": memory,
+        "refusals": refusals,
+    })
+}
+
 /// A report of so many entries.
 fn report_value(
     alloc: Global,
@@ -189,20 +224,9 @@ fn report_value(
     ensures { IfOk result (λ value. view value ≡ report_with clean entries (view memory) (map view refusals.items)) }
 {
     if clean {
-        json!(in alloc; {
-            "clean": clean,
-            "entries": entries,
-            "memory": memory,
-            "refusals": refusals,
-            "schedules": "clean for every schedule",
-        })
+        clean_report(alloc, entries, memory, refusals)
     } else {
-        json!(in alloc; {
-            "clean": clean,
-            "entries": entries,
-            "memory": memory,
-            "refusals": refusals,
-        })
+        refused_report(alloc, entries, memory, refusals)
     }
 }
 

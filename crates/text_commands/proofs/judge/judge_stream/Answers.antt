@@ -1,7 +1,9 @@
-use Rattle.std.proofs.Common.{ap, ◌∙◌}
+use Rattle.std.proofs.Common.{ℕ, List, ap, ◌∙◌, subst}
+use Rattle.std.specs.Io.KnownBytes.{Appends}
 use Rattle.trace_text.specs.Traces.{contents}
 use Rattle.text_commands.specs.Watched.{held, calls_of}
 use Rattle.race_report.specs.VerdictText.{verdict_text}
+use Rattle.text_commands.specs.Statuses.{status_of_replies}
 use Rattle.text_commands.proofs.Causes.{writing_cause}
 use Rattle.text_commands.proofs.judge.judge_stream.Goals as goal
 
@@ -14,3 +16,17 @@ returns-clause-fault g c =
     (record { contents = contents c.in-Ok-parse.trace; means = c.in-Ok-parse.ensures.ok; replied = c.in_ok-replies.ensures.replies })
     (c.as_slice-3.ensures.value ∙ c.in_ok-lines.ensures ∙ ap verdict_text c.as_slice.ensures.value)
     c.in-Err-write_text.ensures.fault
+
+pub returns-in-Ok-write_text-clause-answered : goal.returns-in-Ok-write_text-clause-answered
+returns-in-Ok-write_text-clause-answered g c =
+    let wrote = g.W.Write.contents (held c.args.output.now) in
+    let writes = g.W.Write.contents (held c.write_text.new.output) in (
+      c.in_ok-replies.replies.items,
+      c.status_of-status.ensures ∙ ap status_of_replies c.as_slice-2.ensures.value,
+      record {
+        text = c.in-Ok.text.items;
+        read = c.in-Ok.ensures.ok;
+        answers = record { contents = contents c.in-Ok-parse.trace; means = c.in-Ok-parse.ensures.ok; replied = c.in_ok-replies.ensures.replies };
+        written = subst (λ (lines : List ℕ). Appends wrote writes lines) (c.as_slice-3.ensures.value ∙ c.in_ok-lines.ensures ∙ ap verdict_text c.as_slice.ensures.value) c.in-Ok-write_text.ensures.ok;
+      },
+    )

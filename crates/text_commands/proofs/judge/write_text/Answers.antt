@@ -17,3 +17,6 @@ loop-rest-preserved g c =
       );
       fresh = write-fresh _ _ c.in-Ok.count _ some c.loop-rest.invariant.fresh c.in-Ok.ensures.failed;
     }
+
+pub returns-in-Err-clause-failed : goal.returns-in-Err-clause-failed
+returns-in-Err-clause-failed g c = first_of (search rules, grind (arith, common_steps))
