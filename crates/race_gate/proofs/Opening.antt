@@ -37,7 +37,8 @@ pub kept-opening : (shape : Shape) (limit : ℕ) (entries : List Entry) (memory 
 kept-opening shape limit entries memory strands shadow books no_entries zeros follows remembers len small opens =
     rw (no_entries, zeros) (kept-at_first shape limit strands shadow books follows remembers len small opens)
 
-pub is-opening : (cells limit : ℕ) (monoids declared : List Monoid) (entries : List Entry) (memory : List ℕ) → monoids ≡ declared → entries ≡ [] →
-    memory ≡ replicate cells 0 → opening (record { cells = cells; monoids = declared }) limit ≡
-    record { shape = record { cells = cells; monoids = monoids }; limit = limit; stopped = false; history = reverse entries; memory = memory }
-is-opening cells limit monoids declared entries memory same no_entries zeros = rw (same, no_entries, zeros) refl
+-- what was taken from the shape stands apart from it, so that a wrong amount is refused by its own equation
+pub is-opening : (cells taken limit : ℕ) (monoids declared : List Monoid) (entries : List Entry) (memory : List ℕ) → taken ≡ cells → monoids ≡ declared → entries ≡ [] →
+    memory ≡ replicate taken 0 → opening (record { cells = cells; monoids = declared }) limit ≡
+    record { shape = record { cells = taken; monoids = monoids }; limit = limit; stopped = false; history = reverse entries; memory = memory }
+is-opening cells taken limit monoids declared entries memory as_many same no_entries zeros = rw (zeros, as_many, same, no_entries) refl

@@ -10,3 +10,6 @@ pub returns-else-eq-clause-strange : goal.returns-else-eq-clause-strange
 returns-else-eq-clause-strange g c =
     λ e. odd_answer c.args.entry c.args.gate.now c.judge.new.self c.in-Ok.receipt c.in-Ok.ensures.replies c.in-Ok.ensures.judged
     (λ same. search (rules, c.if-eq.ensures, same))
+
+pub returns-in-Err-Memory-clause-strange : goal.returns-in-Err-Memory-clause-strange
+returns-in-Err-Memory-clause-strange g c = search rules

@@ -3,6 +3,9 @@ use Rattle.program_replay.proofs.Turns.{other_want, turned}
 use Rattle.program_replay.proofs.turn.turn.Goals as goal
 use Rattle.program_replay.proofs.turn.turn.Goals.{then-ne-via-then-ne, then-ne-via-else-ne+then-want-entry}
 
+pub next-want-requires-clause-on : goal.next-want-requires-clause-on
+next-want-requires-clause-on g c = search rules
+
 pub returns-then-ne-clause-strange : goal.returns-then-ne-clause-strange
 returns-then-ne-clause-strange g c =
     λ e. other_want c.args.program.now.functions c.args.entry c.args.frame.now c.next-want.new.self c.next-want.ensures.after

@@ -1,10 +1,14 @@
 use Rattle.std.proofs.Common.{◌∙◌, ap, sym, refl, length}
+use Rattle.std.proofs.lemmas.Option.{slice_get_within}
 use Rattle.trace_text.specs.Grammar.{cells_of}
 use Rattle.program_steps.specs.Scripts.{none_passed}
 use Rattle.program_steps.proofs.Places.{item_of}
 use Rattle.program_steps.proofs.Turns.{passes_more}
 use Rattle.program_steps.proofs.Located.{stands_in, same_function, in_place, passed_is, return_asks, statement_asks, statement_asked, sound_of, statement_within, placed, named}
 use Rattle.program_steps.proofs.activation.Activation.seek.Goals as goal
+
+pub bounds-as_slice-self : goal.bounds-as_slice-self
+bounds-as_slice-self g c = rw c.as_slice.ensures (slice_get_within c.args.program.now.functions c.args.self.now.function c.requires.place.code c.requires.place.known)
 
 pub loop-statement-init : goal.loop-statement-init
 loop-statement-init g c =

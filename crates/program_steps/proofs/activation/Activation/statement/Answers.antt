@@ -1,6 +1,7 @@
 use Rattle.std.proofs.Common.{◌≡◌, ℕ, Option, Some, None, length, refl, sym, ◌∙◌}
 use Rattle.std.specs.Prelude.{IsTrue, IfSome}
 use Rattle.std.proofs.lemmas.Bool.{ltb-true}
+use Rattle.std.proofs.lemmas.Option.{slice_get_within}
 use Rattle.trace_text.specs.Grammar.{cells_of}
 use Rattle.program_lines.specs.declared.statement.Statement.{Statement}
 use Rattle.program_lines.specs.declared.statement.Statement.TheVariants.{Let, Read, Write, Bump, Update, Put, Get, Spawn, Call, Sync, ParallelFor, If, Else, End}
@@ -30,6 +31,9 @@ targeted cells reducers functions (End line) t = tt
 if_found : (functions : ℕ) (found : Option Statement) → ((statement : Statement) → found ≡ Some statement → IsTargeted functions statement) → IfSome found (λ statement. IsTargeted functions statement)
 if_found functions (Some statement) each = each statement refl
 if_found functions None each = tt
+
+pub bounds-as_slice-self : goal.bounds-as_slice-self
+bounds-as_slice-self g c = rw c.as_slice.ensures (slice_get_within c.args.program.now.functions c.args.self.now.function c.requires.place.code c.requires.place.known)
 
 pub returns-clause-at : goal.returns-clause-at
 returns-clause-at g c =

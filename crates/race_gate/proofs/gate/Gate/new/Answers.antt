@@ -1,4 +1,4 @@
-use Rattle.std.proofs.Common.{[], ◌∙◌, sym, subst}
+use Rattle.std.proofs.Common.{[], ◌∙◌, sym, subst, arith}
 use Rattle.race_gate.specs.Books.{OpensBooks}
 use Rattle.race_gate.proofs.Opening.{kept-opening, is-opening}
 use Rattle.race_gate.proofs.gate.Gate.new.Goals as goal
@@ -11,5 +11,5 @@ invariant_of-result g c =
 
 pub returns : goal.returns
 returns g c =
-    sym (is-opening _ c.args.limit _ _ _ _ (c.new-3.ensures ∙ c.in_ok-monoids.ensures.items ∙ c.as_slice.ensures) c.new-4.ensures.items
+    sym (is-opening _ _ c.args.limit _ _ _ _ (omega arith) (c.new-3.ensures ∙ c.in_ok-monoids.ensures.items ∙ c.as_slice.ensures) c.new-4.ensures.items
     (c.in_ok-memory.ensures.items_if_clones_equal (λ y e. e)))
