@@ -79,6 +79,17 @@ fn has_entries(gate: &Gate<Global>, entries: usize) -> bool {
     gate.history().len() == entries
 }
 
+/// The gate, which was asked nothing, answers each act, by its strand, by what stands beside it, and then has no other entries.
+fn answers_all(rt: &impl Abort, gate: &mut Gate<Global>, acts: &[(u32, Act, Answer)]) {
+    let mut number = 0u32;
+    for (strand, act, answer) in acts {
+        number = number.wrapping_add(1);
+        let request = request(*strand, *act, number);
+        answers(rt, gate, number, request, *answer);
+    }
+    assert!(rt; has_entries(gate, acts.len()));
+}
+
 /// Each act, by its strand, is answered by what stands beside it.
 fn check(rt: &impl Abort, alloc: Global, acts: &[(u32, Act, Answer)]) -> Result<(), Fail> {
     check_with(rt, alloc, &[], acts)
@@ -94,13 +105,7 @@ fn check_with(
     requires { length monoids.now ≤ most_reducers }
 {
     let mut gate = opening_with(alloc, monoids, 1_000_000)?;
-    let mut number = 0u32;
-    for (strand, act, answer) in acts {
-        number = number.wrapping_add(1);
-        let request = request(*strand, *act, number);
-        answers(rt, &mut gate, number, request, *answer);
-    }
-    assert!(rt; has_entries(&gate, acts.len()));
+    answers_all(rt, &mut gate, acts);
     Ok(())
 }
 
@@ -142,12 +147,17 @@ fn limit_and_cells(gate: &Gate<Global>) -> (u32, u32) {
     (gate.limit(), gate.shape().cells)
 }
 
+/// The gate has one cell and the limit 7, and was asked nothing.
+fn is_new(rt: &impl Abort, gate: &Gate<Global>) {
+    assert!(rt; stands(gate, 0, false, false));
+    assert!(rt; holds(gate, &[0]));
+    assert_eq!(rt; limit_and_cells(gate), (7, 1));
+}
+
 #[test]
 fn a_gate_begins_without_entries(rt: HostRuntime) -> Result<(), Fail> {
     let gate = opening(rt.alloc(), 7)?;
-    assert!(rt; stands(&gate, 0, false, false));
-    assert!(rt; holds(&gate, &[0]));
-    assert_eq!(rt; limit_and_cells(&gate), (7, 1));
+    is_new(&rt, &gate);
     Ok(())
 }
 
@@ -294,25 +304,24 @@ fn bumps_are_added_and_race_with_reads_and_writes(rt: HostRuntime) -> Result<(),
     )
 }
 
+/// A gate of the limit 2 answers by the first fault of each request.
+fn answers_faults(rt: &impl Abort, gate: &mut Gate<Global>) {
+    check_fault(rt, gate, 0, Read(1), GateFault::BadName);
+    check_fault(rt, gate, 9, Read(1), GateFault::NotRunning);
+    check_fault(rt, gate, 0, Get(0), GateFault::BadName);
+    answers(rt, gate, 1, request(0, Spawn, 1), split(1, 2, 3, true));
+    check_fault(rt, gate, 2, Return, GateFault::Unsynced);
+    answers(rt, gate, 2, request(2, Read(0), 3), Value(0));
+    check_fault(rt, gate, 9, Read(1), GateFault::Limit);
+    gate.stop();
+    check_fault(rt, gate, 0, Sync, GateFault::Stopped);
+    assert!(rt; stands(gate, 2, false, true));
+}
+
 #[test]
 fn faults_come_in_their_order(rt: HostRuntime) -> Result<(), Fail> {
     let mut gate = opening(rt.alloc(), 2)?;
-    check_fault(&rt, &mut gate, 0, Read(1), GateFault::BadName);
-    check_fault(&rt, &mut gate, 9, Read(1), GateFault::NotRunning);
-    check_fault(&rt, &mut gate, 0, Get(0), GateFault::BadName);
-    answers(
-        &rt,
-        &mut gate,
-        1,
-        request(0, Spawn, 1),
-        split(1, 2, 3, true),
-    );
-    check_fault(&rt, &mut gate, 2, Return, GateFault::Unsynced);
-    answers(&rt, &mut gate, 2, request(2, Read(0), 3), Value(0));
-    check_fault(&rt, &mut gate, 9, Read(1), GateFault::Limit);
-    gate.stop();
-    check_fault(&rt, &mut gate, 0, Sync, GateFault::Stopped);
-    assert!(rt; stands(&gate, 2, false, true));
+    answers_faults(&rt, &mut gate);
     Ok(())
 }
 
@@ -346,8 +355,22 @@ fn check_replies(
     Ok(())
 }
 
-/// A gate of this limit gives strand 0 these outcomes, one to each act, and then has so many entries, has finished or not, and holds this
-/// number.
+/// The gate gives strand 0 these outcomes, one to each act, and then has so many entries, has finished or not, and holds this number.
+fn check_outcomes(
+    rt: &impl Abort,
+    alloc: Global,
+    gate: &mut Gate<Global>,
+    cases: &[(Act, Result<Answer, GateFault>)],
+    end: (usize, bool, u64),
+) -> Result<(), Fail> {
+    let (requests, expected) = lists(alloc, cases)?;
+    check_replies(rt, alloc, gate, requests.as_slice(), expected.as_slice())?;
+    assert!(rt; stands(gate, end.0, end.1, false));
+    assert!(rt; holds(gate, &[end.2]));
+    Ok(())
+}
+
+/// The same of a new gate of this limit.
 fn check_list(
     rt: &impl Abort,
     alloc: Global,
@@ -358,17 +381,7 @@ fn check_list(
     requires { limit ≤ most_entries }
 {
     let mut gate = opening(alloc, limit)?;
-    let (requests, expected) = lists(alloc, cases)?;
-    check_replies(
-        rt,
-        alloc,
-        &mut gate,
-        requests.as_slice(),
-        expected.as_slice(),
-    )?;
-    assert!(rt; stands(&gate, end.0, end.1, false));
-    assert!(rt; holds(&gate, &[end.2]));
-    Ok(())
+    check_outcomes(rt, alloc, &mut gate, cases, end)
 }
 
 #[test]
@@ -432,24 +445,29 @@ fn spawn_and_return(rt: &impl Abort, gate: &mut Gate<Global>, strand: u32, child
     entered(rt, gate, child, Return, Ended);
 }
 
-#[test]
-fn spawns_in_a_long_loop(rt: HostRuntime) -> Result<(), Fail> {
-    let mut gate = opening(rt.alloc(), 1_000_000)?;
+/// Ten thousand spawns by a new gate's root function, with a write behind each hundredth.
+fn spawns_long(rt: &impl Abort, gate: &mut Gate<Global>) {
     let mut newest = 0;
     let mut last = 0;
     for k in 1..10_001u32 {
         let child = if k == 1 { 1 } else { 2 * k };
-        spawn_and_return(&rt, &mut gate, newest, child, child + 1);
+        spawn_and_return(rt, gate, newest, child, child + 1);
         newest = child + 1;
         if k % 100 == 0 {
-            last = entered(&rt, &mut gate, newest, Write(0, 7), Granted);
+            last = entered(rt, gate, newest, Write(0, 7), Granted);
         }
     }
-    let joined = entered(&rt, &mut gate, newest, Sync, Joined(3));
-    let finished = entered(&rt, &mut gate, 3, Return, Finished);
+    let joined = entered(rt, gate, newest, Sync, Joined(3));
+    let finished = entered(rt, gate, 3, Return, Finished);
     assert_eq!(rt;
         [newest, last, joined, finished],
         [20_001, 20_100, 20_101, 20_102]
     );
+}
+
+#[test]
+fn spawns_in_a_long_loop(rt: HostRuntime) -> Result<(), Fail> {
+    let mut gate = opening(rt.alloc(), 1_000_000)?;
+    spawns_long(&rt, &mut gate);
     Ok(())
 }

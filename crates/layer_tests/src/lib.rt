@@ -27,6 +27,8 @@ mod lines;
 #[cfg(test)]
 mod locks;
 #[cfg(test)]
+mod openings;
+#[cfg(test)]
 mod order;
 #[cfg(test)]
 mod printing;

@@ -3,6 +3,7 @@
 ghost use Rattle.std.specs.Prelude.{◌≡◌, ◌≤◌, [], IfOk, IfSome};
 ghost use Rattle.race_gate.specs.Shapes.{most_cells};
 
+use crate::openings::{gate_for, gate_of_cells};
 use locked_replay::{LockedGate, RunFault, WorkerLog, gather};
 use program_text::Program;
 use race_gate::{Gate, GateFault, Receipt};
@@ -75,7 +76,7 @@ fn kept(alloc: Global, receipts: &[Receipt], places: &[usize]) -> Result<Vec<Rec
 }
 
 /// A gate for the program, or one of other cells, which has so many.
-fn gate_for(
+fn gate(
     alloc: Global,
     program: &Program<Global>,
     cells: Option<u32>,
@@ -83,11 +84,10 @@ fn gate_for(
     requires { IfSome cells (λ count. count ≤ most_cells) }
     ensures { IfOk result (λ gate. gate.history ≡ []) }
 {
-    let mut shape = program.shape(alloc)?;
-    if let Some(cells) = cells {
-        shape.cells = cells;
+    match cells {
+        Some(cells) => gate_of_cells(alloc, program, cells, 100),
+        None => gate_for(alloc, program, 100),
     }
-    Gate::new(alloc, &shape, 100)
 }
 
 /// Asks for the case's requests on the seats that it says.
@@ -135,12 +135,13 @@ fn is_clean<L: Ledger>(
     Ok(gather(alloc, program, locked, logs)?.clean)
 }
 
-/// How much was asked on both seats, and whether the run that was gathered is clean. A gate of other cells has so many. A stopped gate
-/// is stopped once all was asked.
-fn gathered<L: Ledger, R: Wait>(
+/// How much was asked on both seats, and whether the run of the program that was gathered is clean. A gate of other cells has so many. A
+/// stopped gate is stopped once all was asked.
+fn gathered_of<L: Ledger, R: Wait>(
     rt: &R,
     alloc: Global,
     blank: Blank,
+    program: &Program<Global>,
     case: Case<'_>,
     cells: Option<u32>,
     stopped: bool,
@@ -150,10 +151,7 @@ fn gathered<L: Ledger, R: Wait>(
     requires parts { blank.parts ≡ 2 }
     requires cells { IfSome cells (λ count. count ≤ most_cells) }
 {
-    let Ok(program) = Program::parse(alloc, case.text) else {
-        return Err(RunFault::Limit);
-    };
-    let gate = gate_for(alloc, &program, cells)?;
+    let gate = gate(alloc, program, cells)?;
     let (locked, mut seat) = LockedGate::<L>::new(gate, blank, 2);
     let mut second = WorkerLog {
         seat: seat.split(),
@@ -169,8 +167,28 @@ fn gathered<L: Ledger, R: Wait>(
     }
     let asked = first.seat.asked().wrapping_add(second.seat.asked());
     first.receipts = kept(alloc, first.receipts.as_slice(), case.kept)?;
-    let clean = is_clean(alloc, &program, locked, first, second)?;
+    let clean = is_clean(alloc, program, locked, first, second)?;
     Ok((asked, clean))
+}
+
+/// The same of the case's text.
+fn gathered<L: Ledger, R: Wait>(
+    rt: &R,
+    alloc: Global,
+    blank: Blank,
+    case: Case<'_>,
+    cells: Option<u32>,
+    stopped: bool,
+) -> Result<(u64, bool), RunFault>
+    requires name { blank.name ≡ L.name }
+    requires all { blank.parts ≡ L.parts }
+    requires parts { blank.parts ≡ 2 }
+    requires cells { IfSome cells (λ count. count ≤ most_cells) }
+{
+    match Program::parse(alloc, case.text) {
+        Ok(program) => gathered_of::<L, R>(rt, alloc, blank, &program, case, cells, stopped),
+        Err(_) => Err(RunFault::Limit),
+    }
 }
 
 fn outcome<R: Wait>(

@@ -7,6 +7,7 @@ ghost use Rattle.race_gate.specs.Extensions.{IsCleanAnswer, IsClean};
 ghost use Rattle.race_report.specs.Conditions.{shape_known, AreTellable};
 
 use crate::checks::equal;
+use crate::openings::gate_for;
 use locked_replay::Whole;
 use program_text::Program;
 use race_gate::{Answer, Entry, Gate, GateFault, Receipt, Reply};
@@ -30,15 +31,6 @@ fn is_clean(entries: &[Entry]) -> bool
 
 fn asked(strand: u32, act: Act, line: u32) -> Request {
     Request { strand, act, line }
-}
-
-/// A gate of the program, which was asked nothing.
-fn opened(alloc: Global, program: &Program<Global>) -> Result<Gate<Global>, AllocError>
-    ensures { IfOk result (λ gate. gate.shape ≡ shape_known (contents program.now).known) }
-{
-    let shape = program.shape(alloc)?;
-    let gate = Gate::new(alloc, &shape, 1_000)?;
-    Ok(gate)
 }
 
 /// Asks the gate these.
@@ -72,13 +64,46 @@ fn whole_of(
     })
 }
 
-/// The report of what a gate answers to these requests.
+/// What the gate of this program keeps after these requests.
+fn whole_asked(
+    alloc: Global,
+    program: &Program<Global>,
+    gate: &mut Gate<Global>,
+    requests: &[Request],
+) -> Result<Whole, Fail>
+    requires { gate.old.shape ≡ shape_known (contents program.now).known }
+    ensures entries { IfOk result (λ whole. AreTellable (shape_known (contents program.now).known) whole.entries.items) }
+    ensures memory { IfOk result (λ whole. length whole.memory.items ≡ cells_of program.now.mems) }
+    ensures clean { IfOk result (λ whole. IsTrue whole.clean ↔ IsClean (reverse whole.entries.items)) }
+{
+    ask_all(gate, requests)?;
+    Ok(whole_of(alloc, program, gate)?)
+}
+
+/// What a gate of this program keeps after these requests.
+fn whole_after(
+    alloc: Global,
+    program: &Program<Global>,
+    requests: &[Request],
+) -> Result<Whole, Fail>
+    ensures entries { IfOk result (λ whole. AreTellable (shape_known (contents program.now).known) whole.entries.items) }
+    ensures memory { IfOk result (λ whole. length whole.memory.items ≡ cells_of program.now.mems) }
+    ensures clean { IfOk result (λ whole. IsTrue whole.clean ↔ IsClean (reverse whole.entries.items)) }
+{
+    let mut gate = gate_for(alloc, program, 1_000)?;
+    whole_asked(alloc, program, &mut gate, requests)
+}
+
+/// The report of what a gate of this program answers to these requests.
+fn told(alloc: Global, program: &Program<Global>, requests: &[Request]) -> Result<Vec<u8>, Fail> {
+    let whole = whole_after(alloc, program, requests)?;
+    Ok(report(alloc, program, &whole)?)
+}
+
+/// The report of what a gate of the program of this text answers to these requests.
 fn report_of(alloc: Global, text: &str, requests: &[Request]) -> Result<Vec<u8>, Fail> {
     let program = Program::parse(alloc, text.as_bytes())?;
-    let mut gate = opened(alloc, &program)?;
-    ask_all(&mut gate, requests)?;
-    let whole = whole_of(alloc, &program, &gate)?;
-    Ok(report(alloc, &program, &whole)?)
+    told(alloc, &program, requests)
 }
 
 fn check(
