@@ -1,4 +1,0 @@
-use Rattle.program_text.proofs.function.Body.as_slice.Goals as goal
-
-pub returns : goal.returns
-returns g c = cc
