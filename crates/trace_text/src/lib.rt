@@ -1,4 +1,5 @@
 //! Texts of traces, read into values: a line for each declaration and for each request of a strand, in two versions of the format.
+//! The values, and the lines, words and names of a text, are those of [`trace_values`], which this crate passes on.
 //!
 //! The grammar stands in `specs/` as a relation between the lines of a text and what they mean, with a case for each kind of line, and
 //! beside it, for every other text, the first faulty line and the lowest cause in it. [`Trace::parse`] carries the theorem that the code
