@@ -10,7 +10,7 @@ use Rattle.access_table.specs.declared.kind.Kind.{Kind}
 use Rattle.access_table.specs.declared.kind.Kind.TheVariants as kind
 use Rattle.access_table.specs.declared.kind.Rule.TheVariants.{Race}
 use Rattle.access_table.specs.Table.{rule_between}
-use Rattle.trace_text.specs.declared.value.Act.{Act}
+use Rattle.trace_values.specs.declared.value.Act.{Act}
 use Rattle.control_history.specs.Dag.{IsParallel}
 use Rattle.control_history.proofs.Updates.{same_or_not}
 use Rattle.control_history.proofs.Members.{Present, present_append, contains_present}

@@ -1,8 +1,8 @@
 -- A dialogue with what the spawned functions did is an evaluation.
 use Rattle.std.proofs.Common.{◌≡◌, ℕ, List, [], ◌∷◌, ◌++◌, Some, None, refl, sym, ap, ◌∙◌, subst, append_assoc}
 use Rattle.std.specs.Prelude.{slice_get, slice_set, slice_index}
-use Rattle.trace_text.specs.declared.value.Act.{Act}
-use Rattle.trace_text.specs.declared.value.Monoid.{Monoid}
+use Rattle.trace_values.specs.declared.value.Act.{Act}
+use Rattle.trace_values.specs.declared.value.Monoid.{Monoid}
 use Rattle.race_gate.specs.declared.answer.Answer.{Answer}
 use Rattle.race_gate.specs.declared.answer.Answer.TheVariants.{Split, Same, Joined, Waits, Resumed, Ended, EndedJoined, Finished, Granted, Value, Refused, Unset}
 use Rattle.race_gate.specs.Extensions.{IsCleanAnswer}

@@ -6,8 +6,8 @@ use Rattle.std.proofs.lemmas.List.Kept.{AllPairs-cons}
 use Rattle.addresses.specs.Address.{Address, english_before, reaches}
 use Rattle.addresses.proofs.Intervals.{branch-within}
 use Rattle.addresses.proofs.Sorted.{pairs-nil, pairs-head, pairs-tail, pairs-append_right}
-use Rattle.trace_text.specs.declared.value.Act.{Act}
-use Rattle.trace_text.specs.declared.value.Monoid.{Monoid}
+use Rattle.trace_values.specs.declared.value.Act.{Act}
+use Rattle.trace_values.specs.declared.value.Monoid.{Monoid}
 use Rattle.control_history.specs.History.{Event, History}
 use Rattle.control_history.specs.Strands.{Running, Begun}
 use Rattle.control_history.specs.Legal.{Allowed, Legal, then as grown}

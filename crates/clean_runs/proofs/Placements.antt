@@ -5,8 +5,8 @@ use Rattle.std.proofs.lemmas.Bool.{eqb-true, eq-eqb}
 use Rattle.std.proofs.lemmas.List.{map-append, append-nil}
 use Rattle.addresses.specs.Address.{IsPrefix, child, next, reaches}
 use Rattle.addresses.proofs.Sorted.{pairs-nil}
-use Rattle.trace_text.specs.declared.value.Act.{Act}
-use Rattle.trace_text.specs.declared.value.Act.TheVariants.{Spawn, Sync, Call, Return}
+use Rattle.trace_values.specs.declared.value.Act.{Act}
+use Rattle.trace_values.specs.declared.value.Act.TheVariants.{Spawn, Sync, Call, Return}
 use Rattle.control_history.specs.History.{Event, split, same, joined, waits, call, resumed, ended, ended_joined, finished, History}
 use Rattle.control_history.specs.Strands.{Running, Begun}
 use Rattle.control_history.specs.Legal.{Allowed, Legal, then as grown}

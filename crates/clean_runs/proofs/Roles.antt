@@ -5,8 +5,8 @@ use Rattle.std.specs.Option.{option_to_list}
 use Rattle.std.proofs.lemmas.List.Elements.{All-head, All-tail}
 use Rattle.access_table.specs.declared.kind.Kind.{Kind}
 use Rattle.access_table.specs.declared.kind.Kind.TheVariants as kind
-use Rattle.trace_text.specs.declared.value.Act.{Act}
-use Rattle.trace_text.specs.declared.value.Monoid.{Monoid}
+use Rattle.trace_values.specs.declared.value.Act.{Act}
+use Rattle.trace_values.specs.declared.value.Monoid.{Monoid}
 use Rattle.control_history.specs.History.{Event, History}
 use Rattle.control_history.specs.Strands.{Running, Begun}
 use Rattle.control_history.specs.Peers.{HaveSamePeers}

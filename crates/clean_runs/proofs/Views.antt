@@ -4,8 +4,8 @@ use Rattle.addresses.specs.Address.{english_before, reaches, parallel}
 use Rattle.addresses.proofs.Relations.{parallel-self}
 use Rattle.addresses.proofs.Branches.{branch-peers}
 use Rattle.addresses.proofs.Sorted.{pairs-head, pairs-tail}
-use Rattle.trace_text.specs.declared.value.Act.{Act}
-use Rattle.trace_text.specs.declared.value.Monoid.{Monoid}
+use Rattle.trace_values.specs.declared.value.Act.{Act}
+use Rattle.trace_values.specs.declared.value.Monoid.{Monoid}
 use Rattle.control_history.specs.History.{History}
 use Rattle.control_history.specs.Strands.{Begun}
 use Rattle.control_history.specs.Legal.{Legal}

@@ -1,7 +1,7 @@
 -- Requests one after another over one store, and what a function did together with the functions that it spawned.
 use Rattle.std.specs.Prelude.{ℕ, ◌≡◌, ◌+◌, ◌%◌, ◌^◌, List, [], ◌∷◌, ◌++◌, Option, Some, None, slice_get, slice_index}
-use Rattle.trace_text.specs.declared.value.Act.{Act}
-use Rattle.trace_text.specs.declared.value.Monoid.{Monoid}
+use Rattle.trace_values.specs.declared.value.Act.{Act}
+use Rattle.trace_values.specs.declared.value.Monoid.{Monoid}
 use Rattle.race_gate.specs.Extensions.{IsCleanAnswer}
 use Rattle.reducer_views.specs.Products.{update_view, put_view, product_of}
 use Rattle.reducer_views.specs.Touched.{monoid_of}

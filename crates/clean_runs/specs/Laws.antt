@@ -1,6 +1,6 @@
 -- What holds of clean runs.
 use Rattle.std.specs.Prelude.{ℕ, List, map}
-use Rattle.trace_text.specs.declared.value.Monoid.{Monoid}
+use Rattle.trace_values.specs.declared.value.Monoid.{Monoid}
 use Rattle.race_gate.specs.Entries.{Entries}
 use Rattle.race_gate.specs.Shapes.{Shape}
 use Rattle.race_gate.specs.Legal.{IsLegal}

@@ -3,8 +3,8 @@ use Rattle.std.proofs.Common.{◌≡◌, ◌≢◌, ◌⊎◌, ◌↔◌, inl, i
 use Rattle.std.proofs.lemmas.Bool.Decides.{eqb_tells}
 use Rattle.addresses.specs.Address.{Address, english, reaches, english_before}
 use Rattle.addresses.proofs.Orders.{before-irreflexive, before-transitive}
-use Rattle.trace_text.specs.declared.value.Act.{Act}
-use Rattle.trace_text.specs.declared.value.Act.TheVariants.{Update, Put}
+use Rattle.trace_values.specs.declared.value.Act.{Act}
+use Rattle.trace_values.specs.declared.value.Act.TheVariants.{Update, Put}
 use Rattle.control_history.specs.Strands.{Running}
 use Rattle.control_history.specs.Dag.{Reaches}
 use Rattle.control_history.specs.Addresses.{address}

@@ -3,7 +3,7 @@ use Rattle.std.proofs.Common.{◌≡◌, ◌≢◌, ◌⊎◌, inl, inr, ℕ, su
 use Rattle.addresses.specs.Address.{child, Address, extended, reaches}
 use Rattle.addresses.proofs.Relations.{reaches-transitive, reaches-antisymmetric}
 use Rattle.addresses.proofs.Extensions.{reaches-extension}
-use Rattle.trace_text.specs.declared.value.Act.{Act}
+use Rattle.trace_values.specs.declared.value.Act.{Act}
 use Rattle.control_history.specs.History.{Event, split, same, joined, waits, call, resumed, ended, ended_joined, finished, History}
 use Rattle.control_history.specs.Strands.{Running}
 use Rattle.control_history.specs.Blocks.{Stack, root, spawned, called, block, stack}

@@ -9,8 +9,8 @@ use Rattle.access_table.proofs.Conflicts.{rule_symmetric}
 use Rattle.addresses.specs.Address.{reaches}
 use Rattle.addresses.proofs.Extremes.{contains-head, contains-cases}
 use Rattle.addresses.proofs.Relations.{reaches-self}
-use Rattle.trace_text.specs.declared.value.Act.{Act}
-use Rattle.trace_text.specs.declared.value.Act.TheVariants.{Read, Write, Bump}
+use Rattle.trace_values.specs.declared.value.Act.{Act}
+use Rattle.trace_values.specs.declared.value.Act.TheVariants.{Read, Write, Bump}
 use Rattle.control_history.specs.Strands.{Begun}
 use Rattle.control_history.specs.Dag.{IsParallel}
 use Rattle.control_history.specs.Addresses.{address}

@@ -1,8 +1,8 @@
 -- Puts and gets of a part are answered as those of the whole.
 use Rattle.std.proofs.Common.{◌≡◌, ◌≢◌, inl, inr, ℕ, true, [], ◌∷◌, ◌++◌, map, Some, refl, sym, ap, ap₂, ◌∙◌, subst}
 use Rattle.addresses.specs.Address.{reaches, branch}
-use Rattle.trace_text.specs.declared.value.Act.{Act}
-use Rattle.trace_text.specs.declared.value.Act.TheVariants.{Put, Get}
+use Rattle.trace_values.specs.declared.value.Act.{Act}
+use Rattle.trace_values.specs.declared.value.Act.TheVariants.{Put, Get}
 use Rattle.control_history.specs.Addresses.{address}
 use Rattle.control_history.proofs.Branches.{branch_law, branch_address_law}
 use Rattle.reducer_values.specs.Views.{product}

@@ -9,8 +9,8 @@ use Rattle.addresses.specs.Blocks.{joined}
 use Rattle.addresses.proofs.Extremes.{contains-head, contains-cases}
 use Rattle.addresses.proofs.Extensions.{reaches-append}
 use Rattle.addresses.proofs.Intervals.{branch-joined}
-use Rattle.trace_text.specs.declared.value.Act.{Act}
-use Rattle.trace_text.specs.declared.value.Act.TheVariants.{Put, Get}
+use Rattle.trace_values.specs.declared.value.Act.{Act}
+use Rattle.trace_values.specs.declared.value.Act.TheVariants.{Put, Get}
 use Rattle.control_history.specs.History.{History}
 use Rattle.control_history.specs.Strands.{Begun}
 use Rattle.control_history.specs.Addresses.{address}

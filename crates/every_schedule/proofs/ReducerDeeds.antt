@@ -1,7 +1,7 @@
 -- The updates and puts of a reducer, as deeds.
 use Rattle.std.proofs.Common.{◌≡◌, ◌⊎◌, inl, inr, ℕ, suc, ◌<◌, ◌≤◌, [], ◌∷◌, length, refl, sym, ap, ◌∙◌, subst, arith}
-use Rattle.trace_text.specs.declared.value.Act.{Act}
-use Rattle.trace_text.specs.declared.value.Act.TheVariants.{Read, Write, Bump, Update, Put, Get}
+use Rattle.trace_values.specs.declared.value.Act.{Act}
+use Rattle.trace_values.specs.declared.value.Act.TheVariants.{Read, Write, Bump, Update, Put, Get}
 use Rattle.control_history.specs.History.{Event, split, same, joined, waits, call, resumed, ended, ended_joined, finished}
 use Rattle.control_history.specs.Strands.{Begun}
 use Rattle.control_history.specs.Addresses.{address}

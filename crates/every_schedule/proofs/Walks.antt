@@ -3,7 +3,7 @@ use Rattle.std.proofs.Common.{◌≡◌, ◌⊎◌, inl, inr, ◌≤◌, true, L
 use Rattle.addresses.specs.Address.{Word, child, next, join, Address, extended, reaches}
 use Rattle.addresses.proofs.Relations.{reaches-self, reaches-transitive}
 use Rattle.addresses.proofs.Extensions.{reaches-extension}
-use Rattle.trace_text.specs.declared.value.Act.{Act}
+use Rattle.trace_values.specs.declared.value.Act.{Act}
 use Rattle.control_history.proofs.Words.{Diverges, diverges_extend, diverges_join, diverges_precedes}
 use Rattle.every_schedule.specs.Fronts.{Nest, in_spawned, inside, opened, gone, Front, after_spawn, after_sync, after_return, moved}
 use Rattle.every_schedule.specs.Traces.{Spoken, walk, IsLaterOf}

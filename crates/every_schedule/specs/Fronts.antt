@@ -2,7 +2,7 @@
 -- strand. No number of a strand stands in it, so it is the same in every schedule.
 use Rattle.std.specs.Prelude.{◌≡◌, ◌⊎◌, ℕ, suc, [], ◌∷◌, length}
 use Rattle.addresses.specs.Address.{Address, child, next, join, extended}
-use Rattle.trace_text.specs.declared.value.Act.{Act}
+use Rattle.trace_values.specs.declared.value.Act.{Act}
 use Rattle.control_history.specs.Updated.{updated}
 use Rattle.control_history.specs.History.{Event, split, same, joined, waits, call, History}
 use Rattle.control_history.specs.Strands.{reserved, status, Running}

@@ -1,7 +1,7 @@
 -- What the frames of a history did, without the numbers of its strands: two schedules of one program do the same.
 use Rattle.std.specs.Prelude.{◌≡◌, ◌⊎◌, ◌<◌, ◌==◌, ℕ, suc, true, List, [], ◌∷◌, length, Option, if◌then◌else◌}
 use Rattle.addresses.specs.Address.{Address, child, extended, reaches}
-use Rattle.trace_text.specs.declared.value.Act.{Act}
+use Rattle.trace_values.specs.declared.value.Act.{Act}
 use Rattle.control_history.specs.Updated.{updated}
 use Rattle.control_history.specs.History.{split, History}
 use Rattle.control_history.specs.Addresses.{address}

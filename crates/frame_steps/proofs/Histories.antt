@@ -8,7 +8,7 @@ use Rattle.program_lines.specs.declared.statement.Statement.TheVariants.{Call}
 use Rattle.program_text.specs.Codes.{Code}
 use Rattle.program_text.specs.Sound.{IsSound}
 use Rattle.program_text.specs.Trees.{Step}
-use Rattle.trace_text.specs.declared.value.Act.{Act}
+use Rattle.trace_values.specs.declared.value.Act.{Act}
 use Rattle.race_gate.specs.declared.answer.Answer.{Answer}
 use Rattle.race_gate.specs.declared.answer.Answer.TheVariants.{Same, Resumed, Ended, EndedJoined, Finished}
 use Rattle.program_steps.specs.declared.request.Want.{Want}

@@ -4,7 +4,7 @@ use Rattle.program_lines.specs.declared.statement.Register.{Register}
 use Rattle.program_lines.specs.declared.statement.Operand.{Operand}
 use Rattle.program_lines.specs.declared.statement.Statement.{Statement}
 use Rattle.program_lines.specs.declared.statement.Statement.TheVariants.{Read, Write, Bump, Update, Put, Get, Spawn, Call, Sync}
-use Rattle.trace_text.specs.declared.value.Act.{Act}
+use Rattle.trace_values.specs.declared.value.Act.{Act}
 use Rattle.race_gate.specs.declared.answer.Answer.{Answer}
 use Rattle.race_gate.specs.declared.answer.Answer.TheVariants.{Split, Same, Joined, Waits, Granted, Value, Refused, Unset}
 use Rattle.program_steps.specs.Values.{Registers}

@@ -10,7 +10,7 @@ use Rattle.program_lines.specs.declared.statement.Statement.TheVariants.{Call}
 use Rattle.program_text.specs.Codes.{Code}
 use Rattle.program_text.specs.Sound.{IsSound}
 use Rattle.program_text.specs.Trees.{Tree, Done, Step}
-use Rattle.trace_text.specs.declared.value.Act.{Act}
+use Rattle.trace_values.specs.declared.value.Act.{Act}
 use Rattle.race_gate.specs.declared.answer.Answer.{Answer}
 use Rattle.race_gate.specs.declared.answer.Answer.TheVariants.{Same, Resumed}
 use Rattle.program_steps.specs.declared.activation.Turn.TheVariants.{Plainly}

@@ -3,7 +3,7 @@ use Rattle.std.specs.Prelude.{ℕ, ◌≡◌, ◌↔◌, List, [], ◌∷◌, �
 use Rattle.program_text.specs.Codes.{Code}
 use Rattle.program_lines.specs.declared.statement.Statement.{Statement}
 use Rattle.program_text.specs.Trees.{Tree, Done, Step}
-use Rattle.trace_text.specs.declared.value.Act.{Act}
+use Rattle.trace_values.specs.declared.value.Act.{Act}
 use Rattle.race_gate.specs.declared.answer.Answer.{Answer}
 use Rattle.race_gate.specs.declared.answer.Answer.TheVariants.{Resumed, Ended, EndedJoined, Finished}
 use Rattle.program_steps.specs.declared.activation.Turn.{Turn}

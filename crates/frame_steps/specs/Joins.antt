@@ -1,6 +1,6 @@
 -- The open blocks of functions that have called one another.
 use Rattle.std.specs.Prelude.{ℕ, List, [], ◌∷◌, Option, Some, None}
-use Rattle.trace_text.specs.declared.value.Act.{Act}
+use Rattle.trace_values.specs.declared.value.Act.{Act}
 use Rattle.race_gate.specs.declared.answer.Answer.{Answer}
 use Rattle.race_gate.specs.declared.answer.Answer.TheVariants.{Split, Same, Joined, Waits}
 use Rattle.program_steps.specs.Exchanges.{Exchange}

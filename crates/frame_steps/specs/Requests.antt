@@ -2,7 +2,7 @@
 use Rattle.std.specs.Prelude.{ℕ, ◌≡◌, Option, Some, None}
 use Rattle.program_lines.specs.declared.statement.Statement.{Statement}
 use Rattle.program_text.specs.Trees.{Tree, Done, Step}
-use Rattle.trace_text.specs.declared.value.Act.{Act}
+use Rattle.trace_values.specs.declared.value.Act.{Act}
 use Rattle.race_gate.specs.declared.answer.Answer.{Answer}
 use Rattle.race_gate.specs.declared.answer.Answer.TheVariants.{Split, Same, Joined, Waits, Granted, Value, Refused, Unset}
 use Rattle.program_steps.specs.declared.request.Target.{Target}

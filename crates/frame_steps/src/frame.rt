@@ -2,7 +2,7 @@
 
 ghost use Rattle.std.specs.Prelude.{◌≡◌, ◌≢◌, ℕ, ◌<◌, ◌↔◌, Bool, true, false, IsTrue, List, [], ◌∷◌, ◌++◌, Some, None, length, IfSome, OnOk, OnErr, IfErr, Err};
 ghost use Rattle.program_lines.specs.declared.statement.Statement.{Statement};
-ghost use Rattle.trace_text.specs.declared.value.Act.{Act};
+ghost use Rattle.trace_values.specs.declared.value.Act.{Act};
 ghost use Rattle.program_text.specs.Codes.{Code};
 ghost use Rattle.program_text.specs.Trees.{Step};
 ghost use Rattle.program_steps.specs.Values.{first_registers};

@@ -14,7 +14,7 @@ use std::io::{Read, Write};
 use std::process::Abort;
 use std::test::Fail;
 use text_commands::{CliFault, Watched, judge_stream, status_of};
-use trace_text::{Act, Request, TextFault};
+use trace_values::{Act, Request, TextFault};
 
 const MOST: u32 = 1_000_000;
 

@@ -9,7 +9,7 @@ use sp_labels::Spawned;
 use std::alloc::Global;
 use std::process::Abort;
 use std::test::Fail;
-use trace_text::Act;
+use trace_values::Act;
 
 const PAIR: &[u8] =
     b"cilk 1\nmem x\nmem y\nfunc main z\n  spawn f 7\n  read r x\nend\nfunc f v\n  write x v\nend\n";

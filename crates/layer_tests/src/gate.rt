@@ -17,7 +17,7 @@ use sp_labels::Spawned;
 use std::alloc::{AllocError, Global};
 use std::process::Abort;
 use std::test::Fail;
-use trace_text::{Act, Monoid, Monoids, Request, Shape};
+use trace_values::{Act, Monoid, Monoids, Request, Shape};
 
 /// One cell, x, with the number 0.
 fn opening(alloc: Global, limit: u32) -> Result<Gate<Global>, AllocError>

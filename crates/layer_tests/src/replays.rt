@@ -8,7 +8,7 @@ use shadow_history::Witness;
 use sp_labels::Spawned;
 use std::alloc::Global;
 use std::test::Fail;
-use trace_text::{Act, Request};
+use trace_values::{Act, Request};
 
 const PAIR: &[u8] =
     b"cilk 1\nmem x\nmem y\nfunc main z\n  spawn f 7\n  read r x\nend\nfunc f v\n  write x v\nend\n";

@@ -8,7 +8,7 @@ use sp_labels::Spawned;
 use std::alloc::{AllocError, Global};
 use std::process::Abort;
 use std::test::Fail;
-use trace_text::Monoid;
+use trace_values::Monoid;
 
 /// What a get gives after a put and two updates.
 fn gathered(monoid: Monoid, numbers: [u64; 3]) -> Option<u64> {

@@ -10,7 +10,7 @@ use race_gate::{Gate, GateFault, Receipt};
 use std::alloc::Global;
 use std::sync::ledger::{Blank, Book, Ledger};
 use std::sync::{Mutex, Wait};
-use trace_text::Request;
+use trace_values::Request;
 
 /// Who asks does not know what stands behind it: a gate's lock, or something round one.
 pub trait Ask<L: Ledger> {

@@ -4,13 +4,14 @@ use Rattle.std.specs.Prelude.{Option, Some, None, Result, Ok, Err, MatchResult, 
 use Rattle.std.specs.Char.{is_ascii_digit, is_ascii_lowercase}
 use Rattle.std.proofs.lemmas.Bool.Decides.{nat_tests}
 use Rattle.std.proofs.lemmas.List.{append_cancel_right}
-use Rattle.trace_text.specs.declared.fault.Cause.{Cause}
-use Rattle.trace_text.specs.declared.fault.Cause.TheVariants.{NotText, BadHeader, BadWord, BadNumber, UnknownName, TwiceNamed, BadNesting, NoMain, TooMany}
-use Rattle.trace_text.specs.Text.{IsName, BeginsWithDigit}
-use Rattle.trace_text.specs.Limits.{max_value}
-use Rattle.trace_text.specs.Names.{element_word, SingleMeans}
+use Rattle.trace_values.specs.declared.fault.Cause.{Cause}
+use Rattle.trace_values.specs.declared.fault.Cause.TheVariants.{NotText, BadHeader, BadWord, BadNumber, UnknownName, TwiceNamed, BadNesting, NoMain, TooMany}
+use Rattle.trace_values.specs.Text.{IsName, BeginsWithDigit}
+use Rattle.trace_values.specs.Limits.{max_value}
+use Rattle.trace_values.specs.Names.{element_word, SingleMeans}
 use Rattle.trace_text.specs.Cells.{IsSingleFault}
-use Rattle.trace_text.specs.Faults.{IsUndeclared, IsLowest, cause_number, WordFault as CommonFault}
+use Rattle.trace_values.specs.Causes.{IsLowest, cause_number}
+use Rattle.trace_text.specs.Faults.{IsUndeclared, WordFault as CommonFault}
 use Rattle.trace_text.specs.Lines as trace
 use Rattle.trace_text.proofs.CellWords.{IsSplit, name_no_bracket, same_split, flat, no_element, digits_begin, below_word as common_below, no_closing as cell_no_closing}
 use Rattle.program_lines.specs.declared.statement.Operand.{Operand}

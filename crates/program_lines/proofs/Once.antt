@@ -4,12 +4,12 @@ use Rattle.std.specs.Prelude.{Option, Some, None, ◌⊎◌}
 use Rattle.std.proofs.lemmas.List.{append_cancel_right}
 use denote.Struct.Props.{props}
 use Rattle.access_table.specs.declared.kind.Kind.TheVariants as kind
-use Rattle.trace_text.specs.declared.value.Mem.{Mem}
-use Rattle.trace_text.specs.declared.value.Monoid.{Monoid}
-use Rattle.trace_text.specs.declared.value.Monoid.TheVariants.{Sum as SumMonoid}
-use Rattle.trace_text.specs.Text.{IsName}
-use Rattle.trace_text.specs.Limits.{max_value}
-use Rattle.trace_text.specs.Names.{element_word}
+use Rattle.trace_values.specs.declared.value.Mem.{Mem}
+use Rattle.trace_values.specs.declared.value.Monoid.{Monoid}
+use Rattle.trace_values.specs.declared.value.Monoid.TheVariants.{Sum as SumMonoid}
+use Rattle.trace_values.specs.Text.{IsName}
+use Rattle.trace_values.specs.Limits.{max_value}
+use Rattle.trace_values.specs.Names.{element_word}
 use Rattle.trace_text.specs.Lines as trace
 use Rattle.trace_text.proofs.CellWords.{same_some, same_split, name_no_bracket, no_element, flat, digits_begin}
 use Rattle.trace_text.proofs.Once.{number_once, word_once as common_once}

@@ -3,12 +3,12 @@ use Rattle.std.proofs.Common.{◌≡◌, ℕ, ◌<◌, ◌≤◌, ◌+◌, ◌�
 use Rattle.std.specs.Prelude.{Option, Some, None, Result, Ok, Err, MatchResult, option_map, nat_lt}
 use Rattle.std.specs.Result.{result_and}
 use Rattle.std.proofs.lemmas.Bool.Decides.{nat_tests}
-use Rattle.trace_text.specs.declared.fault.Cause.{Cause}
-use Rattle.trace_text.specs.declared.fault.Cause.TheVariants.{NotText, BadHeader, BadWord, BadNumber, UnknownName, TwiceNamed, BadNesting, NoMain, TooMany}
-use Rattle.trace_text.specs.Faults.{IsLowest, cause_number}
+use Rattle.trace_values.specs.declared.fault.Cause.{Cause}
+use Rattle.trace_values.specs.declared.fault.Cause.TheVariants.{NotText, BadHeader, BadWord, BadNumber, UnknownName, TwiceNamed, BadNesting, NoMain, TooMany}
+use Rattle.trace_values.specs.Causes.{IsLowest, cause_number, both_of}
 use Rattle.trace_text.specs.Lines as trace
-use Rattle.trace_text.specs.Outcome.{both_of, TakesWord as TakesCommon, Fits as FitsCommon}
-use Rattle.trace_text.specs.Text.{IsName}
+use Rattle.trace_text.specs.Outcome.{TakesWord as TakesCommon, Fits as FitsCommon}
+use Rattle.trace_values.specs.Text.{IsName}
 use Rattle.trace_text.proofs.Outcomes.{word_clean as common_clean}
 use Rattle.program_lines.specs.declared.operator.Operator.{Operator}
 use Rattle.program_lines.specs.declared.statement.Operand.{Operand}

@@ -5,10 +5,10 @@ use Rattle.std.specs.List.{All, position_from}
 use Rattle.std.specs.Str.{bytes_eq}
 use Rattle.std.specs.Cmp.Lexicographic.{bytes_decides}
 use Rattle.access_table.specs.declared.kind.Kind.TheVariants as kind
-use Rattle.trace_text.specs.declared.value.Mem.{Mem}
-use Rattle.trace_text.specs.Text.{words, IsTextLine, IsName}
-use Rattle.trace_text.specs.Limits.{max_value}
-use Rattle.trace_text.specs.Names.{SingleMeans, IsDeclared}
+use Rattle.trace_values.specs.declared.value.Mem.{Mem}
+use Rattle.trace_values.specs.Text.{words, IsTextLine, IsName}
+use Rattle.trace_values.specs.Limits.{max_value}
+use Rattle.trace_values.specs.Names.{SingleMeans, IsDeclared}
 use Rattle.trace_text.specs.Lines as trace
 use Rattle.trace_text.specs.Shapes.{is_numbered}
 use Rattle.trace_text.specs.Printing.{spaced}

@@ -2,10 +2,10 @@
 use Rattle.std.proofs.Common.{◌≡◌, ℕ, ◌+◌, ◌<◌, ◌≤◌, ◌∷◌, [], List, length, Bool, true, false, cond, arith, subst}
 use Rattle.std.specs.Prelude.{Option, Some, IsTrue}
 use Rattle.std.specs.List.{All, position_from}
-use Rattle.trace_text.specs.declared.value.Mem.{Mem}
-use Rattle.trace_text.specs.Grammar.{cells_of}
+use Rattle.trace_values.specs.declared.value.Mem.{Mem}
+use Rattle.trace_values.specs.Declarations.{cells_of}
 use Rattle.trace_text.specs.Lines as trace
-use Rattle.trace_text.specs.Names.{IsDeclared}
+use Rattle.trace_values.specs.Names.{IsDeclared}
 use Rattle.trace_text.specs.Shapes.{is_numbered}
 use Rattle.trace_text.proofs.CellWords.{found_of_all}
 use Rattle.trace_text.proofs.Kept.{ends_within}

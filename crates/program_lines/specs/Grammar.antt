@@ -1,7 +1,7 @@
 -- What the lines of a program mean: a case for each kind of line.
 use Rattle.std.specs.Prelude.{◌≡◌, ℕ, Option, Some, None, List, [], ◌∷◌}
 use Rattle.access_table.specs.declared.kind.Kind.TheVariants as kind
-use Rattle.trace_text.specs.declared.value.Monoid.{Monoid}
+use Rattle.trace_values.specs.declared.value.Monoid.{Monoid}
 use Rattle.trace_text.specs.Lines.{OfName, OfNumber, OfMonoid}
 use Rattle.program_lines.specs.declared.keyword.Keyword.{Keyword}
 use Rattle.program_lines.specs.declared.keyword.Keyword.TheVariants as word

@@ -1,6 +1,6 @@
 -- The items that the code makes of lines.
 use Rattle.std.specs.Prelude.{ℕ, Option, Some, None, List, [], ◌∷◌, Result, MatchResult, option_copied}
-use Rattle.trace_text.specs.declared.fault.Cause.{Cause}
+use Rattle.trace_values.specs.declared.fault.Cause.{Cause}
 use Rattle.program_lines.specs.declared.keyword.Keyword.{Keyword}
 use Rattle.program_lines.specs.declared.item.Item as code
 use Rattle.program_lines.specs.declared.item.Item.TheVariants as code_item

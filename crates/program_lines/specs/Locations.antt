@@ -1,9 +1,9 @@
 -- What the parts of a word name, and why they name no location.
 use Rattle.std.specs.Prelude.{ℕ, true, ◌⊎◌, List}
-use Rattle.trace_text.specs.declared.fault.Cause.{Cause}
-use Rattle.trace_text.specs.declared.fault.Cause.TheVariants.{BadWord, BadNumber, UnknownName}
-use Rattle.trace_text.specs.Text.{IsName}
-use Rattle.trace_text.specs.Names.{SingleMeans}
+use Rattle.trace_values.specs.declared.fault.Cause.{Cause}
+use Rattle.trace_values.specs.declared.fault.Cause.TheVariants.{BadWord, BadNumber, UnknownName}
+use Rattle.trace_values.specs.Text.{IsName}
+use Rattle.trace_values.specs.Names.{SingleMeans}
 use Rattle.trace_text.specs.Faults.{IsUndeclared}
 use Rattle.program_lines.specs.declared.statement.Location.{Location}
 use Rattle.program_lines.specs.declared.statement.Location.TheVariants.{Cell, Element}

@@ -1,9 +1,9 @@
 -- What a place of a line wants, and what a word means there.
 use Rattle.std.specs.Prelude.{◌≡◌, ◌≢◌, ℕ, ◌+◌, true, Option, Some, None, List, length, codes}
-use Rattle.trace_text.specs.Text.{IsName, IsNumberIn}
-use Rattle.trace_text.specs.Limits.{max_value}
-use Rattle.trace_text.specs.Names.{SingleMeans, IsDeclared, element_word}
-use Rattle.trace_text.specs.declared.value.Mem.{Mem}
+use Rattle.trace_values.specs.Text.{IsName, IsNumberIn}
+use Rattle.trace_values.specs.Limits.{max_value}
+use Rattle.trace_values.specs.Names.{SingleMeans, IsDeclared, element_word}
+use Rattle.trace_values.specs.declared.value.Mem.{Mem}
 use Rattle.trace_text.specs.Lines as trace
 use Rattle.program_lines.specs.declared.operator.Operator.{Operator as OperatorSign}
 use Rattle.program_lines.specs.declared.operator.Operator.TheVariants.{Plus, Minus, Times, Below}

@@ -2,10 +2,10 @@
 use Rattle.std.specs.Prelude.{◌≡◌, ℕ, zero, suc, Option, Some, None, List, [], ◌∷◌, ◌++◌, slice_index_or, codes}
 use Rattle.std.specs.List.{find}
 use Rattle.std.specs.Fmt.{decimal}
-use Rattle.trace_text.specs.declared.value.Version.{Version}
-use Rattle.trace_text.specs.declared.value.Mem.{Mem}
-use Rattle.trace_text.specs.declared.value.Reducer.{Reducer}
-use Rattle.trace_text.specs.Names.{element_word}
+use Rattle.trace_values.specs.declared.value.Version.{Version}
+use Rattle.trace_values.specs.declared.value.Mem.{Mem}
+use Rattle.trace_values.specs.declared.value.Reducer.{Reducer}
+use Rattle.trace_values.specs.Names.{element_word}
 use Rattle.trace_text.specs.Shapes.{has_cell, name_of_cell}
 use Rattle.trace_text.specs.Lines.{OfName, OfNumber, OfMonoid}
 use Rattle.trace_text.specs.Printing.{plain_word as common_word, known_of}

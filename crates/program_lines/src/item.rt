@@ -1,7 +1,7 @@
 //! What a line says.
 
 use crate::statement::{Register, Statement};
-use trace_text::Monoid;
+use trace_values::Monoid;
 
 /// What a line says.
 #[derive(Clone, Copy, Debug)]

@@ -3,8 +3,8 @@
 ghost use Rattle.std.specs.Prelude.{◌≡◌, ◌∷◌, [], None, MatchResult, codes, cond, option_copied};
 ghost use Rattle.access_table.specs.declared.kind.Kind.TheVariants as kind;
 ghost use Rattle.trace_text.specs.Lines as trace;
-ghost use Rattle.trace_text.specs.Limits.{max_cells};
-ghost use Rattle.trace_text.specs.Faults.{IsLowest};
+ghost use Rattle.trace_values.specs.Limits.{max_cells};
+ghost use Rattle.trace_values.specs.Causes.{IsLowest};
 ghost use Rattle.program_lines.specs.declared.keyword.Keyword.TheVariants.{Access, Call, Let, ParallelFor, Spawn};
 ghost use Rattle.program_lines.specs.Scopes.{Scope as SpecScope};
 ghost use Rattle.program_lines.specs.Places.{Common, FreshName, OperandWord, LocationWord, AssignedRegister, KnownRegister, FunctionName, ParameterName, Sign, Exactly, Plain, OfOperand, OfLocation, OfRegister, OfAssigned, Nothing};
@@ -25,7 +25,7 @@ use crate::scope::Scope;
 use crate::statement::{Expression, Location, Operand, Register, Statement};
 use access_table::Kind;
 use std::alloc::Allocator;
-use trace_text::{Cause, Monoid, Words, both};
+use trace_values::{Cause, Monoid, Words, both};
 
 /// The name and the length of a memory.
 fn memory<'a, A: Allocator + Copy>(

@@ -3,7 +3,7 @@
 ghost use Rattle.std.specs.Prelude.{◌↔◌, [], ◌∷◌, IsTrue, codes, option_copied, MatchResult};
 ghost use Rattle.trace_text.specs.Cells.{IsSingleFault};
 ghost use Rattle.trace_text.specs.Lines as trace;
-ghost use Rattle.trace_text.specs.Limits.{max_cells};
+ghost use Rattle.trace_values.specs.Limits.{max_cells};
 ghost use Rattle.program_lines.specs.Scopes.{Scope as SpecScope, IsFresh};
 ghost use Rattle.program_lines.specs.Places.{Common, FreshName, OperandWord, LocationWord, AssignedRegister, KnownRegister, FunctionName, ParameterName, Sign, Exactly, Plain, OfOperand, OfLocation, OfRegister, OfAssigned, OfSign, Nothing, IsRegisterName};
 ghost use Rattle.program_lines.specs.Grammar.{number_if_there};
@@ -16,7 +16,7 @@ use crate::scope::Scope;
 use crate::statement::{Location, Operand, Register};
 use std::alloc::Allocator;
 use trace_text::number::number;
-use trace_text::{Cause, Monoid, Named, Words, both, is_name};
+use trace_values::{Cause, Monoid, Named, Words, both, is_name};
 
 /// The register that a line assigns, and its name where it is new.
 #[derive(Clone, Copy, Debug)]

@@ -1,7 +1,7 @@
 //! The plain words of statements.
 
 ghost use Rattle.std.specs.Prelude.{◌≡◌, ◌++◌, ◌∷◌, ℕ, [], List, IsTrue, OnOk, codes, string_bytes};
-ghost use Rattle.trace_text.specs.declared.value.Version.{Version};
+ghost use Rattle.trace_values.specs.declared.value.Version.{Version};
 ghost use Rattle.trace_text.specs.Shapes.{is_numbered};
 ghost use Rattle.trace_text.specs.Printing.{behind_space, name_of_reducer, spaced};
 ghost use Rattle.program_lines.specs.Grammar.{keyword_of_statement};
@@ -12,7 +12,8 @@ use crate::statement::{Expression, Location, Operand, Register, Statement};
 use access_table::{Kind, word};
 use std::alloc::{AllocError, Allocator};
 use std::fmt::Write;
-use trace_text::{Mem, Name, Reducer, memory_at, put_cell, put_word};
+use trace_text::{memory_at, put_cell, put_word};
+use trace_values::{Mem, Name, Reducer};
 
 /// The name of a register.
 fn register_name(registers: &[Name], register: Register) -> &str

@@ -2,7 +2,7 @@
 
 ghost use Rattle.std.specs.Prelude.{◌≡◌, ◌≤◌, ◌<◌, [], OnOk, OnErr, length, option_map, position};
 ghost use Rattle.std.specs.Str.{bytes_eq};
-ghost use Rattle.trace_text.specs.Limits.{max_lines};
+ghost use Rattle.trace_values.specs.Limits.{max_lines};
 ghost use Rattle.program_lines.specs.Scopes.{max_registers, register_named, function_named, with_name};
 
 use crate::statement::Register;
@@ -10,7 +10,7 @@ use indexmap::IndexSet;
 use std::alloc::{AllocError, Allocator};
 use std::hash::{BuildHasherDefault, FoldHasher};
 use std::marker::Model;
-use trace_text::{Name, Names};
+use trace_values::{Name, Names};
 
 /// The most names of functions that are kept, which is the most lines of a text.
 pub const FUNCTION_NAMES: usize = 4_000_000;
@@ -24,7 +24,7 @@ pub struct FunctionNames<'a, A: Allocator> {
 
 impl<'a, A: Allocator> Model for FunctionNames<'a, A> {
     ghost use Rattle.std.specs.Prelude.{ℕ, ◌≤◌, List, map, length};
-    ghost use Rattle.trace_text.specs.Limits.{max_lines};
+    ghost use Rattle.trace_values.specs.Limits.{max_lines};
     ghost use denote.Ref.{Bor};
 
     ghost Value = { List (List ℕ) };

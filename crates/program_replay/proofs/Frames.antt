@@ -1,7 +1,7 @@
 -- The frames of a history by their places.
 use Rattle.std.proofs.Common.{◌≡◌, ◌⊎◌, inl, inr, ℕ, zero, suc, ◌+◌, ◌<◌, Bool, true, false, [], ◌∷◌, ◌++◌, length, Some, refl, sym, ◌∙◌, ap, subst, arith}
 use Rattle.std.specs.Prelude.{slice_get}
-use Rattle.trace_text.specs.declared.value.Act.{Act}
+use Rattle.trace_values.specs.declared.value.Act.{Act}
 use Rattle.sp_labels.specs.declared.answer.Spawned.{Spawned}
 use Rattle.control_history.specs.History.{split, History}
 use Rattle.control_history.specs.Strands.{unused}

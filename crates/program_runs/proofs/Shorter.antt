@@ -1,6 +1,6 @@
 -- What a dialogue begins with is a dialogue that has not ended.
 use Rattle.std.proofs.Common.{◌≡◌, ◌⊎◌, inl, inr, ℕ, List, [], ◌∷◌, ◌++◌, refl, sym, ◌∙◌, ap, subst}
-use Rattle.trace_text.specs.declared.value.Act.{Act}
+use Rattle.trace_values.specs.declared.value.Act.{Act}
 use Rattle.program_text.specs.Codes.{Code}
 use Rattle.program_text.specs.Trees.{Tree, Done}
 use Rattle.program_steps.specs.Values.{Registers}

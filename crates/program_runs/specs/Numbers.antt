@@ -1,7 +1,7 @@
 -- Histories of requests whose values are numbers of 64 bits, as those of each gate are.
 use Rattle.std.specs.Prelude.{◌<◌, ◌^◌}
 use Rattle.std.specs.List.{All}
-use Rattle.trace_text.specs.declared.value.Act.{Act}
+use Rattle.trace_values.specs.declared.value.Act.{Act}
 use Rattle.race_gate.specs.Entries.{Entries}
 
 -- the value of an act, where it has one, is a number of 64 bits

@@ -1,6 +1,6 @@
 -- The runs of a program.
 use Rattle.std.specs.Prelude.{◌≡◌, ℕ, List, map}
-use Rattle.trace_text.specs.Grammar.{cells_of}
+use Rattle.trace_values.specs.Declarations.{cells_of}
 use Rattle.race_gate.specs.Entries.{Entries}
 use Rattle.race_gate.specs.Shapes.{Shape}
 use Rattle.race_gate.specs.Judged.{IsJudged}

@@ -1,8 +1,8 @@
 -- Activations in their program.
 use Rattle.std.proofs.lemmas.Bool.{ltb-true, lt-ltb, leb-true, le-leb}
 use Rattle.std.proofs.lemmas.Option.{slice_get_within, get_or_from_slice_get}
-use Rattle.trace_text.specs.Limits.{max_cells}
-use Rattle.trace_text.specs.declared.value.Act.{Act}
+use Rattle.trace_values.specs.Limits.{max_cells}
+use Rattle.trace_values.specs.declared.value.Act.{Act}
 use Rattle.program_lines.specs.declared.statement.Operand.{Operand}
 use Rattle.program_lines.specs.declared.statement.Expression.{Expression}
 use Rattle.program_lines.specs.declared.statement.Location.{Location}

@@ -17,7 +17,7 @@ use Rattle.program_steps.specs.declared.activation.Turn.TheVariants.{Plainly, Nu
 use Rattle.program_steps.specs.Values.{Registers, value_of, result_of}
 use Rattle.program_steps.specs.Scripts.{closing, numbers, assigned, first_part, second_part, counted, PassesAll, none_passed, one_more}
 use Rattle.program_steps.specs.Activations.{left_at, left_on, statement_or, statement_on, is_plain, steps_ahead}
-use Rattle.trace_text.specs.declared.value.Act.{Act}
+use Rattle.trace_values.specs.declared.value.Act.{Act}
 use Rattle.program_steps.specs.Requests.{act_of}
 use Rattle.program_steps.proofs.Trees.{plain_left, and_then_assoc, if_left}
 use Rattle.program_steps.proofs.Places.{drop_at, found, lt_or_le}

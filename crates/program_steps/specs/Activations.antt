@@ -9,7 +9,7 @@ use Rattle.program_text.specs.Trees.{Tree, Done, Step, and_then, left_of}
 use Rattle.program_steps.specs.declared.activation.Turn.{Turn}
 use Rattle.program_steps.specs.declared.activation.Turn.TheVariants.{Plainly, Numbering, Spawning, Returning}
 use Rattle.program_steps.specs.declared.activation.Activation.{Activation}
-use Rattle.trace_text.specs.declared.value.Act.{Act}
+use Rattle.trace_values.specs.declared.value.Act.{Act}
 use Rattle.program_steps.specs.Values.{Registers}
 use Rattle.program_steps.specs.Scripts.{closing, numbers}
 use Rattle.program_steps.specs.Requests.{act_of}

@@ -1,6 +1,6 @@
 -- A request of a function, and its answer.
 use Rattle.std.specs.Prelude.{ℕ, Option, Some, None}
-use Rattle.trace_text.specs.declared.value.Act.{Act}
+use Rattle.trace_values.specs.declared.value.Act.{Act}
 use Rattle.race_gate.specs.declared.answer.Answer.{Answer}
 use Rattle.program_steps.specs.declared.request.Target.{Target}
 

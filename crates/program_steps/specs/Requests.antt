@@ -1,11 +1,11 @@
 -- What a statement asks, and what an answer to it does.
 use Rattle.std.specs.Prelude.{ℕ, ◌≡◌, ◌<◌, Option, Some, None, Bool, true}
-use Rattle.trace_text.specs.Limits.{max_cells}
+use Rattle.trace_values.specs.Limits.{max_cells}
 use Rattle.program_lines.specs.declared.statement.Statement.{Statement}
 use Rattle.program_lines.specs.declared.statement.Statement.TheVariants.{Let, Read, Write, Bump, Update, Put, Get, Spawn, Call, Sync, ParallelFor, If, Else, End}
 use Rattle.program_text.specs.Sound.{is_located}
 use Rattle.program_text.specs.Trees.{Tree, Done, Step, Choice}
-use Rattle.trace_text.specs.declared.value.Act.{Act}
+use Rattle.trace_values.specs.declared.value.Act.{Act}
 use Rattle.race_gate.specs.declared.answer.Answer.{Answer}
 use Rattle.program_steps.specs.declared.request.Target.{Target}
 use Rattle.program_steps.specs.declared.request.Want.{Want}

@@ -5,7 +5,7 @@ ghost use Rattle.program_steps.specs.Requests.{act_of, line_of, is_placed};
 
 use crate::value::{cell_of, value_of};
 use program_text::{REGISTERS, Statement};
-use trace_text::Act;
+use trace_values::Act;
 
 /// What a function asks for.
 #[derive(Clone, Copy, Debug, PartialEq, Eq)]

@@ -1,7 +1,7 @@
 //! Values of operands, expressions and locations.
 
 ghost use Rattle.std.specs.Prelude.{◌≡◌, IsTrue};
-ghost use Rattle.trace_text.specs.Limits.{max_cells};
+ghost use Rattle.trace_values.specs.Limits.{max_cells};
 ghost use Rattle.program_text.specs.Sound.{is_located};
 ghost use Rattle.program_steps.specs.Values.{value_of, result_of, cell_of};
 

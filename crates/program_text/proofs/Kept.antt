@@ -7,11 +7,11 @@ use Rattle.std.proofs.lemmas.List.{length_push}
 use Rattle.std.proofs.lemmas.List.Folds.{list_all-map}
 use Rattle.std.proofs.lemmas.List.Sums.{AllPass-from_list_all, list_all-from_AllPass}
 use Rattle.std.proofs.lemmas.List.Elements.{All-append, All-from_recursion}
-use Rattle.trace_text.specs.declared.value.Mem.{Mem}
-use Rattle.trace_text.specs.declared.value.Version.{Version}
-use Rattle.trace_text.specs.Text.{words, lines}
-use Rattle.trace_text.specs.Limits.{max_cells, max_reducers}
-use Rattle.trace_text.specs.Grammar.{cells_of, memory_at, reducer_at}
+use Rattle.trace_values.specs.declared.value.Mem.{Mem}
+use Rattle.trace_values.specs.declared.value.Version.{Version}
+use Rattle.trace_values.specs.Text.{words, lines}
+use Rattle.trace_values.specs.Limits.{max_cells, max_reducers}
+use Rattle.trace_values.specs.Declarations.{cells_of, memory_at, reducer_at}
 use Rattle.trace_text.specs.Shapes.{is_numbered}
 use Rattle.trace_text.proofs.Kept.{cells_push, numbered_push}
 use Rattle.program_lines.specs.declared.statement.Register.{Register}

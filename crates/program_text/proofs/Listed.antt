@@ -7,9 +7,9 @@ use Rattle.std.specs.Str.{bytes_eq}
 use Rattle.std.proofs.lemmas.List.{append-nil, length-map, map_push, take_all}
 use Rattle.std.proofs.lemmas.List.Sums.{list_all-from_AllPass}
 use Rattle.std.proofs.lemmas.List.Elements.{All-take}
-use Rattle.trace_text.specs.Text.{words, IsTextLine, is_hash, is_text_byte}
-use Rattle.trace_text.specs.Limits.{max_lines}
-use Rattle.trace_text.specs.declared.value.Version.{Version}
+use Rattle.trace_values.specs.Text.{words, IsTextLine, is_hash, is_text_byte}
+use Rattle.trace_values.specs.Limits.{max_lines}
+use Rattle.trace_values.specs.declared.value.Version.{Version}
 use Rattle.program_lines.specs.declared.keyword.Keyword.{Keyword}
 use Rattle.program_lines.specs.declared.keyword.Keyword.TheVariants as word
 use Rattle.program_lines.specs.declared.statement.Statement.{Statement}

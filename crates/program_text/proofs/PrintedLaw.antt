@@ -2,13 +2,13 @@
 use Rattle.std.proofs.Common.{◌≡◌, ◌≢◌, ℕ, suc, ◌+◌, ◌-◌, ◌≤◌, ◌∷◌, ◌++◌, [], List, length, map, arith, refl, sym, ap, subst, ◌∙◌, append_assoc, replicate, length-append}
 use Rattle.std.specs.Prelude.{Option, Some, None, codes, option_map, MatchOption}
 use Rattle.std.proofs.lemmas.List.{append-nil, map_push}
-use Rattle.trace_text.specs.declared.value.Mem.{Mem}
-use Rattle.trace_text.specs.declared.value.Reducer.{Reducer}
-use Rattle.trace_text.specs.declared.value.Monoid.{Monoid}
-use Rattle.trace_text.specs.Text.{lines, words, IsTextLine}
-use Rattle.trace_text.specs.Limits.{max_lines}
-use Rattle.trace_text.specs.Values.{Known}
-use Rattle.trace_text.specs.Grammar.{memory_at, reducer_at}
+use Rattle.trace_values.specs.declared.value.Mem.{Mem}
+use Rattle.trace_values.specs.declared.value.Reducer.{Reducer}
+use Rattle.trace_values.specs.declared.value.Monoid.{Monoid}
+use Rattle.trace_values.specs.Text.{lines, words, IsTextLine}
+use Rattle.trace_values.specs.Limits.{max_lines}
+use Rattle.trace_values.specs.Values.{Known}
+use Rattle.trace_values.specs.Declarations.{memory_at, reducer_at}
 use Rattle.trace_text.specs.Printing.{spaced, Entry, OfMemory, OfReducer, declarations}
 use Rattle.trace_text.proofs.PlainWords.{AreText, lines_ended}
 use Rattle.trace_text.proofs.PlainLines.{AreLater, later_weaker, memory_first, reducer_first, same_known, plain_header}

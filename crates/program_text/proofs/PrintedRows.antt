@@ -1,6 +1,6 @@
 -- Rows of statements: what they say does not hang on the places that an `if` and an `else` name.
 use Rattle.std.proofs.Common.{◌≡◌, ℕ, List, refl}
-use Rattle.trace_text.specs.Values.{Known}
+use Rattle.trace_values.specs.Values.{Known}
 use Rattle.program_lines.specs.declared.statement.Statement.{Statement}
 use Rattle.program_lines.specs.declared.statement.Statement.TheVariants.{Let, Read, Write, Bump, Update, Put, Get, Spawn, Call, Sync, ParallelFor, If, Else, End}
 use Rattle.program_text.specs.Drafts.{ending, with_end}

@@ -1,9 +1,9 @@
 -- A text means at most one program, and never a program and a fault.
 use Rattle.std.proofs.Common.{◌≡◌, ℕ, ◌+◌, ◌∷◌, [], List, arith, sym, ◌∙◌, subst, inl, inr}
-use Rattle.trace_text.specs.declared.value.Version.{Version}
-use Rattle.trace_text.specs.declared.fault.Cause.{Cause}
-use Rattle.trace_text.specs.declared.fault.Cause.TheVariants.{NotText, BadHeader, BadNesting, NoMain, TooMany}
-use Rattle.trace_text.specs.Text.{words, lines}
+use Rattle.trace_values.specs.declared.value.Version.{Version}
+use Rattle.trace_values.specs.declared.fault.Cause.{Cause}
+use Rattle.trace_values.specs.declared.fault.Cause.TheVariants.{NotText, BadHeader, BadNesting, NoMain, TooMany}
+use Rattle.trace_values.specs.Text.{words, lines}
 use Rattle.trace_text.specs.Faults.{HeaderFault}
 use Rattle.trace_text.proofs.Unique.{version_once, header_exclusive, lowest_once}
 use Rattle.program_lines.specs.Grammar.{Item}

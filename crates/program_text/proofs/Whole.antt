@@ -1,13 +1,13 @@
 -- What every program keeps.
 use Rattle.std.proofs.Common.{◌≡◌, ℕ, ◌≤◌, ◌∷◌, [], List, length, sym, ap, subst, ◌∙◌, arith}
 use Rattle.std.specs.Prelude.{IsTrue}
-use Rattle.trace_text.specs.declared.value.Version.{Version}
-use Rattle.trace_text.specs.declared.value.Mem.{Mem}
-use Rattle.trace_text.specs.declared.value.Reducer.{Reducer}
-use Rattle.trace_text.specs.Text.{lines}
-use Rattle.trace_text.specs.Limits.{max_cells, max_reducers}
-use Rattle.trace_text.specs.Values.{Known}
-use Rattle.trace_text.specs.Grammar.{cells_of}
+use Rattle.trace_values.specs.declared.value.Version.{Version}
+use Rattle.trace_values.specs.declared.value.Mem.{Mem}
+use Rattle.trace_values.specs.declared.value.Reducer.{Reducer}
+use Rattle.trace_values.specs.Text.{lines}
+use Rattle.trace_values.specs.Limits.{max_cells, max_reducers}
+use Rattle.trace_values.specs.Values.{Known}
+use Rattle.trace_values.specs.Declarations.{cells_of}
 use Rattle.trace_text.specs.Shapes.{is_numbered}
 use Rattle.program_text.specs.Codes.{Code}
 use Rattle.program_text.specs.Sound.{IsSound, max_functions}

@@ -1,6 +1,6 @@
 -- What was read of a program so far.
 use Rattle.std.specs.Prelude.{ℕ, ◌+◌, Bool, Option, Some, None, List, [], ◌∷◌, ◌++◌, length, slice_get, slice_set}
-use Rattle.trace_text.specs.Values.{Known}
+use Rattle.trace_values.specs.Values.{Known}
 use Rattle.program_lines.specs.declared.statement.Register.{Register}
 use Rattle.program_lines.specs.declared.statement.Statement.{Statement}
 use Rattle.program_lines.specs.declared.statement.Statement.TheVariants.{If, Else, End}

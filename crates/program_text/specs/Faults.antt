@@ -1,14 +1,15 @@
 -- What is wrong with a text that means no program: the first faulty line, and the lowest cause in it.
 use Rattle.std.specs.Prelude.{◌≡◌, ◌≢◌, ℕ, ◌+◌, ◌<◌, ◌≤◌, ◌⊎◌, None, List, [], ◌∷◌}
-use Rattle.trace_text.specs.declared.fault.Cause.{Cause}
-use Rattle.trace_text.specs.declared.fault.Cause.TheVariants.{NotText, BadHeader, BadNesting, NoMain, TooMany}
-use Rattle.trace_text.specs.declared.fault.TextFault.{TextFault}
-use Rattle.trace_text.specs.declared.fault.TextFault.TheVariants.{At, Memory}
-use Rattle.trace_text.specs.declared.value.Version.{Version}
-use Rattle.trace_text.specs.Text.{lines, words, IsTextLine}
-use Rattle.trace_text.specs.Limits.{max_lines}
+use Rattle.trace_values.specs.declared.fault.Cause.{Cause}
+use Rattle.trace_values.specs.declared.fault.Cause.TheVariants.{NotText, BadHeader, BadNesting, NoMain, TooMany}
+use Rattle.trace_values.specs.declared.fault.TextFault.{TextFault}
+use Rattle.trace_values.specs.declared.fault.TextFault.TheVariants.{At, Memory}
+use Rattle.trace_values.specs.declared.value.Version.{Version}
+use Rattle.trace_values.specs.Text.{lines, words, IsTextLine}
+use Rattle.trace_values.specs.Limits.{max_lines}
 use Rattle.trace_text.specs.Grammar.{IsHeader}
-use Rattle.trace_text.specs.Faults.{IsLowest, HeaderFault}
+use Rattle.trace_values.specs.Causes.{IsLowest}
+use Rattle.trace_text.specs.Faults.{HeaderFault}
 use Rattle.trace_text.specs.Drafts.{IsFaultOf}
 use Rattle.program_lines.specs.Grammar.{Item, ItemMeans}
 use Rattle.program_lines.specs.Faults.{WordsFault}

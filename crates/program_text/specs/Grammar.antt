@@ -1,11 +1,12 @@
 -- What the lines of a program mean: a case for each kind of line.
 use Rattle.std.specs.Prelude.{◌≡◌, ◌≢◌, ℕ, ◌+◌, ◌<◌, ◌≤◌, false, Option, Some, None, List, [], ◌∷◌, ◌++◌, length, unwrap_or, option_map, MatchOption}
-use Rattle.trace_text.specs.declared.value.Version.{Version}
-use Rattle.trace_text.specs.Text.{lines, words, IsTextLine, IsName}
-use Rattle.trace_text.specs.Limits.{max_cells, max_reducers, max_lines}
-use Rattle.trace_text.specs.Names.{IsFresh}
+use Rattle.trace_values.specs.declared.value.Version.{Version}
+use Rattle.trace_values.specs.Text.{lines, words, IsTextLine, IsName}
+use Rattle.trace_values.specs.Limits.{max_cells, max_reducers, max_lines}
+use Rattle.trace_values.specs.Names.{IsFresh}
 use Rattle.program_lines.specs.Scopes.{max_registers}
-use Rattle.trace_text.specs.Grammar.{IsHeader, cells_of, with_memory, with_reducer}
+use Rattle.trace_values.specs.Declarations.{cells_of, with_memory, with_reducer}
+use Rattle.trace_text.specs.Grammar.{IsHeader}
 use Rattle.program_lines.specs.Grammar.{Item, Blank, Declared, Reduces, Begins, Does, Decides, Otherwise, Ends, ItemMeans}
 use Rattle.program_text.specs.Codes.{Code, main_of}
 use Rattle.program_text.specs.Sound.{max_functions, max_statements}

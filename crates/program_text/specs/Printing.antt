@@ -1,6 +1,6 @@
 -- The plain text of a program: each item on its own line, words separated by one space, numbers without leading zeros.
 use Rattle.std.specs.Prelude.{◌≡◌, ℕ, ◌+◌, ◌-◌, List, [], ◌∷◌, ◌++◌, codes, map, flat_map, replicate}
-use Rattle.trace_text.specs.Values.{Known, version_spelling}
+use Rattle.trace_values.specs.Values.{Known, version_spelling}
 use Rattle.trace_text.specs.Printing.{Entry, declarations, entry_text, spaced, line_of as line_of_entry}
 use Rattle.program_lines.specs.declared.statement.Statement.{Statement}
 use Rattle.program_lines.specs.Grammar.{line_of}

@@ -14,10 +14,8 @@ use crate::open_function::Open;
 use program_lines::{FunctionNames, Item, Register, Scope, Statement, read_line};
 use std::alloc::Allocator;
 use std::marker::Model;
-use trace_text::{
-    CELLS, Cause, LINES, Mem, Monoid, Name, Names, REDUCERS, Reducer, TextFault, Version, Words,
-    as_text,
-};
+use trace_text::{CELLS, LINES, REDUCERS};
+use trace_values::{Cause, Mem, Monoid, Name, Names, Reducer, TextFault, Version, Words, as_text};
 
 /// The most functions of a program.
 pub const FUNCTIONS: usize = 1_000;

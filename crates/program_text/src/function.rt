@@ -3,7 +3,7 @@
 use program_lines::Statement;
 use std::alloc::Allocator;
 use std::marker::Model;
-use trace_text::{Items, Name};
+use trace_values::{Items, Name};
 
 /// The statements of a body in order of their lines, the `end` of its function left out.
 pub type Body<A> = Items<Statement, A>;

@@ -24,4 +24,4 @@ pub use laws::{meaning_or_fault, one_fault, one_meaning};
 pub use plain_law::plain_meaning;
 pub use program::Program;
 pub use program_lines::{Expression, Location, Operand, REGISTERS, Register, Statement};
-pub use trace_text::{Cause, TextFault};
+pub use trace_values::{Cause, TextFault};

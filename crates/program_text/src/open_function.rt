@@ -1,7 +1,7 @@
 //! A function that has not ended.
 
 ghost use Rattle.std.specs.Prelude.{◌≡◌, ◌+◌, ◌<◌, ◌≤◌, ◌↔◌, [], Some, IsTrue, OnOk, OnErr, IfOk, length};
-ghost use Rattle.trace_text.specs.Text.{IsName};
+ghost use Rattle.trace_values.specs.Text.{IsName};
 ghost use Rattle.program_lines.specs.Scopes.{max_registers};
 ghost use Rattle.program_text.specs.Sound.{max_statements};
 ghost use Rattle.program_text.specs.Drafts.{ending as ending_of, with_end, first_open, with_register, with_statement, with_choice, with_else, code_of};
@@ -12,7 +12,7 @@ use crate::function::{Body, Function, RegisterNames};
 use program_lines::{Register, Statement};
 use std::alloc::{AllocError, Allocator};
 use std::marker::Model;
-use trace_text::Name;
+use trace_values::Name;
 
 /// A part of an `if` that has not ended.
 #[derive(Clone, Copy, Debug)]

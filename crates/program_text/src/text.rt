@@ -2,8 +2,8 @@
 
 ghost use Rattle.std.specs.Prelude.{◌≡◌, ◌<◌, Some, length, OnOk, IfOk, MatchResult, option_copied, position};
 ghost use Rattle.std.specs.List.{before_first};
-ghost use Rattle.trace_text.specs.Text.{lines, is_hash};
-ghost use Rattle.trace_text.specs.Limits.{max_lines};
+ghost use Rattle.trace_values.specs.Text.{lines, is_hash};
+ghost use Rattle.trace_values.specs.Limits.{max_lines};
 ghost use Rattle.program_text.specs.Functions.{is_name_word, function_in as named_in, function_named, with_function, functions_of};
 ghost use Rattle.program_text.specs.Drafts.{held};
 ghost use Rattle.program_text.specs.Codes.{main_of as main_among};
@@ -14,8 +14,9 @@ use crate::draft::{Draft, fault};
 use crate::function::Function;
 use program_lines::FunctionNames;
 use std::alloc::{AllocError, Allocator};
-use trace_text::{
-    Cause, LINES, TextFault, Version, Words, as_text, header, is_name, split_line, without_return,
+use trace_text::{LINES, header};
+use trace_values::{
+    Cause, TextFault, Version, Words, as_text, is_name, split_line, without_return,
 };
 
 fn hash_at(line: &[u8]) -> Option<usize>

@@ -1,7 +1,7 @@
 -- Which events of control the answers are.
 use Rattle.std.proofs.Common.{◌≡◌, inl, ◌<◌, ◌+◌, ℕ, Bool, Some, true, false, ◌∷◌, refl, sym, ◌∙◌, subst, arith}
-use Rattle.trace_text.specs.declared.value.Act.{Act}
-use Rattle.trace_text.specs.declared.value.Act.TheVariants.{Spawn, Sync, Call, Return, Read, Write, Bump, Update, Put, Get}
+use Rattle.trace_values.specs.declared.value.Act.{Act}
+use Rattle.trace_values.specs.declared.value.Act.TheVariants.{Spawn, Sync, Call, Return, Read, Write, Bump, Update, Put, Get}
 use Rattle.sp_labels.specs.declared.answer.Spawned.{Spawned}
 use Rattle.control_history.specs.History.{Event, split, same, joined, waits, call, resumed, ended, ended_joined, finished, History}
 use Rattle.control_history.specs.Strands.{Running, unused}

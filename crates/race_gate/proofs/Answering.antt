@@ -3,8 +3,8 @@ use Rattle.std.proofs.Common.{◌≡◌, ◌⊎◌, inl, inr, ℕ, suc, ◌+◌,
 use Rattle.std.proofs.lemmas.List.{append-nil}
 use Rattle.access_table.specs.declared.kind.Kind.{Kind}
 use Rattle.access_table.specs.declared.kind.Kind.TheVariants as kind
-use Rattle.trace_text.specs.declared.value.Act.{Act}
-use Rattle.trace_text.specs.declared.value.Act.TheVariants.{Update, Put, Get}
+use Rattle.trace_values.specs.declared.value.Act.{Act}
+use Rattle.trace_values.specs.declared.value.Act.TheVariants.{Update, Put, Get}
 use Rattle.sp_labels.specs.declared.answer.Spawned.{Spawned}
 use Rattle.control_history.specs.History.{Event, split, joined, ended_joined, History}
 use Rattle.control_history.specs.Strands.{Running, unused}

@@ -1,6 +1,6 @@
 -- Acts of control and accesses, and the books of reducers that there may be.
 use Rattle.std.proofs.Common.{◌≡◌, ℕ, Option, Some, None, refl, sym, ◌∙◌, subst}
-use Rattle.trace_text.specs.declared.value.Act.{Act}
+use Rattle.trace_values.specs.declared.value.Act.{Act}
 use Rattle.control_history.specs.History.{Event, History}
 use Rattle.control_history.specs.Strands.{Running}
 use Rattle.control_history.specs.Legal.{Allowed}

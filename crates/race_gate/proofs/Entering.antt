@@ -4,9 +4,9 @@ use Rattle.std.specs.Prelude.{MatchOption, slice_index}
 use Rattle.std.specs.Option.{option_to_list}
 use Rattle.std.proofs.lemmas.List.{append-nil, reverse-append}
 use Rattle.std.proofs.lemmas.Grind.{common_steps}
-use Rattle.trace_text.specs.declared.value.Act.{Act}
-use Rattle.trace_text.specs.declared.value.Act.TheVariants.{Spawn, Sync, Call, Return, Read, Write, Bump, Update, Put, Get}
-use Rattle.trace_text.specs.declared.value.Monoid.{Monoid}
+use Rattle.trace_values.specs.declared.value.Act.{Act}
+use Rattle.trace_values.specs.declared.value.Act.TheVariants.{Spawn, Sync, Call, Return, Read, Write, Bump, Update, Put, Get}
+use Rattle.trace_values.specs.declared.value.Monoid.{Monoid}
 use Rattle.control_history.specs.History.{Event, History}
 use Rattle.control_history.specs.Strands.{Running}
 use Rattle.control_history.specs.Legal.{Allowed, Legal, then}

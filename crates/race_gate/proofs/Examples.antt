@@ -3,7 +3,7 @@ use Rattle.std.proofs.Common.{◌≡◌, inl, inr, ℕ, zero, suc, true, [], ◌
 use Rattle.access_table.specs.declared.kind.Rule.TheVariants.{Free, Race}
 use Rattle.access_table.specs.declared.kind.Kind.TheVariants as kind
 use Rattle.access_table.specs.Table.{rule_between}
-use Rattle.trace_text.specs.declared.value.Act.TheVariants.{Spawn, Read, Write}
+use Rattle.trace_values.specs.declared.value.Act.TheVariants.{Spawn, Read, Write}
 use Rattle.control_history.specs.Updated.{updated}
 use Rattle.control_history.specs.History.{History}
 use Rattle.control_history.specs.Strands.{Running}

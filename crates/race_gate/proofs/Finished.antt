@@ -1,8 +1,8 @@
 -- The verdicts on puts and gets are those of each finished extension of the whole history.
 use Rattle.std.proofs.Common.{◌≡◌, ◌↔◌, ◌⊎◌, inl, inr, ℕ, List, [], ◌∷◌, ◌++◌, append_assoc, refl, sym, ◌∙◌, ap, subst}
 use Rattle.access_table.specs.declared.kind.Kind.{Kind}
-use Rattle.trace_text.specs.declared.value.Act.{Act}
-use Rattle.trace_text.specs.declared.value.Act.TheVariants.{Put, Get}
+use Rattle.trace_values.specs.declared.value.Act.{Act}
+use Rattle.trace_values.specs.declared.value.Act.TheVariants.{Put, Get}
 use Rattle.control_history.specs.History.{History}
 use Rattle.control_history.specs.Extensions.{Extends}
 use Rattle.race_gate.specs.declared.answer.Entry.{Entry}

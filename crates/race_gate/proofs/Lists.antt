@@ -1,6 +1,6 @@
 -- Replies to a list of requests, one after another.
 use Rattle.std.proofs.Common.{◌≡◌, List, [], ◌∷◌, ◌++◌, refl, subst}
-use Rattle.trace_text.specs.declared.value.Request.{Request}
+use Rattle.trace_values.specs.declared.value.Request.{Request}
 use Rattle.race_gate.specs.declared.answer.Reply.{Reply}
 use Rattle.race_gate.specs.States.{State}
 use Rattle.race_gate.specs.Replies.{Judges, JudgesAll}

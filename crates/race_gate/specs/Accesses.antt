@@ -2,8 +2,8 @@
 use Rattle.std.specs.Prelude.{ℕ, suc, List, [], ◌∷◌, ◌++◌, length, Option, Some, None, Bool, true, false, if◌then◌else◌}
 use Rattle.std.specs.Option.{option_map, option_to_list}
 use Rattle.access_table.specs.declared.kind.Kind.TheVariants as kind
-use Rattle.trace_text.specs.declared.value.Act.{Act}
-use Rattle.trace_text.specs.declared.value.Act.TheVariants.{Read, Write, Bump, Update, Put, Get}
+use Rattle.trace_values.specs.declared.value.Act.{Act}
+use Rattle.trace_values.specs.declared.value.Act.TheVariants.{Read, Write, Bump, Update, Put, Get}
 use Rattle.shadow_history.specs.Accesses.{Access}
 use Rattle.race_gate.specs.declared.access.CellAccess.{CellAccess}
 use Rattle.race_gate.specs.declared.access.Sort.{Sort}

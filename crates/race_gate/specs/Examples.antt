@@ -2,8 +2,8 @@
 use Rattle.std.specs.Prelude.{ℕ, true, [], ◌∷◌}
 use Rattle.access_table.specs.declared.kind.Kind.TheVariants as kind
 use Rattle.access_table.specs.declared.kind.Rule.TheVariants.{Race}
-use Rattle.trace_text.specs.declared.value.Act.{Act}
-use Rattle.trace_text.specs.declared.value.Act.TheVariants.{Spawn, Sync, Return, Read, Write}
+use Rattle.trace_values.specs.declared.value.Act.{Act}
+use Rattle.trace_values.specs.declared.value.Act.TheVariants.{Spawn, Sync, Return, Read, Write}
 use Rattle.race_gate.specs.declared.answer.Answer.{Answer}
 use Rattle.race_gate.specs.declared.answer.Answer.TheVariants.{Split, Same, Finished, Granted, Value, Refused}
 use Rattle.race_gate.specs.declared.answer.Entry.{Entry}

@@ -1,7 +1,7 @@
 -- Why a request is not answered.
 use Rattle.std.specs.Prelude.{◌≡◌, ◌<◌, ℕ, false, length, IsTrue}
-use Rattle.trace_text.specs.declared.value.Act.TheVariants.{Return}
-use Rattle.trace_text.specs.declared.value.Request.{Request}
+use Rattle.trace_values.specs.declared.value.Act.TheVariants.{Return}
+use Rattle.trace_values.specs.declared.value.Request.{Request}
 use Rattle.control_history.specs.Strands.{Running}
 use Rattle.control_history.specs.Blocks.{stack, IsSynced}
 use Rattle.race_gate.specs.declared.fault.GateFault.{GateFault}

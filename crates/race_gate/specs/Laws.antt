@@ -1,6 +1,6 @@
 -- What holds of all judged histories.
 use Rattle.std.specs.Prelude.{◌≡◌, ◌⊎◌, ◌↔◌, ◌+◌, ◌%◌, ◌^◌, ◌++◌, ◌∷◌, ℕ, Some}
-use Rattle.trace_text.specs.declared.value.Act.TheVariants.{Put, Get}
+use Rattle.trace_values.specs.declared.value.Act.TheVariants.{Put, Get}
 use Rattle.control_history.specs.History.{History}
 use Rattle.control_history.specs.Strands.{Running}
 use Rattle.race_gate.specs.Entries.{Entries, control_part}

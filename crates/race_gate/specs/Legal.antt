@@ -1,7 +1,7 @@
 -- Which histories are legal.
 use Rattle.std.specs.Prelude.{[], ◌∷◌, MatchOption}
-use Rattle.trace_text.specs.declared.value.Act.{Act}
-use Rattle.trace_text.specs.declared.value.Act.TheVariants.{Spawn, Sync, Call, Return, Read, Write, Bump, Update, Put, Get}
+use Rattle.trace_values.specs.declared.value.Act.{Act}
+use Rattle.trace_values.specs.declared.value.Act.TheVariants.{Spawn, Sync, Call, Return, Read, Write, Bump, Update, Put, Get}
 use Rattle.control_history.specs.Strands.{Running}
 use Rattle.control_history.specs.Legal.{Allowed}
 use Rattle.race_gate.specs.declared.answer.Answer.{Answer}

@@ -1,7 +1,7 @@
 -- What the cells of memory hold.
 use Rattle.std.specs.Prelude.{◌≡◌, ◌<◌, ◌+◌, ◌%◌, ◌^◌, ◌==◌, ℕ, List, [], ◌∷◌, length, slice_index, if◌then◌else◌}
-use Rattle.trace_text.specs.declared.value.Act.{Act}
-use Rattle.trace_text.specs.declared.value.Act.TheVariants.{Write, Bump}
+use Rattle.trace_values.specs.declared.value.Act.{Act}
+use Rattle.trace_values.specs.declared.value.Act.TheVariants.{Write, Bump}
 use Rattle.race_gate.specs.declared.answer.Answer.{Answer}
 use Rattle.race_gate.specs.declared.answer.Answer.TheVariants.{Granted}
 use Rattle.race_gate.specs.Entries.{Entries}

@@ -1,9 +1,9 @@
 -- The right answers to puts and gets of reducers.
 use Rattle.std.specs.Prelude.{◌≡◌, ℕ, List, [], ◌∷◌, Some}
 use Rattle.access_table.specs.declared.kind.Kind.TheVariants as kind
-use Rattle.trace_text.specs.declared.value.Monoid.{Monoid}
-use Rattle.trace_text.specs.declared.value.Act.{Act}
-use Rattle.trace_text.specs.declared.value.Act.TheVariants.{Put, Get}
+use Rattle.trace_values.specs.declared.value.Monoid.{Monoid}
+use Rattle.trace_values.specs.declared.value.Act.{Act}
+use Rattle.trace_values.specs.declared.value.Act.TheVariants.{Put, Get}
 use Rattle.control_history.specs.History.{History}
 use Rattle.view_read_rule.specs.Reads.{ReducerRead}
 use Rattle.reducer_values.specs.Accesses.{Steps, items_of}

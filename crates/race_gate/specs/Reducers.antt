@@ -2,8 +2,8 @@
 use Rattle.std.specs.Prelude.{ℕ, suc, List, [], ◌∷◌, ◌++◌, length, Option, Some, None}
 use Rattle.std.specs.Option.{option_to_list}
 use Rattle.access_table.specs.declared.kind.Kind.TheVariants as kind
-use Rattle.trace_text.specs.declared.value.Act.{Act}
-use Rattle.trace_text.specs.declared.value.Act.TheVariants.{Update, Put, Get}
+use Rattle.trace_values.specs.declared.value.Act.{Act}
+use Rattle.trace_values.specs.declared.value.Act.TheVariants.{Update, Put, Get}
 use Rattle.control_history.specs.History.{Event}
 use Rattle.reducer_values.specs.Accesses.{Step, control, update, put, other, Steps}
 use Rattle.view_read_rule.specs.Reads.{ReducerRead}

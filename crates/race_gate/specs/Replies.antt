@@ -1,6 +1,6 @@
 -- What a reply says of the gate before and after it.
 use Rattle.std.specs.Prelude.{◌≡◌, List, [], ◌∷◌, length, Result, Ok, Err}
-use Rattle.trace_text.specs.declared.value.Request.{Request}
+use Rattle.trace_values.specs.declared.value.Request.{Request}
 use Rattle.race_gate.specs.declared.answer.Receipt.{Receipt}
 use Rattle.race_gate.specs.declared.answer.Reply.{Reply}
 use Rattle.race_gate.specs.declared.answer.Reply.TheVariants.{Done, Illegal}

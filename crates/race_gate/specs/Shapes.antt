@@ -1,9 +1,9 @@
 -- What a program declares, and the limits on it.
 use Rattle.std.specs.Prelude.{◌<◌, ℕ, List, length}
-use Rattle.trace_text.specs.declared.value.Monoid.{Monoid}
-use Rattle.trace_text.specs.declared.value.Shape.{Shape as DeclaredShape}
-use Rattle.trace_text.specs.declared.value.Act.{Act}
-use Rattle.trace_text.specs.declared.value.Act.TheVariants.{Read, Write, Bump, Update, Put, Get}
+use Rattle.trace_values.specs.declared.value.Monoid.{Monoid}
+use Rattle.trace_values.specs.declared.value.Shape.{Shape as DeclaredShape}
+use Rattle.trace_values.specs.declared.value.Act.{Act}
+use Rattle.trace_values.specs.declared.value.Act.TheVariants.{Read, Write, Bump, Update, Put, Get}
 
 -- how many cells there are, and the monoid of each reducer
 pub record Shape : Type 0 where

@@ -1,8 +1,8 @@
 -- What the gate's steps do to the strands, to the shadow history and to memory.
 use Rattle.std.specs.Prelude.{◌≡◌, ◌↔◌, ◌<◌, ◌+◌, ◌%◌, ◌^◌, ◌==◌, ℕ, List, ◌∷◌, ◌++◌, length, slice_index, Some, None, Option, if◌then◌else◌}
 use Rattle.std.specs.Option.{option_to_list}
-use Rattle.trace_text.specs.declared.value.Act.{Act}
-use Rattle.trace_text.specs.declared.value.Act.TheVariants.{Spawn, Sync, Call, Return}
+use Rattle.trace_values.specs.declared.value.Act.{Act}
+use Rattle.trace_values.specs.declared.value.Act.TheVariants.{Spawn, Sync, Call, Return}
 use Rattle.control_history.specs.History.{Event, History}
 use Rattle.sp_labels.specs.Roster.{Roster, Follows}
 use Rattle.shadow_history.specs.declared.cell.Cell.{Cell}

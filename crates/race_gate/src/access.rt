@@ -4,7 +4,7 @@ ghost use Rattle.std.specs.Prelude.{◌≡◌};
 ghost use Rattle.race_gate.specs.Accesses.{sort_of};
 
 use access_table::{Kind, access_table};
-use trace_text::Act;
+use trace_values::Act;
 
 /// An access of a cell of memory.
 #[derive(Clone, Copy, Debug, PartialEq, Eq)]

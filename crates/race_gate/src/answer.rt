@@ -4,7 +4,7 @@ use crate::fault::GateFault;
 use access_table::Rule;
 use shadow_history::Witness;
 use sp_labels::Spawned;
-use trace_text::Request;
+use trace_values::Request;
 
 /// What the gate answers to a request.
 #[derive(Clone, Copy, Debug, PartialEq, Eq)]

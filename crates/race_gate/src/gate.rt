@@ -18,7 +18,7 @@ use shadow_history::Shadow;
 use sp_labels::Strands;
 use std::alloc::{AllocError, Allocator};
 use std::marker::Model;
-use trace_text::{Act, Monoids, Request, Shape};
+use trace_values::{Act, Monoids, Request, Shape};
 
 /// A gate: it judges requests one after another and keeps the history of its answers. Contracts see its shape, its limit, whether it
 /// was stopped, its history, the newest entry first, and what its cells hold.

@@ -15,7 +15,7 @@ use branch_names::Branches;
 use reducer_views::Views;
 use std::alloc::{AllocError, Allocator};
 use std::marker::Model;
-use trace_text::{Act, Monoid};
+use trace_values::{Act, Monoid};
 use view_read_rule::{ReadPeers, ViewVerdict};
 
 /// The branches of the strands, the first granted read of each reducer, and the strands' views of reducers.

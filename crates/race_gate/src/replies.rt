@@ -8,7 +8,7 @@ ghost use Rattle.race_gate.specs.Replies.{Judges, JudgesAll};
 use crate::answer::Reply;
 use crate::gate::Gate;
 use std::alloc::{AllocError, Allocator};
-use trace_text::Request;
+use trace_values::Request;
 
 /// Judges a request, and gives the reply to it.
 fn reply_to<A: Allocator + Clone>(gate: &mut Gate<A>, request: Request) -> Reply

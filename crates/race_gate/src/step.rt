@@ -24,7 +24,7 @@ use access_table::{access_table, rule};
 use shadow_history::Shadow;
 use sp_labels::{Returned, SpFault, Strands, Synced};
 use std::alloc::Allocator;
-use trace_text::{Act, Shape};
+use trace_values::{Act, Shape};
 
 /// Whether the cell or reducer that an act names is there.
 pub fn is_in_range<A: Allocator>(shape: &Shape<A>, act: Act) -> bool

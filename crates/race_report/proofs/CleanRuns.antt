@@ -3,8 +3,8 @@ use Rattle.std.proofs.Common.{◌≡◌, ℕ, ◌+◌, Bool, true, false, List, 
 use Rattle.std.specs.Prelude.{◌↔◌, IsTrue}
 use Rattle.std.specs.Option.{option_to_list}
 use Rattle.std.proofs.lemmas.List.Elements.{All-nil, All-cons, All-head, All-tail}
-use Rattle.trace_text.specs.declared.value.Request.{Request}
-use Rattle.trace_text.specs.Values.{Known}
+use Rattle.trace_values.specs.declared.value.Request.{Request}
+use Rattle.trace_values.specs.Values.{Known}
 use Rattle.serde_json.specs.Data.{Data}
 use Rattle.race_gate.specs.declared.answer.Answer.{Answer}
 use Rattle.race_gate.specs.declared.answer.Answer.TheVariants.{Refused, Unset}

@@ -6,9 +6,9 @@ use Rattle.std.specs.Option.{option_to_list}
 use Rattle.serde_json.specs.Data.{Data, null, number, unsigned, Members, no_members, member, put}
 use Rattle.serde_json.specs.View.{items_of}
 use Rattle.serde_json.specs.Written.{has_float, items_have_float, members_have_float}
-use Rattle.trace_text.specs.declared.value.Mem.{Mem}
-use Rattle.trace_text.specs.declared.value.Request.{Request}
-use Rattle.trace_text.specs.Values.{Known}
+use Rattle.trace_values.specs.declared.value.Mem.{Mem}
+use Rattle.trace_values.specs.declared.value.Request.{Request}
+use Rattle.trace_values.specs.Values.{Known}
 use Rattle.race_gate.specs.declared.answer.Answer.{Answer}
 use Rattle.race_gate.specs.declared.answer.Answer.TheVariants.{Refused, Unset}
 use Rattle.race_gate.specs.declared.answer.Entry.{Entry}

@@ -3,8 +3,8 @@ use Rattle.std.proofs.Common.{◌≡◌, ℕ, Bool, true, false, Some, List, len
 use Rattle.std.proofs.lemmas.List.{length-map}
 use Rattle.serde_json.specs.Data.{Data, string}
 use Rattle.serde_json.specs.Find.{get}
-use Rattle.trace_text.specs.Grammar.{cells_of}
-use Rattle.trace_text.specs.declared.value.Reducer.{Reducer}
+use Rattle.trace_values.specs.Declarations.{cells_of}
+use Rattle.trace_values.specs.declared.value.Reducer.{Reducer}
 use Rattle.program_text.specs.Sound.{IsSound}
 use Rattle.program_runs.specs.Laws.{CleanLaw}
 use Rattle.race_report.specs.Refusals.{refusals_told}

@@ -1,10 +1,10 @@
 -- What must hold of a run for its report to be told. A judged history meets it.
 use Rattle.std.specs.Prelude.{◌<◌, ◌≤◌, ℕ, List, length, map}
 use Rattle.std.specs.List.{All}
-use Rattle.trace_text.specs.declared.value.Act.{Act}
-use Rattle.trace_text.specs.declared.value.Act.TheVariants.{Get}
-use Rattle.trace_text.specs.Grammar.{cells_of}
-use Rattle.trace_text.specs.Values.{Known}
+use Rattle.trace_values.specs.declared.value.Act.{Act}
+use Rattle.trace_values.specs.declared.value.Act.TheVariants.{Get}
+use Rattle.trace_values.specs.Declarations.{cells_of}
+use Rattle.trace_values.specs.Values.{Known}
 use Rattle.race_gate.specs.declared.answer.Answer.{Answer}
 use Rattle.race_gate.specs.declared.answer.Answer.TheVariants.{Refused, Unset}
 use Rattle.race_gate.specs.declared.answer.Entry.{Entry}

@@ -2,8 +2,8 @@
 use Rattle.std.specs.Prelude.{◌≡◌, ℕ, Some, List, length, reverse, codes}
 use Rattle.serde_json.specs.Data.{string}
 use Rattle.serde_json.specs.Find.{get}
-use Rattle.trace_text.specs.Grammar.{cells_of}
-use Rattle.trace_text.specs.Values.{Known}
+use Rattle.trace_values.specs.Declarations.{cells_of}
+use Rattle.trace_values.specs.Values.{Known}
 use Rattle.race_gate.specs.declared.answer.Entry.{Entry}
 use Rattle.race_gate.specs.Entries.{Entries}
 use Rattle.program_text.specs.Codes.{Code}

@@ -3,8 +3,8 @@ use Rattle.std.specs.Prelude.{ℕ, Bool, true, false, List, [], ◌∷◌, codes
 use Rattle.serde_json.specs.Data.{Data, boolean, number, unsigned, string, array, object, Members, member, no_members, put}
 use Rattle.serde_json.specs.View.{items_of}
 use Rattle.serde_json.specs.Written.{compact_text}
-use Rattle.trace_text.specs.declared.value.Mem.{Mem}
-use Rattle.trace_text.specs.Values.{Known}
+use Rattle.trace_values.specs.declared.value.Mem.{Mem}
+use Rattle.trace_values.specs.Values.{Known}
 use Rattle.race_gate.specs.declared.answer.Entry.{Entry}
 use Rattle.race_report.specs.Refusals.{refusals_told}
 

@@ -3,7 +3,7 @@
 ghost use Rattle.std.specs.Prelude.{◌≡◌, ◌<◌, ◌≤◌, ◌↔◌, true, false, length, map, option_map, reverse, string_bytes, IfOk, IsTrue, IsSome};
 ghost use Rattle.serde_json.specs.Data.{number, unsigned};
 ghost use Rattle.serde_json.specs.View.{view};
-ghost use Rattle.trace_text.specs.Grammar.{cells_of};
+ghost use Rattle.trace_values.specs.Declarations.{cells_of};
 ghost use Rattle.program_text.specs.Programs.{contents};
 ghost use Rattle.race_gate.specs.Shapes.{IsInRange};
 ghost use Rattle.race_gate.specs.Extensions.{IsClean};
@@ -19,7 +19,8 @@ use race_gate::{Answer, Entry};
 use serde_json::{Map, Value, json, put};
 use shadow_history::Witness;
 use std::alloc::{AllocError, Allocator, Global};
-use trace_text::{Act, Mem, Request, cell_name};
+use trace_text::cell_name;
+use trace_values::{Act, Mem, Request};
 
 /// The name of the cell or the reducer that an act asks for.
 fn name_of<A: Allocator>(

@@ -8,7 +8,7 @@ use access_table::{Kind, access_table, rule_word};
 use itoa::Buffer;
 use race_gate::{Answer, GateFault, Reply};
 use std::alloc::{AllocError, Allocator};
-use trace_text::Act;
+use trace_values::Act;
 
 /// The kind of access that an act is, where it is one.
 fn kind_of_act(act: Act) -> Option<Kind>

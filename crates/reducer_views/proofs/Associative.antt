@@ -2,8 +2,8 @@
 use Rattle.std.proofs.Common.{◌≡◌, ℕ, ◌+◌, ◌-◌, ◌*◌, ◌%◌, ◌^◌, ◌<◌, min, max, refl, sym, ap, ap₂, ◌∙◌, arith, lit<}
 use Rattle.std.proofs.Math.Nat.{add-mod-mod, mod-add-mod, mod-lt, mod-eq_of_lt, mul_assoc, add-mul, add_assoc}
 use Rattle.std.proofs.lemmas.Nat.{mul-mod_first, mul-mod_second}
-use Rattle.trace_text.specs.declared.value.Monoid.{Monoid}
-use Rattle.trace_text.specs.declared.value.Monoid.TheVariants.{Sum, Min, Max, Last, Digits}
+use Rattle.trace_values.specs.declared.value.Monoid.{Monoid}
+use Rattle.trace_values.specs.declared.value.Monoid.TheVariants.{Sum, Min, Max, Last, Digits}
 use Rattle.reducer_views.specs.declared.view.View.{View}
 use Rattle.reducer_views.specs.declared.view.View.TheVariants.{Nothing, One, Pair}
 use Rattle.reducer_views.specs.Products.{FitsMonoid, identity_of, update_view, put_view, product_of, MonoidLaw}

@@ -1,8 +1,8 @@
 -- What is held follows the steps.
 use Rattle.std.proofs.Common.{◌≡◌, ◌≢◌, ◌⊎◌, inl, inr, ℕ, ◌+◌, ◌<◌, ◌≤◌, Bool, true, false, List, [], ◌∷◌, map, length, get_or, Option, Some, None, refl, sym, ap, ap₂, ◌∙◌, subst, subst₂, arith}
 use Rattle.std.proofs.lemmas.List.{get_or_default}
-use Rattle.trace_text.specs.declared.value.Monoid.{Monoid}
-use Rattle.trace_text.specs.declared.value.Monoid.TheVariants.{Sum}
+use Rattle.trace_values.specs.declared.value.Monoid.{Monoid}
+use Rattle.trace_values.specs.declared.value.Monoid.TheVariants.{Sum}
 use Rattle.control_history.specs.Updated.{updated}
 use Rattle.control_history.specs.History.{Event, split, same, joined, waits, call, resumed, ended, ended_joined, finished, History}
 use Rattle.control_history.specs.Strands.{absent, reserved, running, over, status, Running, unused}

@@ -1,6 +1,6 @@
 -- The value of a granted get is the strand's view.
 use Rattle.std.proofs.Common.{ℕ, ◌<◌, ◌^◌, [], ◌∷◌, inl, inr, sym, subst}
-use Rattle.trace_text.specs.declared.value.Monoid.{Monoid}
+use Rattle.trace_values.specs.declared.value.Monoid.{Monoid}
 use Rattle.reducer_values.specs.Items as one
 use Rattle.reducer_values.specs.Accesses.{Steps, control, update, put, other, items_of}
 use Rattle.reducer_values.specs.Entries.{Entry, value_of, HasUpdate, HasPut}

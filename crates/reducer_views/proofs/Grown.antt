@@ -2,7 +2,7 @@
 use Rattle.std.proofs.Common.{◌≡◌, ◌≢◌, ◌⊎◌, inl, inr, ℕ, ◌+◌, ◌<◌, ◌≤◌, Bool, true, false, List, [], ◌∷◌, ◌++◌, length, get_or, set, refl, sym, ap, ap₂, ◌∙◌, subst, subst₂, arith, lit≤, length-append}
 use Rattle.std.proofs.lemmas.List.{get_or_append_left, get_or_past, get_or-set_other, get_or-set_same, length-set, map-append, map-set}
 use Rattle.std.proofs.Math.Seq.{get_or-append_seam}
-use Rattle.trace_text.specs.declared.value.Monoid.{Monoid}
+use Rattle.trace_values.specs.declared.value.Monoid.{Monoid}
 use Rattle.reducer_views.specs.Touched.{look_up, listed_of, AreTouches}
 use Rattle.reducer_views.specs.Pieces.{Kept, kept_of, all_kept, kept_at, home_at, later_at, touches_at, AreKept, more_strands, Grown}
 use Rattle.control_history.proofs.Updates.{same_or_not}

@@ -2,7 +2,7 @@
 use Rattle.std.proofs.Common.{◌≡◌, ◌≢◌, ◌⊎◌, inl, inr, ℕ, ◌-◌, ◌<◌, zero, suc, List, [], ◌∷◌, length, map, get_or, set, Option, Some, None, Box, refl, sym, ap, ap₂, ◌∙◌, subst, subst₂, arith}
 use Rattle.std.proofs.lemmas.List.{get_or-map, get_or-set_other, get_or-set_same, length-map, length-set, map-set}
 use Rattle.control_history.proofs.Members.{Present, contains_present}
-use Rattle.trace_text.specs.declared.value.Monoid.{Monoid}
+use Rattle.trace_values.specs.declared.value.Monoid.{Monoid}
 use Rattle.reducer_views.specs.declared.pieces.Piece.{Piece}
 use Rattle.reducer_views.specs.declared.touched.Touch.{Touch}
 use Rattle.reducer_views.specs.declared.touched.Slot.{Slot}

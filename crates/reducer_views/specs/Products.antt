@@ -1,7 +1,7 @@
 -- The monoids of reducers, by their views.
 use Rattle.std.specs.Prelude.{ℕ, ◌+◌, ◌-◌, ◌*◌, ◌%◌, ◌^◌, ◌<◌, min, max, Option, Some, None}
-use Rattle.trace_text.specs.declared.value.Monoid.{Monoid}
-use Rattle.trace_text.specs.declared.value.Monoid.TheVariants.{Sum, Min, Max, Last, Digits}
+use Rattle.trace_values.specs.declared.value.Monoid.{Monoid}
+use Rattle.trace_values.specs.declared.value.Monoid.TheVariants.{Sum, Min, Max, Last, Digits}
 use Rattle.reducer_values.specs.Views.{Reducer, IsMonoidOn}
 use Rattle.reducer_views.specs.declared.view.View.{View}
 use Rattle.reducer_views.specs.declared.view.View.TheVariants.{Nothing, One, Pair}

@@ -5,7 +5,7 @@ ghost use Rattle.reducer_views.specs.Touched.{Changes, added, both, combined, to
 
 use crate::view::{View, product};
 use std::alloc::{AllocError, Allocator};
-use trace_text::Monoid;
+use trace_values::Monoid;
 
 /// The view that was gathered of a reducer, and its monoid.
 #[derive(Debug, Clone, Copy, PartialEq, Eq)]

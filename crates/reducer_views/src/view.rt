@@ -3,7 +3,7 @@
 ghost use Rattle.std.specs.Prelude.{◌≡◌, ◌↔◌, IsTrue};
 ghost use Rattle.reducer_views.specs.Products.{FitsMonoid, identity_of, number_of, product_of, put_view, update_view};
 
-use trace_text::Monoid;
+use trace_values::Monoid;
 
 /// What a strand has gathered of a reducer. Every number of a view in hand is below 2^64.
 #[derive(Debug, Clone, Copy, PartialEq, Eq)]

@@ -14,7 +14,7 @@ use crate::view::{identity, of_put, of_update, value};
 use sp_labels::Spawned;
 use std::alloc::{AllocError, Allocator};
 use std::marker::Model;
-use trace_text::Monoid;
+use trace_values::Monoid;
 
 /// The views of strands, per reducer. A strand's view is kept under the number of its home. A child goes on at its spawner's
 /// home and a join at that of the strand that opened its block; a continuation has a home of its own.

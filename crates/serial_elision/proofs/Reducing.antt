@@ -1,7 +1,7 @@
 -- Updates and puts of a reducer.
 use Rattle.std.proofs.Common.{◌≡◌, ℕ, ◌+◌, false, List, Some, None, refl, ap, ◌∙◌, arith, drop}
 use Rattle.std.specs.Prelude.{slice_get}
-use Rattle.trace_text.specs.declared.value.Monoid.{Monoid}
+use Rattle.trace_values.specs.declared.value.Monoid.{Monoid}
 use Rattle.reducer_views.specs.Products.{update_view, put_view, product_of}
 use Rattle.reducer_views.specs.Touched.{monoid_of}
 use Rattle.program_lines.specs.declared.statement.Operand.{Operand}

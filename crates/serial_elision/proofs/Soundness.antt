@@ -3,7 +3,7 @@ use Rattle.std.proofs.Common.{◌≡◌, ℕ, ◌+◌, ◌<◌, ◌≤◌, ◌^�
 use Rattle.std.specs.Prelude.{slice_get, slice_index_or, IsTrue, nat_lt}
 use Rattle.std.proofs.lemmas.Bool.{ltb-true}
 use Rattle.std.proofs.lemmas.List.{length-map}
-use Rattle.trace_text.specs.Grammar.{cells_of}
+use Rattle.trace_values.specs.Declarations.{cells_of}
 use Rattle.reducer_views.specs.declared.view.View.TheVariants.{Nothing}
 use Rattle.reducer_views.specs.Products.{FitsMonoid}
 use Rattle.reducer_views.specs.Touched.{monoid_of}

@@ -1,6 +1,6 @@
 -- The elision of a whole program.
 use Rattle.std.specs.Prelude.{◌≡◌, ℕ, ◌<◌, List, Some, map, replicate, length, slice_get}
-use Rattle.trace_text.specs.declared.value.Monoid.{Monoid}
+use Rattle.trace_values.specs.declared.value.Monoid.{Monoid}
 use Rattle.reducer_views.specs.declared.view.View.{View}
 use Rattle.reducer_views.specs.Products.{identity_of}
 use Rattle.program_text.specs.Codes.{Code}

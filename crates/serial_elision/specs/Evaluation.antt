@@ -1,7 +1,7 @@
 -- The serial elision: a spawn is a call, and a sync changes nothing (Feng and Leiserson 1997).
 use Rattle.std.specs.Prelude.{◌≡◌, ◌≢◌, ℕ, ◌+◌, ◌%◌, ◌^◌, List, [], ◌∷◌, ◌++◌, Option, Some, None, unwrap_or, slice_get, slice_index, slice_index_or, slice_set}
-use Rattle.trace_text.specs.declared.value.Act.{Act}
-use Rattle.trace_text.specs.declared.value.Monoid.{Monoid}
+use Rattle.trace_values.specs.declared.value.Act.{Act}
+use Rattle.trace_values.specs.declared.value.Monoid.{Monoid}
 use Rattle.reducer_views.specs.declared.view.View.{View}
 use Rattle.reducer_views.specs.declared.view.View.TheVariants.{Nothing}
 use Rattle.reducer_views.specs.Products.{update_view, put_view, product_of, number_of}

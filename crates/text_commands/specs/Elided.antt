@@ -1,9 +1,9 @@
 -- What is read of a program, and what is written of its elision.
 use Rattle.std.specs.Prelude.{ℕ, ◌≡◌, ◌≤◌, ◌⊎◌, Option, List, ◌++◌, map}
 use Rattle.std.specs.Io.KnownBytes.{Appends}
-use Rattle.trace_text.specs.declared.value.Monoid.{Monoid}
-use Rattle.trace_text.specs.declared.fault.TextFault.TheVariants.{At}
-use Rattle.trace_text.specs.Grammar.{cells_of}
+use Rattle.trace_values.specs.declared.value.Monoid.{Monoid}
+use Rattle.trace_values.specs.declared.fault.TextFault.TheVariants.{At}
+use Rattle.trace_values.specs.Declarations.{cells_of}
 use Rattle.program_text.specs.Drafts.{Contents}
 use Rattle.program_text.specs.Grammar.{TextMeans}
 use Rattle.program_text.specs.Faults.{TextFaults}

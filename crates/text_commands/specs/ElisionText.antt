@@ -1,6 +1,6 @@
 -- The text of an elision.
 use Rattle.std.specs.Prelude.{ℕ, ◌+◌, List, [], ◌∷◌, ◌++◌, take, drop, codes, decimal}
-use Rattle.trace_text.specs.declared.value.Mem.{Mem}
+use Rattle.trace_values.specs.declared.value.Mem.{Mem}
 use Rattle.trace_text.specs.Shapes.{name_in}
 
 -- the line of a memory's cell with this index: its name and its value

@@ -1,7 +1,7 @@
 -- The faults of commands.
 use Rattle.std.specs.Prelude.{ℕ}
-use Rattle.trace_text.specs.declared.fault.TextFault.{TextFault}
-use Rattle.trace_text.specs.declared.fault.TextFault.TheVariants.{Memory as TextMemory}
+use Rattle.trace_values.specs.declared.fault.TextFault.{TextFault}
+use Rattle.trace_values.specs.declared.fault.TextFault.TheVariants.{Memory as TextMemory}
 use Rattle.text_commands.specs.declared.fault.CliFault.{CliFault}
 use Rattle.text_commands.specs.declared.fault.CliFault.TheVariants.{Usage, Trace, Program, Limit, Memory}
 

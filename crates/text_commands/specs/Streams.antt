@@ -1,10 +1,11 @@
 -- What is read, and what is written for it.
 use Rattle.std.specs.Prelude.{ℕ, ◌≡◌, ◌+◌, ◌-◌, ◌^◌, ◌<◌, ◌≤◌, ◌⊎◌, Bool, false, Option, List, ◌++◌, length, map, min}
 use Rattle.std.specs.Io.KnownBytes.{Consumes, Appends, IsAtEnd}
-use Rattle.trace_text.specs.declared.value.Request.{Request}
-use Rattle.trace_text.specs.declared.fault.TextFault.TheVariants.{At}
-use Rattle.trace_text.specs.Values.{Contents}
-use Rattle.trace_text.specs.Grammar.{TextMeans, cells_of}
+use Rattle.trace_values.specs.declared.value.Request.{Request}
+use Rattle.trace_values.specs.declared.fault.TextFault.TheVariants.{At}
+use Rattle.trace_values.specs.Values.{Contents}
+use Rattle.trace_values.specs.Declarations.{cells_of}
+use Rattle.trace_text.specs.Grammar.{TextMeans}
 use Rattle.trace_text.specs.Faults.{TextFaults}
 use Rattle.race_gate.specs.declared.answer.Reply.{Reply}
 use Rattle.race_gate.specs.Shapes.{Shape}

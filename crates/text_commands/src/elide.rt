@@ -1,7 +1,7 @@
 //! Writing the elision of the program that a reader gives.
 
 ghost use Rattle.std.specs.Prelude.{◌≡◌, ◌↔◌, ◌≤◌, ◌≢◌, ◌++◌, ◌+◌, ℕ, List, [], false, drop, IfOk, IfErr, OnOk, IsErrOf, IsTrue};
-ghost use Rattle.trace_text.specs.declared.fault.TextFault.{TextFault as SpecFault};
+ghost use Rattle.trace_values.specs.declared.fault.TextFault.{TextFault as SpecFault};
 ghost use Rattle.trace_text.specs.Shapes.{name_in};
 ghost use Rattle.program_text.specs.Grammar.{TextMeans};
 ghost use Rattle.program_text.specs.Programs.{contents};
@@ -20,7 +20,7 @@ use race_report::{push_number, push_words};
 use serial_elision::{ElideFault, elide};
 use std::alloc::{AllocError, Allocator};
 use std::io::{Read, Write};
-use trace_text::{Mem, TextFault};
+use trace_values::{Mem, TextFault};
 
 /// The fault of a program's text as one of the command. Want of memory is want of memory wherever it comes.
 fn program_fault(fault: TextFault) -> CliFault

@@ -5,7 +5,7 @@ ghost use Rattle.text_commands.specs.Faults.{status_of_fault, fault_of_text};
 
 use std::alloc::{AllocError, AllocFailed};
 use thiserror::Error;
-use trace_text::TextFault;
+use trace_values::TextFault;
 
 /// Why a command fails. Its text stands behind `cilkcheck: ` in one line on standard error, and nothing is written on standard output,
 /// but for the part that a failed write may have written.

@@ -1,12 +1,10 @@
-pub mod Pieces
-pub mod WordsOfLine
 pub mod Numbers
 pub mod Keywords
 pub mod CellWords
 pub mod Outcomes
 pub mod LineFaults
 pub mod Once
-pub mod IndexLemmas
+pub mod NamedWords
 pub mod RoomFaults
 pub mod Unique
 pub mod Requests

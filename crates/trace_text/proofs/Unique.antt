@@ -1,14 +1,15 @@
 -- A text means at most one trace, and never a trace and a fault.
 use Rattle.std.proofs.Common.{rules, ◌≡◌, ℕ, ◌<◌, ◌+◌, ◌∷◌, [], List, get_or, arith, refl, sym, ◌∙◌, ap, subst, inl, inr}
 use Rattle.std.specs.Prelude.{codes}
-use Rattle.trace_text.specs.declared.value.Version.{Version}
-use Rattle.trace_text.specs.declared.value.Version.TheVariants.{One, Two}
-use Rattle.trace_text.specs.declared.fault.Cause.{Cause}
-use Rattle.trace_text.specs.declared.fault.Cause.TheVariants.{NotText, BadHeader, BadWord, BadNumber, UnknownName, TwiceNamed, BadNesting, NoMain, TooMany}
-use Rattle.trace_text.specs.Text.{words, lines}
-use Rattle.trace_text.specs.Values.{Contents, version_spelling}
+use Rattle.trace_values.specs.declared.value.Version.{Version}
+use Rattle.trace_values.specs.declared.value.Version.TheVariants.{One, Two}
+use Rattle.trace_values.specs.declared.fault.Cause.{Cause}
+use Rattle.trace_values.specs.declared.fault.Cause.TheVariants.{NotText, BadHeader, BadWord, BadNumber, UnknownName, TwiceNamed, BadNesting, NoMain, TooMany}
+use Rattle.trace_values.specs.Text.{words, lines}
+use Rattle.trace_values.specs.Values.{Contents, version_spelling}
 use Rattle.trace_text.specs.Grammar.{Item, HasRoom, extended, nothing, IsHeader, LineMeans, LinesMean, LinesOfTrace, TextMeans}
-use Rattle.trace_text.specs.Faults.{IsLowest, cause_number, LineFault, LinesFault, HeaderFault, FaultOfLines, TextFaults}
+use Rattle.trace_values.specs.Causes.{IsLowest, cause_number}
+use Rattle.trace_text.specs.Faults.{LineFault, LinesFault, HeaderFault, FaultOfLines, TextFaults}
 use Rattle.trace_text.proofs.LineFaults.{item_clean, same_head}
 use Rattle.trace_text.proofs.RoomFaults.{out_of_order}
 use Rattle.trace_text.proofs.Once.{item_once, line_once}

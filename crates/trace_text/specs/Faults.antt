@@ -1,34 +1,18 @@
 -- What is wrong with a text that means no trace: the first faulty line, and the lowest cause in it.
 use Rattle.std.specs.Prelude.{◌≡◌, ◌≢◌, ℕ, ◌+◌, ◌<◌, ◌≤◌, Bool, true, false, ◌⊎◌, None, List, [], ◌∷◌, ◌++◌, length, codes}
-use Rattle.trace_text.specs.declared.fault.Cause.{Cause}
-use Rattle.trace_text.specs.declared.fault.Cause.TheVariants.{NotText, BadHeader, BadWord, BadNumber, UnknownName, TwiceNamed, BadNesting, NoMain, TooMany}
-use Rattle.trace_text.specs.declared.value.Version.{Version}
-use Rattle.trace_text.specs.declared.value.Monoid.{Monoid}
-use Rattle.trace_text.specs.declared.value.Mem.{Mem}
+use Rattle.trace_values.specs.declared.fault.Cause.{Cause}
+use Rattle.trace_values.specs.declared.fault.Cause.TheVariants.{NotText, BadHeader, BadWord, BadNumber, UnknownName, TwiceNamed, BadNesting, TooMany}
+use Rattle.trace_values.specs.declared.value.Version.{Version}
+use Rattle.trace_values.specs.declared.value.Monoid.{Monoid}
+use Rattle.trace_values.specs.declared.value.Mem.{Mem}
 use Rattle.trace_text.specs.declared.keyword.Keyword.{Keyword}
-use Rattle.trace_text.specs.Text.{lines, words, IsTextLine, IsName, IsNumber, IsNumberIn, BeginsWithDigit}
-use Rattle.trace_text.specs.Limits.{max_strand, max_value, max_lines}
-use Rattle.trace_text.specs.Values.{Known, Contents}
-use Rattle.trace_text.specs.Names.{IsDeclared, IsFresh, element_word, reducer_named, MonoidMeans}
+use Rattle.trace_values.specs.Text.{lines, words, IsTextLine, IsName, IsNumber, IsNumberIn, BeginsWithDigit}
+use Rattle.trace_values.specs.Limits.{max_strand, max_value, max_lines}
+use Rattle.trace_values.specs.Values.{Known, Contents}
+use Rattle.trace_values.specs.Causes.{IsLowest}
+use Rattle.trace_values.specs.Names.{IsDeclared, IsFresh, element_word, reducer_named, MonoidMeans}
 use Rattle.trace_text.specs.Lines.{Place, FreshName, Number, Cell, ReducerName, MonoidWord, Mark, Placed, IsArranged, declares}
 use Rattle.trace_text.specs.Grammar.{Item, ItemMeans, LineMeans, HasRoom, IsHeader, nothing, extended}
-
--- ---- causes
-
-abbrev pub cause_number : Cause → ℕ
-cause_number NotText = 1
-cause_number BadHeader = 2
-cause_number BadWord = 3
-cause_number BadNumber = 4
-cause_number UnknownName = 5
-cause_number TwiceNamed = 6
-cause_number BadNesting = 7
-cause_number NoMain = 8
-cause_number TooMany = 9
-
--- The cause holds, and none with a lower number does.
-abbrev pub IsLowest : (Cause → Type 0) → Cause → Type 0
-IsLowest Holds cause = Holds cause × ((lower : Cause) → cause_number lower < cause_number cause → Holds lower → ⊥)
 
 -- ---- words in their places
 

@@ -1,15 +1,13 @@
 -- What the lines of a trace mean: a case for each kind of line.
 use Rattle.std.specs.Prelude.{◌≡◌, ℕ, ◌+◌, ◌<◌, ◌≤◌, Option, List, [], ◌∷◌, ◌++◌, length, codes, unwrap_or, is_some}
-use Rattle.std.specs.List.{sum_by}
-use Rattle.trace_text.specs.declared.value.Version.{Version}
-use Rattle.trace_text.specs.declared.value.Monoid.{Monoid}
-use Rattle.trace_text.specs.declared.value.Mem.{Mem}
-use Rattle.trace_text.specs.declared.value.Reducer.{Reducer}
-use Rattle.trace_text.specs.declared.value.TraceLine.{TraceLine}
+use Rattle.trace_values.specs.declared.value.Version.{Version}
+use Rattle.trace_values.specs.declared.value.Monoid.{Monoid}
+use Rattle.trace_values.specs.declared.value.TraceLine.{TraceLine}
 use Rattle.trace_text.specs.declared.keyword.Keyword.TheVariants.{Mem as MemWord, Reducer as ReducerWord}
-use Rattle.trace_text.specs.Text.{lines, words, IsTextLine}
-use Rattle.trace_text.specs.Limits.{max_cells, max_reducers, max_requests, max_lines}
-use Rattle.trace_text.specs.Values.{Known, Contents, version_spelling}
+use Rattle.trace_values.specs.Text.{lines, words, IsTextLine}
+use Rattle.trace_values.specs.Limits.{max_cells, max_reducers, max_requests, max_lines}
+use Rattle.trace_values.specs.Values.{Known, Contents, version_spelling}
+use Rattle.trace_values.specs.Declarations.{cells_of, with_memory, with_reducer}
 use Rattle.trace_text.specs.Lines.{OfName, OfNumber, OfMonoid, Says, asks, operands, if_there}
 
 -- ---- lines
@@ -33,9 +31,6 @@ ItemMeans at known ws (Asked line) =
 
 -- ---- texts
 
-abbrev pub cells_of : List Mem → ℕ
-cells_of mems = sum_by (λ mem. mem.cells) mems
-
 -- The item fits behind what was read so far.
 abbrev pub HasRoom : Contents → Item → Type 0
 HasRoom so_far Blank = Unit {0}
@@ -48,23 +43,6 @@ abbrev pub IsInOrder : Contents → Item → Type 0
 IsInOrder so_far (Declared name length) = so_far.lines ≡ []
 IsInOrder so_far (Reduces name monoid) = so_far.lines ≡ []
 IsInOrder so_far item = Unit {0}
-
--- The memory that the line with the number `at` declares, whose first cell has this number.
-abbrev pub memory_from : ℕ → ℕ → List ℕ → Option ℕ → Mem
-memory_from at first name length = record { name = name; cells = unwrap_or length 1; array = is_some length; first = first; line = at }
-
--- The same behind these memories.
-abbrev pub memory_at : ℕ → List Mem → List ℕ → Option ℕ → Mem
-memory_at at mems name length = memory_from at (cells_of mems) name length
-
-abbrev pub reducer_at : ℕ → List ℕ → Monoid → Reducer
-reducer_at at name monoid = record { name = name; monoid = monoid; line = at }
-
-abbrev pub with_memory : ℕ → Known → List ℕ → Option ℕ → Known
-with_memory at known name length = record known { mems = known.mems ++ memory_at at known.mems name length ∷ [] }
-
-abbrev pub with_reducer : ℕ → Known → List ℕ → Monoid → Known
-with_reducer at known name monoid = record known { reducers = known.reducers ++ reducer_at at name monoid ∷ [] }
 
 -- What was read so far, and the item.
 abbrev pub extended : ℕ → Contents → Item → Contents

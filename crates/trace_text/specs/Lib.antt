@@ -1,12 +1,7 @@
-pub mod Text
-pub mod Limits
-pub mod Values
-pub mod Names
 pub mod Lines
 pub mod Grammar
 pub mod Faults
 pub mod Cells
-pub mod Index
 pub mod Outcome
 pub mod Items
 pub mod Drafts

@@ -1,17 +1,11 @@
 -- What the code's places read: a value, or the lowest cause.
-use Rattle.std.specs.Prelude.{◌≡◌, ℕ, Option, Some, Result, Ok, Err, List, [], ◌∷◌, nat_lt, cond, MatchOption, MatchResult}
-use Rattle.trace_text.specs.declared.fault.Cause.{Cause}
-use Rattle.trace_text.specs.declared.fault.Cause.TheVariants.{BadWord}
-use Rattle.trace_text.specs.Values.{Known}
+use Rattle.std.specs.Prelude.{◌≡◌, ℕ, Option, Some, Result, Err, List, [], ◌∷◌, MatchOption, MatchResult}
+use Rattle.trace_values.specs.declared.fault.Cause.{Cause}
+use Rattle.trace_values.specs.declared.fault.Cause.TheVariants.{BadWord}
+use Rattle.trace_values.specs.Values.{Known}
 use Rattle.trace_text.specs.Lines.{Place, Placed, Value, placed, WordMeans, WordsMean}
-use Rattle.trace_text.specs.Faults.{WordFault, SomeFault, IsLowest, cause_number}
-
--- Both values, or the lower cause.
-abbrev pub both_of : {A B : Type 0} → Result A Cause → Result B Cause → Result (A × B) Cause
-both_of (Ok x) (Ok y) = Ok (x, y)
-both_of (Ok x) (Err d) = Err d
-both_of (Err c) (Ok y) = Err c
-both_of (Err c) (Err d) = cond (nat_lt (cause_number c) (cause_number d)) (Err c) (Err d)
+use Rattle.trace_values.specs.Causes.{IsLowest}
+use Rattle.trace_text.specs.Faults.{WordFault, SomeFault}
 
 -- The answer is what the word means in its place, or the lowest cause why it means nothing.
 abbrev pub Reads : {A : Type 0} → Known → Place → List ℕ → Result A Cause → (A → Value) → Type 0

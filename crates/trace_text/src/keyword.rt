@@ -1,14 +1,11 @@
-//! The first words of lines, and the words of versions and monoids.
+//! The first words of lines.
 
 ghost use Rattle.std.specs.Prelude.{◌≡◌, ◌↔◌, Some};
 ghost use Rattle.trace_text.specs.declared.keyword.Keyword.{Keyword};
-ghost use Rattle.trace_text.specs.declared.value.Monoid.{Monoid};
-ghost use Rattle.trace_text.specs.Names.{MonoidMeans};
 ghost use Rattle.trace_text.specs.Lines.{spelling, asks, HasKeyword};
-ghost use Rattle.trace_text.specs.Values.{version_spelling, monoid_spelling};
 
-use crate::value::{Act, Monoid, Version};
 use access_table::{Kind, kind_of, word};
+use trace_values::{Act, Version};
 
 /// The first word of a line.
 #[derive(Clone, Copy, Debug)]
@@ -45,43 +42,6 @@ pub fn keyword_of(version: Version, word: &str) -> Option<Keyword>
             Some(kind) => Some(Keyword::Access(kind)),
             None => None,
         },
-    }
-}
-
-/// The monoid of the version that a word is.
-pub fn monoid_of(version: Version, name: &str) -> Option<Monoid>
-    ensures { (monoid : Monoid) → (result ≡ Some monoid) ↔ MonoidMeans version name.now monoid }
-{
-    match name {
-        "sum" => Some(Monoid::Sum),
-        "min" => Some(Monoid::Min),
-        "max" => Some(Monoid::Max),
-        "last" => Some(Monoid::Last),
-        "digits" if version == Version::Two => Some(Monoid::Digits),
-        _ => None,
-    }
-}
-
-/// The word of a monoid.
-pub fn monoid_word(monoid: Monoid) -> &'static str
-    ensures { result.now ≡ monoid_spelling monoid }
-{
-    match monoid {
-        Monoid::Sum => "sum",
-        Monoid::Min => "min",
-        Monoid::Max => "max",
-        Monoid::Last => "last",
-        Monoid::Digits => "digits",
-    }
-}
-
-/// The word of a version.
-pub fn version_word(version: Version) -> &'static str
-    ensures { result.now ≡ version_spelling version }
-{
-    match version {
-        Version::One => "1",
-        Version::Two => "2",
     }
 }
 

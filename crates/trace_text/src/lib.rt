@@ -1,4 +1,5 @@
 //! Texts of traces, read into values: a line for each declaration and for each request of a strand, in two versions of the format.
+//! The values, and the lines, words and names of a text, are those of [`trace_values`], which this crate passes on.
 //!
 //! The grammar stands in `specs/` as a relation between the lines of a text and what they mean, with a case for each kind of line, and
 //! beside it, for every other text, the first faulty line and the lowest cause in it. [`Trace::parse`] carries the theorem that the code
@@ -11,32 +12,23 @@
 #![tactic(auto)]
 
 mod cell;
-mod fault;
 mod keyword;
 mod laws;
 mod line;
-mod name;
-mod names;
 pub mod number;
 mod place;
 mod print;
 mod trace;
-mod value;
-mod words;
 
 pub use cell::{cell_name, memory_at};
-pub use fault::{Cause, TextFault, both};
-pub use keyword::{monoid_of, monoid_word, version_word};
 pub use laws::{meaning_or_fault, one_fault, one_meaning, plain_meaning};
-pub use name::{NAME_LEN, Name, is_name};
-pub use names::{Named, Names};
 pub use place::{CELLS, end, length, monoid, reducer};
 pub use print::{
     put_cell, put_declarations, put_feeds, put_memory, put_number, put_reducer, put_word,
 };
 pub use trace::{LINES, REDUCERS, Trace, header};
-pub use value::{
-    Act, Items, Lines, Mem, Mems, Monoid, Monoids, Reducer, Reducers, Request, Shape, TraceLine,
-    Version,
+pub use trace_values::{
+    Act, Cause, Items, Lines, Mem, Mems, Monoid, Monoids, NAME_LEN, Name, Named, Names, Reducer,
+    Reducers, Request, Shape, TextFault, TraceLine, Version, Words, as_text, both, is_name,
+    monoid_of, monoid_word, split_line, version_word, without_return,
 };
-pub use words::{Words, as_text, split_line, without_return};

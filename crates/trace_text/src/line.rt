@@ -3,22 +3,20 @@
 ghost use Rattle.std.specs.Prelude.{◌≡◌, ◌∷◌, [], Some, None, MatchResult};
 ghost use Rattle.access_table.specs.declared.kind.Kind.TheVariants as kind;
 ghost use Rattle.trace_text.specs.declared.keyword.Keyword.TheVariants.{Access};
-ghost use Rattle.trace_text.specs.Values.{Known};
+ghost use Rattle.trace_values.specs.Values.{Known};
 ghost use Rattle.trace_text.specs.Lines.{Cell, ReducerName, FreshName, MonoidWord, Number, Mark, a_strand, a_value, OfName, OfNumber, OfMonoid, if_there, asks, IsControl, HasKeyword};
-ghost use Rattle.trace_text.specs.Limits.{max_cells};
+ghost use Rattle.trace_values.specs.Limits.{max_cells};
 ghost use Rattle.trace_text.specs.Grammar.{ItemMeans};
-ghost use Rattle.trace_text.specs.Faults.{IsLowest, WordsFault};
+ghost use Rattle.trace_values.specs.Causes.{IsLowest};
+ghost use Rattle.trace_text.specs.Faults.{WordsFault};
 ghost use Rattle.trace_text.specs.Outcome.{Fits};
 ghost use Rattle.trace_text.specs.Items.{item_of, line_asked, IsRead};
 
-use crate::fault::{Cause, both};
 use crate::keyword::{Keyword, keyword_of};
-use crate::names::Names;
 use crate::place::{cell, end, fresh_name, length, mark, monoid, reducer, strand, value};
-use crate::value::{Act, Monoid, Request, TraceLine};
-use crate::words::Words;
 use access_table::Kind;
 use std::alloc::Allocator;
+use trace_values::{Act, Cause, Monoid, Names, Request, TraceLine, Words, both};
 
 /// What a line says.
 #[derive(Clone, Copy, Debug)]

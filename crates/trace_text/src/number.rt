@@ -1,12 +1,12 @@
 //! Numbers.
 
 ghost use Rattle.std.specs.Prelude.{◌≡◌, ◌<◌, ◌≤◌, ◌^◌, ◌↔◌, IsTrue, IfOk};
-ghost use Rattle.trace_text.specs.Text.{BeginsWithDigit};
-ghost use Rattle.trace_text.specs.Values.{Known};
+ghost use Rattle.trace_values.specs.Text.{BeginsWithDigit};
+ghost use Rattle.trace_values.specs.Values.{Known};
 ghost use Rattle.trace_text.specs.Lines.{Number, OfNumber};
 ghost use Rattle.trace_text.specs.Outcome.{Reads};
 
-use crate::fault::Cause;
+use trace_values::Cause;
 
 fn begins_with_digit(word: &str) -> bool
     ensures { IsTrue result ↔ BeginsWithDigit word.now }

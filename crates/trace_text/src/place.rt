@@ -1,21 +1,16 @@
 //! Words in their places.
 
 ghost use Rattle.std.specs.Prelude.{◌≡◌, ◌+◌, ◌<◌, ◌≤◌, ◌^◌, ℕ, List, [], Some, MatchResult};
-ghost use Rattle.trace_text.specs.Values.{Known};
-ghost use Rattle.trace_text.specs.Limits.{max_cells};
-ghost use Rattle.trace_text.specs.Names.{SingleMeans, ElementMeans};
+ghost use Rattle.trace_values.specs.Values.{Known};
+ghost use Rattle.trace_values.specs.Limits.{max_cells};
+ghost use Rattle.trace_values.specs.Names.{SingleMeans, ElementMeans};
 ghost use Rattle.trace_text.specs.Lines.{FreshName, Number, Cell, ReducerName, MonoidWord, Mark, a_strand, a_value, OfName, OfNumber, OfMonoid, if_there};
 ghost use Rattle.trace_text.specs.Cells.{IsSingleFault, IsElementFault};
 ghost use Rattle.trace_text.specs.Outcome.{TakesWord, Fits, Reads};
 
-use crate::fault::Cause;
-use crate::keyword::monoid_of;
-use crate::name::is_name;
-use crate::names::{Named, Names};
 use crate::number::number;
-use crate::value::Monoid;
-use crate::words::Words;
 use std::alloc::Allocator;
+use trace_values::{Cause, Monoid, Named, Names, Words, is_name, monoid_of};
 
 /// The most cells that a text declares.
 pub const CELLS: u64 = 1_000_000;

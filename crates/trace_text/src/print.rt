@@ -2,18 +2,18 @@
 
 ghost use Rattle.std.specs.Prelude.{◌≡◌, ◌++◌, ◌∷◌, ◌+◌, ◌-◌, ◌<◌, ◌≤◌, ℕ, [], List, OnOk, IfOk, IsTrue, replicate, string_bytes, cond, map};
 ghost use Rattle.std.specs.Fmt.{decimal};
-ghost use Rattle.trace_text.specs.declared.value.Version.{Version};
-ghost use Rattle.trace_text.specs.declared.value.Reducer.{Reducer};
-ghost use Rattle.trace_text.specs.Values.{Known};
+ghost use Rattle.trace_values.specs.declared.value.Version.{Version};
+ghost use Rattle.trace_values.specs.declared.value.Reducer.{Reducer};
+ghost use Rattle.trace_values.specs.Values.{Known};
 ghost use Rattle.trace_text.specs.Shapes.{is_numbered, name_of_cell};
 ghost use Rattle.trace_text.specs.Printing.{Entry, OfMemory, OfReducer, OfRequest, declarations, entry_text, name_of_reducer, operand_text, known_of, text_from, PrintsEntry, StartsPast, TakesReducers};
 
 use crate::cell::memory_at;
-use crate::keyword::{keyword_for, keyword_word, monoid_word, version_word};
+use crate::keyword::{keyword_for, keyword_word};
 use crate::trace::Trace;
-use crate::value::{Act, Mem, Reducer, TraceLine};
 use std::alloc::{AllocError, Allocator};
 use std::fmt::Write;
+use trace_values::{Act, Mem, Reducer, TraceLine, monoid_word, version_word};
 
 /// Appends a space and a number.
 pub fn put_number<A: Allocator>(out: &mut String<A>, number: u64) -> Result<(), AllocError>

@@ -2,20 +2,21 @@
 
 ghost use Rattle.std.specs.Prelude.{◌≡◌, ◌≤◌, ℕ, List, length, IsTrue, IfOk, map, MatchResult};
 ghost use Rattle.std.specs.List.{All};
-ghost use Rattle.trace_text.specs.Limits.{max_cells, max_reducers, max_requests};
+ghost use Rattle.trace_values.specs.Limits.{max_cells, max_reducers, max_requests};
 ghost use Rattle.trace_text.specs.Shapes.{is_numbered, IsWithin};
-ghost use Rattle.trace_text.specs.Text.{lines};
-ghost use Rattle.trace_text.specs.Grammar.{Item as SpecItem, Declared, Reduces, Asked, LineMeans, LinesMean, TextMeans, extended, nothing, IsHeader, cells_of};
+ghost use Rattle.trace_values.specs.Text.{lines};
+ghost use Rattle.trace_values.specs.Declarations.{cells_of};
+ghost use Rattle.trace_text.specs.Grammar.{Item as SpecItem, Declared, Reduces, Asked, LineMeans, LinesMean, TextMeans, extended, nothing, IsHeader};
 ghost use Rattle.trace_text.specs.Items.{item_of};
 ghost use Rattle.trace_text.specs.Drafts.{so_far, Extends, IsRoomFault, IsLineFault, IsHeaderFault, IsBodyFault, IsTextFault, SaysSo};
 
-use crate::fault::{Cause, TextFault};
 use crate::line::{Item, read_line};
-use crate::names::Names;
 use crate::place::CELLS;
-use crate::value::{Lines, Mems, Monoid, Monoids, Reducers, Shape, TraceLine, Version};
-use crate::words::{Words, as_text, split_line, without_return};
 use std::alloc::{AllocError, Allocator};
+use trace_values::{
+    Cause, Lines, Mems, Monoid, Monoids, Names, Reducers, Shape, TextFault, TraceLine, Version,
+    Words, as_text, split_line, without_return,
+};
 
 /// The most lines of a text.
 pub const LINES: u32 = 4_000_000;

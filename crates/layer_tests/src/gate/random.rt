@@ -12,7 +12,7 @@ use race_gate::{Answer, Entry, Gate};
 use std::alloc::{AllocError, Global};
 use std::process::Abort;
 use std::test::Fail;
-use trace_text::{Act, Monoid, Request};
+use trace_values::{Act, Monoid, Request};
 
 fn drawn_monoid(choice: u32) -> Monoid {
     match choice {

@@ -1,7 +1,7 @@
 use Rattle.std.proofs.Common.{◌≡◌, ◌+◌, ◌∷◌, ◌≢◌, arith, sym}
 use Rattle.std.specs.Prelude.{None}
 use Rattle.std.proofs.lemmas.Bool.Decides.{nat_tests}
-use Rattle.trace_text.specs.Text.{lines}
+use Rattle.trace_values.specs.Text.{lines}
 use Rattle.trace_text.proofs.RoomFaults.{lines_split}
 use Rattle.program_text.specs.Functions.{functions_of}
 use Rattle.program_text.proofs.Knowing.{no_lines}

@@ -1,5 +1,5 @@
 use Rattle.std.proofs.Common.{◌+◌, ◌≤◌, length}
-use Rattle.trace_text.specs.Text.{lines}
+use Rattle.trace_values.specs.Text.{lines}
 use Rattle.program_text.specs.Functions.{functions_of}
 use Rattle.program_text.proofs.Taken.{Decides_whole}
 use Rattle.program_text.proofs.text.body_with.Given as goal

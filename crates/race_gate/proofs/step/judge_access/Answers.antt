@@ -2,8 +2,8 @@ use Rattle.std.proofs.Common.{◌≡◌, ◌↔◌, ℕ, None, true, refl, sym, 
 use Rattle.std.specs.Option.{IsSome}
 use Rattle.std.proofs.lemmas.List.{append-nil}
 use Rattle.access_table.specs.declared.kind.Rule.{Rule}
-use Rattle.trace_text.specs.declared.value.Act.{Act}
-use Rattle.trace_text.specs.declared.value.Act.TheVariants as act
+use Rattle.trace_values.specs.declared.value.Act.{Act}
+use Rattle.trace_values.specs.declared.value.Act.TheVariants as act
 use Rattle.shadow_history.specs.declared.witness.Witness.{Witness}
 use Rattle.shadow_history.specs.Shadow.{Remembers}
 use Rattle.shadow_history.specs.Witnesses.{witness_of}

@@ -1,5 +1,5 @@
 use Rattle.std.proofs.Common.{◌≡◌, ◌≤◌, ◌-◌, ◌+◌, ◌*◌, List, length}
-use Rattle.trace_text.specs.Grammar.{cells_of}
+use Rattle.trace_values.specs.Declarations.{cells_of}
 use Rattle.program_text.specs.Codes.{Code}
 use Rattle.serial_elision.specs.Evaluation.{Effect, Leads}
 use Rattle.serial_elision.specs.Elisions.{first_store, HasMain}

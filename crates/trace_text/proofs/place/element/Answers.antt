@@ -1,6 +1,6 @@
 use Rattle.std.proofs.Common.{arith, refl}
 use Rattle.trace_text.proofs.CellWords.{digits_begin}
-use Rattle.trace_text.proofs.IndexLemmas.{number_fault, element_means, past_array, no_array, array_end}
+use Rattle.trace_text.proofs.NamedWords.{number_fault, element_means, past_array, no_array, array_end}
 use Rattle.trace_text.proofs.place.element.Goals as goal
 
 pub returns-in-Err : goal.returns-in-Err

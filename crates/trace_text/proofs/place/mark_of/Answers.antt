@@ -1,9 +1,10 @@
 use Rattle.std.proofs.Common.{◌≡◌, ◌++◌, ℕ, List, lit<, sym, subst}
 use Rattle.std.specs.Prelude.{None, Some, codes}
 use Rattle.std.proofs.lemmas.Str.Pattern.{strip_prefix_char}
-use Rattle.trace_text.specs.declared.fault.Cause.TheVariants.{BadNumber}
+use Rattle.trace_values.specs.declared.fault.Cause.TheVariants.{BadNumber}
 use Rattle.trace_text.specs.Lines.{Mark}
-use Rattle.trace_text.specs.Faults.{IsLowest, WordFault}
+use Rattle.trace_values.specs.Causes.{IsLowest}
+use Rattle.trace_text.specs.Faults.{WordFault}
 use Rattle.trace_text.proofs.CellWords.{lowest_bad_word}
 use Rattle.trace_text.proofs.Outcomes.{lowest_bad_mark}
 use Rattle.trace_text.proofs.place.mark_of.Goals as goal

@@ -1,5 +1,5 @@
 use Rattle.std.proofs.Common.{refl, rules}
-use Rattle.trace_text.proofs.IndexLemmas.{lowest_no_reducer}
+use Rattle.trace_text.proofs.NamedWords.{lowest_no_reducer}
 use Rattle.trace_text.proofs.place.reducer_of.Goals as goal
 
 pub returns-in-Some-Single : goal.returns-in-Some-Single

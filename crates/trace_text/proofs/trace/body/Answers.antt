@@ -1,5 +1,5 @@
 use Rattle.std.proofs.Common.{◌≡◌, ◌+◌, ◌∷◌}
-use Rattle.trace_text.specs.Text.{lines}
+use Rattle.trace_values.specs.Text.{lines}
 use Rattle.trace_text.specs.Drafts.{so_far}
 use Rattle.trace_text.proofs.RoomFaults.{fault_here, lines_split}
 use Rattle.trace_text.proofs.trace.body.Goals as goal

@@ -1,5 +1,5 @@
 use Rattle.std.proofs.Common.{◌∙◌, ap, subst, refl, length}
-use Rattle.trace_text.specs.Grammar.{cells_of}
+use Rattle.trace_values.specs.Declarations.{cells_of}
 use Rattle.program_steps.specs.declared.activation.Activation.{Activation}
 use Rattle.program_steps.specs.Scripts.{PassesAll}
 use Rattle.program_steps.specs.Activations.{left}

@@ -1,6 +1,6 @@
 use Rattle.std.proofs.Common.{◌∙◌, ap, sym, refl, length}
 use Rattle.std.proofs.lemmas.Option.{slice_get_within}
-use Rattle.trace_text.specs.Grammar.{cells_of}
+use Rattle.trace_values.specs.Declarations.{cells_of}
 use Rattle.program_steps.specs.Scripts.{none_passed}
 use Rattle.program_steps.proofs.Places.{item_of}
 use Rattle.program_steps.proofs.Turns.{passes_more}

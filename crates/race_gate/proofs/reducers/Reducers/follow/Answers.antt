@@ -1,5 +1,5 @@
 use Rattle.std.proofs.Common.{◌≡◌, ◌<◌, ◌+◌, length, inl, inr, Some, refl, sym, ap, subst}
-use Rattle.trace_text.specs.declared.value.Act.{Act}
+use Rattle.trace_values.specs.declared.value.Act.{Act}
 use Rattle.control_history.specs.History.{Event, joined, ended_joined}
 use Rattle.branch_names.specs.Names.{Takes, TakesJoin}
 use Rattle.reducer_views.specs.Held.{split_of}

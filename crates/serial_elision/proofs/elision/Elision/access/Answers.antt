@@ -1,6 +1,6 @@
 use Rattle.std.proofs.Common.{◌<◌, drop, ◌+◌, Some, refl, sym, ap, ◌∙◌, subst, arith, length}
-use Rattle.trace_text.specs.Grammar.{cells_of}
-use Rattle.trace_text.specs.declared.value.Act.{Act}
+use Rattle.trace_values.specs.Declarations.{cells_of}
+use Rattle.trace_values.specs.declared.value.Act.{Act}
 use Rattle.program_steps.specs.Values.{cell_of, value_of}
 use Rattle.program_steps.proofs.Located.{placed, named}
 use Rattle.program_lines.specs.declared.statement.Statement.TheVariants.{Read, Write, Bump}

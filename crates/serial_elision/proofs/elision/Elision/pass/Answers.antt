@@ -1,7 +1,7 @@
 use Rattle.std.proofs.Common.{drop, ◌+◌, Some, refl, ap, ◌∙◌, arith, length}
 use Rattle.std.specs.Prelude.{slice_index}
 use Rattle.std.proofs.lemmas.Bool.{ltb-true}
-use Rattle.trace_text.specs.Grammar.{cells_of}
+use Rattle.trace_values.specs.Declarations.{cells_of}
 use Rattle.serial_elision.specs.States.{state_of, store_of, monoids_in, callers_of, left_at}
 use Rattle.program_steps.proofs.Places.{left_behind_else}
 use Rattle.serial_elision.proofs.Soundness.{body_sound, next_within, next_fits, part_ends, within}

@@ -1,6 +1,6 @@
 use Rattle.std.proofs.Common.{◌≡◌, ◌≤◌, ap, sym, ◌∙◌, subst, length}
 use Rattle.std.proofs.lemmas.Bool.{ltb-false}
-use Rattle.trace_text.specs.Grammar.{cells_of}
+use Rattle.trace_values.specs.Declarations.{cells_of}
 use Rattle.serial_elision.specs.States.{state_of, monoids_in}
 use Rattle.serial_elision.proofs.Elisions.{left_stands, left_makes}
 use Rattle.serial_elision.proofs.elision.Elision.step.Goals as goal

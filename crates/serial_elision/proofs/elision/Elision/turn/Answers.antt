@@ -1,5 +1,5 @@
 use Rattle.std.proofs.Common.{◌≡◌, ◌-◌, ◌<◌, suc, refl, arith}
-use Rattle.trace_text.specs.Grammar.{cells_of}
+use Rattle.trace_values.specs.Declarations.{cells_of}
 use Rattle.serial_elision.specs.States.{state_of, monoids_in}
 use Rattle.program_steps.proofs.Places.{found}
 use Rattle.serial_elision.proofs.Elisions.{turns_over, turned_stands, turn_makes, callee_known}

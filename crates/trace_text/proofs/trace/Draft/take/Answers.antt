@@ -1,7 +1,8 @@
 use Rattle.std.proofs.Common.{◌≡◌, ◌∙◌, ap, refl}
-use Rattle.trace_text.specs.Text.{words}
+use Rattle.trace_values.specs.Text.{words}
 use Rattle.trace_text.specs.Grammar.{ItemMeans}
-use Rattle.trace_text.specs.Faults.{WordsFault, IsLowest}
+use Rattle.trace_values.specs.Causes.{IsLowest}
+use Rattle.trace_text.specs.Faults.{WordsFault}
 use Rattle.trace_text.specs.Items.{item_of}
 use Rattle.trace_text.specs.Drafts.{so_far}
 use Rattle.trace_text.proofs.LineFaults.{item_clean}

@@ -1,0 +1,41 @@
+-- The index of names, which finds what a name stands for.
+use Rattle.std.specs.Prelude.{◌≡◌, ℕ, ◌+◌, ◌≤◌, cond, ◌⊎◌, Option, Some, None, List, length, option_map}
+use Rattle.std.specs.List.{All}
+use Rattle.std.specs.Map.{lookup}
+use Rattle.std.specs.Str.{bytes_eq}
+use denote.Ref.{Bor}
+use Rattle.trace_values.specs.declared.names.Named.{Named}
+use Rattle.trace_values.specs.declared.names.Named.TheVariants.{Single, Array, Reducer}
+use Rattle.trace_values.specs.declared.value.Mem.{Mem}
+use Rattle.trace_values.specs.Limits.{max_cells, max_reducers}
+use Rattle.trace_values.specs.Values.{Known}
+use Rattle.trace_values.specs.Names.{memory_named, reducer_named}
+use Rattle.trace_values.specs.Declarations.{cells_of}
+
+-- its cells are among the most that a text has
+abbrev pub IsInRange : Mem → Type 0
+IsInRange mem = mem.first + mem.cells ≤ max_cells
+
+abbrev pub name_of_memory : Mem → Named
+name_of_memory mem = cond mem.array (Array mem.first mem.cells) (Single mem.first)
+
+abbrev pub named_by : Option Mem → Option ℕ → Option Named
+named_by (Some mem) reducer = Some (name_of_memory mem)
+named_by None reducer = option_map Reducer reducer
+
+-- what a name stands for
+abbrev pub named : Known → List ℕ → Option Named
+named known name = named_by (memory_named known.mems name) (reducer_named known.reducers name)
+
+-- no name is that of a memory and of a reducer
+abbrev pub IsApart : Known → List ℕ → Type 0
+IsApart known name = (memory_named known.mems name ≡ None) ⊎ (reducer_named known.reducers name ≡ None)
+
+-- the index finds what each name stands for, and the cells are counted
+pub record IsIndexed (known : Known) (cells : ℕ) (entries : List (Bor (List ℕ) × Named)) : Type 0 where
+  pub finds : (name : List ℕ) → lookup (λ (key : Bor (List ℕ)). bytes_eq name key.now) entries ≡ named known name
+  pub apart : (name : List ℕ) → IsApart known name
+  pub counted : cells ≡ cells_of known.mems
+  pub few_cells : cells ≤ max_cells
+  pub few_reducers : length known.reducers ≤ max_reducers
+  pub in_range : All IsInRange known.mems

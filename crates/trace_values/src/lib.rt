@@ -1,0 +1,26 @@
+//! The values that texts stand for, and what texts are made of: lines, words, names, declarations, and the causes of faults.
+//!
+//! Here is no grammar of lines: no crate above needs one in order to speak of a request. What a word, a name or a number is stands in
+//! `specs/`, over the bytes of a text. [`split_line`] gives the lines of a text one by one and [`Words::take`] the words of a line, each
+//! with the contract that it is the next one by that definition; [`is_name`] decides what a name is. [`Names::find`] carries the theorem
+//! that what the index finds is what a name stands for behind the declarations so far, which [`Names::add_memory`] and
+//! [`Names::add_reducer`] extend by just one, or not at all where memory runs out. [`monoid_of`] and [`monoid_word`] are the spelling of
+//! monoids, and [`both`] is the lower of two causes.
+#![tactic(auto)]
+
+mod fault;
+mod name;
+mod names;
+mod spelling;
+mod value;
+mod words;
+
+pub use fault::{Cause, TextFault, both};
+pub use name::{NAME_LEN, Name, is_name};
+pub use names::{Named, Names};
+pub use spelling::{monoid_of, monoid_word, version_word};
+pub use value::{
+    Act, Items, Lines, Mem, Mems, Monoid, Monoids, Reducer, Reducers, Request, Shape, TraceLine,
+    Version,
+};
+pub use words::{Words, as_text, split_line, without_return};
