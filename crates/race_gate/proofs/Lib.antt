@@ -14,3 +14,4 @@ pub mod Answered
 pub mod Answering
 pub mod Controlled
 pub mod Finished
+pub mod Tracked

@@ -36,7 +36,7 @@ impl<A: Allocator + Clone> Model for Reducers<A> {
 
 /// What is kept of these reducers before any event; nothing where there are none.
 pub fn opening_reducers<A: Allocator + Clone>(
-    alloc: A,
+    alloc: &A,
     monoids: &[Monoid],
 ) -> Result<Option<Reducers<A>>, AllocError>
     requires { length monoids.now < 2 ^ 32 }
@@ -45,7 +45,7 @@ pub fn opening_reducers<A: Allocator + Clone>(
     if monoids.is_empty() {
         return Ok(None);
     }
-    Ok(Some(Reducers::new(alloc, monoids)?))
+    Ok(Some(Reducers::new(alloc.clone()?, monoids)?))
 }
 
 impl<A: Allocator + Clone> Reducers<A> {
