@@ -67,15 +67,13 @@ impl<A: Allocator + Clone> Gate<A> {
         ensures { IfOk result (λ gate. gate ≡ opening (shape_of shape.now) limit) }
     {
         let shape = copied(&alloc, shape)?;
-        let memory = vec![in alloc.clone()?; 0; shape.cells as usize]?;
-        let tracks = Tracks::new(&alloc, shape.cells, shape.monoids.as_slice())?;
         Ok(Gate {
+            memory: vec![in alloc.clone()?; 0; shape.cells as usize]?,
+            tracks: Tracks::new(&alloc, shape.cells, shape.monoids.as_slice())?,
             shape,
             limit,
             stopped: false,
             history: Vec::new(alloc),
-            memory,
-            tracks,
         })
     }
 

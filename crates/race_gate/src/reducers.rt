@@ -55,13 +55,10 @@ impl<A: Allocator + Clone> Reducers<A> {
         ensures keeps { IfOk result (λ reducers. Keeps reducers [] []) }
         ensures monoids { IfOk result (λ reducers. reducers.views.monoids ≡ monoids.now) }
     {
-        let branches = Branches::new(alloc.clone()?)?;
-        let reads = ReadPeers::new(alloc.clone()?, monoids.len() as u32)?;
-        let views = Views::new(alloc, monoids)?;
         Ok(Reducers {
-            branches,
-            reads,
-            views,
+            branches: Branches::new(alloc.clone()?)?,
+            reads: ReadPeers::new(alloc.clone()?, monoids.len() as u32)?,
+            views: Views::new(alloc, monoids)?,
         })
     }
 

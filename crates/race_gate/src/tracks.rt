@@ -49,13 +49,10 @@ impl<A: Allocator + Clone> Tracks<A> {
         requires { length monoids.now < 2 ^ 32 }
         ensures { IfOk result (λ tracks. OpensTracks tracks.strands tracks.shadow tracks.reducers cells monoids.now) }
     {
-        let strands = opening_strands(alloc)?;
-        let shadow = opening_shadow(alloc, cells)?;
-        let reducers = opening_reducers(alloc, monoids)?;
         Ok(Tracks {
-            strands,
-            shadow,
-            reducers,
+            strands: opening_strands(alloc)?,
+            shadow: opening_shadow(alloc, cells)?,
+            reducers: opening_reducers(alloc, monoids)?,
         })
     }
 
