@@ -15,3 +15,4 @@ pub mod Answering
 pub mod Controlled
 pub mod Finished
 pub mod Tracked
+pub mod Checking

@@ -16,7 +16,7 @@ use Rattle.race_gate.specs.declared.access.Sort.TheVariants.{Control, Cell as Ce
 use Rattle.race_gate.specs.declared.answer.Answer.{Answer}
 use Rattle.race_gate.specs.declared.answer.Entry.{Entry}
 use Rattle.race_gate.specs.declared.fault.GateFault.{GateFault}
-use Rattle.race_gate.specs.declared.fault.GateFault.TheVariants.{Stopped, Limit, NotRunning, BadName, Unsynced, Memory}
+use Rattle.race_gate.specs.declared.fault.GateFault.TheVariants.{Memory}
 use Rattle.race_gate.specs.Entries.{event_between}
 use Rattle.race_gate.specs.Legal.{Belongs}
 use Rattle.race_gate.specs.Accesses.{cell_access, sort_of}
@@ -25,7 +25,7 @@ use Rattle.race_gate.specs.Verdicts.{IfValue}
 use Rattle.race_gate.specs.Shapes.{Shape}
 use Rattle.race_gate.specs.Books.{Books, OptionKeepsStill, OptionKeepsOn, OptionKeepsRunning, OptionHasReducer, OptionAnswersAccess}
 use Rattle.race_gate.specs.States.{State}
-use Rattle.race_gate.specs.Faults.{IsFaultless, IsFirstFault, HasCause, place}
+use Rattle.race_gate.specs.Faults.{IsFaultless}
 use Rattle.race_gate.specs.Kept.{IsKept, IsReady, with_entry}
 use Rattle.race_gate.specs.Steps.{FollowsWith, GoesOn, IsJudgedBy, TakesPlace}
 use Rattle.race_gate.proofs.Followed.{running-in-each, synced-in-each, few-in-each}
@@ -132,15 +132,3 @@ module _ (shape : Shape) (limit : ℕ) (stopped : Bool) (items : List Entry) (he
       record { shape = shape; limit = limit; stopped = stopped; history = reverse others; memory = take len (memory ++ drop (length memory) held) } ≡
       the_state
   same-state others memory len counted same_entries same = rw (same_entries, same-cells memory len counted same) refl
-
--- a request without fault is refused for want of memory alone
-pub only-memory : (state : State) (request : Request) → IsFaultless state request → IsFirstFault state request Memory
-only-memory state request faultless = (tt, no_other)
-  where
-    no_other : (other : GateFault) → place other < 6 → HasCause state request other → ⊥
-    no_other Stopped below has = absurd (let going = faultless.going in cc)
-    no_other Limit below has = absurd (let under = faultless.below in omega arith)
-    no_other NotRunning below has = has faultless.runs
-    no_other BadName below has = has faultless.in_range
-    no_other Unsynced below has = has.1 (faultless.synced has.0)
-    no_other Memory below has = absurd (omega arith)

@@ -3,7 +3,8 @@ use Rattle.std.proofs.lemmas.Result.{err_from_is_err_and}
 use Rattle.race_gate.specs.Faults.{IsFaultless}
 use Rattle.race_gate.specs.States.{State, IsRight}
 use Rattle.race_gate.specs.Kept.{IsKept}
-use Rattle.race_gate.proofs.Tracked.{is-ready, kept-answered, same-state, only-memory}
+use Rattle.race_gate.proofs.Checking.{only-memory}
+use Rattle.race_gate.proofs.Tracked.{is-ready, kept-answered, same-state}
 use Rattle.race_gate.proofs.gate.Gate.judge.Goals as goal
 
 pub returns-in_err-check-clause-replies : goal.returns-in_err-check-clause-replies
