@@ -19,7 +19,6 @@ use trace_text::{Act, Monoids, Request, Shape};
 
 /// A gate: it judges requests one after another and keeps the history of its answers. Contracts see its shape, its limit, whether it
 /// was stopped, its history, the newest entry first, and what its cells hold.
-#[derive(Drop)]
 pub struct Gate<A: Allocator + Clone> {
     shape: Shape<A>,
     limit: u32,
@@ -27,6 +26,20 @@ pub struct Gate<A: Allocator + Clone> {
     history: Vec<Entry, A>,
     memory: Vec<u64, A>,
     tracks: Tracks<A>,
+}
+
+/// Written out, so that what lets a gate go calls one function.
+impl<A: Allocator + Clone> Drop for Gate<A> {
+    fn drop(self) {
+        let Gate {
+            shape: _,
+            limit: _,
+            stopped: _,
+            history: _,
+            memory: _,
+            tracks: _,
+        } = self;
+    }
 }
 
 impl<A: Allocator + Clone> Model for Gate<A> {
