@@ -18,13 +18,25 @@ use trace_text::Monoid;
 
 /// The views of strands, per reducer. A strand's view is kept under the number of its home. A child goes on at its spawner's
 /// home and a join at that of the strand that opened its block; a continuation has a home of its own.
-#[derive(Drop)]
 pub struct Views<A: Allocator + Clone> {
     monoids: Vec<Monoid, A>,
     pieces: Vec<Piece<A>, A>,
     spare: Spare<A>,
     has_room: bool,
     alloc: A,
+}
+
+/// Written out, so that what lets views go calls one function.
+impl<A: Allocator + Clone> Drop for Views<A> {
+    fn drop(self) {
+        let Views {
+            monoids: _,
+            pieces: _,
+            spare: _,
+            has_room: _,
+            alloc: _,
+        } = self;
+    }
 }
 
 impl<A: Allocator + Clone> Model for Views<A> {
