@@ -30,7 +30,7 @@ use Rattle.frame_steps.specs.Stacks.{StackDialogue, SameStack, NextStack, origin
 use Rattle.frame_steps.specs.Joins.{join_after, joins_step, joins_after}
 use Rattle.frame_steps.specs.States.{State}
 use Rattle.frame_steps.specs.Frames.{script_of, DialogueOf, standing, callers_of, stack_in, stack_of, joins_in, joins_of, Stands, Wants, IsAfter, CanFollow, MayAnswer, IsCalled, IsLeft, began_by}
-use Rattle.frame_steps.proofs.Replies.{act_is, answered_belongs, belongs_answered}
+use Rattle.frame_steps.proofs.Replies.{act_is, is_same, answered_belongs, belongs_answered}
 use Rattle.frame_steps.proofs.Dialogues.{stack_only, stack_may, stack_stopped}
 use Rattle.frame_steps.proofs.Standings.{begun_standing, begun_place, return_left, asking_tree, called_there, callers_pushed, goes_to, goes_on, calls, returned_by, resumes, ends, origins, line_at, item_of_pushed, item_kept, item_pushed, no_item}
 
@@ -173,6 +173,12 @@ module _ (functions : List Code) where
   pub leave_belongs : (before : State) (answer : Answer) → before.phase ≡ Wanting → statement_of functions before.top ≡ None → IsReturned (began_by before.callers) answer → MayAnswer functions before answer
   leave_belongs before answer wanting none r = may_answer before None Act.Return answer wanting none refl (subst (λ o. IsReturned o answer) (sym (origins functions before.callers)) r)
 
+  -- an answer to the return of the topmost function is one to a return
+  pub leave_returned : (before : State) (answer : Answer) → statement_of functions before.top ≡ None → MayAnswer functions before answer → IsReturned (began_by before.callers) answer
+  leave_returned before answer none m =
+      let r = (returned_by functions _ _ before.top.registers m.exchange (wants_follow before None m.exchange none m.wants)).1 in
+      subst (λ o. IsReturned o answer) (origins functions before.callers) (subst (λ a. IsReturned (origin_of (callers_of functions before.callers)) a) m.is r)
+
   leave_next : (before after : State) (x : Exchange) → Stands functions before → before.phase ≡ Wanting → statement_of functions before.top ≡ None → IsLeft x.answer before after → Wants functions before x → NextStack functions x (stack_of functions before) (stack_of functions after)
   leave_next before after x s wanting none l w =
       subst (λ b. NextStack functions x b (stack_of functions after)) (sym (wanting_stack before wanting)) (by x.answer l (wants_follow before None x none w))
@@ -238,6 +244,13 @@ module _ (functions : List Code) where
 
   pub wants_call : (before : State) (line function : ℕ) (argument : Operand) (x : Exchange) → statement_of functions before.top ≡ Some (Call line function argument) → Wants functions before x → x.act ≡ Act.Call
   wants_call before line function argument x e w = sym (act_is Act.Call x.act (wants_follow before (Some (Call line function argument)) x e w).act)
+
+  -- an answer to a call is Same
+  pub call_same : (before : State) (line function : ℕ) (argument : Operand) (answer : Answer) → statement_of functions before.top ≡ Some (Call line function argument) → MayAnswer functions before answer → answer ≡ Same
+  call_same before line function argument answer e m =
+      let f = wants_follow before (Some (Call line function argument)) m.exchange e m.wants in
+      let b = subst (λ a. Belongs (origin_of (callers_of functions before.callers)) a m.exchange.answer) (sym (act_is Act.Call m.exchange.act f.act)) f.answer in
+      sym m.is ∙ is_same m.exchange.answer b
 
   pub call_after : (cells reducers : ℕ) (before after : State) (line function : ℕ) (argument : Operand) (value : ℕ) → IsSound cells reducers functions → Stands functions before → before.phase ≡ Wanting → statement_of functions before.top ≡ Some (Call line function argument) → value ≡ value_of argument before.top.registers → IsCalled functions function value before after → (root given : ℕ) (history : List Exchange) (x : Exchange) → IsAfter functions root given history before → Wants functions before x → IsAfter functions root given (history ++ x ∷ []) after
   call_after cells reducers before after line function argument value sound s wanting e v c root given history x a w =

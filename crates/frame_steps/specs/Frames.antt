@@ -1,5 +1,5 @@
 -- A frame's stack, and the dialogue after which it stands.
-use Rattle.std.specs.Prelude.{ℕ, ◌≡◌, ◌↔◌, List, [], ◌∷◌, ◌++◌, map, reverse, Option, Some, None, slice_get, IsTrue}
+use Rattle.std.specs.Prelude.{ℕ, ◌≡◌, ◌↔◌, false, Result, Err, OnOk, OnErr, List, [], ◌∷◌, ◌++◌, map, reverse, Option, Some, None, slice_get, IsTrue}
 use Rattle.program_text.specs.Codes.{Code}
 use Rattle.program_lines.specs.declared.statement.Statement.{Statement}
 use Rattle.program_text.specs.Trees.{Tree, Done, Step}
@@ -14,6 +14,7 @@ use Rattle.program_steps.specs.Answers.{Origin, FromCall, FromSpawn}
 use Rattle.program_steps.specs.Exchanges.{Exchange}
 use Rattle.program_steps.specs.Dialogue.{Extent, Part, Dialogue}
 use Rattle.program_steps.specs.Activations.{left, end_line_of, statement_of, asked_act, is_plain, IsInPlace}
+use Rattle.frame_steps.specs.declared.frame.FrameFault.{FrameFault}
 use Rattle.frame_steps.specs.declared.phase.Phase.{Phase}
 use Rattle.frame_steps.specs.declared.phase.Phase.TheVariants.{Running, Wanting, Over}
 use Rattle.frame_steps.specs.Requests.{Follows}
@@ -112,3 +113,12 @@ pub record IsCalled (functions : List Code) (function argument : ℕ) (before af
   pub begun : (after.top.function ≡ function) × (after.top.place ≡ 0) × (after.top.registers ≡ first_registers argument) × (after.top.join ≡ None) × (after.top.turn ≡ Turn.Plainly)
   pub callers : after.callers ≡ before.callers ++ caller ∷ []
   pub running : after.phase ≡ Running
+
+-- What becomes of a frame whose wanted act is answered, by what it says to the answer.
+pub record IsAnswered {T : Type 0} (functions : List Code) (before : State) (answer : Answer) (result : Result T FrameFault) (after : State) : Type 0 where
+  pub stands : Stands functions after
+  pub belongs : OnOk result (MayAnswer functions before answer)
+  pub goes_on : OnOk result ((function argument : ℕ) (history : List Exchange) (x : Exchange) → IsAfter functions function argument history before → Wants functions before x → x.answer ≡ answer → IsAfter functions function argument (history ++ x ∷ []) after)
+  pub err : OnErr result (after ≡ before)
+  pub strange : result ≡ Err FrameFault.Strange → MayAnswer functions before answer → ⊥
+  pub memory : result ≡ Err FrameFault.Memory → (before.has_room ≡ false) × ((x : Exchange) → Wants functions before x → x.act ≡ Act.Call) × MayAnswer functions before answer

@@ -12,7 +12,7 @@ ghost use Rattle.program_steps.specs.Dialogue.{Whole, Part};
 ghost use Rattle.program_steps.specs.Activations.{left, statement_of, is_plain, IsInPlace};
 ghost use Rattle.frame_steps.specs.Joins.{join_after, open_join};
 ghost use Rattle.frame_steps.specs.States.{State};
-ghost use Rattle.frame_steps.specs.Frames.{DialogueOf, Stands, Wants, IsAfter, CanFollow, MayAnswer, IsCalled, IsLeft, began_by};
+ghost use Rattle.frame_steps.specs.Frames.{DialogueOf, Stands, Wants, IsAfter, CanFollow, MayAnswer, IsAnswered, IsCalled, IsLeft, began_by};
 
 use crate::phase::Phase;
 use program_steps::{Activation, Target, Want, answered, value_of};
@@ -173,6 +173,19 @@ impl<A: Allocator> Frame<A> {
         if !matches!(self.phase, Phase::Wanting) {
             return Err(FrameFault::Strange);
         }
+        self.answer_wanted(program, answer)
+    }
+
+    /// Answers the act that is wanted.
+    fn answer_wanted<B: Allocator>(
+        &mut self,
+        program: &Program<B>,
+        answer: &Answer,
+    ) -> Result<(), FrameFault>
+        requires stands { Stands program.now.functions self.old }
+        requires wanting { self.old.phase ≡ Phase.Wanting }
+        ensures { IsAnswered program.now.functions self.old answer.now result self.new }
+    {
         match self.top.statement(program) {
             None => self.leave(answer),
             Some(

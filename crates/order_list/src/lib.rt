@@ -49,10 +49,16 @@ impl From<AllocError> for OrderFault {
 }
 
 /// Items in one order, numbered as they were made.
-#[derive(Drop)]
 pub struct OrderList<A: Allocator> {
     labels: Vec<u64, A>,
     ring: Ring<A>,
+}
+
+/// Written out, so that what lets a list go calls one function.
+impl<A: Allocator> Drop for OrderList<A> {
+    fn drop(self) {
+        let OrderList { labels: _, ring: _ } = self;
+    }
 }
 
 impl<A: Allocator> Model for OrderList<A> {

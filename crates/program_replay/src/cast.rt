@@ -1,6 +1,8 @@
 //! The frames of a history, and in which of them each strand stands.
 
-ghost use Rattle.std.specs.Prelude.{◌≡◌, ◌<◌, ◌++◌, length, IfOk, OnOk, Err};
+ghost use Rattle.std.specs.Prelude.{◌≡◌, ◌<◌, ◌++◌, [], ◌∷◌, length, IfOk, OnOk, Err};
+ghost use Rattle.race_gate.specs.Shapes.{most_entries};
+ghost use Rattle.race_gate.specs.States.{opening};
 ghost use Rattle.frame_steps.specs.States.{State};
 ghost use Rattle.frame_steps.specs.Frames.{Stands, IsAfter};
 ghost use Rattle.program_runs.specs.Runs.{shape_in};
@@ -24,20 +26,53 @@ pub struct Cast<A: Allocator + Copy> {
     seats: Vec<usize, A>,
 }
 
+/// A gate of the program's shape, without entries.
+fn gate_of<A: Allocator + Copy, B: Allocator>(
+    alloc: A,
+    program: &Program<B>,
+) -> Result<Gate<A>, AllocError>
+    ensures { IfOk result (λ gate. gate ≡ opening (shape_in program.now) most_entries) }
+{
+    let shape = program.shape(alloc)?;
+    Gate::new(alloc, &shape, 1_000_000)
+}
+
+/// A list of one item.
+fn alone<T: Drop, A: Allocator>(alloc: A, item: T) -> Result<Vec<T, A>, AllocError>
+    ensures { IfOk result (λ list. list.items ≡ item ∷ []) }
+{
+    let mut list = Vec::new(alloc);
+    list.push(item)?;
+    Ok(list)
+}
+
+/// Seats the strands of a split.
+fn seat<A: Allocator>(
+    seats: &mut Vec<usize, A>,
+    child: usize,
+    spawner: usize,
+    first: bool,
+) -> Result<(), AllocError>
+    ensures { OnOk result (seats.new.items ≡ seats.old.items ++ new_seats first child spawner) }
+{
+    seats.push(child)?;
+    seats.push(spawner)?;
+    if first {
+        seats.push(spawner)?;
+    }
+    Ok(())
+}
+
 impl<A: Allocator + Copy> Cast<A> {
     /// The root function before its first request.
     pub fn open<B: Allocator>(alloc: A, program: &Program<B>) -> Result<Cast<A>, AllocError>
         ensures { IfOk result (λ cast. Opens program.now.functions (shape_in program.now) cast.gate cast.frames.items cast.seats.items) }
     {
-        let shape = program.shape(alloc)?;
-        let gate = Gate::new(alloc, &shape, 1_000_000)?;
-        let mut frames = Vec::new(alloc);
-        frames.push(Frame::new(alloc, program, program.main(), 0))?;
-        let mut seats = Vec::new(alloc);
-        seats.push(0)?;
+        let frames = alone(alloc, Frame::new(alloc, program, program.main(), 0))?;
+        let seats = alone(alloc, 0)?;
         Ok(Cast {
             alloc,
-            gate,
+            gate: gate_of(alloc, program)?,
             frames,
             seats,
         })
@@ -58,12 +93,7 @@ impl<A: Allocator + Copy> Cast<A> {
     {
         let child = self.frames.len();
         self.frames.push(Frame::new(self.alloc, program, target.function, target.argument))?;
-        self.seats.push(child)?;
-        self.seats.push(place)?;
-        if first {
-            self.seats.push(place)?;
-        }
-        Ok(())
+        seat(&mut self.seats, child, place, first)
     }
 
     /// Plays an entry: its frame asks, and the gate answers.

@@ -1,6 +1,6 @@
 //! One entry: the turn of its frame, and the gate's answer.
 
-ghost use Rattle.std.specs.Prelude.{◌≡◌, IfOk, OnOk, Err};
+ghost use Rattle.std.specs.Prelude.{◌≡◌, ◌↔◌, IsTrue, IfOk, OnOk, Err};
 ghost use Rattle.frame_steps.specs.Frames.{Stands};
 ghost use Rattle.program_replay.specs.Turns.{IsTurn, HasNoTurn, IsEntered, IsOdd};
 ghost use Rattle.program_replay.specs.declared.turn.Misfit.{Misfit};
@@ -8,7 +8,7 @@ ghost use Rattle.program_replay.specs.declared.turn.Misfit.{Misfit};
 use frame_steps::{Frame, FrameFault};
 use program_steps::Target;
 use program_text::Program;
-use race_gate::{Entry, Gate, GateFault};
+use race_gate::{Answer, Entry, Gate, GateFault};
 use std::alloc::Allocator;
 
 /// Why an entry is not played.
@@ -45,6 +45,12 @@ pub fn turn<A: Allocator, B: Allocator>(
     }
 }
 
+fn is_same_answer(one: Answer, other: Answer) -> bool
+    ensures { IsTrue result ↔ one ≡ other }
+{
+    one == other
+}
+
 /// Has a gate judge an entry's request, and compares the answer.
 pub fn confirm<A: Allocator + Clone>(gate: &mut Gate<A>, entry: Entry) -> Result<(), Misfit>
     ensures ok { OnOk result (IsEntered entry gate.old gate.new) }
@@ -52,7 +58,7 @@ pub fn confirm<A: Allocator + Clone>(gate: &mut Gate<A>, entry: Entry) -> Result
 {
     match gate.judge(entry.request) {
         Ok(receipt) => {
-            if receipt.answer == entry.answer {
+            if is_same_answer(receipt.answer, entry.answer) {
                 Ok(())
             } else {
                 Err(Misfit::Strange)

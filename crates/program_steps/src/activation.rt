@@ -1,7 +1,7 @@
 //! Calls of functions.
 
-ghost use Rattle.std.specs.Prelude.{◌≡◌, ℕ, ◌+◌, ◌<◌, ◌≤◌, ◌∷◌, Some, None, length, IfSome, IsTrue};
-ghost use Rattle.trace_values.specs.Declarations.{cells_of};
+ghost use Rattle.std.specs.Prelude.{◌≡◌, ℕ, ◌+◌, ◌<◌, ◌≤◌, ◌∷◌, Some, None, length, slice_get, IfSome, IsTrue};
+ghost use Rattle.trace_text.specs.Grammar.{cells_of};
 ghost use Rattle.program_lines.specs.declared.statement.Register.{Register};
 ghost use Rattle.program_lines.specs.declared.statement.Expression.{Expression};
 ghost use Rattle.program_lines.specs.declared.statement.Statement.{Statement};
@@ -18,7 +18,7 @@ use crate::request::{Want, act_of, line_of};
 use crate::value::{result_of, value_of};
 use program_text::{Expression, Function, Operand, Program, REGISTERS, Register, Statement};
 use std::alloc::Allocator;
-use trace_values::Act;
+use trace_text::Act;
 
 /// What an activation stands before.
 #[derive(Clone, Copy)]
@@ -245,6 +245,14 @@ impl Activation {
         }
     }
 
+    /// The function that was begun.
+    fn function_in<'a, A: Allocator>(&self, program: &'a Program<A>) -> &'a Function<A>
+        requires place { IsInPlace program.now.functions self.now }
+        ensures { slice_get program.now.functions self.now.function ≡ Some result.now }
+    {
+        &program.functions.as_slice()[self.function as usize]
+    }
+
     /// Goes on to the next request, over the statements that ask nothing, and says what is asked. Called again, it gives the same.
     pub fn seek<A: Allocator>(&mut self, program: &Program<A>) -> Want
         requires place { IsInPlace program.now.functions self.old }
@@ -255,7 +263,7 @@ impl Activation {
         ensures asked { asked_act (statement_of program.now.functions self.new) self.new.registers ≡ Some result.act }
         ensures named { IsNamed (cells_of program.now.mems) (length program.now.reducers) result.act }
     {
-        let function = &program.functions.as_slice()[self.function as usize];
+        let function = self.function_in(program);
         loop {
             let Some(statement) = self.statement_in(function) else {
                 return Want {
@@ -280,7 +288,7 @@ impl Activation {
         ensures at { result ≡ statement_of program.now.functions self.now }
         ensures targets { IfSome result (λ statement. IsTargeted (length program.now.functions) statement) }
     {
-        self.statement_in(&program.functions.as_slice()[self.function as usize])
+        self.statement_in(self.function_in(program))
     }
 
     /// Goes behind the statement before which the activation stands.
@@ -290,6 +298,7 @@ impl Activation {
         ensures same { (self.new.function ≡ self.old.function) × (self.new.registers ≡ self.old.registers) × (self.new.join ≡ self.old.join) }
         ensures behind { (statement : Statement) → statement_of program.now.functions self.old ≡ Some statement → IsTrue (is_plain statement) → left program.now.functions self.old ≡ Step statement (left program.now.functions self.new) }
     {
-        self.step_in(&program.functions.as_slice()[self.function as usize]);
+        let function = self.function_in(program);
+        self.step_in(function);
     }
 }

@@ -16,7 +16,6 @@ use trace_values::{Mems, Monoids, Reducers, Shape, TextFault, Version};
 /// The meaning of a text, made by [`Program::parse`] alone. Some text means it, its cells are numbered without a gap, and it is sound: its
 /// statements name cells, reducers and functions that there are, each `if` has its `end` and one `else` at most, and each `if` and `else`
 /// knows where its part ends.
-#[derive(Drop)]
 pub struct Program<A: Allocator> {
     /// The version that the first line names.
     pub version: Version,
@@ -35,6 +34,19 @@ pub struct Program<A: Allocator> {
     ghost few_functions: { length functions ≤ max_functions },
     ghost sound: { IsSound (cells_of mems) (length reducers) functions },
     ghost main_is: { IsMain functions main },
+}
+
+/// Written out, so that what lets a program go calls one function.
+impl<A: Allocator> Drop for Program<A> {
+    fn drop(self) {
+        let Program {
+            version: _,
+            mems: _,
+            reducers: _,
+            functions: _,
+            main: _,
+        } = self;
+    }
 }
 
 impl<A: Allocator + Copy> Program<A> {

@@ -14,3 +14,5 @@ pub mod Answered
 pub mod Answering
 pub mod Controlled
 pub mod Finished
+pub mod Tracked
+pub mod Checking

@@ -37,8 +37,14 @@ pub kept-opening : (shape : Shape) (limit : ℕ) (entries : List Entry) (memory 
 kept-opening shape limit entries memory strands shadow books no_entries zeros follows remembers len small opens =
     rw (no_entries, zeros) (kept-at_first shape limit strands shadow books follows remembers len small opens)
 
+pub is-opening : (shape made : Shape) (limit : ℕ) (entries : List Entry) (memory : List ℕ) → made ≡ shape → entries ≡ [] → memory ≡ replicate made.cells 0 →
+    opening shape limit ≡ record { shape = made; limit = limit; stopped = false; history = reverse entries; memory = memory }
+is-opening shape made limit entries memory same no_entries zeros = rw (zeros, same, no_entries) refl
+
+abbrev the_shape : ℕ → List Monoid → Shape
+the_shape cells monoids = record { cells = cells; monoids = monoids }
+
 -- what was taken from the shape stands apart from it, so that a wrong amount is refused by its own equation
-pub is-opening : (cells taken limit : ℕ) (monoids declared : List Monoid) (entries : List Entry) (memory : List ℕ) → taken ≡ cells → monoids ≡ declared → entries ≡ [] →
-    memory ≡ replicate taken 0 → opening (record { cells = cells; monoids = declared }) limit ≡
-    record { shape = record { cells = taken; monoids = monoids }; limit = limit; stopped = false; history = reverse entries; memory = memory }
-is-opening cells taken limit monoids declared entries memory as_many same no_entries zeros = rw (zeros, as_many, same, no_entries) refl
+pub is-copy : (cells taken : ℕ) (monoids declared : List Monoid) → taken ≡ cells → monoids ≡ declared →
+    the_shape taken monoids ≡ the_shape cells declared
+is-copy cells taken monoids declared as_many same = rw (as_many, same) refl

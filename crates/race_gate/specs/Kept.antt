@@ -1,5 +1,7 @@
 -- What a gate keeps beside its state.
-use Rattle.std.specs.Prelude.{◌≡◌, ◌≤◌, [], List, length, Option, Some, None}
+use Rattle.std.specs.Prelude.{◌≡◌, ◌+◌, ◌≤◌, ℕ, [], ◌∷◌, List, length, Option, Some, None}
+use Rattle.trace_text.specs.declared.value.Monoid.{Monoid}
+use Rattle.trace_text.specs.declared.value.Request.{Request}
 use Rattle.sp_labels.specs.Roster.{Roster, Follows}
 use Rattle.shadow_history.specs.declared.cell.Cell.{Cell}
 use Rattle.shadow_history.specs.Shadow.{Remembers}
@@ -8,7 +10,9 @@ use Rattle.race_gate.specs.Shapes.{Shape, most_entries}
 use Rattle.race_gate.specs.Accesses.{granted}
 use Rattle.race_gate.specs.Reducers.{steps_of, granted_reads}
 use Rattle.race_gate.specs.States.{State, IsRight}
-use Rattle.race_gate.specs.Books.{Books, Keeps}
+use Rattle.race_gate.specs.Faults.{IsFaultless}
+use Rattle.race_gate.specs.Books.{Books, Keeps, OpensBooks}
+use Rattle.race_gate.specs.declared.answer.Answer.{Answer}
 
 -- the books are those of the history, and there are none exactly where the program has no reducers
 abbrev pub AreBooksOf : Shape → Entries → Option Books → Type 0
@@ -24,3 +28,21 @@ pub record IsKept (state : State) (strands : Roster) (shadow : List Cell) (books
   pub within : length state.history ≤ state.limit
   pub limited : state.limit ≤ most_entries
   pub reducers : AreBooksOf state.shape state.history books
+
+-- what is kept before any entry, of so many cells and of reducers with these monoids
+pub record OpensTracks (strands : Roster) (shadow : List Cell) (books : Option Books) (cells : ℕ) (monoids : List Monoid) : Type 0 where
+  pub follows : Follows strands []
+  pub remembers : Remembers shadow [] []
+  pub locations : length shadow ≡ cells
+  pub opens : OpensBooks books monoids
+
+-- the request has no fault in the state, and its entry will have this number
+pub record IsReady (state : State) (strands : Roster) (shadow : List Cell) (books : Option Books) (memory : List ℕ) (request : Request) (number : ℕ) : Type 0 where
+  pub kept : IsKept state strands shadow books
+  pub cells : memory ≡ state.memory
+  pub faultless : IsFaultless state request
+  pub numbered : number ≡ length state.history + 1
+
+-- the state after one more entry
+abbrev pub with_entry : State → Request → Answer → List ℕ → State
+with_entry state request answer memory = record state { history = record { request = request; answer = answer } ∷ state.history; memory = memory }

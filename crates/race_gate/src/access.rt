@@ -7,7 +7,7 @@ use access_table::{Kind, access_table};
 use trace_values::Act;
 
 /// An access of a cell of memory.
-#[derive(Clone, Copy, Debug, PartialEq, Eq)]
+#[derive(Clone, Copy)]
 pub struct CellAccess {
     /// What it does to the cell.
     pub kind: Kind,
@@ -16,7 +16,7 @@ pub struct CellAccess {
 }
 
 /// What an act asks for.
-#[derive(Clone, Copy, Debug, PartialEq, Eq)]
+#[derive(Clone, Copy)]
 pub enum Sort {
     /// Control of the strands.
     Control,

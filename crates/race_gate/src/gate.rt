@@ -9,30 +9,37 @@ ghost use Rattle.race_gate.specs.States.{opening};
 ghost use Rattle.race_gate.specs.Faults.{IsFaultless, IsFirstFault};
 ghost use Rattle.race_gate.specs.Replies.{Judges, reply_of};
 
-use crate::access::{Sort, sort_of};
 use crate::answer::{Answer, Entry, Receipt};
 use crate::fault::GateFault;
-use crate::reducers::{Reducers, opening_reducers};
-use crate::step::{control, is_in_range, judge_access, judge_reducer};
-use shadow_history::Shadow;
-use sp_labels::Strands;
+use crate::step::is_in_range;
+use crate::tracks::Tracks;
 use std::alloc::{AllocError, Allocator};
 use std::marker::Model;
 use trace_values::{Act, Monoids, Request, Shape};
 
 /// A gate: it judges requests one after another and keeps the history of its answers. Contracts see its shape, its limit, whether it
 /// was stopped, its history, the newest entry first, and what its cells hold.
-#[derive(Drop)]
 pub struct Gate<A: Allocator + Clone> {
     shape: Shape<A>,
     limit: u32,
     stopped: bool,
     history: Vec<Entry, A>,
     memory: Vec<u64, A>,
-    strands: Strands<A>,
-    shadow: Shadow<A>,
-    /// None where the program has no reducers.
-    reducers: Option<Reducers<A>>,
+    tracks: Tracks<A>,
+}
+
+/// Written out, so that what lets a gate go calls one function.
+impl<A: Allocator + Clone> Drop for Gate<A> {
+    fn drop(self) {
+        let Gate {
+            shape: _,
+            limit: _,
+            stopped: _,
+            history: _,
+            memory: _,
+            tracks: _,
+        } = self;
+    }
 }
 
 impl<A: Allocator + Clone> Model for Gate<A> {
@@ -46,7 +53,22 @@ impl<A: Allocator + Clone> Model for Gate<A> {
 
     ghost view = { λ gate. record { shape = shape_of gate.shape; limit = gate.limit; stopped = gate.stopped; history = reverse gate.history.items; memory = gate.memory.items } };
 
-    ghost invariant = { λ gate. IsKept (record { shape = shape_of gate.shape; limit = gate.limit; stopped = gate.stopped; history = reverse gate.history.items; memory = gate.memory.items }) gate.strands gate.shadow gate.reducers };
+    ghost invariant = { λ gate. IsKept (record { shape = shape_of gate.shape; limit = gate.limit; stopped = gate.stopped; history = reverse gate.history.items; memory = gate.memory.items }) gate.tracks.strands gate.tracks.shadow gate.tracks.reducers };
+}
+
+/// A copy of what a program declares.
+fn copied<A: Allocator + Clone, B: Allocator>(
+    alloc: &A,
+    shape: &Shape<B>,
+) -> Result<Shape<A>, AllocError>
+    ensures { IfOk result (λ copy. shape_of copy ≡ shape_of shape.now) }
+{
+    let cells = shape.cells;
+    let monoids = Vec::from_slice(alloc.clone()?, shape.monoids.as_slice())?;
+    Ok(Shape {
+        cells,
+        monoids: Monoids::new(monoids),
+    })
 }
 
 impl<A: Allocator + Clone> Gate<A> {
@@ -57,24 +79,14 @@ impl<A: Allocator + Clone> Gate<A> {
         requires reducers { length shape.now.monoids ≤ most_reducers }
         ensures { IfOk result (λ gate. gate ≡ opening (shape_of shape.now) limit) }
     {
-        let cells = shape.cells;
-        let monoids = Vec::from_slice(alloc.clone()?, shape.monoids.as_slice())?;
-        let memory = vec![in alloc.clone()?; 0; cells as usize]?;
-        let strands = Strands::new(alloc.clone()?)?;
-        let shadow = Shadow::new(alloc.clone()?, cells)?;
-        let reducers = opening_reducers(alloc.clone()?, monoids.as_slice())?;
+        let shape = copied(&alloc, shape)?;
         Ok(Gate {
-            shape: Shape {
-                cells,
-                monoids: Monoids::new(monoids),
-            },
+            memory: vec![in alloc.clone()?; 0; shape.cells as usize]?,
+            tracks: Tracks::new(&alloc, shape.cells, shape.monoids.as_slice())?,
+            shape,
             limit,
             stopped: false,
             history: Vec::new(alloc),
-            memory,
-            strands,
-            shadow,
-            reducers,
         })
     }
 
@@ -142,13 +154,13 @@ impl<A: Allocator + Clone> Gate<A> {
         if self.history.len() >= self.limit as usize {
             return Err(GateFault::Limit);
         }
-        if !self.strands.is_running(request.strand) {
+        if !self.tracks.strands.is_running(request.strand) {
             return Err(GateFault::NotRunning);
         }
         if !is_in_range(&self.shape, request.act) {
             return Err(GateFault::BadName);
         }
-        if request.act == Act::Return && !self.strands.is_synced(request.strand) {
+        if request.act == Act::Return && !self.tracks.strands.is_synced(request.strand) {
             return Err(GateFault::Unsynced);
         }
         Ok(())
@@ -164,26 +176,9 @@ impl<A: Allocator + Clone> Gate<A> {
         self.check(request)?;
         self.history.reserve(1)?;
         let number = self.history.len() as u32 + 1;
-        let answer = match sort_of(request.act) {
-            Sort::Cell(access) => judge_access(
-                &self.strands,
-                &mut self.shadow,
-                self.memory.as_mut_slice(),
-                number,
-                request.strand,
-                request.act,
-                access,
-            ),
-            Sort::Reducer => {
-                judge_reducer(&mut self.reducers, number, request.strand, request.act)?
-            }
-            Sort::Control => control(
-                &mut self.strands,
-                &mut self.reducers,
-                request.strand,
-                request.act,
-            )?,
-        };
+        let answer = self
+            .tracks
+            .answer(self.memory.as_mut_slice(), number, request)?;
         self.history.push_reserved(Entry { request, answer });
         Ok(Receipt {
             number,

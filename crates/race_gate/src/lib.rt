@@ -20,6 +20,7 @@ pub mod laws;
 mod reducers;
 mod replies;
 mod step;
+mod tracks;
 
 pub use answer::{Answer, Entry, Receipt, Reply};
 pub use fault::GateFault;

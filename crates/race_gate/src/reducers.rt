@@ -36,7 +36,7 @@ impl<A: Allocator + Clone> Model for Reducers<A> {
 
 /// What is kept of these reducers before any event; nothing where there are none.
 pub fn opening_reducers<A: Allocator + Clone>(
-    alloc: A,
+    alloc: &A,
     monoids: &[Monoid],
 ) -> Result<Option<Reducers<A>>, AllocError>
     requires { length monoids.now < 2 ^ 32 }
@@ -45,7 +45,7 @@ pub fn opening_reducers<A: Allocator + Clone>(
     if monoids.is_empty() {
         return Ok(None);
     }
-    Ok(Some(Reducers::new(alloc, monoids)?))
+    Ok(Some(Reducers::new(alloc.clone()?, monoids)?))
 }
 
 impl<A: Allocator + Clone> Reducers<A> {
@@ -55,13 +55,10 @@ impl<A: Allocator + Clone> Reducers<A> {
         ensures keeps { IfOk result (λ reducers. Keeps reducers [] []) }
         ensures monoids { IfOk result (λ reducers. reducers.views.monoids ≡ monoids.now) }
     {
-        let branches = Branches::new(alloc.clone()?)?;
-        let reads = ReadPeers::new(alloc.clone()?, monoids.len() as u32)?;
-        let views = Views::new(alloc, monoids)?;
         Ok(Reducers {
-            branches,
-            reads,
-            views,
+            branches: Branches::new(alloc.clone()?)?,
+            reads: ReadPeers::new(alloc.clone()?, monoids.len() as u32)?,
+            views: Views::new(alloc, monoids)?,
         })
     }
 

@@ -11,3 +11,4 @@ pub mod Currents
 pub mod Grown
 pub mod Following
 pub mod Gets
+pub mod First

@@ -19,6 +19,10 @@ kept_of piece = record { home = piece.home; later = piece.later; touches = liste
 abbrev pub all_kept : {A : Type 0} → List (Piece A) → List Kept
 all_kept pieces = map kept_of pieces
 
+-- at first, of strand 0
+abbrev pub first_kept : List Kept
+first_kept = record { home = 0; later = 0; touches = [] } ∷ []
+
 abbrev pub kept_at : List Kept → ℕ → Kept
 kept_at strands strand = slice_index_or strands strand (record { home = 0; later = 0; touches = [] })
 

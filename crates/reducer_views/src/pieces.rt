@@ -1,12 +1,12 @@
 //! The pieces of the serial order that the strands of a running program stand for.
 
-ghost use Rattle.std.specs.Prelude.{◌≡◌, ◌+◌, ◌<◌, ◌≤◌, ◌^◌, ℕ, List, length, vec_len, vec_capacity};
-ghost use Rattle.trace_values.specs.declared.value.Monoid.{Monoid};
-ghost use Rattle.reducer_views.specs.Pieces.{AreKept, AreLater, Combines, Grown, SameHomes, SetsAt, TakesOver, all_kept, home_at, later_at, touches_at};
+ghost use Rattle.std.specs.Prelude.{◌≡◌, ◌+◌, ◌<◌, ◌≤◌, ◌^◌, ℕ, List, length, vec_len, vec_capacity, IfOk};
+ghost use Rattle.trace_text.specs.declared.value.Monoid.{Monoid};
+ghost use Rattle.reducer_views.specs.Pieces.{AreKept, AreLater, Combines, Grown, SameHomes, SetsAt, TakesOver, all_kept, first_kept, home_at, later_at, touches_at};
 ghost use Rattle.reducer_views.specs.Touched.{added};
 
 use crate::touched::{Slots, Spare, Touch, absorb, gather, set};
-use std::alloc::Allocator;
+use std::alloc::{AllocError, Allocator};
 
 /// What is kept of a strand.
 #[derive(Drop)]
@@ -17,6 +17,19 @@ pub struct Piece<A: Allocator> {
     pub later: u32,
     /// The reducers that the strands whose home is here have touched.
     pub slots: Slots<A>,
+}
+
+/// What is kept of strand 0 at first.
+pub fn first_piece<A: Allocator + Clone>(alloc: &A) -> Result<Vec<Piece<A>, A>, AllocError>
+    ensures { IfOk result (λ pieces. all_kept pieces.items ≡ first_kept) }
+{
+    let mut pieces = Vec::with_capacity(alloc.clone()?, 1)?;
+    pieces.push_reserved(Piece {
+        home: 0,
+        later: 0,
+        slots: None,
+    });
+    Ok(pieces)
 }
 
 /// Adds a child, which goes on at the home, a continuation with a home of its own, and, at the first spawn of a block, its join.
@@ -84,8 +97,8 @@ fn take_over<A: Allocator>(pieces: &mut [Piece<A>], home: u32, later: u32)
     requires apart { home < later }
     ensures { TakesOver (all_kept pieces.old) (all_kept pieces.new) home later }
 {
-    let slots = pieces[later as usize].slots.take();
-    absorb(&mut pieces[home as usize].slots, slots);
+    let mut slots = pieces[later as usize].slots.take();
+    absorb(&mut pieces[home as usize].slots, &mut slots);
 }
 
 /// Combines the views of a block's children and of its syncing strand, in order, at the home of its join.
@@ -98,8 +111,9 @@ pub fn gather_block<A: Allocator>(pieces: &mut [Piece<A>], join: u32)
         AreLater (later_at (all_kept pieces.old)) (later_at (all_kept pieces.old) join) continuations →
         Combines monoids (all_kept pieces.old) (all_kept pieces.new) (home_at (all_kept pieces.old) join) continuations }
 {
-    let home = pieces[join as usize].home;
-    let mut at = pieces[join as usize].later;
+    let piece = &pieces[join as usize];
+    let home = piece.home;
+    let mut at = piece.later;
     while at != 0 {
         take_over(pieces, home, at);
         at = pieces[at as usize].later;

@@ -8,7 +8,7 @@ use std::alloc::{AllocError, Allocator};
 use trace_values::Monoid;
 
 /// The view that was gathered of a reducer, and its monoid.
-#[derive(Debug, Clone, Copy, PartialEq, Eq)]
+#[derive(Clone, Copy)]
 pub struct Touch {
     pub monoid: Monoid,
     pub view: View,
@@ -55,18 +55,23 @@ pub type Spare<A> = Vec<Box<Slot<A>, A>, A>;
 /// As many slots as lie on the way to any reducer.
 pub const DEPTH: usize = 33;
 
+/// A new slot, which is empty.
+fn fresh<A: Allocator + Clone>(alloc: &A) -> Result<Box<Slot<A>, A>, AllocError> {
+    let slot = Slot {
+        touch: None,
+        odd: None,
+        even: None,
+    };
+    Ok(Box::new(alloc.clone()?, slot)?)
+}
+
 /// Fills the reserve. A refused growth answers `AllocError`.
 pub fn fill<A: Allocator + Clone>(spare: &mut Spare<A>, alloc: &A) -> Result<(), AllocError>
     ensures ok { OnOk result (DEPTH ≤ vec_len spare.new) }
     ensures kept { vec_len spare.old ≤ vec_len spare.new }
 {
     for _ in spare.len()..DEPTH {
-        let slot = Slot {
-            touch: None,
-            odd: None,
-            even: None,
-        };
-        spare.push(Box::new(alloc.clone()?, slot)?)?;
+        spare.push(fresh(alloc)?)?;
     }
     Ok(())
 }
@@ -153,17 +158,18 @@ pub fn gather<A: Allocator>(slots: &mut Slots<A>, spare: &mut Spare<A>, reducer:
     set(slots, spare, reducer, now);
 }
 
-/// Combines the views of a later piece on the right.
-pub fn absorb<A: Allocator>(slots: &mut Slots<A>, later: Slots<A>)
-    ensures { (reducer : ℕ) → touches_of slots.new reducer ≡ both (touches_of slots.old reducer) (touches_of later reducer) }
+/// Combines the views of a later piece on the right, and leaves anything in its place.
+pub fn absorb<A: Allocator>(slots: &mut Slots<A>, later: &mut Slots<A>)
+    ensures { (reducer : ℕ) → touches_of slots.new reducer ≡ both (touches_of slots.old reducer) (touches_of later.old reducer) }
 {
-    let Some(mut other) = later else { return };
-    let Some(mut slot) = slots.take() else {
-        *slots = Some(other);
+    let Some(other) = later else { return };
+    let Some(slot) = slots else {
+        *slots = later.take();
         return;
     };
+    let slot: &mut Slot<A> = slot;
+    let other: &mut Slot<A> = other;
     slot.touch = joined(slot.touch, other.touch);
-    absorb(&mut slot.odd, other.odd.take());
-    absorb(&mut slot.even, other.even.take());
-    *slots = Some(slot);
+    absorb(&mut slot.odd, &mut other.odd);
+    absorb(&mut slot.even, &mut other.even);
 }

@@ -8,7 +8,7 @@ ghost use Rattle.reducer_values.specs.Accesses.{AreLegal, Steps, control, contro
 ghost use Rattle.reducer_views.specs.Held.{Holds, split_of, view_of};
 ghost use Rattle.reducer_views.specs.Products.{number_of};
 
-use crate::pieces::{Piece, gather_at, gather_block, grow, set_at};
+use crate::pieces::{Piece, first_piece, gather_at, gather_block, grow, set_at};
 use crate::touched::{Spare, Touch, fill, find};
 use crate::view::{identity, of_put, of_update, value};
 use sp_labels::Spawned;
@@ -18,13 +18,25 @@ use trace_values::Monoid;
 
 /// The views of strands, per reducer. A strand's view is kept under the number of its home. A child goes on at its spawner's
 /// home and a join at that of the strand that opened its block; a continuation has a home of its own.
-#[derive(Drop)]
 pub struct Views<A: Allocator + Clone> {
     monoids: Vec<Monoid, A>,
     pieces: Vec<Piece<A>, A>,
     spare: Spare<A>,
     has_room: bool,
     alloc: A,
+}
+
+/// Written out, so that what lets views go calls one function.
+impl<A: Allocator + Clone> Drop for Views<A> {
+    fn drop(self) {
+        let Views {
+            monoids: _,
+            pieces: _,
+            spare: _,
+            has_room: _,
+            alloc: _,
+        } = self;
+    }
 }
 
 impl<A: Allocator + Clone> Model for Views<A> {
@@ -46,16 +58,9 @@ impl<A: Allocator + Clone> Views<A> {
         ensures opens { IfOk result (λ views. Holds views []) }
         ensures room { IfOk result (λ views. views.has_room ≡ false) }
     {
-        let monoids = monoids.to_vec(alloc.clone()?)?;
-        let mut pieces = Vec::new(alloc.clone()?);
-        pieces.push(Piece {
-            home: 0,
-            later: 0,
-            slots: None,
-        })?;
         Ok(Views {
-            monoids,
-            pieces,
+            monoids: Vec::from_slice(alloc.clone()?, monoids)?,
+            pieces: first_piece(&alloc)?,
             spare: Vec::new(alloc.clone()?),
             has_room: false,
             alloc,

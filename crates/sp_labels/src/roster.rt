@@ -16,7 +16,6 @@ use std::alloc::{AllocError, Allocator};
 use std::marker::Model;
 
 /// The strands of one spawn-sync program.
-#[derive(Drop)]
 pub struct Strands<A: Allocator> {
     records: Vec<Record, A>,
     /// The scope in which each called function was called, until it returns.
@@ -24,6 +23,19 @@ pub struct Strands<A: Allocator> {
     english: OrderList<A>,
     hebrew: OrderList<A>,
     has_room: bool,
+}
+
+/// Written out, so that what lets strands go calls one function.
+impl<A: Allocator> Drop for Strands<A> {
+    fn drop(self) {
+        let Strands {
+            records: _,
+            callers: _,
+            english: _,
+            hebrew: _,
+            has_room: _,
+        } = self;
+    }
 }
 
 impl<A: Allocator> Model for Strands<A> {

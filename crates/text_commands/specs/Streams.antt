@@ -32,11 +32,15 @@ declared_shape contents = record { cells = cells_of contents.known.mems; monoids
 abbrev pub requests_of : Contents → List Request
 requests_of contents = map (λ line. line.request) contents.lines
 
--- These are the replies of a gate to the requests of the trace, in their order, and the history that it then has is judged rightly.
-pub record AreReplies (contents : Contents) (limit : ℕ) (replies : List Reply) : Type 0 where
+-- These are the replies of a fresh gate to the requests, in their order, and the history that it then has is judged rightly.
+pub record AreAllJudged (shape : Shape) (limit : ℕ) (requests : List Request) (replies : List Reply) : Type 0 where
   pub last : State
-  pub judges : JudgesAll (opening (declared_shape contents) limit) (requests_of contents) replies last
+  pub judges : JudgesAll (opening shape limit) requests replies last
   pub judged : IsJudged last.shape last.history
+
+-- These are the replies of a gate to the requests of the trace.
+abbrev pub AreReplies : Contents → (limit : ℕ) → List Reply → Type 0
+AreReplies contents limit replies = AreAllJudged (declared_shape contents) limit (requests_of contents) replies
 
 -- The text means a trace, and these are the replies to it.
 pub record AnswersText (text : List ℕ) (limit : ℕ) (replies : List Reply) : Type 0 where

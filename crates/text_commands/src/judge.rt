@@ -5,12 +5,12 @@ ghost use Rattle.std.specs.List.{All};
 ghost use Rattle.std.specs.Io.KnownBytes.{Appends};
 ghost use Rattle.trace_text.specs.Grammar.{TextMeans};
 ghost use Rattle.trace_text.specs.Traces.{contents};
-ghost use Rattle.race_gate.specs.Shapes.{most_entries};
+ghost use Rattle.race_gate.specs.Shapes.{most_entries, most_cells, most_reducers, shape_of};
 ghost use Rattle.race_gate.specs.declared.answer.Reply.{Reply as SpecReply};
 ghost use Rattle.text_commands.specs.Watched.{held, has_failed, calls_of, one_more};
 ghost use Rattle.race_report.specs.VerdictText.{HasWords};
 ghost use Rattle.text_commands.specs.Statuses.{status_of_replies};
-ghost use Rattle.text_commands.specs.Streams.{most_reads, AreReplies, IsRead, IsReadTooLong, IsAnswered, IsFaultOf, HasCause, TakesPiece, StopsPiece, StopsReading, StopsWriting};
+ghost use Rattle.text_commands.specs.Streams.{most_reads, declared_shape, requests_of, AreAllJudged, AreReplies, AnswersText, IsRead, IsReadTooLong, IsAnswered, IsFaultOf, HasCause, TakesPiece, StopsPiece, StopsReading, StopsWriting};
 
 use crate::fault::CliFault;
 use crate::status::status_of;
@@ -19,8 +19,7 @@ use race_gate::{Gate, Reply, judge_all};
 use race_report::verdict_lines;
 use std::alloc::{AllocError, Allocator};
 use std::io::{Read, Write};
-use trace_text::Trace;
-use trace_values::Request;
+use trace_text::{Request, Shape, Trace};
 
 /// The most bytes that are read.
 const MOST_BYTES: usize = 67_108_864;
@@ -125,6 +124,37 @@ fn requests<A: Allocator + Copy>(alloc: A, trace: &Trace<A>) -> Result<Vec<Reque
         .collect(alloc)
 }
 
+/// What a trace declares, and its requests.
+fn asked<A: Allocator + Copy>(
+    alloc: A,
+    trace: &Trace<A>,
+) -> Result<(Shape<A>, Vec<Request, A>), AllocError>
+    ensures shape { IfOk result (λ asked. shape_of asked.0 ≡ declared_shape (contents trace.now)) }
+    ensures requests { IfOk result (λ asked. asked.1.items ≡ requests_of (contents trace.now)) }
+    ensures cells { IfOk result (λ asked. asked.0.cells ≤ most_cells) }
+    ensures reducers { IfOk result (λ asked. length asked.0.monoids ≤ most_reducers) }
+{
+    let shape = trace.shape(alloc)?;
+    Ok((shape, requests(alloc, trace)?))
+}
+
+/// The replies of a fresh gate to these requests.
+fn reply_to_all<A: Allocator + Copy>(
+    alloc: A,
+    shape: &Shape<A>,
+    requests: &[Request],
+    limit: u32,
+) -> Result<Vec<Reply, A>, AllocError>
+    requires limit { limit ≤ most_entries }
+    requires cells { shape.now.cells ≤ most_cells }
+    requires reducers { length shape.now.monoids ≤ most_reducers }
+    ensures judges { IfOk result (λ replies. AreAllJudged (shape_of shape.now) limit requests.now replies.items) }
+    ensures words { IfOk result (λ replies. All HasWords replies.items) }
+{
+    let mut gate = Gate::new(alloc, shape, limit)?;
+    judge_all(&mut gate, alloc, requests)
+}
+
 /// The replies of a gate to the requests of a trace, which is let go.
 fn judge<A: Allocator + Copy>(
     alloc: A,
@@ -135,11 +165,27 @@ fn judge<A: Allocator + Copy>(
     ensures replies { IfOk result (λ replies. AreReplies (contents trace) limit replies.items) }
     ensures words { IfOk result (λ replies. All HasWords replies.items) }
 {
-    let shape = trace.shape(alloc)?;
-    let requests = requests(alloc, &trace)?;
+    let asked = asked(alloc, &trace);
     drop(trace);
-    let mut gate = Gate::new(alloc, &shape, limit)?;
-    judge_all(&mut gate, alloc, requests.as_slice())
+    let (shape, requests) = asked?;
+    reply_to_all(alloc, &shape, requests.as_slice(), limit)
+}
+
+/// The replies of a gate to the requests of the trace that a text means; the text is let go.
+fn answer_text<A: Allocator + Copy>(
+    alloc: A,
+    text: Vec<u8, A>,
+    limit: u32,
+) -> Result<Vec<Reply, A>, CliFault>
+    requires limit { limit ≤ most_entries }
+    ensures answers { IfOk result (λ replies. AnswersText text.items limit replies.items) }
+    ensures words { IfOk result (λ replies. All HasWords replies.items) }
+    ensures fault { IfErr result (IsFaultOf text.items) }
+{
+    match parse(alloc, text) {
+        Ok(trace) => Ok(judge(alloc, trace, limit)?),
+        Err(fault) => Err(fault),
+    }
 }
 
 /// Reads a trace to its end, judges its requests in their order by a gate with this limit on the entries of its history, and writes
@@ -171,11 +217,10 @@ pub fn judge_stream<A: Allocator + Copy, R: Read, W: Write>(
         Ok(text) => text,
         Err(fault) => return Err(fault),
     };
-    let trace = match parse(alloc, text) {
-        Ok(trace) => trace,
+    let replies = match answer_text(alloc, text, limit) {
+        Ok(replies) => replies,
         Err(fault) => return Err(fault),
     };
-    let replies = judge(alloc, trace, limit)?;
     let lines = verdict_lines(alloc, replies.as_slice())?;
     let status = status_of(replies.as_slice());
     match write_text(output, lines.as_slice()) {

@@ -183,7 +183,6 @@ fn whole<'a, A: Allocator + Copy>(alloc: A, bytes: &'a [u8]) -> Result<Draft<'a,
 
 /// The meaning of a text, made by [`Trace::parse`] alone. Some text means it, its cells are numbered without a gap, and its requests
 /// name cells and reducers that there are.
-#[derive(Drop)]
 pub struct Trace<A: Allocator> {
     /// The version that the first line names.
     pub version: Version,
@@ -199,6 +198,18 @@ pub struct Trace<A: Allocator> {
     ghost few_reducers: { length reducers ≤ max_reducers },
     ghost few_lines: { length lines ≤ max_requests },
     ghost within: { All (IsWithin (cells_of mems) (length reducers)) lines },
+}
+
+/// Written out, so that what lets a trace go calls one function.
+impl<A: Allocator> Drop for Trace<A> {
+    fn drop(self) {
+        let Trace {
+            version: _,
+            mems: _,
+            reducers: _,
+            lines: _,
+        } = self;
+    }
 }
 
 impl<A: Allocator + Copy> Trace<A> {

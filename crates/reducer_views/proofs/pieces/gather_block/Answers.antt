@@ -1,12 +1,39 @@
-use Rattle.std.proofs.Common.{◌≡◌, ◌<◌, length, ap, subst, arith}
+use borrow.Author.Rules.{scaled_Fits}
+use Rattle.std.proofs.Common.{◌≡◌, ◌<◌, length, ap, subst, rules, arith}
 use Rattle.reducer_views.proofs.KeptLists.{Progress, kept_here, begins_at, advances, finishes_at, fewer_at, later_in_range, taken_kept}
 use Rattle.reducer_views.proofs.pieces.gather_block.Goals as goal
+
+pub offset_bounds-pieces-join : goal.offset_bounds-pieces-join
+offset_bounds-pieces-join g c = scaled_Fits _ _ _ c.requires.known (search rules)
+
+pub bounds-pieces-join : goal.bounds-pieces-join
+bounds-pieces-join g c = c.requires.known
 
 pub loop-at-init : goal.loop-at-init
 loop-at-init g c = record {
   in_range = later_in_range _ _ _ _ c.requires.sound.1 c.requires.known;
   progress = λ monoids sound. begins_at _ _ _ _ _ sound c.requires.known;
 }
+
+pub take_over-requires-clause-home_known : goal.take_over-requires-clause-home_known
+take_over-requires-clause-home_known g c =
+    let positive : 0 < c.loop-at.at = omega arith in
+    let now = c.loop-at.invariant.progress c.requires.sound.0 c.requires.sound.1 in
+    omega (arith, now.behind positive, c.loop-at.invariant.in_range)
+
+pub take_over-requires-clause-later_known : goal.take_over-requires-clause-later_known
+take_over-requires-clause-later_known g c = c.loop-at.invariant.in_range
+
+pub take_over-requires-clause-apart : goal.take_over-requires-clause-apart
+take_over-requires-clause-apart g c = (c.loop-at.invariant.progress c.requires.sound.0 c.requires.sound.1).behind (omega arith)
+
+pub offset_bounds-pieces-at : goal.offset_bounds-pieces-at
+offset_bounds-pieces-at g c =
+    let known : c.loop-at.at < length c.take_over.new.pieces = omega arith in
+    scaled_Fits _ _ _ known (search rules)
+
+pub bounds-pieces-at : goal.bounds-pieces-at
+bounds-pieces-at g c = omega arith
 
 pub loop-at-smaller : goal.loop-at-smaller
 loop-at-smaller g c =

@@ -1,9 +1,8 @@
-use Rattle.std.proofs.Common.{◌≡◌, Some, sym, ◌∙◌}
+use Rattle.std.proofs.Common.{refl}
 use Rattle.reducer_views.proofs.Slots.{absorbed}
 use Rattle.reducer_views.proofs.touched.+absorb.Goals as goal
 
 pub returns : goal.returns
 returns g t c =
-    absorbed _ _ _ _ _ _ _ _ _ _ _ _ _ _ _ _ _ (sym c.take.ensures.value ∙ c.in-Some-take.is) c.in-Some.is c.deref.ensures c.deref-2.ensures c.deref_mut.ensures.value c.joined.ensures
-    c.deref_mut-2.ensures.value c.deref_mut-3.ensures.value c.take-2.ensures.value c.absorb.ensures
-    c.deref_mut-4.ensures.value c.deref_mut-5.ensures.value c.take-3.ensures.value c.absorb-2.ensures
+    absorbed _ _ _ _ _ _ _ _ _ _ _ _ _ _ _ _ _ c.in-Some-slots.is c.in-Some.is c.deref_mut-slot.ensures.value c.deref_mut-other.ensures.value c.deref_mut-slot.ensures.value
+    c.joined-slot.ensures refl c.deref_mut-other.ensures.value refl c.absorb.ensures refl refl refl c.absorb-2.ensures

@@ -1,6 +1,5 @@
 use Rattle.std.proofs.Common.{ℕ, List, ap, ◌∙◌, subst}
 use Rattle.std.specs.Io.KnownBytes.{Appends}
-use Rattle.trace_text.specs.Traces.{contents}
 use Rattle.text_commands.specs.Watched.{held, calls_of}
 use Rattle.race_report.specs.VerdictText.{verdict_text}
 use Rattle.text_commands.specs.Statuses.{status_of_replies}
@@ -11,9 +10,9 @@ pub returns-clause-fault : goal.returns-clause-fault
 returns-clause-fault g c =
     writing_cause (g.R.Read.remaining (held c.args.input.now)) (g.R.Read.remaining (held c.read_text.new.input))
     (g.W.Write.contents (held c.args.output.now)) (g.W.Write.contents (held c.write_text.new.output))
-    (calls_of c.args.input.now) (calls_of c.read_text.new.input) c.args.limit c.in-Ok.text.items c.as_slice-3.result.now c.in_ok-replies.replies.items
+    (calls_of c.args.input.now) (calls_of c.read_text.new.input) c.args.limit c.in-Ok.text.items c.as_slice-3.result.now c.in-Ok-answer_text.replies.items
     c.in-Err-write_text.fault c.in-Ok.ensures.ok
-    (record { contents = contents c.in-Ok-parse.trace; means = c.in-Ok-parse.ensures.ok; replied = c.in_ok-replies.ensures.replies })
+    c.in-Ok-answer_text.ensures.answers
     (c.as_slice-3.ensures.value ∙ c.in_ok-lines.ensures ∙ ap verdict_text c.as_slice.ensures.value)
     c.in-Err-write_text.ensures.fault
 
@@ -21,12 +20,12 @@ pub returns-in-Ok-write_text-clause-answered : goal.returns-in-Ok-write_text-cla
 returns-in-Ok-write_text-clause-answered g c =
     let wrote = g.W.Write.contents (held c.args.output.now) in
     let writes = g.W.Write.contents (held c.write_text.new.output) in (
-      c.in_ok-replies.replies.items,
+      c.in-Ok-answer_text.replies.items,
       c.status_of-status.ensures ∙ ap status_of_replies c.as_slice-2.ensures.value,
       record {
         text = c.in-Ok.text.items;
         read = c.in-Ok.ensures.ok;
-        answers = record { contents = contents c.in-Ok-parse.trace; means = c.in-Ok-parse.ensures.ok; replied = c.in_ok-replies.ensures.replies };
+        answers = c.in-Ok-answer_text.ensures.answers;
         written = subst (λ (lines : List ℕ). Appends wrote writes lines) (c.as_slice-3.ensures.value ∙ c.in_ok-lines.ensures ∙ ap verdict_text c.as_slice.ensures.value) c.in-Ok-write_text.ensures.ok;
       },
     )

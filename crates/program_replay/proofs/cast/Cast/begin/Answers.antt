@@ -1,30 +1,17 @@
-use Rattle.std.proofs.Common.{◌≡◌, ◌++◌, ℕ, Bool, true, List, [], ◌∷◌, length, append_assoc, arith}
+use Rattle.std.proofs.Common.{◌≡◌, ◌++◌, ℕ, Result, Ok, Err, List, subst, length, arith}
+use Rattle.std.specs.Prelude.{OnOk}
 use Rattle.program_replay.specs.Casts.{new_seats}
 use Rattle.program_replay.proofs.cast.Cast.begin.Goals as goal
 
-two_seats : (seats one two : List ℕ) (child count spawner : ℕ) → one ≡ seats ++ child ∷ [] → two ≡ one ++ spawner ∷ [] → child ≡ count →
-    two ≡ seats ++ count ∷ spawner ∷ []
-two_seats seats one two child count spawner first second same = rw (second, first, same) (append_assoc seats (count ∷ []) (spawner ∷ []))
+told : {T E : Type 0} (r : Result T E) (P : Type 0) → P → OnOk r P
+told (Ok v) P p = p
+told (Err e) P p = tt
 
-three_seats : (seats one two three : List ℕ) (child count spawner : ℕ) → one ≡ seats ++ child ∷ [] → two ≡ one ++ spawner ∷ [] → three ≡ two ++ spawner ∷ [] →
-    child ≡ count → three ≡ seats ++ count ∷ spawner ∷ spawner ∷ []
-three_seats seats one two three child count spawner first second third same =
-    rw (third, two_seats seats one two child count spawner first second same) (append_assoc seats (count ∷ spawner ∷ []) (spawner ∷ []))
+pub returns-clause-frames : goal.returns-clause-frames
+returns-clause-frames g c =
+    told c.seat.result _ (record { frame = c.new.result; stands = c.new.ensures.stands; begun = c.new.ensures.begun; pushed = c.in_ok-push.ensures.items })
 
-pub returns-in_ok-push-4-clause-frames : goal.returns-in_ok-push-4-clause-frames
-returns-in_ok-push-4-clause-frames g c =
-    record { frame = c.new.result; stands = c.new.ensures.stands; begun = c.new.ensures.begun; pushed = c.in_ok-push.ensures.items }
-
-pub returns-else-first-clause-frames : goal.returns-else-first-clause-frames
-returns-else-first-clause-frames g c =
-    record { frame = c.new.result; stands = c.new.ensures.stands; begun = c.new.ensures.begun; pushed = c.in_ok-push.ensures.items }
-
-pub returns-in_ok-push-4-clause-seats : goal.returns-in_ok-push-4-clause-seats
-returns-in_ok-push-4-clause-seats g c =
-    rw c.if-first.true (three_seats c.args.self.now.seats.items _ _ _ c.len-child.result (length c.args.self.now.frames.items) c.args.place
-    c.in_ok-push-2.ensures.items c.in_ok-push-3.ensures.items c.in_ok-push-4.ensures.items (omega (arith, c.len-child.ensures, c.args.self.now.frames.ok)))
-
-pub returns-else-first-clause-seats : goal.returns-else-first-clause-seats
-returns-else-first-clause-seats g c =
-    rw c.if-first.false (two_seats c.args.self.now.seats.items _ _ c.len-child.result (length c.args.self.now.frames.items) c.args.place
-    c.in_ok-push-2.ensures.items c.in_ok-push-3.ensures.items (omega (arith, c.len-child.ensures, c.args.self.now.frames.ok)))
+pub returns-clause-seats : goal.returns-clause-seats
+returns-clause-seats g c =
+    let same : c.len-child.result ≡ length c.args.self.now.frames.items = omega (arith, c.len-child.ensures, c.args.self.now.frames.ok) in
+    subst (λ n. OnOk c.seat.result (c.seat.new.seats.items ≡ c.args.self.now.seats.items ++ new_seats c.args.first n c.args.place)) same c.seat.ensures

@@ -1,26 +1,21 @@
 use Rattle.std.proofs.Common.{◌∙◌, ap, sym, refl, length}
-use Rattle.std.proofs.lemmas.Option.{slice_get_within}
-use Rattle.trace_values.specs.Declarations.{cells_of}
+use Rattle.trace_text.specs.Grammar.{cells_of}
 use Rattle.program_steps.specs.Scripts.{none_passed}
-use Rattle.program_steps.proofs.Places.{item_of}
 use Rattle.program_steps.proofs.Turns.{passes_more}
 use Rattle.program_steps.proofs.Located.{stands_in, same_function, in_place, passed_is, return_asks, statement_asks, statement_asked, sound_of, statement_within, placed, named}
 use Rattle.program_steps.proofs.activation.Activation.seek.Goals as goal
 
-pub bounds-as_slice-self : goal.bounds-as_slice-self
-bounds-as_slice-self g c = rw c.as_slice.ensures (slice_get_within c.args.program.now.functions c.args.self.now.function c.requires.place.code c.requires.place.known)
-
 pub loop-statement-init : goal.loop-statement-init
 loop-statement-init g c =
     let functions = c.args.program.now.functions in
-    let h = item_of c.as_slice.result.now functions c.args.self.now.function c.index-as_slice-self.result c.requires.place.code c.as_slice.ensures c.requires.place.known c.index-as_slice-self.is in
-    record { function = refl; join = refl; stands = stands_in functions c.index-as_slice-self.result c.args.self.now h c.requires.place; passes = none_passed }
+    let h = c.function_in-function.ensures in
+    record { function = refl; join = refl; stands = stands_in functions c.function_in-function.result.now c.args.self.now h c.requires.place; passes = none_passed }
 
 pub returns-in_default-clause-place : goal.returns-in_default-clause-place
 returns-in_default-clause-place g c =
     let functions = c.args.program.now.functions in
-    let code = c.index-as_slice-self.result in
-    let h = item_of c.as_slice.result.now functions c.args.self.now.function code c.requires.place.code c.as_slice.ensures c.requires.place.known c.index-as_slice-self.is in
+    let code = c.function_in-function.result.now in
+    let h = c.function_in-function.ensures in
     let now = c.loop-statement.self in
     let k = same_function functions code c.args.self.now now h c.loop-statement.invariant.function in
     in_place functions code now k c.loop-statement.invariant.stands
@@ -28,8 +23,8 @@ returns-in_default-clause-place g c =
 pub returns-in_default-clause-passes : goal.returns-in_default-clause-passes
 returns-in_default-clause-passes g c =
     let functions = c.args.program.now.functions in
-    let code = c.index-as_slice-self.result in
-    let h = item_of c.as_slice.result.now functions c.args.self.now.function code c.requires.place.code c.as_slice.ensures c.requires.place.known c.index-as_slice-self.is in
+    let code = c.function_in-function.result.now in
+    let h = c.function_in-function.ensures in
     let now = c.loop-statement.self in
     let k = same_function functions code c.args.self.now now h c.loop-statement.invariant.function in
     passed_is functions code c.args.self.now now h c.loop-statement.invariant.function c.loop-statement.invariant.passes
@@ -37,8 +32,8 @@ returns-in_default-clause-passes g c =
 pub returns-in_default-clause-asks : goal.returns-in_default-clause-asks
 returns-in_default-clause-asks g c =
     let functions = c.args.program.now.functions in
-    let code = c.index-as_slice-self.result in
-    let h = item_of c.as_slice.result.now functions c.args.self.now.function code c.requires.place.code c.as_slice.ensures c.requires.place.known c.index-as_slice-self.is in
+    let code = c.function_in-function.result.now in
+    let h = c.function_in-function.ensures in
     let now = c.loop-statement.self in
     let k = same_function functions code c.args.self.now now h c.loop-statement.invariant.function in
     let l = ap (λ f. f.end_line) c.function.view_is in
@@ -48,8 +43,8 @@ returns-in_default-clause-asks g c =
 pub act_of-requires : goal.act_of-requires
 act_of-requires g c =
     let functions = c.args.program.now.functions in
-    let code = c.index-as_slice-self.result in
-    let h = item_of c.as_slice.result.now functions c.args.self.now.function code c.requires.place.code c.as_slice.ensures c.requires.place.known c.index-as_slice-self.is in
+    let code = c.function_in-function.result.now in
+    let h = c.function_in-function.ensures in
     let now = c.loop-statement.self in
     let k = same_function functions code c.args.self.now now h c.loop-statement.invariant.function in
     let cells = cells_of c.args.program.now.mems in
@@ -62,8 +57,8 @@ act_of-requires g c =
 pub returns-in-Some-act_of-clause-place : goal.returns-in-Some-act_of-clause-place
 returns-in-Some-act_of-clause-place g c =
     let functions = c.args.program.now.functions in
-    let code = c.index-as_slice-self.result in
-    let h = item_of c.as_slice.result.now functions c.args.self.now.function code c.requires.place.code c.as_slice.ensures c.requires.place.known c.index-as_slice-self.is in
+    let code = c.function_in-function.result.now in
+    let h = c.function_in-function.ensures in
     let now = c.loop-statement.self in
     let k = same_function functions code c.args.self.now now h c.loop-statement.invariant.function in
     in_place functions code now k c.loop-statement.invariant.stands
@@ -71,8 +66,8 @@ returns-in-Some-act_of-clause-place g c =
 pub returns-in-Some-act_of-clause-passes : goal.returns-in-Some-act_of-clause-passes
 returns-in-Some-act_of-clause-passes g c =
     let functions = c.args.program.now.functions in
-    let code = c.index-as_slice-self.result in
-    let h = item_of c.as_slice.result.now functions c.args.self.now.function code c.requires.place.code c.as_slice.ensures c.requires.place.known c.index-as_slice-self.is in
+    let code = c.function_in-function.result.now in
+    let h = c.function_in-function.ensures in
     let now = c.loop-statement.self in
     let k = same_function functions code c.args.self.now now h c.loop-statement.invariant.function in
     passed_is functions code c.args.self.now now h c.loop-statement.invariant.function c.loop-statement.invariant.passes
@@ -80,8 +75,8 @@ returns-in-Some-act_of-clause-passes g c =
 pub returns-in-Some-act_of-clause-asks : goal.returns-in-Some-act_of-clause-asks
 returns-in-Some-act_of-clause-asks g c =
     let functions = c.args.program.now.functions in
-    let code = c.index-as_slice-self.result in
-    let h = item_of c.as_slice.result.now functions c.args.self.now.function code c.requires.place.code c.as_slice.ensures c.requires.place.known c.index-as_slice-self.is in
+    let code = c.function_in-function.result.now in
+    let h = c.function_in-function.ensures in
     let now = c.loop-statement.self in
     let k = same_function functions code c.args.self.now now h c.loop-statement.invariant.function in
     let e = sym c.statement_in.ensures ∙ c.in-Some.is in
@@ -92,8 +87,8 @@ returns-in-Some-act_of-clause-asks g c =
 pub returns-in-Some-act_of-clause-asked : goal.returns-in-Some-act_of-clause-asked
 returns-in-Some-act_of-clause-asked g c =
     let functions = c.args.program.now.functions in
-    let code = c.index-as_slice-self.result in
-    let h = item_of c.as_slice.result.now functions c.args.self.now.function code c.requires.place.code c.as_slice.ensures c.requires.place.known c.index-as_slice-self.is in
+    let code = c.function_in-function.result.now in
+    let h = c.function_in-function.ensures in
     let now = c.loop-statement.self in
     let k = same_function functions code c.args.self.now now h c.loop-statement.invariant.function in
     let e = sym c.statement_in.ensures ∙ c.in-Some.is in
@@ -103,8 +98,8 @@ returns-in-Some-act_of-clause-asked g c =
 pub returns-in-Some-act_of-clause-named : goal.returns-in-Some-act_of-clause-named
 returns-in-Some-act_of-clause-named g c =
     let functions = c.args.program.now.functions in
-    let code = c.index-as_slice-self.result in
-    let h = item_of c.as_slice.result.now functions c.args.self.now.function code c.requires.place.code c.as_slice.ensures c.requires.place.known c.index-as_slice-self.is in
+    let code = c.function_in-function.result.now in
+    let h = c.function_in-function.ensures in
     let now = c.loop-statement.self in
     let k = same_function functions code c.args.self.now now h c.loop-statement.invariant.function in
     let cells = cells_of c.args.program.now.mems in
@@ -118,8 +113,8 @@ returns-in-Some-act_of-clause-named g c =
 pub pass-requires-clause-few : goal.pass-requires-clause-few
 pass-requires-clause-few g c =
     let functions = c.args.program.now.functions in
-    let code = c.index-as_slice-self.result in
-    let h = item_of c.as_slice.result.now functions c.args.self.now.function code c.requires.place.code c.as_slice.ensures c.requires.place.known c.index-as_slice-self.is in
+    let code = c.function_in-function.result.now in
+    let h = c.function_in-function.ensures in
     let now = c.loop-statement.self in
     let k = same_function functions code c.args.self.now now h c.loop-statement.invariant.function in
     let cells = cells_of c.args.program.now.mems in
@@ -130,8 +125,8 @@ pass-requires-clause-few g c =
 pub pass-requires-clause-linked : goal.pass-requires-clause-linked
 pass-requires-clause-linked g c =
     let functions = c.args.program.now.functions in
-    let code = c.index-as_slice-self.result in
-    let h = item_of c.as_slice.result.now functions c.args.self.now.function code c.requires.place.code c.as_slice.ensures c.requires.place.known c.index-as_slice-self.is in
+    let code = c.function_in-function.result.now in
+    let h = c.function_in-function.ensures in
     let now = c.loop-statement.self in
     let k = same_function functions code c.args.self.now now h c.loop-statement.invariant.function in
     let cells = cells_of c.args.program.now.mems in
@@ -142,8 +137,8 @@ pass-requires-clause-linked g c =
 pub pass-requires-clause-divided : goal.pass-requires-clause-divided
 pass-requires-clause-divided g c =
     let functions = c.args.program.now.functions in
-    let code = c.index-as_slice-self.result in
-    let h = item_of c.as_slice.result.now functions c.args.self.now.function code c.requires.place.code c.as_slice.ensures c.requires.place.known c.index-as_slice-self.is in
+    let code = c.function_in-function.result.now in
+    let h = c.function_in-function.ensures in
     let now = c.loop-statement.self in
     let k = same_function functions code c.args.self.now now h c.loop-statement.invariant.function in
     let cells = cells_of c.args.program.now.mems in
@@ -154,8 +149,8 @@ pass-requires-clause-divided g c =
 pub loop-statement-preserved : goal.loop-statement-preserved
 loop-statement-preserved g c =
     let functions = c.args.program.now.functions in
-    let code = c.index-as_slice-self.result in
-    let h = item_of c.as_slice.result.now functions c.args.self.now.function code c.requires.place.code c.as_slice.ensures c.requires.place.known c.index-as_slice-self.is in
+    let code = c.function_in-function.result.now in
+    let h = c.function_in-function.ensures in
     let now = c.loop-statement.self in
     let k = same_function functions code c.args.self.now now h c.loop-statement.invariant.function in
     let cells = cells_of c.args.program.now.mems in

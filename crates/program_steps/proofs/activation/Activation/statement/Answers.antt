@@ -1,13 +1,11 @@
 use Rattle.std.proofs.Common.{◌≡◌, ℕ, Option, Some, None, length, refl, sym, ◌∙◌}
 use Rattle.std.specs.Prelude.{IsTrue, IfSome}
 use Rattle.std.proofs.lemmas.Bool.{ltb-true}
-use Rattle.std.proofs.lemmas.Option.{slice_get_within}
-use Rattle.trace_values.specs.Declarations.{cells_of}
+use Rattle.trace_text.specs.Grammar.{cells_of}
 use Rattle.program_lines.specs.declared.statement.Statement.{Statement}
 use Rattle.program_lines.specs.declared.statement.Statement.TheVariants.{Let, Read, Write, Bump, Update, Put, Get, Spawn, Call, Sync, ParallelFor, If, Else, End}
 use Rattle.program_text.specs.Sound.{is_within}
 use Rattle.program_steps.specs.Requests.{IsTargeted}
-use Rattle.program_steps.proofs.Places.{item_of}
 use Rattle.program_steps.proofs.Located.{stands_in, statement_is, sound_of, statement_within}
 use Rattle.program_steps.proofs.activation.Activation.statement.Goals as goal
 
@@ -32,23 +30,20 @@ if_found : (functions : ℕ) (found : Option Statement) → ((statement : Statem
 if_found functions (Some statement) each = each statement refl
 if_found functions None each = tt
 
-pub bounds-as_slice-self : goal.bounds-as_slice-self
-bounds-as_slice-self g c = rw c.as_slice.ensures (slice_get_within c.args.program.now.functions c.args.self.now.function c.requires.place.code c.requires.place.known)
-
 pub returns-clause-at : goal.returns-clause-at
 returns-clause-at g c =
     let functions = c.args.program.now.functions in
-    let h = item_of c.as_slice.result.now functions c.args.self.now.function c.index-as_slice-self.result c.requires.place.code c.as_slice.ensures c.requires.place.known c.index-as_slice-self.is in
-    c.statement_in.ensures ∙ sym (statement_is functions c.index-as_slice-self.result c.args.self.now h)
+    let h = c.function_in.ensures in
+    c.statement_in.ensures ∙ sym (statement_is functions c.function_in.result.now c.args.self.now h)
 
 pub returns-clause-targets : goal.returns-clause-targets
 returns-clause-targets g c =
     let functions = c.args.program.now.functions in
-    let code = c.index-as_slice-self.result in
+    let code = c.function_in.result.now in
     let now = c.args.self.now in
     let cells = cells_of c.args.program.now.mems in
     let reducers = length c.args.program.now.reducers in
-    let h = item_of c.as_slice.result.now functions now.function code c.requires.place.code c.as_slice.ensures c.requires.place.known c.index-as_slice-self.is in
+    let h = c.function_in.ensures in
     let sound = sound_of cells reducers functions now.function code c.args.program.now.sound h in
     let stands = stands_in functions code now h c.requires.place in
     if_found (length functions) c.statement_in.result (λ statement is.

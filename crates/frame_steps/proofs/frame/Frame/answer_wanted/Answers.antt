@@ -1,0 +1,52 @@
+use Rattle.std.proofs.Common.{◌≡◌, ◌∙◌, ap, sym, Some, None, length}
+use Rattle.trace_text.specs.Grammar.{cells_of}
+use Rattle.program_lines.specs.declared.statement.Statement.TheVariants.{Call}
+use Rattle.program_steps.specs.declared.activation.Activation.{Activation}
+use Rattle.program_steps.specs.Values.{value_of}
+use Rattle.program_steps.specs.Requests.{answered}
+use Rattle.program_steps.specs.Activations.{statement_of}
+use Rattle.frame_steps.specs.States.{State}
+use Rattle.frame_steps.proofs.Answered.{refused, left_answered, call_answered, statement_answered}
+use Rattle.frame_steps.proofs.Histories.{call_same}
+use Rattle.frame_steps.proofs.frame.Frame.answer_wanted.Goals as goal
+
+pub returns-in-None : goal.returns-in-None
+returns-in-None g c =
+    let functions = c.args.program.now.functions in
+    let before = c.args.self.now in
+    let top = ap (λ (s : State). s.top) c.self.view_is in
+    let none : statement_of functions before.top ≡ None = ap (λ t. statement_of functions t) (sym top) ∙ sym c.statement.ensures.at ∙ c.in-None.is in
+    left_answered functions before c.leave.new.self c.args.answer.now c.leave.result c.requires.stands c.requires.wanting none c.leave.ensures.ok c.leave.ensures.returned c.leave.ensures.err c.leave.ensures.strange
+
+pub returns-in-Same : goal.returns-in-Same
+returns-in-Same g c =
+    let functions = c.args.program.now.functions in
+    let before = c.args.self.now in
+    let top = ap (λ (s : State). s.top) c.self.view_is in
+    let line = c.in-Some-Call.field-0-0 in
+    let function = c.in-Some-Call.function in
+    let argument = c.in-Some-Call.argument in
+    let e : statement_of functions before.top ≡ Some (Call line function argument) = ap (λ t. statement_of functions t) (sym top) ∙ sym c.statement.ensures.at ∙ c.in-Some-Call.is ∙ ap Some c.in-Some-Call.field-0-is in
+    let v = c.value_of-argument.ensures ∙ ap (λ (t : Activation). value_of argument t.registers) top in
+    call_answered functions (cells_of c.args.program.now.mems) (length c.args.program.now.reducers) before c.call.new.self line function argument c.value_of-argument.result c.args.answer.now c.call.result c.args.program.now.sound c.requires.stands c.requires.wanting e v c.in-Same.is c.call.ensures.ok c.call.ensures.err c.call.ensures.memory
+
+pub returns-in_default : goal.returns-in_default
+returns-in_default g c =
+    let functions = c.args.program.now.functions in
+    let before = c.args.self.now in
+    let top = ap (λ (s : State). s.top) c.self.view_is in
+    let line = c.in-Some-Call.field-0-0 in
+    let function = c.in-Some-Call.function in
+    let argument = c.in-Some-Call.argument in
+    let e : statement_of functions before.top ≡ Some (Call line function argument) = ap (λ t. statement_of functions t) (sym top) ∙ sym c.statement.ensures.at ∙ c.in-Some-Call.is ∙ ap Some c.in-Some-Call.field-0-is in
+    refused functions before c.args.answer.now c.requires.stands (λ m. c.in_default.not-Same (call_same functions before line function argument c.args.answer.now e m))
+
+pub returns-in-Some-answered : goal.returns-in-Some-answered
+returns-in-Some-answered g c =
+    let functions = c.args.program.now.functions in
+    let before = c.args.self.now in
+    let top = ap (λ (s : State). s.top) c.self.view_is in
+    let statement = c.in-Some.statement in
+    let e : statement_of functions before.top ≡ Some statement = ap (λ t. statement_of functions t) (sym top) ∙ sym c.statement.ensures.at ∙ c.in-Some.is in
+    let r = ap (λ (t : Activation). answered statement c.args.answer.now t.registers) (sym top) ∙ sym c.answered.ensures ∙ c.in-Some-answered.is in
+    statement_answered functions before c.go_on.new.self statement c.args.answer.now c.in-Some-answered.registers _ c.requires.stands c.requires.wanting e r c.go_on.ensures.place c.go_on.ensures.function c.go_on.ensures.registers c.go_on.ensures.join c.go_on.ensures.behind c.go_on.ensures.rest.0 c.go_on.ensures.rest.1

@@ -1,0 +1,134 @@
+-- A request that has no fault is answered.
+use Rattle.std.proofs.Common.{◌≡◌, ℕ, suc, ◌+◌, ◌<◌, Bool, List, [], ◌∷◌, ◌++◌, length, reverse, take, drop, Option, Some, Result, Ok, Err, refl, sym, ap, ◌∙◌, subst, arith}
+use Rattle.std.specs.Prelude.{MatchResult, IfOk, IfErr, OnErr, slice_index}
+use Rattle.std.proofs.lemmas.List.{length-reverse}
+use Rattle.trace_text.specs.declared.value.Act.TheVariants.{Return}
+use Rattle.trace_text.specs.declared.value.Request.{Request}
+use Rattle.control_history.specs.History.{Event, History}
+use Rattle.control_history.specs.Strands.{Running}
+use Rattle.control_history.specs.Blocks.{stack, IsSynced}
+use Rattle.sp_labels.specs.Roster.{Roster, Follows, HasFewLeft}
+use Rattle.shadow_history.specs.declared.cell.Cell.{Cell}
+use Rattle.shadow_history.specs.Accesses.{Access}
+use Rattle.shadow_history.specs.Shadow.{Remembers}
+use Rattle.race_gate.specs.declared.access.CellAccess.{CellAccess}
+use Rattle.race_gate.specs.declared.access.Sort.TheVariants.{Control, Cell as CellSort, Reducer}
+use Rattle.race_gate.specs.declared.answer.Answer.{Answer}
+use Rattle.race_gate.specs.declared.answer.Entry.{Entry}
+use Rattle.race_gate.specs.declared.fault.GateFault.{GateFault}
+use Rattle.race_gate.specs.declared.fault.GateFault.TheVariants.{Memory}
+use Rattle.race_gate.specs.Entries.{event_between}
+use Rattle.race_gate.specs.Legal.{Belongs}
+use Rattle.race_gate.specs.Accesses.{cell_access, sort_of}
+use Rattle.race_gate.specs.Memory.{effect}
+use Rattle.race_gate.specs.Verdicts.{IfValue}
+use Rattle.race_gate.specs.Shapes.{Shape}
+use Rattle.race_gate.specs.Books.{Books, OptionKeepsStill, OptionKeepsOn, OptionKeepsRunning, OptionHasReducer, OptionAnswersAccess}
+use Rattle.race_gate.specs.States.{State}
+use Rattle.race_gate.specs.Faults.{IsFaultless}
+use Rattle.race_gate.specs.Kept.{IsKept, IsReady, with_entry}
+use Rattle.race_gate.specs.Steps.{FollowsWith, GoesOn, IsJudgedBy, TakesPlace}
+use Rattle.race_gate.proofs.Followed.{running-in-each, synced-in-each, few-in-each}
+use Rattle.race_gate.proofs.Numbers.{not_few}
+use Rattle.race_gate.proofs.Entering.{in-cells, sort-cell, books-known, books-running, kept-follows, entered-access, entered-control, entered-reducer, kept-still, kept-pushed, written_back}
+
+module _ (state : State) (strands : Roster) (shadow : List Cell) (books : Option Books) (memory : List ℕ) (request : Request) (number : ℕ)
+    (ready : IsReady state strands shadow books memory request number) where
+  -- what the steps ask for
+  pub ready-runs : (history : History) → Follows strands history → Running history request.strand
+  ready-runs history follows = running-in-each _ _ history ready.kept.follows follows request.strand ready.faultless.runs
+
+  pub ready-synced : request.act ≡ Return → (history : History) → Follows strands history → IsSynced (stack history request.strand)
+  ready-synced returns history follows =
+      synced-in-each _ _ history ready.kept.follows follows request.strand ready.faultless.runs (ready.faultless.synced returns)
+
+  pub ready-numbers : (history : History) → Follows strands history → HasFewLeft history → ⊥
+  ready-numbers history follows few =
+      not_few _ _ ready.faultless.below ready.kept.limited (few-in-each _ _ history ready.kept.follows follows few)
+
+  pub ready-follows : FollowsWith strands books
+  ready-follows = kept-follows _ _ _ _ ready.kept
+
+  pub ready-known : sort_of request.act ≡ Reducer → OptionHasReducer books request.act
+  ready-known is = books-known _ _ _ request.act ready.kept.reducers is ready.faultless.in_range
+
+  pub ready-running : sort_of request.act ≡ Reducer → OptionKeepsRunning books request.strand
+  ready-running is = books-running _ _ _ request.act request.strand ready.kept.reducers is ready.faultless.in_range ready.faultless.runs
+
+  pub ready-in_cells : (access : CellAccess) → sort_of request.act ≡ CellSort access → access.location < state.shape.cells
+  ready-in_cells access is = in-cells _ _ _ (sort-cell _ _ is) ready.faultless.in_range
+
+  pub ready-in_shadow : (access : CellAccess) → sort_of request.act ≡ CellSort access → access.location < length shadow
+  ready-in_shadow access is = let below = ready-in_cells access is in omega (arith, ready.kept.locations)
+
+  pub ready-in_memory : (access : CellAccess) → sort_of request.act ≡ CellSort access → access.location < length memory
+  ready-in_memory access is =
+      let below = ready-in_cells access is in
+      subst (λ (cells : List ℕ). access.location < length cells) (sym ready.cells) (omega (arith, ready.kept.right.memory.len))
+
+  numbered : number ≡ suc (length state.history)
+  numbered = omega (arith, ready.numbered)
+
+  -- what they answer
+  pub answers-cell : (access : CellAccess) (answer : Answer) (marks : List Cell) (cells : List ℕ) → sort_of request.act ≡ CellSort access → Belongs request.act answer →
+      ((history : History) (accesses : List Access) → Follows strands history → Remembers shadow history accesses → IsJudgedBy history accesses request.strand access number answer marks) →
+      length marks ≡ length shadow → IfValue answer (λ value. value ≡ slice_index memory access.location) → TakesPlace (effect request.act answer) memory cells →
+      IsKept (with_entry state request answer cells) strands marks books
+  answers-cell access answer marks cells is belongs judged len value takes =
+      entered-access state strands shadow books ready.kept (record { request = request; answer = answer }) ready.faultless access marks cells number numbered
+      (sort-cell _ _ is) (ready-in_cells access is) belongs (judged _ _ ready.kept.follows ready.kept.remembers)
+      (subst (λ xs. IfValue answer (λ value. value ≡ slice_index xs access.location)) ready.cells value)
+      (subst (λ xs. TakesPlace (effect request.act answer) xs cells) ready.cells takes) len
+
+  pub answers-control : (after : Roster) (others : Option Books) (result : Result Answer GateFault) → sort_of request.act ≡ Control →
+      IfOk result (λ answer. (history : History) → Follows strands history → GoesOn history request.strand request.act answer after) →
+      IfOk result (λ answer. (event : Event) → event_between request.strand request.act answer ≡ Some event → OptionKeepsOn books others event) →
+      IfErr result (λ fault. fault ≡ Memory) → OnErr result ((history : History) → Follows strands history → Follows after history) →
+      OnErr result (OptionKeepsStill books others) → MatchResult result
+      (λ answer. IsKept (with_entry state request answer memory) after shadow others) (λ fault. (fault ≡ Memory) × (memory ≡ memory) × IsKept state after shadow others)
+  answers-control after others (Ok answer) is goes on none follows still =
+      subst (λ cells. IsKept (with_entry state request answer cells) after shadow others) (sym ready.cells)
+      (entered-control state strands shadow books ready.kept (record { request = request; answer = answer }) ready.faultless after others is
+      (goes _ ready.kept.follows) on)
+  answers-control after others (Err fault) is goes on none follows still = (none, refl, kept-still _ _ _ _ _ _ ready.kept follows still)
+
+  pub answers-reducer : (others : Option Books) (result : Result Answer GateFault) → sort_of request.act ≡ Reducer →
+      IfOk result (OptionAnswersAccess books others number request.strand request.act) → IfErr result (λ fault. fault ≡ Memory) →
+      OnErr result (OptionKeepsStill books others) → MatchResult result
+      (λ answer. IsKept (with_entry state request answer memory) strands shadow others) (λ fault. (fault ≡ Memory) × (memory ≡ memory) × IsKept state strands shadow others)
+  answers-reducer others (Ok answer) is answers none still =
+      subst (λ cells. IsKept (with_entry state request answer cells) strands shadow others) (sym ready.cells)
+      (entered-reducer state strands shadow books ready.kept (record { request = request; answer = answer }) ready.faultless others number numbered is answers)
+  answers-reducer others (Err fault) is answers none still = (none, refl, kept-still _ _ _ _ _ _ ready.kept (λ history follows. follows) still)
+
+-- ---- the gate's own lists
+
+module _ (shape : Shape) (limit : ℕ) (stopped : Bool) (items : List Entry) (held : List ℕ) (strands : Roster) (shadow : List Cell) (books : Option Books)
+    (kept : IsKept (record { shape = shape; limit = limit; stopped = stopped; history = reverse items; memory = held }) strands shadow books) where
+  abbrev the_state : State
+  the_state = record { shape = shape; limit = limit; stopped = stopped; history = reverse items; memory = held }
+
+  pub is-ready : (request : Request) (memory : List ℕ) (number : ℕ) → memory ≡ held →
+      IsFaultless (record { shape = shape; limit = limit; stopped = stopped; history = reverse items; memory = held }) request → number ≡ length items + 1 →
+      IsReady (record { shape = shape; limit = limit; stopped = stopped; history = reverse items; memory = held }) strands shadow books memory request number
+  is-ready request memory number same faultless numbered =
+      record { kept = kept; cells = same; faultless = faultless; numbered = omega (arith, length-reverse items) }
+
+  -- the cells are written back, and the entry stands behind the others
+  pub kept-answered : (entry : Entry) (pushed : List Entry) (memory : List ℕ) (len : ℕ) (after : Roster) (marks : List Cell) (others : Option Books) → len ≡ length held →
+      pushed ≡ items ++ entry ∷ [] →
+      IsKept (record { shape = shape; limit = limit; stopped = stopped; history = entry ∷ reverse items; memory = memory }) after marks others →
+      IsKept (record { shape = shape; limit = limit; stopped = stopped; history = reverse pushed; memory = take len (memory ++ drop (length memory) held) }) after marks others
+  kept-answered entry pushed memory len after marks others counted is answered =
+      let same_length : length memory ≡ length held = omega (arith, answered.right.memory.len, kept.right.memory.len) in
+      kept-pushed _ _ _ _ _ _ _ _ _ _ is (subst (λ (cells : List ℕ). IsKept (record { shape = shape; limit = limit; stopped = stopped; history = entry ∷ reverse items; memory = cells }) after marks others)
+      (sym (written_back held memory len (sym counted) same_length)) answered)
+
+  same-cells : (memory : List ℕ) (len : ℕ) → len ≡ length held → memory ≡ held → take len (memory ++ drop (length memory) held) ≡ held
+  same-cells memory len counted same = written_back held memory len (sym counted) (ap length same) ∙ same
+
+  -- nothing changed
+  pub same-state : (others : List Entry) (memory : List ℕ) (len : ℕ) → len ≡ length held → others ≡ items → memory ≡ held →
+      record { shape = shape; limit = limit; stopped = stopped; history = reverse others; memory = take len (memory ++ drop (length memory) held) } ≡
+      the_state
+  same-state others memory len counted same_entries same = rw (same_entries, same-cells memory len counted same) refl

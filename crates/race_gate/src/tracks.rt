@@ -1,0 +1,93 @@
+//! What the gate keeps beside the history and the cells.
+
+ghost use Rattle.std.specs.Prelude.{◌≡◌, ◌<◌, ◌^◌, [], length, IfOk, MatchResult};
+ghost use Rattle.control_history.specs.History.{History};
+ghost use Rattle.sp_labels.specs.Roster.{Follows};
+ghost use Rattle.shadow_history.specs.Shadow.{Remembers};
+ghost use Rattle.race_gate.specs.Kept.{IsKept, IsReady, OpensTracks, with_entry};
+ghost use Rattle.race_gate.specs.States.{State};
+
+use crate::access::{Sort, sort_of};
+use crate::answer::Answer;
+use crate::fault::GateFault;
+use crate::reducers::{Reducers, opening_reducers};
+use crate::step::{control, judge_access, judge_reducer};
+use shadow_history::Shadow;
+use sp_labels::Strands;
+use std::alloc::{AllocError, Allocator};
+use trace_text::{Monoid, Request};
+
+/// What is kept of the strands, of the granted accesses of cells, and of the reducers.
+#[derive(Drop)]
+pub struct Tracks<A: Allocator + Clone> {
+    /// The strands, as the acts of control so far left them.
+    pub strands: Strands<A>,
+    /// The accesses of each cell that later ones are judged by.
+    pub shadow: Shadow<A>,
+    /// None where the program has no reducers.
+    pub reducers: Option<Reducers<A>>,
+}
+
+/// The strands before any act of control.
+fn opening_strands<A: Allocator + Clone>(alloc: &A) -> Result<Strands<A>, AllocError>
+    ensures { IfOk result (λ strands. Follows strands []) }
+{
+    Strands::new(alloc.clone()?)
+}
+
+/// No access of these cells.
+fn opening_shadow<A: Allocator + Clone>(alloc: &A, cells: u32) -> Result<Shadow<A>, AllocError>
+    ensures locations { IfOk result (λ shadow. length shadow ≡ cells) }
+    ensures empty { IfOk result (λ shadow. (history : History) → Remembers shadow history []) }
+{
+    Shadow::new(alloc.clone()?, cells)
+}
+
+impl<A: Allocator + Clone> Tracks<A> {
+    /// What is kept of these cells and reducers before any entry.
+    pub fn new(alloc: &A, cells: u32, monoids: &[Monoid]) -> Result<Tracks<A>, AllocError>
+        requires { length monoids.now < 2 ^ 32 }
+        ensures { IfOk result (λ tracks. OpensTracks tracks.strands tracks.shadow tracks.reducers cells monoids.now) }
+    {
+        Ok(Tracks {
+            strands: opening_strands(alloc)?,
+            shadow: opening_shadow(alloc, cells)?,
+            reducers: opening_reducers(alloc, monoids)?,
+        })
+    }
+
+    /// Answers a request that has no fault, and does what was granted. `number` is that of its entry. Where memory is refused, nothing
+    /// changes.
+    pub fn answer(
+        &mut self,
+        memory: &mut [u64],
+        number: u32,
+        request: Request,
+    ) -> Result<Answer, GateFault>
+        requires { (state : State) × IsReady state self.old.strands self.old.shadow self.old.reducers memory.old request number }
+        ensures { (state : State) → IsReady state self.old.strands self.old.shadow self.old.reducers memory.old request number → MatchResult result
+            (λ answer. IsKept (with_entry state request answer memory.new) self.new.strands self.new.shadow self.new.reducers)
+            (λ fault. (fault ≡ GateFault.Memory) × (memory.new ≡ memory.old) × IsKept state self.new.strands self.new.shadow self.new.reducers) }
+    {
+        match sort_of(request.act) {
+            Sort::Cell(access) => Ok(judge_access(
+                &self.strands,
+                &mut self.shadow,
+                memory,
+                number,
+                request.strand,
+                request.act,
+                access,
+            )),
+            Sort::Reducer => {
+                judge_reducer(&mut self.reducers, number, request.strand, request.act)
+            }
+            Sort::Control => control(
+                &mut self.strands,
+                &mut self.reducers,
+                request.strand,
+                request.act,
+            ),
+        }
+    }
+}
