@@ -16,6 +16,14 @@ still-some None (Some new) history still some = absurd still
 still-some (Some old) None history still some = absurd still
 still-some (Some old) (Some new) history still (steps, earlier, kept, same) = (steps, earlier, still.keeps steps earlier kept, same)
 
+pub still-same : (option : Option Books) → OptionKeepsStill option option
+still-same None = tt
+still-same (Some books) = record { monoids = refl; keeps = λ steps earlier kept. kept }
+
+pub still-by : (option : Option Books) (one new : Books) → option ≡ Some one → KeepsStill one new → OptionKeepsStill option (Some new)
+still-by None one new is still = absurd (cc)
+still-by (Some found) one new is still = let same : one ≡ found = cc in subst (λ b. KeepsStill b new) same still
+
 -- the answer's event comes next
 pub takes-event : (books : Books) (option : Option Books) (history : History) (strand : ℕ) (act : Act) (answer : Answer) (strands : Roster) → option ≡ Some books →
     OptionKeepsSome option history → GoesOn history strand act answer strands → TakesEvent books strand answer
