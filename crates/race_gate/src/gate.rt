@@ -163,7 +163,9 @@ impl<A: Allocator + Clone> Gate<A> {
         self.check(request)?;
         self.history.reserve(1)?;
         let number = self.history.len() as u32 + 1;
-        let answer = self.tracks.answer(self.memory.as_mut_slice(), number, request)?;
+        let answer = self
+            .tracks
+            .answer(self.memory.as_mut_slice(), number, request)?;
         self.history.push_reserved(Entry { request, answer });
         Ok(Receipt {
             number,

@@ -25,9 +25,11 @@ returns-in_err-reserve-clause-replies g c =
 
 pub answer-requires : goal.answer-requires
 answer-requires g c =
-    let numbered : c.len.result + 1 ≡ length c.self.inside.history.items + 1 = omega (arith, c.len.ensures, c.in_ok-reserve.ensures.len, c.self.inside.history.ok) in
-    (_, is-ready _ _ _ _ _ _ _ _ c.self.invariant c.args.request _ (c.len.result + 1) c.as_mut_slice.ensures.value
-    (subst (λ state. IsFaultless state c.args.request) (sym c.self.view_is) c.in_ok-check.ensures) numbered)
+    let numbered : c.len.result + 1 ≡ length c.self.inside.history.items + 1 = omega (arith, c.len.ensures, c.in_ok-reserve.ensures.len, c.self.inside.history.ok) in (
+      _,
+      is-ready _ _ _ _ _ _ _ _ c.self.invariant c.args.request _ (c.len.result + 1) c.as_mut_slice.ensures.value
+          (subst (λ state. IsFaultless state c.args.request) (sym c.self.view_is) c.in_ok-check.ensures) numbered,
+    )
 
 pub invariant_of-self-in_err-answer : goal.invariant_of-self-in_err-answer
 invariant_of-self-in_err-answer g c =
