@@ -3,9 +3,8 @@ use Rattle.std.proofs.Common.{◌≡◌, ℕ, length, Option, Some, None, refl, 
 use Rattle.trace_text.specs.declared.value.Act.{Act}
 use Rattle.trace_text.specs.declared.value.Act.TheVariants.{Update, Put, Get}
 use Rattle.control_history.specs.History.{Event, History}
-use Rattle.control_history.specs.Strands.{Running}
 use Rattle.control_history.specs.Legal.{Allowed}
-use Rattle.sp_labels.specs.Roster.{Roster, Follows}
+use Rattle.sp_labels.specs.Roster.{Roster}
 use Rattle.race_gate.specs.declared.answer.Answer.{Answer}
 use Rattle.race_gate.specs.Books.{Books, TakesEvent, KeepsRunning, KeepsStill, KeepsOn, AnswersAccess, HasRoom, OptionHasRoom, OptionHasReducer, OptionKeepsStill, OptionKeepsOn, OptionKeepsSome, OptionKeepsRunning, OptionAnswersAccess}
 use Rattle.race_gate.specs.Steps.{GoesOn}

@@ -19,7 +19,7 @@ use Rattle.race_gate.specs.declared.fault.GateFault.{GateFault}
 use Rattle.race_gate.specs.declared.fault.GateFault.TheVariants.{Memory}
 use Rattle.race_gate.specs.Entries.{event_between}
 use Rattle.race_gate.specs.Legal.{Belongs}
-use Rattle.race_gate.specs.Accesses.{cell_access, sort_of}
+use Rattle.race_gate.specs.Accesses.{sort_of}
 use Rattle.race_gate.specs.Memory.{effect}
 use Rattle.race_gate.specs.Verdicts.{IfValue}
 use Rattle.race_gate.specs.Shapes.{Shape}
