@@ -1,12 +1,12 @@
 -- Acts of control and accesses, and the books of reducers that there may be.
-use Rattle.std.proofs.Common.{◌≡◌, ℕ, Option, Some, None, refl, sym, ◌∙◌, subst}
-use Rattle.trace_values.specs.declared.value.Act.{Act}
+use Rattle.std.proofs.Common.{◌≡◌, ℕ, length, Option, Some, None, refl, sym, ◌∙◌, ap, subst, arith}
+use Rattle.trace_text.specs.declared.value.Act.{Act}
+use Rattle.trace_text.specs.declared.value.Act.TheVariants.{Update, Put, Get}
 use Rattle.control_history.specs.History.{Event, History}
-use Rattle.control_history.specs.Strands.{Running}
 use Rattle.control_history.specs.Legal.{Allowed}
-use Rattle.sp_labels.specs.Roster.{Roster, Follows}
+use Rattle.sp_labels.specs.Roster.{Roster}
 use Rattle.race_gate.specs.declared.answer.Answer.{Answer}
-use Rattle.race_gate.specs.Books.{Books, TakesEvent, KeepsRunning, KeepsStill, KeepsOn, AnswersAccess, OptionKeepsStill, OptionKeepsOn, OptionKeepsSome, OptionKeepsRunning, OptionAnswersAccess}
+use Rattle.race_gate.specs.Books.{Books, TakesEvent, KeepsRunning, KeepsStill, KeepsOn, AnswersAccess, HasRoom, OptionHasRoom, OptionHasReducer, OptionKeepsStill, OptionKeepsOn, OptionKeepsSome, OptionKeepsRunning, OptionAnswersAccess}
 use Rattle.race_gate.specs.Steps.{GoesOn}
 use Rattle.race_gate.proofs.Entering.{last_allowed}
 
@@ -15,6 +15,14 @@ still-some None None history still some = tt
 still-some None (Some new) history still some = absurd still
 still-some (Some old) None history still some = absurd still
 still-some (Some old) (Some new) history still (steps, earlier, kept, same) = (steps, earlier, still.keeps steps earlier kept, same)
+
+pub still-same : (option : Option Books) → OptionKeepsStill option option
+still-same None = tt
+still-same (Some books) = record { monoids = refl; keeps = λ steps earlier kept. kept }
+
+pub still-by : (option : Option Books) (one new : Books) → option ≡ Some one → KeepsStill one new → OptionKeepsStill option (Some new)
+still-by None one new is still = absurd (cc)
+still-by (Some found) one new is still = let same : one ≡ found = cc in subst (λ b. KeepsStill b new) same still
 
 -- the answer's event comes next
 pub takes-event : (books : Books) (option : Option Books) (history : History) (strand : ℕ) (act : Act) (answer : Answer) (strands : Roster) → option ≡ Some books →
@@ -44,14 +52,32 @@ running-still (Some found) one new strand is still (steps, earlier, kept, runs) 
     let stays = subst (λ b. KeepsStill b new) same still in
     (steps, earlier, stays.keeps steps earlier kept, runs)
 
+pub known-still : (option : Option Books) (one new : Books) (act : Act) → option ≡ Some one → KeepsStill one new → OptionHasReducer option act → OptionHasReducer (Some new) act
+known-still None one new act is still known = absurd (cc)
+known-still (Some found) one new (Update reducer value) is still known = let same : one ≡ found = cc in let stays = subst (λ b. KeepsStill b new) same still in omega (arith, ap length stays.monoids)
+known-still (Some found) one new (Put reducer value) is still known = let same : one ≡ found = cc in let stays = subst (λ b. KeepsStill b new) same still in omega (arith, ap length stays.monoids)
+known-still (Some found) one new (Get reducer) is still known = let same : one ≡ found = cc in let stays = subst (λ b. KeepsStill b new) same still in omega (arith, ap length stays.monoids)
+known-still (Some found) one new act is still known = absurd known
+
 -- an access after room was made for it
-pub answers-still : (option : Option Books) (one between new : Books) (number strand : ℕ) (act asked : Act) (answer : Answer) → option ≡ Some one → asked ≡ act →
-    KeepsStill one between → AnswersAccess between new number strand act answer → OptionAnswersAccess option (Some new) number strand asked answer
-answers-still None one between new number strand act asked answer is same_act still answers = absurd (cc)
-answers-still (Some found) one between new number strand act asked answer is same_act still answers =
+pub answers-still : (option : Option Books) (one between new : Books) (number strand : ℕ) (act : Act) (answer : Answer) → option ≡ Some one →
+    KeepsStill one between → AnswersAccess between new number strand act answer → OptionAnswersAccess option (Some new) number strand act answer
+answers-still None one between new number strand act answer is still answers = absurd (cc)
+answers-still (Some found) one between new number strand act answer is still answers =
     let same : one ≡ found = cc in
     let stays = subst (λ b. KeepsStill b between) same still in
-    subst (λ a. AnswersAccess found new number strand a answer) (sym same_act) (record {
+    record {
       monoids = answers.monoids ∙ stays.monoids;
       answered = λ steps earlier kept runs. answers.answered steps earlier (stays.keeps steps earlier kept) runs;
-    })
+    }
+
+-- no books are kept at an event, and there is room in those that there are
+pub on-none : (old new : Option Books) (event : Event) → OptionKeepsStill old new → new ≡ None → OptionKeepsOn old new event
+on-none None None event still is = tt
+on-none None (Some new) event still is = absurd still
+on-none (Some old) None event still is = absurd still
+on-none (Some old) (Some new) event still is = absurd (cc)
+
+pub room-some : (option : Option Books) (one : Books) → option ≡ Some one → OptionHasRoom option → HasRoom one
+room-some None one is room = absurd (cc)
+room-some (Some found) one is room = let same : found ≡ one = cc in subst HasRoom same room

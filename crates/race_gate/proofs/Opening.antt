@@ -9,12 +9,31 @@ use Rattle.shadow_history.specs.Shadow.{Remembers}
 use Rattle.race_gate.specs.declared.answer.Entry.{Entry}
 use Rattle.race_gate.specs.Shapes.{Shape, most_entries}
 use Rattle.race_gate.specs.States.{opening}
-use Rattle.race_gate.specs.Books.{Books, OpensBooks}
+use Rattle.branch_names.specs.Names.{Follows as FollowsNames}
+use Rattle.view_read_rule.specs.Reads.{Remembers as RemembersReads}
+use Rattle.reducer_views.specs.Held.{Holds}
+use Rattle.race_gate.specs.Books.{Books, Keeps, OpensBooks}
 use Rattle.race_gate.specs.Kept.{AreBooksOf, IsKept}
+use Rattle.race_gate.proofs.Races.{none-listed}
 
 books-at_first : (shape : Shape) (books : Option Books) → OpensBooks books shape.monoids → AreBooksOf shape [] books
 books-at_first shape None opens = opens
 books-at_first shape (Some books) opens = opens
+
+-- reducers that no strand has touched
+pub keeps-at_first : (books : Books) → FollowsNames books.branches [] → length books.reads ≡ length books.views.monoids → RemembersReads books.reads [] → Holds books.views [] →
+    Keeps books [] []
+keeps-at_first books follows counted remembers holds = record {
+  legal = tt;
+  branches = follows;
+  counted = counted;
+  remembers = remembers;
+  one_branch = λ reducer. record { begun = λ read is. absurd (none-listed read is.0); one_branch = λ first second is also. absurd (none-listed first is.0) };
+  kinds = λ reducer read is. absurd (none-listed read is.0);
+  puts = λ reducer. record { read_of = λ put has. absurd has; put_of = λ read is. absurd (none-listed read is.0) };
+  numbers = tt;
+  views = holds;
+}
 
 kept-at_first : (shape : Shape) (limit : ℕ) (strands : Roster) (shadow : List Cell) (books : Option Books) → Follows strands [] → Remembers shadow [] [] → length shadow ≡ shape.cells →
     limit ≤ most_entries → OpensBooks books shape.monoids → IsKept (opening shape limit) strands shadow books

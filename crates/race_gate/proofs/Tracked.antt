@@ -1,7 +1,7 @@
 -- A request that has no fault is answered.
 use Rattle.std.proofs.Common.{◌≡◌, ℕ, suc, ◌+◌, ◌<◌, Bool, List, [], ◌∷◌, ◌++◌, length, reverse, take, drop, Option, Some, Result, Ok, Err, refl, sym, ap, ◌∙◌, subst, arith}
 use Rattle.std.specs.Prelude.{MatchResult, IfOk, IfErr, OnErr, slice_index}
-use Rattle.std.proofs.lemmas.List.{length-reverse}
+use Rattle.std.proofs.lemmas.List.{length-reverse, reverse-append}
 use Rattle.trace_text.specs.declared.value.Act.TheVariants.{Return}
 use Rattle.trace_text.specs.declared.value.Request.{Request}
 use Rattle.control_history.specs.History.{Event, History}
@@ -19,13 +19,14 @@ use Rattle.race_gate.specs.declared.fault.GateFault.{GateFault}
 use Rattle.race_gate.specs.declared.fault.GateFault.TheVariants.{Memory}
 use Rattle.race_gate.specs.Entries.{event_between}
 use Rattle.race_gate.specs.Legal.{Belongs}
-use Rattle.race_gate.specs.Accesses.{cell_access, sort_of}
+use Rattle.race_gate.specs.Accesses.{sort_of}
 use Rattle.race_gate.specs.Memory.{effect}
 use Rattle.race_gate.specs.Verdicts.{IfValue}
 use Rattle.race_gate.specs.Shapes.{Shape}
 use Rattle.race_gate.specs.Books.{Books, OptionKeepsStill, OptionKeepsOn, OptionKeepsRunning, OptionHasReducer, OptionAnswersAccess}
 use Rattle.race_gate.specs.States.{State}
 use Rattle.race_gate.specs.Faults.{IsFaultless}
+use Rattle.race_gate.specs.Replies.{IsEntered}
 use Rattle.race_gate.specs.Kept.{IsKept, IsReady, with_entry}
 use Rattle.race_gate.specs.Steps.{FollowsWith, GoesOn, IsJudgedBy, TakesPlace}
 use Rattle.race_gate.proofs.Followed.{running-in-each, synced-in-each, few-in-each}
@@ -132,3 +133,20 @@ module _ (shape : Shape) (limit : ℕ) (stopped : Bool) (items : List Entry) (he
       record { shape = shape; limit = limit; stopped = stopped; history = reverse others; memory = take len (memory ++ drop (length memory) held) } ≡
       the_state
   same-state others memory len counted same_entries same = rw (same_entries, same-cells memory len counted same) refl
+
+  abbrev the_after : List Entry → List ℕ → State
+  the_after entries cells = record { shape = shape; limit = limit; stopped = stopped; history = entries; memory = cells }
+
+  pub is-entered : (now : State) (request : Request) (answer : Answer) (number : ℕ) (pushed : List Entry) (memory : List ℕ) → the_state ≡ now → IsFaultless now request →
+      number ≡ length items + 1 → pushed ≡ items ++ record { request = request; answer = answer } ∷ [] →
+      IsEntered now request (record { number = number; request = request; answer = answer }) (the_after (reverse pushed) memory)
+  is-entered now request answer number pushed memory state_is faultless numbered is =
+      let entry : Entry = record { request = request; answer = answer } in
+      let turned : reverse pushed ≡ entry ∷ reverse items = ap reverse is ∙ reverse-append items (entry ∷ []) in
+      subst (λ (s : State). IsFaultless s request → IsEntered s request (record { number = number; request = request; answer = answer }) (the_after (reverse pushed) memory)) state_is
+      (λ clean. record {
+        faultless = clean;
+        asked = refl;
+        number = subst (λ (h : List Entry). number ≡ length h) (sym turned) (omega (arith, length-reverse items));
+        after = ap (λ (h : List Entry). the_after h memory) turned;
+      }) faultless

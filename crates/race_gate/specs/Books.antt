@@ -95,6 +95,11 @@ pub record AnswersAccess (old new : Books) (number strand : ℕ) (act : Act) (an
 abbrev pub HasRoom : Books → Type 0
 HasRoom books = (books.branches.has_room ≡ true) × (books.views.has_room ≡ true)
 
+-- there is room for the access of a reducer; a get needs none
+abbrev pub HasRoomFor : Books → Act → Type 0
+HasRoomFor books (Get reducer) = Unit {0}
+HasRoomFor books act = books.views.has_room ≡ true
+
 -- The same of books that there may be. There are none where the program has no reducers.
 
 abbrev pub OpensBooks : Option Books → List Monoid → Type 0

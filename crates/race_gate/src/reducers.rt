@@ -7,7 +7,7 @@ ghost use Rattle.control_history.specs.Strands.{Running};
 ghost use Rattle.reducer_values.specs.Accesses.{Steps, control_steps};
 ghost use Rattle.view_read_rule.specs.Reads.{ReducerRead};
 ghost use Rattle.race_gate.specs.Entries.{event_between};
-ghost use Rattle.race_gate.specs.Books.{Keeps, KeepsRunning, KeepsStill, KeepsOn, TakesEvent, HasRoom, IsRefusal, MayRead, AnswersAccess, OpensBooks};
+ghost use Rattle.race_gate.specs.Books.{Keeps, KeepsRunning, KeepsStill, KeepsOn, TakesEvent, HasRoom, HasRoomFor, OptionHasReducer, IsRefusal, MayRead, AnswersAccess, OpensBooks};
 
 use crate::answer::Answer;
 use access_table::{Kind, rule};
@@ -71,12 +71,30 @@ impl<A: Allocator + Clone> Reducers<A> {
         self.views.reserve_event()
     }
 
-    /// Makes room for an update or a put. A refusal changes nothing.
-    pub fn reserve_access(&mut self) -> Result<(), AllocError>
+    /// Makes room for an update or a put; a get needs none. A refusal changes nothing.
+    pub fn reserve_for(&mut self, act: Act) -> Result<(), AllocError>
         ensures still { KeepsStill self.old self.new }
-        ensures room { OnOk result (self.new.views.has_room ≡ true) }
+        ensures room { OnOk result (HasRoomFor self.new act) }
     {
-        self.views.reserve_event()
+        match act {
+            Act::Get(_) => Ok(()),
+            _ => self.views.reserve_event(),
+        }
+    }
+
+    /// Judges an access by a running strand, and does it where it is granted. `number` is that of its entry. Takes no memory.
+    pub fn answer(&mut self, number: u32, strand: u32, act: Act) -> Answer
+        requires in_range { OptionHasReducer (Some self.old) act }
+        requires room { HasRoomFor self.old act }
+        requires keeps { KeepsRunning self.old strand }
+        ensures { AnswersAccess self.old self.new number strand act result }
+    {
+        match act {
+            Act::Update(reducer, value) => self.update(strand, reducer, value),
+            Act::Put(reducer, value) => self.put(number, strand, reducer, value),
+            Act::Get(reducer) => self.get(number, strand, reducer),
+            _ => unreachable!(),
+        }
     }
 
     /// Takes in the event of control that the strand's act was answered by. Takes no memory.
@@ -99,7 +117,7 @@ impl<A: Allocator + Clone> Reducers<A> {
     }
 
     /// Takes in an update of the reducer by a running strand. Takes no memory.
-    pub fn update(&mut self, strand: u32, reducer: u32, value: u64) -> Answer
+    fn update(&mut self, strand: u32, reducer: u32, value: u64) -> Answer
         requires in_range { reducer < length self.old.views.monoids }
         requires room { self.old.views.has_room ≡ true }
         requires keeps { KeepsRunning self.old strand }
@@ -128,7 +146,7 @@ impl<A: Allocator + Clone> Reducers<A> {
     }
 
     /// Judges a put of a value by a running strand, and does it where it is granted. `number` is that of its entry. Takes no memory.
-    pub fn put(&mut self, number: u32, strand: u32, reducer: u32, value: u64) -> Answer
+    fn put(&mut self, number: u32, strand: u32, reducer: u32, value: u64) -> Answer
         requires in_range { reducer < length self.old.views.monoids }
         requires room { self.old.views.has_room ≡ true }
         requires keeps { KeepsRunning self.old strand }
@@ -144,7 +162,7 @@ impl<A: Allocator + Clone> Reducers<A> {
 
     /// Judges a get by a running strand, and answers the value of its view where it is granted. `number` is that of its entry. Takes no
     /// memory.
-    pub fn get(&mut self, number: u32, strand: u32, reducer: u32) -> Answer
+    fn get(&mut self, number: u32, strand: u32, reducer: u32) -> Answer
         requires in_range { reducer < length self.old.views.monoids }
         requires keeps { KeepsRunning self.old strand }
         ensures { AnswersAccess self.old self.new number strand (Act.Get reducer) result }

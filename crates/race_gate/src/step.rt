@@ -243,16 +243,6 @@ pub fn judge_reducer<A: Allocator + Clone>(
     let Some(reducers) = reducers else {
         unreachable!()
     };
-    Ok(match act {
-        Act::Update(reducer, value) => {
-            reducers.reserve_access()?;
-            reducers.update(strand, reducer, value)
-        }
-        Act::Put(reducer, value) => {
-            reducers.reserve_access()?;
-            reducers.put(number, strand, reducer, value)
-        }
-        Act::Get(reducer) => reducers.get(number, strand, reducer),
-        _ => unreachable!(),
-    })
+    reducers.reserve_for(act)?;
+    Ok(reducers.answer(number, strand, act))
 }

@@ -23,12 +23,12 @@ pub struct Piece<A: Allocator> {
 pub fn first_piece<A: Allocator + Clone>(alloc: &A) -> Result<Vec<Piece<A>, A>, AllocError>
     ensures { IfOk result (λ pieces. all_kept pieces.items ≡ first_kept) }
 {
-    let mut pieces = Vec::with_capacity(alloc.clone()?, 1)?;
-    pieces.push_reserved(Piece {
+    let mut pieces = Vec::new(alloc.clone()?);
+    pieces.push(Piece {
         home: 0,
         later: 0,
         slots: None,
-    });
+    })?;
     Ok(pieces)
 }
 

@@ -5,7 +5,8 @@ ghost use Rattle.reducer_views.specs.Touched.{Changes, added, both, combined, to
 
 use crate::view::{View, product};
 use std::alloc::{AllocError, Allocator};
-use trace_values::Monoid;
+use std::mem::swap;
+use trace_text::Monoid;
 
 /// The view that was gathered of a reducer, and its monoid.
 #[derive(Clone, Copy)]
@@ -158,13 +159,13 @@ pub fn gather<A: Allocator>(slots: &mut Slots<A>, spare: &mut Spare<A>, reducer:
     set(slots, spare, reducer, now);
 }
 
-/// Combines the views of a later piece on the right, and leaves anything in its place.
+/// Combines the views of a later piece on the right, and leaves of it the slots that both pieces had.
 pub fn absorb<A: Allocator>(slots: &mut Slots<A>, later: &mut Slots<A>)
     ensures { (reducer : ℕ) → touches_of slots.new reducer ≡ both (touches_of slots.old reducer) (touches_of later.old reducer) }
 {
     let Some(other) = later else { return };
     let Some(slot) = slots else {
-        *slots = later.take();
+        swap(slots, later);
         return;
     };
     let slot: &mut Slot<A> = slot;

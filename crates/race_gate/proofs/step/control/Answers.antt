@@ -1,5 +1,5 @@
 use Rattle.race_gate.proofs.Followed.{running-in-each, synced-in-each}
-use Rattle.race_gate.proofs.Controlled.{still-some, takes-event, on-some}
+use Rattle.race_gate.proofs.Controlled.{still-some, takes-event, on-some, on-none, room-some}
 use Rattle.race_gate.proofs.step.control.Goals as goal
 
 pub answer_to-answer-requires-clause-runs : goal.answer_to-answer-requires-clause-runs
@@ -23,3 +23,12 @@ follow-requires-clause-takes g c =
 pub returns-in-Some-clause-books : goal.returns-in-Some-clause-books
 returns-in-Some-clause-books g c event between =
     on-some _ _ _ _ event c.in_ok-reserve.ensures.books c.in-Some.is (c.follow.ensures.follows c.args.act event between)
+
+pub answer_to-answer-requires-clause-follows : goal.answer_to-answer-requires-clause-follows
+answer_to-answer-requires-clause-follows g c = (c.requires.follows.0, c.in_ok-reserve.ensures.follows _ c.requires.follows.1)
+
+pub follow-requires-clause-room : goal.follow-requires-clause-room
+follow-requires-clause-room g c = room-some _ _ c.in-Some.is c.in_ok-reserve.ensures.books_room
+
+pub returns-in_default-clause-books : goal.returns-in_default-clause-books
+returns-in_default-clause-books g c event between = on-none _ _ event c.in_ok-reserve.ensures.books c.in_default.is

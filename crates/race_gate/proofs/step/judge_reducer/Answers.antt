@@ -1,17 +1,16 @@
-use Rattle.race_gate.proofs.Controlled.{running-still, answers-still}
+use Rattle.std.proofs.lemmas.Result.{err_from_is_err_and}
+use Rattle.race_gate.proofs.Controlled.{running-still, known-still, still-by, answers-still}
 use Rattle.race_gate.proofs.step.judge_reducer.Goals as goal
 
-pub update-requires-clause-keeps : goal.update-requires-clause-keeps
-update-requires-clause-keeps g c = running-still _ _ _ c.args.strand c.in-Some.is c.in_ok-reserve_access-in-Update.ensures.still c.requires.keeps
+pub answer-requires-clause-in_range : goal.answer-requires-clause-in_range
+answer-requires-clause-in_range g c = known-still _ _ _ c.args.act c.in-Some.is c.in_ok-reserve_for.ensures.still c.requires.in_range
 
-pub put-requires-clause-keeps : goal.put-requires-clause-keeps
-put-requires-clause-keeps g c = running-still _ _ _ c.args.strand c.in-Some.is c.in_ok-reserve_access-in-Put.ensures.still c.requires.keeps
+pub answer-requires-clause-keeps : goal.answer-requires-clause-keeps
+answer-requires-clause-keeps g c = running-still _ _ _ c.args.strand c.in-Some.is c.in_ok-reserve_for.ensures.still c.requires.keeps
 
-pub returns-in_ok-reserve_access-in-Update-clause-ok : goal.returns-in_ok-reserve_access-in-Update-clause-ok
-returns-in_ok-reserve_access-in-Update-clause-ok g c =
-    answers-still _ _ _ _ c.args.number c.args.strand _ c.args.act c.update.result c.in-Some.is c.in-Update.is c.in_ok-reserve_access-in-Update.ensures.still
-    (c.update.ensures c.args.number)
+pub returns-in_err-reserve_for-clause-still : goal.returns-in_err-reserve_for-clause-still
+returns-in_err-reserve_for-clause-still g c =
+    rw (err_from_is_err_and c.from_residual.result c.from_residual.ensures.1).1 (still-by _ _ _ c.in-Some.is c.in_err-reserve_for.ensures.still)
 
-pub returns-in_ok-reserve_access-in-Put-clause-ok : goal.returns-in_ok-reserve_access-in-Put-clause-ok
-returns-in_ok-reserve_access-in-Put-clause-ok g c =
-    answers-still _ _ _ _ c.args.number c.args.strand _ c.args.act c.put.result c.in-Some.is c.in-Put.is c.in_ok-reserve_access-in-Put.ensures.still c.put.ensures
+pub returns-clause-ok : goal.returns-clause-ok
+returns-clause-ok g c = answers-still _ _ _ _ c.args.number c.args.strand c.args.act c.answer.result c.in-Some.is c.in_ok-reserve_for.ensures.still c.answer.ensures

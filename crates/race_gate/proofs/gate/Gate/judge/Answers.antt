@@ -4,7 +4,7 @@ use Rattle.race_gate.specs.Faults.{IsFaultless}
 use Rattle.race_gate.specs.States.{State, IsRight}
 use Rattle.race_gate.specs.Kept.{IsKept}
 use Rattle.race_gate.proofs.Checking.{only-memory}
-use Rattle.race_gate.proofs.Tracked.{is-ready, kept-answered, same-state}
+use Rattle.race_gate.proofs.Tracked.{is-ready, kept-answered, same-state, is-entered}
 use Rattle.race_gate.proofs.gate.Gate.judge.Goals as goal
 
 pub returns-in_err-check-clause-replies : goal.returns-in_err-check-clause-replies
@@ -62,6 +62,12 @@ invariant_of-self-2 g c =
     let pushed = rw c.in_ok-reserve.ensures.items at c.push_reserved.ensures.items in
     kept-answered _ _ _ _ _ _ _ _ c.self.invariant _ _ _ _ _ _ _ c.self.inside.memory.ok.0 pushed (c.in_ok-answer.ensures _ (is-ready _ _ _ _ _ _ _ _ c.self.invariant c.args.request _ (c.len.result + 1) c.as_mut_slice.ensures.value
     (subst (λ state. IsFaultless state c.args.request) (sym c.self.view_is) c.in_ok-check.ensures) numbered))
+
+pub returns-clause-replies : goal.returns-clause-replies
+returns-clause-replies g c =
+    let numbered : c.len.result + 1 ≡ length c.self.inside.history.items + 1 = omega (arith, c.len.ensures, c.in_ok-reserve.ensures.len, c.self.inside.history.ok) in
+    let pushed = rw c.in_ok-reserve.ensures.items at c.push_reserved.ensures.items in
+    is-entered _ _ _ _ _ _ _ _ c.self.invariant c.args.self.now c.args.request c.in_ok-answer.answer (c.len.result + 1) _ _ c.self.view_is c.in_ok-check.ensures numbered pushed
 
 pub returns-clause-judged : goal.returns-clause-judged
 returns-clause-judged g c = (invariant_of-self-2 g c).right.judged

@@ -1,4 +1,4 @@
-use Rattle.std.proofs.Common.{[], ◌∙◌, sym, subst, arith}
+use Rattle.std.proofs.Common.{sym, subst}
 use Rattle.race_gate.specs.Books.{OpensBooks}
 use Rattle.race_gate.proofs.Opening.{kept-opening, is-opening}
 use Rattle.race_gate.proofs.gate.Gate.new.Goals as goal
