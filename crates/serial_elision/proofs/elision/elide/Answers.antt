@@ -2,14 +2,15 @@ use Rattle.std.proofs.Common.{refl, arith, length, []}
 use Rattle.trace_text.specs.Grammar.{cells_of}
 use Rattle.serial_elision.specs.States.{state_of, monoids_in}
 use Rattle.serial_elision.proofs.Soundness.{few_places}
-use Rattle.serial_elision.proofs.Elisions.{opening_leads, more_leads, leads_needs, over_elides, nearer}
+use Rattle.serial_elision.proofs.Elisions.{opening_leads, opening_stands, more_leads, leads_needs, over_elides, nearer}
 use Rattle.serial_elision.proofs.elision.elide.Goals as goal
 
 pub loop-elision-init : goal.loop-elision-init
 loop-elision-init g c =
     let p = c.args.program.now in
-    let o = opening_leads p.functions (monoids_in p) (cells_of p.mems) (state_of c.in-Ok.elision) c.in-Ok.ensures.stands c.in-Ok.ensures.opens in
-    record { within = omega arith; stands = c.in-Ok.ensures.stands; main = o.0; is_main = o.1; done = []; count = refl; leads = o.2 }
+    let first = state_of c.in-Ok.elision in
+    let o = opening_leads p.functions (monoids_in p) (cells_of p.mems) first c.in-Ok.ensures in
+    record { within = omega arith; stands = opening_stands p.functions (monoids_in p) (cells_of p.mems) first c.in-Ok.ensures; main = o.0; is_main = o.1; done = []; count = refl; leads = o.2 }
 
 pub returns-then-asked-limit-clause-limit : goal.returns-then-asked-limit-clause-limit
 returns-then-asked-limit-clause-limit g c = λ e.
