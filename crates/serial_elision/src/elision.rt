@@ -58,15 +58,13 @@ pub fn elide<A: Allocator + Clone, B: Allocator>(
     ensures ok { IfOk result (λ elided. (elided.requests ≤ limit) × Elides program.now.functions (monoids_in program.now) (cells_of program.now.mems) elided.memory.items elided.requests) }
     ensures limit { result ≡ Err ElideFault.Limit → NeedsMore program.now.functions (monoids_in program.now) (cells_of program.now.mems) limit }
 {
-    let mut elision = match Elision::open(alloc, program) {
-        Ok(elision) => elision,
-        Err(_) => return Err(ElideFault::Memory),
+    let Ok(mut elision) = Elision::open(alloc, program) else {
+        return Err(ElideFault::Memory);
     };
     let mut requests = 0;
     while !elision.over {
-        let asked = match elision.step(program) {
-            Ok(asked) => asked,
-            Err(_) => return Err(ElideFault::Memory),
+        let Ok(asked) = elision.step(program) else {
+            return Err(ElideFault::Memory);
         };
         if asked > limit - requests {
             return Err(ElideFault::Limit);
@@ -219,6 +217,18 @@ impl<A: Allocator> Elision<A> {
         self.top.place += 1;
     }
 
+    /// Gives a reducer another view, and goes on.
+    fn set_view(&mut self, reducer: u32, view: View)
+        requires place { self.old.top.place + 1 < 2 ^ 32 }
+        requires known { reducer < length self.old.views.items }
+        ensures { state_of self.new ≡ with_store (with_top (state_of self.old) (moved self.old.top (self.old.top.place + 1) (with_ok 1 self.old.top.registers)))
+            (with_view (store_of (state_of self.old)) reducer view) }
+    {
+        self.views[reducer as usize] = view;
+        self.top.registers[0] = 1;
+        self.top.place += 1;
+    }
+
     /// `update`.
     fn update(&mut self, reducer: u32, operand: Operand)
         requires place { self.old.top.place + 1 < 2 ^ 32 }
@@ -234,9 +244,7 @@ impl<A: Allocator> Elision<A> {
         let monoid = self.monoids.as_slice()[reducer as usize];
         let value = value_of(&self.top.registers, operand);
         let view = self.views[reducer as usize];
-        self.views[reducer as usize] = combine(monoid, view, of_update(monoid, value));
-        self.top.registers[0] = 1;
-        self.top.place += 1;
+        self.set_view(reducer, combine(monoid, view, of_update(monoid, value)));
     }
 
     /// `put`.
@@ -249,9 +257,8 @@ impl<A: Allocator> Elision<A> {
         ensures fits { FitsMonoid (monoid_of self.old.monoids reducer) (put_view (monoid_of self.old.monoids reducer) (value_of operand self.old.top.registers)) }
     {
         let monoid = self.monoids.as_slice()[reducer as usize];
-        self.views[reducer as usize] = of_put(monoid, value_of(&self.top.registers, operand));
-        self.top.registers[0] = 1;
-        self.top.place += 1;
+        let value = value_of(&self.top.registers, operand);
+        self.set_view(reducer, of_put(monoid, value));
     }
 
     /// `get`.
