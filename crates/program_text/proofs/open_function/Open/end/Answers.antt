@@ -1,5 +1,6 @@
 use Rattle.std.proofs.Common.{arith, ap, length}
 use Rattle.program_text.specs.Drafts.{Open}
+use Rattle.program_text.proofs.Ends.{part_ended, none_ended}
 use Rattle.program_text.proofs.open_function.Open.end.Goals as goal
 
 pub overflow_cast-place : goal.overflow_cast-place
@@ -24,3 +25,14 @@ invariant_of-self-in-Some g c = c.self.invariant
 
 pub invariant_of-self-in-None : goal.invariant_of-self-in-None
 invariant_of-self-in-None g c = c.self.invariant
+
+pub returns-in_ok-push-in-Some-clause-ended : goal.returns-in_ok-push-in-Some-clause-ended
+returns-in_ok-push-in-Some-clause-ended g c =
+    let o = c.self.inside in
+    part_ended c.args.at o.name o.parameter o.line o.registers.items o.body.items c.args.self.now o.parts.items c.pop.new.self.items c.self.view_is
+    c.in-Some.part c.in-Some.ensures.items c.len-place.result (let size = c.len-place.ensures in omega (arith, size)) c.end_part.new.body.items c.push.new.self.items c.end_part.ensures c.in_ok-push-in-Some.ensures.items
+
+pub returns-in-None-clause-ended : goal.returns-in-None-clause-ended
+returns-in-None-clause-ended g c =
+    let o = c.self.inside in
+    none_ended c.args.at o.name o.parameter o.line o.registers.items o.body.items c.args.self.now o.parts.items c.pop.new.self.items c.self.view_is c.in-None.ensures.items (let empty = c.in-None.ensures.cases.0 in omega (arith, empty))
