@@ -1,11 +1,21 @@
 -- How a function is seen once a part of it has ended.
 use Rattle.std.proofs.Common.{◌≡◌, ℕ, ◌+◌, List, [], ◌∷◌, ◌++◌, true, false, length, reverse, refl, sym, ap, ◌∙◌, subst, arith}
+use Rattle.std.specs.Prelude.{Result, Ok, Err, OnErr}
 use Rattle.std.proofs.lemmas.List.{reverse-append}
 use Rattle.program_lines.specs.declared.statement.Statement.{Statement}
 use Rattle.program_lines.specs.declared.statement.Statement.TheVariants.{Else, End}
 use Rattle.program_text.specs.declared.open_function.Part.{Part}
 use Rattle.program_text.specs.Drafts.{Open, with_end, divided_by}
 use Rattle.program_text.specs.Openings.{EndsPart}
+use Rattle.program_text.proofs.Linked.{ended_size}
+
+-- how long the body is then
+pub ended_long : (place to : ℕ) (before ended : List Statement) (size : ℕ) → ended ≡ with_end place to before → length before ≡ size → length ended ≡ size
+ended_long place to before ended size e s = ap length e ∙ (ended_size place to before ∙ s)
+
+pub on_err : {T E : Type 0} (r : Result T E) (P : Type 0) → P → OnErr r P
+on_err (Ok v) P p = tt
+on_err (Err e) P p = p
 
 module _ (at : ℕ) (name parameter : List ℕ) (line : ℕ) (registers : List (List ℕ)) (body : List Statement) where
   -- the function with this body and these parts, innermost first

@@ -1,6 +1,8 @@
-use Rattle.std.proofs.Common.{arith, ap, length}
+use Rattle.std.proofs.Common.{◌+◌, ◌∷◌, [], arith, ap, length}
+use Rattle.std.proofs.lemmas.List.{length-append}
+use Rattle.program_lines.specs.declared.statement.Statement.TheVariants.{Else}
 use Rattle.program_text.specs.Drafts.{Open}
-use Rattle.program_text.proofs.Ends.{part_divided, none_divided}
+use Rattle.program_text.proofs.Ends.{ended_long, on_err, part_divided, none_divided}
 use Rattle.program_text.proofs.open_function.Open.divide.Goals as goal
 
 pub overflow_cast-place : goal.overflow_cast-place
@@ -43,3 +45,32 @@ pub returns-in_default-clause-divided : goal.returns-in_default-clause-divided
 returns-in_default-clause-divided g c =
     let o = c.self.inside in
     none_divided c.args.at o.name o.parameter o.line o.registers.items o.body.items c.args.self.now o.parts.items c.pop.new.self.items c.self.view_is c.in_default.ensures.items (let empty = c.in_default.ensures.cases.0 in omega (arith, empty))
+
+pub returns-in_err-push-clause-body : goal.returns-in_err-push-clause-body
+returns-in_err-push-clause-body g c =
+    let long = ended_long c.in-Some.part.place (c.len-place.result + 1) c.self.inside.body.items c.end_part.new.body.items _ c.end_part.ensures (ap (λ (o : Open). length o.body) c.self.view_is) in
+    omega (arith, long)
+
+pub returns-in_err-push-clause-err : goal.returns-in_err-push-clause-err
+returns-in_err-push-clause-err g c =
+    let long = ended_long c.in-Some.part.place (c.len-place.result + 1) c.self.inside.body.items c.end_part.new.body.items _ c.end_part.ensures (ap (λ (o : Open). length o.body) c.self.view_is) in
+    on_err c.from_residual.result _ (omega (arith, long))
+
+pub returns-in_err-push-2-clause-body : goal.returns-in_err-push-2-clause-body
+returns-in_err-push-2-clause-body g c =
+    let long = ended_long c.in-Some.part.place (c.len-place.result + 1) c.self.inside.body.items c.end_part.new.body.items _ c.end_part.ensures (ap (λ (o : Open). length o.body) c.self.view_is) in
+    let all = ap length c.in_err-push-2.ensures.items in
+    omega (arith, long, all)
+
+pub returns-in_err-push-2-clause-err : goal.returns-in_err-push-2-clause-err
+returns-in_err-push-2-clause-err g c =
+    let long = ended_long c.in-Some.part.place (c.len-place.result + 1) c.self.inside.body.items c.end_part.new.body.items _ c.end_part.ensures (ap (λ (o : Open). length o.body) c.self.view_is) in
+    let all = ap length c.in_err-push-2.ensures.items in
+    on_err c.from_residual-in_err-push-2.result _ (omega (arith, long, all))
+
+pub returns-in_ok-push-2-clause-body : goal.returns-in_ok-push-2-clause-body
+returns-in_ok-push-2-clause-body g c =
+    let long = ended_long c.in-Some.part.place (c.len-place.result + 1) c.self.inside.body.items c.end_part.new.body.items _ c.end_part.ensures (ap (λ (o : Open). length o.body) c.self.view_is) in
+    let all = ap length c.in_ok-push-2.ensures.items in
+    let sum = length-append c.end_part.new.body.items (Else c.args.at 0 ∷ []) in
+    omega (arith, long, all, sum)
