@@ -109,6 +109,13 @@ known_by line text front ws r e f t w h =
     let same : words text ≡ words line = ap words (f ∙ e) ∙ ap split_words (before_twice is_hash line) in
     h ∙ (ap function_in (w ∙ same) ∙ ap (λ (b : Bool). cond b (function_in (words line)) None) (sym all))
 
+pub unknown_by : (line front : List ℕ) → front ≡ before_first is_hash line → (IsTextLine front → ⊥) → None ≡ function_named line
+unknown_by line front e out = by (list_all is_text_byte (before_first is_hash line)) (λ h. out (subst (λ (bytes : List ℕ). IsTextLine bytes) (sym e) (AllPass-from_list_all is_text_byte (before_first is_hash line) h)))
+  where
+    by : (b : Bool) → (b ≡ true → ⊥) → None ≡ cond b (function_in (words line)) None
+    by true out = absurd (out refl)
+    by false out = refl
+
 -- ---- the functions of a text
 
 length_with : (names : List (List ℕ)) (name : Option (List ℕ)) → length (with_function names name) ≤ length names + 1

@@ -1,6 +1,7 @@
 pub mod Unique
 pub mod Knowing
 pub mod Linked
+pub mod Ends
 pub mod Said
 pub mod Taken
 pub mod Kept

@@ -1,15 +1,15 @@
 -- One line that is read, and the lines behind the header.
 use Rattle.std.proofs.Common.{◌≡◌, ◌≢◌, ℕ, ◌<◌, ◌+◌, ◌∷◌, [], List, Bool, true, false, cond, length, suc, arith, refl, sym, ◌∙◌, subst, ap, inl, inr}
-use Rattle.std.specs.Prelude.{◌⊎◌, IsTrue, codes, Option, Some, None, Result, Ok, Err, MatchResult}
-use Rattle.trace_values.specs.declared.fault.Cause.{Cause}
-use Rattle.trace_values.specs.declared.fault.Cause.TheVariants.{NotText, BadHeader, BadWord, BadNumber, UnknownName, TwiceNamed, BadNesting, NoMain, TooMany}
-use Rattle.trace_values.specs.declared.fault.TextFault.{TextFault}
-use Rattle.trace_values.specs.declared.fault.TextFault.TheVariants.{At, Memory}
-use Rattle.trace_values.specs.declared.value.Version.{Version}
-use Rattle.trace_values.specs.Text.{words, lines, IsTextLine}
+use Rattle.std.specs.Prelude.{◌⊎◌, IsTrue, codes, Option, Some, None, Result, Ok, Err, MatchResult, IfOk}
+use Rattle.trace_text.specs.declared.fault.Cause.{Cause}
+use Rattle.trace_text.specs.declared.fault.Cause.TheVariants.{NotText, BadHeader, BadWord, BadNumber, UnknownName, TwiceNamed, BadNesting, NoMain, TooMany}
+use Rattle.trace_text.specs.declared.fault.TextFault.{TextFault}
+use Rattle.trace_text.specs.declared.fault.TextFault.TheVariants.{At, Memory}
+use Rattle.trace_text.specs.declared.value.Version.{Version}
+use Rattle.trace_text.specs.Text.{words, lines, IsTextLine}
 use Rattle.trace_text.specs.Grammar.{IsHeader}
-use Rattle.trace_values.specs.Causes.{IsLowest, cause_number}
-use Rattle.trace_values.specs.Values.{Known}
+use Rattle.trace_text.specs.Faults.{IsLowest, cause_number}
+use Rattle.trace_text.specs.Values.{Known}
 use Rattle.program_lines.specs.Scopes.{Scope}
 use Rattle.program_text.specs.declared.open_function.Part.{Part}
 use Rattle.program_lines.specs.Grammar.{Item, Blank, Declared, Reduces, Begins, Does, Decides, Otherwise, Ends, ItemMeans}
@@ -21,7 +21,7 @@ use Rattle.program_text.specs.Codes.{Code, main_of}
 use Rattle.program_text.specs.Functions.{functions_of}
 use Rattle.program_text.specs.Drafts.{Draft, Contents, Open, begun, registers_of, scope_of, held}
 use Rattle.program_text.specs.Grammar.{IsInOrder, HasRoom, extended, nothing, LineMeans, LinesMean, LinesOfProgram, TextMeans, ended, ended_by}
-use Rattle.program_text.specs.Faults.{LineFault, EndFault, LinesFault, FaultOfLines, IsTextFault, Extends, IsRoomCause, IsRoomFault, IsLineFault, IsBodyFault}
+use Rattle.program_text.specs.Faults.{LineFault, EndFault, LinesFault, FaultOfLines, IsTextFault, Extends, IsRoomCause, IsRoomFault, IsLineFault, IsEndFault, IsFaultOfLines, IsBodyFault, DecidesLines}
 use Rattle.program_lines.proofs.Once.{item_once}
 use Rattle.program_lines.proofs.LineFaults.{item_clean}
 use Rattle.program_lines.proofs.Crowded.{no_words_fault}
@@ -105,45 +105,52 @@ module _ (names : List (List ℕ)) (at : ℕ) (before : Draft) (line : List ℕ)
 
 -- ---- the lines behind the header
 
-module _ (version : Version) (text : List ℕ) where
-  -- what is left decides the whole
-  pub record Decides_whole (names : List (List ℕ)) (at : ℕ) (before : Draft) (ls : List (List ℕ)) : Type 0 where
-    pub means : (contents : Contents) → LinesMean names at before ls contents → LinesMean (functions_of (lines text)) 2 (nothing version) (lines text) contents
-    pub faults : (bad : ℕ) (cause : Cause) → LinesFault names at before ls bad cause → LinesFault (functions_of (lines text)) 2 (nothing version) (lines text) bad cause
+module _ (names : List (List ℕ)) (first : Draft) (whole : List (List ℕ)) (n : ℕ) (before : Draft) (ls : List (List ℕ)) (d : DecidesLines names first whole n before ls) where
+  -- one line is read
+  pub decides_more : (line : List ℕ) (rest : List (List ℕ)) (item : Item) → ls ≡ line ∷ rest → LineMeans names n before line item → DecidesLines names first whole (n + 1) (extended n before item) rest
+  decides_more line rest item e m = record {
+    means = λ contents k. d.means contents (subst (λ (t : List (List ℕ)). LinesMean names n before t contents) (sym e) (item, m, k));
+    faults = λ bad cause k. d.faults bad cause (subst (λ (t : List (List ℕ)). LinesFault names n before t bad cause) (sym e) (inr (item, m, k)));
+  }
 
-  module _ (names : List (List ℕ)) (n : ℕ) (before : Draft) (ls : List (List ℕ)) (d : Decides_whole names n before ls) where
-    -- one line is read
-    pub decides_more : (line : List ℕ) (rest : List (List ℕ)) (item : Item) → ls ≡ line ∷ rest → LineMeans names n before line item → Decides_whole names (n + 1) (extended n before item) rest
-    decides_more line rest item e m = record {
-      means = λ contents k. d.means contents (subst (λ (t : List (List ℕ)). LinesMean names n before t contents) (sym e) (item, m, k));
-      faults = λ bad cause k. d.faults bad cause (subst (λ (t : List (List ℕ)). LinesFault names n before t bad cause) (sym e) (inr (item, m, k)));
-    }
+  pub fault_here : (line : List ℕ) (rest : List (List ℕ)) (fault : TextFault) → ls ≡ line ∷ rest → IsLineFault names n before line fault → IsFaultOfLines names first whole fault
+  fault_here line rest (At bad why) e f = d.faults bad why (subst (λ (t : List (List ℕ)). LinesFault names n before t bad why) (sym e) (inl f))
+  fault_here line rest Memory e f = tt
 
-    pub fault_here : (line : List ℕ) (rest : List (List ℕ)) (fault : TextFault) → ls ≡ line ∷ rest → IsLineFault names n before line fault → IsBodyFault version text fault
-    fault_here line rest (At bad why) e f = d.faults bad why (subst (λ (t : List (List ℕ)). LinesFault names n before t bad why) (sym e) (inl f))
-    fault_here line rest Memory e f = tt
+  -- all lines are read
+  pub decides_end : ls ≡ [] → DecidesLines names first whole n before []
+  decides_end e = subst (λ (t : List (List ℕ)). DecidesLines names first whole n before t) e d
 
-    nothing_below_nesting : (lower : Cause) → cause_number lower < 7 → EndFault before lower → ⊥
-    nothing_below_nesting BadNesting l f = absurd (omega arith)
-    nothing_below_nesting NoMain l f = absurd (omega arith)
-    nothing_below_nesting cause l f = f
+-- the end
+module _ (before : Draft) where
+  nothing_below_nesting : (lower : Cause) → cause_number lower < 7 → EndFault before lower → ⊥
+  nothing_below_nesting BadNesting l f = absurd (omega arith)
+  nothing_below_nesting NoMain l f = absurd (omega arith)
+  nothing_below_nesting cause l f = f
 
-    nothing_below_main : (before.current ≢ None → ⊥) → (lower : Cause) → cause_number lower < 8 → EndFault before lower → ⊥
-    nothing_below_main ended BadNesting l f = ended f
-    nothing_below_main ended NoMain l f = absurd (omega arith)
-    nothing_below_main ended cause l f = f
+  nothing_below_main : (before.current ≢ None → ⊥) → (lower : Cause) → cause_number lower < 8 → EndFault before lower → ⊥
+  nothing_below_main ended BadNesting l f = ended f
+  nothing_below_main ended NoMain l f = absurd (omega arith)
+  nothing_below_main ended cause l f = f
 
-    -- at the end
-    pub open_here : ls ≡ [] → before.current ≢ None → IsBodyFault version text (At n BadNesting)
-    open_here e o = d.faults n BadNesting (subst (λ (t : List (List ℕ)). LinesFault names n before t n BadNesting) (sym e) (refl, (o, nothing_below_nesting)))
+  pub open_here : before.current ≢ None → IsLowest (EndFault before) BadNesting
+  open_here o = (o, nothing_below_nesting)
 
-    pub no_main_here : ls ≡ [] → (before.current ≢ None → ⊥) → main_of before.functions ≡ None → IsBodyFault version text (At n NoMain)
-    no_main_here e o none = d.faults n NoMain (subst (λ (t : List (List ℕ)). LinesFault names n before t n NoMain) (sym e) (refl, (none, nothing_below_main o)))
+  pub no_main_here : (before.current ≢ None → ⊥) → main_of before.functions ≡ None → IsLowest (EndFault before) NoMain
+  no_main_here o none = (none, nothing_below_main o)
 
-    pub means_here : ls ≡ [] → before.current ≡ None → (main : ℕ) → main_of before.functions ≡ Some main
-        → LinesMean (functions_of (lines text)) 2 (nothing version) (lines text) (held before)
-    means_here e o main is =
-        d.means (held before) (subst (λ (t : List (List ℕ)). LinesMean names n before t (held before)) (sym e) (o, (λ none. let clash : Some main ≡ None = sym is ∙ none in cc), refl))
+-- the lines with their end
+pub ends_here : (names : List (List ℕ)) (first : Draft) (whole : List (List ℕ)) (n : ℕ) (before : Draft) (r : Result ℕ TextFault) → DecidesLines names first whole n before []
+    → MatchResult r (λ main. (before.current ≡ None) × (main_of before.functions ≡ Some main)) (IsEndFault before n)
+    → MatchResult r (λ _. LinesMean names 2 first whole (held before)) (IsFaultOfLines names first whole)
+ends_here names first whole n before (Ok main) d e = d.means (held before) (e.0, (λ none. let is = e.1 in let clash : Some main ≡ None = sym is ∙ none in cc), refl)
+ends_here names first whole n before (Err (At bad why)) d e = d.faults bad why e
+ends_here names first whole n before (Err Memory) d e = tt
+
+pub main_here : (before : Draft) (n : ℕ) (r : Result ℕ TextFault) → MatchResult r (λ main. (before.current ≡ None) × (main_of before.functions ≡ Some main)) (IsEndFault before n)
+    → IfOk r (λ main. main_of before.functions ≡ Some main)
+main_here before n (Ok main) e = e.1
+main_here before n (Err fault) e = tt
 
 -- ---- the whole text
 

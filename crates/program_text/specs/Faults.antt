@@ -14,9 +14,9 @@ use Rattle.trace_text.specs.Drafts.{IsFaultOf}
 use Rattle.program_lines.specs.Grammar.{Item, ItemMeans}
 use Rattle.program_lines.specs.Faults.{WordsFault}
 use Rattle.program_text.specs.Functions.{functions_of}
-use Rattle.program_text.specs.Drafts.{Draft, scope_of}
+use Rattle.program_text.specs.Drafts.{Draft, Contents, scope_of}
 use Rattle.program_text.specs.Codes.{main_of}
-use Rattle.program_text.specs.Grammar.{IsInOrder, HasRoom, LineMeans, extended, nothing}
+use Rattle.program_text.specs.Grammar.{IsInOrder, HasRoom, LineMeans, LinesMean, extended, nothing}
 
 -- ---- lines
 
@@ -79,7 +79,20 @@ IsRoomFault at before item fault = IsFaultOf (IsRoomCause at before item) at fau
 abbrev pub IsLineFault : List (List ℕ) → ℕ → Draft → List ℕ → TextFault → Type 0
 IsLineFault names at before line fault = IsFaultOf (IsLowest (LineFault names at before line)) at fault
 
+-- The fault is that of the end, before the line with the number `at`.
+abbrev pub IsEndFault : Draft → ℕ → TextFault → Type 0
+IsEndFault so_far at fault = IsFaultOf (IsLowest (EndFault so_far)) at fault
+
+-- The fault is the first of these lines, which stand behind the header and behind what was read so far.
+abbrev pub IsFaultOfLines : List (List ℕ) → Draft → List (List ℕ) → TextFault → Type 0
+IsFaultOfLines names so_far lines (At line why) = LinesFault names 2 so_far lines line why
+IsFaultOfLines names so_far lines Memory = Unit {0}
+
 -- The fault is the first of the lines behind the header.
 abbrev pub IsBodyFault : Version → List ℕ → TextFault → Type 0
-IsBodyFault version text (At line why) = LinesFault (functions_of (lines text)) 2 (nothing version) (lines text) line why
-IsBodyFault version text Memory = Unit {0}
+IsBodyFault version text fault = IsFaultOfLines (functions_of (lines text)) (nothing version) (lines text) fault
+
+-- What is left of these lines from the number `at` on decides them: what it means behind what was read, they mean, and its fault is theirs.
+pub record DecidesLines (names : List (List ℕ)) (first : Draft) (whole : List (List ℕ)) (at : ℕ) (before : Draft) (left : List (List ℕ)) : Type 0 where
+  pub means : (contents : Contents) → LinesMean names at before left contents → LinesMean names 2 first whole contents
+  pub faults : (bad : ℕ) (cause : Cause) → LinesFault names at before left bad cause → LinesFault names 2 first whole bad cause

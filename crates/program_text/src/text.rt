@@ -1,6 +1,6 @@
 //! A program's text, a line at a time.
 
-ghost use Rattle.std.specs.Prelude.{◌≡◌, ◌<◌, Some, length, OnOk, IfOk, MatchResult, option_copied, position};
+ghost use Rattle.std.specs.Prelude.{◌≡◌, ◌<◌, [], None, Some, length, OnOk, IfOk, MatchResult, option_copied, position};
 ghost use Rattle.std.specs.List.{before_first};
 ghost use Rattle.trace_values.specs.Text.{lines, is_hash};
 ghost use Rattle.trace_values.specs.Limits.{max_lines};
@@ -8,7 +8,7 @@ ghost use Rattle.program_text.specs.Functions.{is_name_word, function_in as name
 ghost use Rattle.program_text.specs.Drafts.{held};
 ghost use Rattle.program_text.specs.Codes.{main_of as main_among};
 ghost use Rattle.program_text.specs.Grammar.{nothing, LinesMean, TextMeans};
-ghost use Rattle.program_text.specs.Faults.{IsBodyFault, IsTextFault};
+ghost use Rattle.program_text.specs.Faults.{DecidesLines, IsBodyFault, IsEndFault, IsFaultOfLines, IsTextFault};
 
 use crate::draft::{Draft, fault};
 use crate::function::Function;
@@ -112,6 +112,63 @@ fn main_of<A: Allocator>(functions: &[Function<A>]) -> Option<usize>
         .position(|function| function.name.as_str() == "main")
 }
 
+/// Reads the lines behind the first into the draft, and gives the number of the line behind the last.
+fn read_lines<'a, A: Allocator + Copy>(
+    draft: &mut Draft<'a, A>,
+    alloc: A,
+    names: &FunctionNames<'a, A>,
+    text: &'a [u8],
+) -> Result<u32, TextFault>
+    ensures { MatchResult result
+        (λ end. DecidesLines names.now draft.old (lines text.now) end draft.new [])
+        (IsFaultOfLines names.now draft.old (lines text.now)) }
+{
+    let mut rest = text;
+    let mut at = 2;
+    while !rest.is_empty() {
+        let (line, after) = split_line(rest);
+        if let Err(fault) = draft.take(alloc, names, at, without_return(line)) {
+            return Err(fault);
+        }
+        at += 1;
+        rest = after;
+    }
+    Ok(at)
+}
+
+/// The number of `main`, where the lines end before the line `end`.
+fn main_at_end<A: Allocator + Copy>(draft: &Draft<A>, end: u32) -> Result<u32, TextFault>
+    ensures { MatchResult result
+        (λ main. (draft.now.current ≡ None) × (main_among draft.now.functions ≡ Some main))
+        (IsEndFault draft.now end) }
+{
+    if draft.is_open() {
+        return Err(fault(end, Cause::BadNesting));
+    }
+    match main_of(draft.functions()) {
+        Some(main) => Ok(main as u32),
+        None => Err(fault(end, Cause::NoMain)),
+    }
+}
+
+/// Reads the lines behind the first into the draft, and gives the number of `main`.
+fn read_body<'a, A: Allocator + Copy>(
+    draft: &mut Draft<'a, A>,
+    alloc: A,
+    names: &FunctionNames<'a, A>,
+    text: &'a [u8],
+) -> Result<u32, TextFault>
+    ensures means { MatchResult result
+        (λ _. LinesMean names.now 2 draft.old (lines text.now) (held draft.new))
+        (IsFaultOfLines names.now draft.old (lines text.now)) }
+    ensures main { IfOk result (λ main. main_among draft.new.functions ≡ Some main) }
+{
+    match read_lines(draft, alloc, names, text) {
+        Ok(end) => main_at_end(draft, end),
+        Err(fault) => Err(fault),
+    }
+}
+
 /// Reads the lines behind the first, where the text has these functions.
 fn body_with<'a, A: Allocator + Copy>(
     alloc: A,
@@ -126,22 +183,9 @@ fn body_with<'a, A: Allocator + Copy>(
     ensures main { IfOk result (λ read. main_among read.0.functions ≡ Some read.1) }
 {
     let mut draft = Draft::new(alloc, version);
-    let mut rest = text;
-    let mut at = 1;
-    while !rest.is_empty() {
-        let (line, after) = split_line(rest);
-        at += 1;
-        if let Err(fault) = draft.take(alloc, names, at, without_return(line)) {
-            return Err(fault);
-        }
-        rest = after;
-    }
-    if draft.is_open() {
-        return Err(fault(at + 1, Cause::BadNesting));
-    }
-    match main_of(draft.functions()) {
-        Some(main) => Ok((draft, main as u32)),
-        None => Err(fault(at + 1, Cause::NoMain)),
+    match read_body(&mut draft, alloc, names, text) {
+        Ok(main) => Ok((draft, main)),
+        Err(fault) => Err(fault),
     }
 }
 

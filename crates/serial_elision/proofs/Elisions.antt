@@ -1,12 +1,13 @@
 -- The evaluator before and after a step.
 use Rattle.std.proofs.Common.{◌≡◌, ◌≢◌, ℕ, zero, suc, ◌+◌, ◌-◌, ◌*◌, ◌<◌, ◌≤◌, ◌⊎◌, inl, inr, Bool, true, false, List, [], ◌∷◌, ◌++◌, Some, None, Result, Ok, Err, refl, sym, ap, ◌∙◌, subst, arith, length, drop, map, append-nil, length-append}
 use Rattle.std.specs.Prelude.{slice_get, slice_index, slice_index_or, slice_set, OnOk}
-use Rattle.std.proofs.lemmas.List.{reverse-append, length-set, get_or-set_same, get_or-set_other}
-use Rattle.trace_values.specs.declared.value.Act.{Act}
-use Rattle.trace_values.specs.declared.value.Monoid.{Monoid}
+use Rattle.std.proofs.lemmas.List.{reverse-append, length-set, length-map, length-replicate, get_or-map, get_or-set_same, get_or-set_other}
+use Rattle.trace_text.specs.declared.value.Act.{Act}
+use Rattle.trace_text.specs.declared.value.Monoid.{Monoid}
+use Rattle.trace_text.specs.declared.value.Monoid.TheVariants.{Sum, Min, Max, Last, Digits}
 use Rattle.reducer_views.specs.declared.view.View.{View}
 use Rattle.reducer_views.specs.declared.view.View.TheVariants.{Nothing}
-use Rattle.reducer_views.specs.Products.{FitsMonoid}
+use Rattle.reducer_views.specs.Products.{FitsMonoid, identity_of}
 use Rattle.reducer_views.specs.Touched.{monoid_of}
 use Rattle.program_lines.specs.declared.statement.Register.{Register}
 use Rattle.program_lines.specs.declared.statement.Statement.{Statement}
@@ -20,7 +21,8 @@ use Rattle.program_steps.specs.Values.{Registers, first_registers}
 use Rattle.program_steps.specs.Scripts.{closing, script, numbers}
 use Rattle.serial_elision.specs.Evaluation.{Effect, effect, Store, Standing, Evaluates, StackEvaluates, Leads}
 use Rattle.serial_elision.specs.Elisions.{first_store, HasMain, Elides, NeedsMore}
-use Rattle.serial_elision.specs.States.{State, store_of, with_store, with_top, moved, turning, begun, with_begun, left_at, left_in, standing_in, standing, callers_of, stack_in, stack_of, are_turns, length_in, IsInPlace, Stands, Makes, IsOpening, IsLeft, is_left}
+use Rattle.serial_elision.specs.States.{State, store_of, with_store, with_top, moved, turning, begun, with_begun, left_at, left_in, standing_in, standing, callers_of, stack_in, stack_of, are_turns, length_in, IsInPlace, Stands, Makes, IsOpening, IsLeft, is_left, opening}
+use Rattle.program_text.proofs.Taken.{main_below}
 use Rattle.program_steps.proofs.Trees.{and_then_assoc, if_left}
 use Rattle.program_steps.proofs.Places.{drop_at, found}
 use Rattle.serial_elision.proofs.Evaluations.{leads_nowhere, leads_on, sync_leads, first_leads, second_leads, end_leads, turn_leads}
@@ -59,6 +61,13 @@ callee_known functions before turns on known = (subst (λ o. are_turns functions
 pub nearer : (limit requests asked place later : ℕ) → place < 100000 → later < 100000 → asked ≤ limit - requests → (asked ≡ 0 → place < later) → (limit - (requests + asked)) * 100001 + (100000 - later) < (limit - requests) * 100001 + (100000 - place)
 nearer limit requests zero place later before after few further = let h = further refl in omega (arith, h, before, after)
 nearer limit requests (suc asked) place later before after few further = omega (arith, few, before, after)
+
+identity_fits : (monoid : Monoid) → FitsMonoid monoid (identity_of monoid)
+identity_fits Sum = omega arith
+identity_fits Min = omega arith
+identity_fits Max = omega arith
+identity_fits Last = tt
+identity_fits Digits = (omega arith, omega arith)
 
 -- the stack at the program's begin
 abbrev pub main_stack : Code → List Standing
@@ -339,12 +348,27 @@ module _ (functions : List Code) (monoids : List Monoid) where
       let e : s.0 ≡ effects = sym (s.5 ∙ ap (λ l. s.0 ++ l) s.4.0 ∙ append-nil s.0) in
       subst (λ m. Evaluates functions monoids main.end_line (script main) (first_registers 0) store effects m) s.4.1 (subst (λ l. Evaluates functions monoids main.end_line (script main) (first_registers 0) store l s.2) e s.3)
 
-  pub opening_leads : (cells : ℕ) (state : State) → Stands functions monoids cells state → IsOpening functions monoids cells state → (main : Code) × HasMain functions main × Leads functions monoids [] (main_stack main) (first_store monoids cells) (stack_of functions state) (store_of state)
-  opening_leads cells state s o =
-      let known : o.main < length functions = subst (λ a. a.function < length functions) o.top s.top.known in
-      let f = found functions o.main known in
-      let e : stack_of functions state ≡ main_stack f.0 = going_stack state o.going ∙ ap (λ a. standing functions a ∷ callers_of functions state.callers) o.top ∙ ap (λ l. standing functions (begun o.main 0) ∷ callers_of functions l) o.callers ∙ ap (λ t. t ∷ []) (begun_standing o.main 0 f.0 f.1) in
-      (f.0, (o.main, o.is_main, f.1), subst (λ t. Leads functions monoids [] (main_stack f.0) (first_store monoids cells) (stack_of functions state) t) (sym o.store) (leads_between [] _ _ _ _ (first_store monoids cells) (first_store monoids cells) refl e (leads_nowhere functions monoids (main_stack f.0) (first_store monoids cells))))
+  -- what opens the program stands in it
+  opening_placed : (main cells : ℕ) → main < length functions → Stands functions monoids cells (opening main monoids cells)
+  opening_placed main cells known = record {
+    top = record { known = known; within = omega arith; turning = tt };
+    callers = λ k caller h. absurd (no_item k caller h);
+    memory = length-replicate cells 0;
+    views = length-map monoids identity_of;
+    same_monoids = refl;
+    fits = λ reducer h. subst (λ v. FitsMonoid (monoid_of monoids reducer) v) (sym (get_or-map identity_of monoids reducer Sum Nothing h)) (identity_fits (monoid_of monoids reducer));
+  }
+
+  pub opening_stands : (cells : ℕ) (state : State) → IsOpening functions monoids cells state → Stands functions monoids cells state
+  opening_stands cells state o = subst (λ s. Stands functions monoids cells s) (sym o.is) (opening_placed o.main cells (main_below functions o.main o.is_main))
+
+  -- and leads on from its begin
+  pub opening_leads : (cells : ℕ) (state : State) → IsOpening functions monoids cells state → (main : Code) × HasMain functions main × Leads functions monoids [] (main_stack main) (first_store monoids cells) (stack_of functions state) (store_of state)
+  opening_leads cells state o =
+      let f = found functions o.main (main_below functions o.main o.is_main) in
+      let first = opening o.main monoids cells in
+      let e : stack_of functions first ≡ main_stack f.0 = ap (λ t. t ∷ []) (begun_standing o.main 0 f.0 f.1) in
+      (f.0, (o.main, o.is_main, f.1), subst (λ s. Leads functions monoids [] (main_stack f.0) (first_store monoids cells) (stack_of functions s) (store_of s)) (sym o.is) (leads_between [] _ _ _ _ (first_store monoids cells) (first_store monoids cells) refl e (leads_nowhere functions monoids (main_stack f.0) (first_store monoids cells))))
 
   -- some requests more
   pub more_leads : (cells asked requests : ℕ) (main : Code) (done : List Effect) (before after : State) → length done ≡ requests → Leads functions monoids done (main_stack main) (first_store monoids cells) (stack_of functions before) (store_of before) → Makes functions monoids asked before after → (more : List Effect) × (length more ≡ requests + asked) × Leads functions monoids more (main_stack main) (first_store monoids cells) (stack_of functions after) (store_of after)

@@ -1,9 +1,9 @@
 -- The evaluator's stack and store.
-use Rattle.std.specs.Prelude.{◌≡◌, ℕ, ◌+◌, ◌<◌, ◌≤◌, ◌^◌, Bool, true, false, List, [], ◌∷◌, ◌++◌, map, reverse, Option, Some, None, length, drop, slice_get, slice_index_or}
-use Rattle.trace_values.specs.declared.value.Monoid.{Monoid}
+use Rattle.std.specs.Prelude.{◌≡◌, ℕ, ◌+◌, ◌<◌, ◌≤◌, ◌^◌, Bool, true, false, List, [], ◌∷◌, ◌++◌, map, reverse, Option, Some, None, length, drop, replicate, slice_get, slice_index_or}
+use Rattle.trace_text.specs.declared.value.Monoid.{Monoid}
 use Rattle.reducer_views.specs.declared.view.View.{View}
 use Rattle.reducer_views.specs.declared.view.View.TheVariants.{Nothing}
-use Rattle.reducer_views.specs.Products.{FitsMonoid}
+use Rattle.reducer_views.specs.Products.{FitsMonoid, identity_of}
 use Rattle.reducer_views.specs.Touched.{monoid_of}
 use Rattle.program_lines.specs.declared.statement.Statement.{Statement}
 use Rattle.program_text.specs.declared.program.Program.{Program}
@@ -16,7 +16,6 @@ use Rattle.serial_elision.specs.declared.elision.Elision.{Elision}
 use Rattle.program_steps.specs.Values.{Registers, first_registers}
 use Rattle.program_steps.specs.Scripts.{closing, numbers}
 use Rattle.serial_elision.specs.Evaluation.{Effect, Store, Standing, Leads}
-use Rattle.serial_elision.specs.Elisions.{first_store}
 
 -- what an evaluator holds
 pub record State : Type 0 where
@@ -145,11 +144,13 @@ pub record IsLeft (before after : State) : Type 0 where
 abbrev pub monoids_in : {B : Type 0} → Program B → List Monoid
 monoids_in program = map (λ reducer. reducer.monoid) program.reducers
 
+-- a function at its begin with argument 0, in the first store
+abbrev pub opening : (function : ℕ) → List Monoid → (cells : ℕ) → State
+opening function monoids cells =
+    record { top = begun function 0; callers = []; memory = replicate cells 0; views = map identity_of monoids; monoids = monoids; over = false }
+
 -- nothing has been done yet
 pub record IsOpening (functions : List Code) (monoids : List Monoid) (cells : ℕ) (state : State) : Type 0 where
   pub main : ℕ
   pub is_main : IsMain functions main
-  pub top : state.top ≡ begun main 0
-  pub callers : state.callers ≡ []
-  pub store : store_of state ≡ first_store monoids cells
-  pub going : state.over ≡ false
+  pub is : state ≡ opening main monoids cells

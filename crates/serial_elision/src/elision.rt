@@ -1,14 +1,14 @@
 //! The elision of a program, statement by statement.
 
 ghost use Rattle.std.specs.Prelude.{◌≡◌, ◌≢◌, ◌+◌, ◌-◌, ◌%◌, ◌^◌, ◌<◌, ◌≤◌, IsTrue, false, true, Some, None, Err, map, length, replicate, slice_index, slice_get, OnOk, IfOk};
-ghost use Rattle.trace_values.specs.Declarations.{cells_of};
-ghost use Rattle.trace_values.specs.Limits.{max_cells};
+ghost use Rattle.trace_text.specs.Grammar.{cells_of};
+ghost use Rattle.trace_text.specs.Limits.{max_cells};
 ghost use Rattle.reducer_views.specs.Products.{FitsMonoid, identity_of, product_of, put_view, update_view};
 ghost use Rattle.reducer_views.specs.Touched.{monoid_of};
 ghost use Rattle.program_text.specs.Sound.{is_located};
 ghost use Rattle.program_steps.specs.Values.{cell_of, result_of, value_of, with_ok};
 ghost use Rattle.serial_elision.specs.Evaluation.{got, view_at, with_cell, with_register, with_view};
-ghost use Rattle.serial_elision.specs.States.{IsGoing, IsLeft, IsOpening, Makes, Stands, moved, monoids_in, state_of, store_of, turning, with_begun, with_store, with_top};
+ghost use Rattle.serial_elision.specs.States.{IsGoing, IsLeft, IsOpening, Makes, Stands, moved, monoids_in, opening, state_of, store_of, turning, with_begun, with_store, with_top};
 ghost use Rattle.serial_elision.specs.Statements.{is_access, is_invocation, is_reduction, is_silent};
 ghost use Rattle.serial_elision.specs.Elisions.{Elides, NeedsMore};
 
@@ -18,7 +18,7 @@ use program_steps::{cell_of, result_of, value_of};
 use program_text::{Function, Program};
 use reducer_views::{View, combine, identity, of_put, of_update, value};
 use std::alloc::{AllocError, Allocator};
-use trace_values::{Monoid, Monoids};
+use trace_text::{Monoid, Monoids, Shape};
 
 /// The functions that are begun, the topmost apart, with the cells' values and the reducers' views.
 #[derive(Drop)]
@@ -58,15 +58,13 @@ pub fn elide<A: Allocator + Clone, B: Allocator>(
     ensures ok { IfOk result (λ elided. (elided.requests ≤ limit) × Elides program.now.functions (monoids_in program.now) (cells_of program.now.mems) elided.memory.items elided.requests) }
     ensures limit { result ≡ Err ElideFault.Limit → NeedsMore program.now.functions (monoids_in program.now) (cells_of program.now.mems) limit }
 {
-    let mut elision = match Elision::open(alloc, program) {
-        Ok(elision) => elision,
-        Err(_) => return Err(ElideFault::Memory),
+    let Ok(mut elision) = Elision::open(alloc, program) else {
+        return Err(ElideFault::Memory);
     };
     let mut requests = 0;
     while !elision.over {
-        let asked = match elision.step(program) {
-            Ok(asked) => asked,
-            Err(_) => return Err(ElideFault::Memory),
+        let Ok(asked) = elision.step(program) else {
+            return Err(ElideFault::Memory);
         };
         if asked > limit - requests {
             return Err(ElideFault::Limit);
@@ -88,35 +86,67 @@ fn function_at<B: Allocator>(program: &Program<B>, index: u32) -> &Function<B>
 }
 
 /// So many cells that hold 0.
-fn zeros<A: Allocator>(alloc: A, count: usize) -> Result<Vec<u64, A>, AllocError>
+fn zeros<A: Allocator + Clone>(alloc: &A, count: u32) -> Result<Vec<u64, A>, AllocError>
     ensures { IfOk result (λ v. v.items ≡ replicate count 0) }
 {
-    vec![in alloc; 0; count]
+    vec![in alloc.clone()?; 0; count as usize]
 }
 
 /// The identity of each monoid.
-fn identities<A: Allocator>(alloc: A, monoids: &[Monoid]) -> Result<Vec<View, A>, AllocError>
+fn identities<A: Allocator + Clone>(
+    alloc: &A,
+    monoids: &[Monoid],
+) -> Result<Vec<View, A>, AllocError>
     ensures { IfOk result (λ views. views.items ≡ map identity_of monoids.now) }
 {
-    let mut views = Vec::new(alloc);
+    let mut views = Vec::new(alloc.clone()?);
     for monoid in monoids {
         views.push(identity(*monoid))?;
     }
     Ok(views)
 }
 
+/// The program's cells and the monoids of its reducers.
+fn shape_of<A: Allocator + Clone, B: Allocator>(
+    alloc: &A,
+    program: &Program<B>,
+) -> Result<Shape<A>, AllocError>
+    ensures { IfOk result (λ shape. (shape.cells ≡ cells_of program.now.mems) × (shape.monoids ≡ monoids_in program.now)) }
+{
+    program.shape(alloc.clone()?)
+}
+
+/// The cells and the views before the first request.
+fn first_store<A: Allocator + Clone>(
+    alloc: &A,
+    shape: &Shape<A>,
+) -> Result<(Vec<u64, A>, Vec<View, A>), AllocError>
+    ensures { IfOk result (λ store. (store.0.items ≡ replicate shape.now.cells 0) × (store.1.items ≡ map identity_of shape.now.monoids)) }
+{
+    let memory = zeros(alloc, shape.cells)?;
+    let views = identities(alloc, shape.monoids.as_slice())?;
+    Ok((memory, views))
+}
+
 impl<A: Allocator + Clone> Elision<A> {
     /// `main` at its first statement.
     fn open<B: Allocator>(alloc: A, program: &Program<B>) -> Result<Elision<A>, AllocError>
-        ensures stands { IfOk result (λ elision. Stands program.now.functions (monoids_in program.now) (cells_of program.now.mems) (state_of elision)) }
-        ensures opens { IfOk result (λ elision. IsOpening program.now.functions (monoids_in program.now) (cells_of program.now.mems) (state_of elision)) }
+        ensures { IfOk result (λ elision. IsOpening program.now.functions (monoids_in program.now) (cells_of program.now.mems) (state_of elision)) }
     {
-        let shape = program.shape(alloc.clone()?)?;
+        let shape = shape_of(&alloc, program)?;
+        Elision::begin_in(alloc, program.main(), shape)
+    }
+
+    /// A function at its first statement, in the first store of this shape.
+    fn begin_in(alloc: A, main: u32, shape: Shape<A>) -> Result<Elision<A>, AllocError>
+        ensures { IfOk result (λ elision. state_of elision ≡ opening main shape.monoids shape.cells) }
+    {
+        let (memory, views) = first_store(&alloc, &shape)?;
         Ok(Elision {
-            top: Activation::begin(program.main(), 0),
-            callers: Vec::new(alloc.clone()?),
-            memory: zeros(alloc.clone()?, shape.cells as usize)?,
-            views: identities(alloc, shape.monoids.as_slice())?,
+            top: Activation::begin(main, 0),
+            callers: Vec::new(alloc),
+            memory,
+            views,
             monoids: shape.monoids,
             over: false,
         })
@@ -187,6 +217,18 @@ impl<A: Allocator> Elision<A> {
         self.top.place += 1;
     }
 
+    /// Gives a reducer another view, and goes on.
+    fn set_view(&mut self, reducer: u32, view: View)
+        requires place { self.old.top.place + 1 < 2 ^ 32 }
+        requires known { reducer < length self.old.views.items }
+        ensures { state_of self.new ≡ with_store (with_top (state_of self.old) (moved self.old.top (self.old.top.place + 1) (with_ok 1 self.old.top.registers)))
+            (with_view (store_of (state_of self.old)) reducer view) }
+    {
+        self.views[reducer as usize] = view;
+        self.top.registers[0] = 1;
+        self.top.place += 1;
+    }
+
     /// `update`.
     fn update(&mut self, reducer: u32, operand: Operand)
         requires place { self.old.top.place + 1 < 2 ^ 32 }
@@ -202,9 +244,7 @@ impl<A: Allocator> Elision<A> {
         let monoid = self.monoids.as_slice()[reducer as usize];
         let value = value_of(&self.top.registers, operand);
         let view = self.views[reducer as usize];
-        self.views[reducer as usize] = combine(monoid, view, of_update(monoid, value));
-        self.top.registers[0] = 1;
-        self.top.place += 1;
+        self.set_view(reducer, combine(monoid, view, of_update(monoid, value)));
     }
 
     /// `put`.
@@ -217,9 +257,8 @@ impl<A: Allocator> Elision<A> {
         ensures fits { FitsMonoid (monoid_of self.old.monoids reducer) (put_view (monoid_of self.old.monoids reducer) (value_of operand self.old.top.registers)) }
     {
         let monoid = self.monoids.as_slice()[reducer as usize];
-        self.views[reducer as usize] = of_put(monoid, value_of(&self.top.registers, operand));
-        self.top.registers[0] = 1;
-        self.top.place += 1;
+        let value = value_of(&self.top.registers, operand);
+        self.set_view(reducer, of_put(monoid, value));
     }
 
     /// `get`.

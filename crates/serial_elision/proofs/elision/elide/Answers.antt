@@ -2,14 +2,15 @@ use Rattle.std.proofs.Common.{refl, arith, length, []}
 use Rattle.trace_values.specs.Declarations.{cells_of}
 use Rattle.serial_elision.specs.States.{state_of, monoids_in}
 use Rattle.serial_elision.proofs.Soundness.{few_places}
-use Rattle.serial_elision.proofs.Elisions.{opening_leads, more_leads, leads_needs, over_elides, nearer}
+use Rattle.serial_elision.proofs.Elisions.{opening_leads, opening_stands, more_leads, leads_needs, over_elides, nearer}
 use Rattle.serial_elision.proofs.elision.elide.Goals as goal
 
 pub loop-elision-init : goal.loop-elision-init
 loop-elision-init g c =
     let p = c.args.program.now in
-    let o = opening_leads p.functions (monoids_in p) (cells_of p.mems) (state_of c.in-Ok.elision) c.in-Ok.ensures.stands c.in-Ok.ensures.opens in
-    record { within = omega arith; stands = c.in-Ok.ensures.stands; main = o.0; is_main = o.1; done = []; count = refl; leads = o.2 }
+    let first = state_of c.in-Ok.elision in
+    let o = opening_leads p.functions (monoids_in p) (cells_of p.mems) first c.in-Ok.ensures in
+    record { within = omega arith; stands = opening_stands p.functions (monoids_in p) (cells_of p.mems) first c.in-Ok.ensures; main = o.0; is_main = o.1; done = []; count = refl; leads = o.2 }
 
 pub returns-then-asked-limit-clause-limit : goal.returns-then-asked-limit-clause-limit
 returns-then-asked-limit-clause-limit g c = λ e.
@@ -38,3 +39,37 @@ returns-clause-ok g c =
     let p = c.args.program.now in
     let i = c.loop-elision.invariant in
     (i.within, over_elides p.functions (monoids_in p) (cells_of p.mems) c.loop-elision.requests i.main i.done (state_of c.loop-elision.elision) i.is_main c.loop-elision-test.false i.count i.leads)
+
+pub returns-in_default-clause-ok : goal.returns-in_default-clause-ok
+returns-in_default-clause-ok g c = tt
+
+pub returns-in_default-clause-limit : goal.returns-in_default-clause-limit
+returns-in_default-clause-limit g c = λ e. cc
+
+pub step-requires-clause-stands : goal.step-requires-clause-stands
+step-requires-clause-stands g c = c.loop-elision.invariant.stands
+
+pub step-requires-clause-going : goal.step-requires-clause-going
+step-requires-clause-going g c = c.loop-elision-test.true
+
+pub returns-in_default-step-clause-ok : goal.returns-in_default-step-clause-ok
+returns-in_default-step-clause-ok g c = tt
+
+pub returns-in_default-step-clause-limit : goal.returns-in_default-step-clause-limit
+returns-in_default-step-clause-limit g c = λ e. cc
+
+pub overflow_sub-limit : goal.overflow_sub-limit
+overflow_sub-limit g c = c.loop-elision.invariant.within
+
+pub returns-then-asked-limit-clause-ok : goal.returns-then-asked-limit-clause-ok
+returns-then-asked-limit-clause-ok g c = tt
+
+pub overflow_add-requests : goal.overflow_add-requests
+overflow_add-requests g c =
+    let few = c.if-asked-limit.false in
+    let within = c.loop-elision.invariant.within in
+    let fits = c.ranges.limit.fits in
+    omega (arith, few, within, fits)
+
+pub returns-clause-limit : goal.returns-clause-limit
+returns-clause-limit g c = λ e. cc

@@ -27,3 +27,51 @@ overflow_add-self g c =
     let p = c.args.program.now in
     let before = state_of c.args.self.now in
     let few = next_fits (cells_of p.mems) (length p.reducers) p.functions p.sound before.top.function c.args.function.now c.requires.going.here before.top.place _ (c.requires.at ∙ ap Some c.in-Sync.is) in omega (arith, few)
+
+pub access-requires-clause-going : goal.access-requires-clause-going
+access-requires-clause-going g c = c.requires.going
+
+pub access-requires-clause-at : goal.access-requires-clause-at
+access-requires-clause-at g c = c.requires.at
+
+pub reduce-requires-clause-going : goal.reduce-requires-clause-going
+reduce-requires-clause-going g c = c.requires.going
+
+pub reduce-requires-clause-at : goal.reduce-requires-clause-at
+reduce-requires-clause-at g c = c.requires.at
+
+pub invoke-requires-clause-going : goal.invoke-requires-clause-going
+invoke-requires-clause-going g c = c.requires.going
+
+pub invoke-requires-clause-at : goal.invoke-requires-clause-at
+invoke-requires-clause-at g c = c.requires.at
+
+pub pass-requires-clause-going : goal.pass-requires-clause-going
+pass-requires-clause-going g c = c.requires.going
+
+pub pass-requires-clause-at : goal.pass-requires-clause-at
+pass-requires-clause-at g c = c.requires.at
+
+pub returns-in-Read-clause-stands : goal.returns-in-Read-clause-stands
+returns-in-Read-clause-stands g c = c.access.ensures.stands
+
+pub returns-in-Read-clause-makes : goal.returns-in-Read-clause-makes
+returns-in-Read-clause-makes g c = c.access.ensures.makes
+
+pub returns-in-Update-clause-stands : goal.returns-in-Update-clause-stands
+returns-in-Update-clause-stands g c = c.reduce.ensures.stands
+
+pub returns-in-Update-clause-makes : goal.returns-in-Update-clause-makes
+returns-in-Update-clause-makes g c = c.reduce.ensures.makes
+
+pub returns-in_ok-invoke-in-Spawn-clause-stands : goal.returns-in_ok-invoke-in-Spawn-clause-stands
+returns-in_ok-invoke-in-Spawn-clause-stands g c = c.in_ok-invoke-in-Spawn.ensures.stands
+
+pub returns-in_ok-invoke-in-Spawn-clause-makes : goal.returns-in_ok-invoke-in-Spawn-clause-makes
+returns-in_ok-invoke-in-Spawn-clause-makes g c = c.in_ok-invoke-in-Spawn.ensures.makes
+
+pub returns-in_default-clause-stands : goal.returns-in_default-clause-stands
+returns-in_default-clause-stands g c = c.pass.ensures.stands
+
+pub returns-in_default-clause-makes : goal.returns-in_default-clause-makes
+returns-in_default-clause-makes g c = c.pass.ensures.makes

@@ -1,6 +1,8 @@
-use Rattle.std.proofs.Common.{◌≡◌, ◌≤◌, ap, sym, ◌∙◌, subst, length}
-use Rattle.std.proofs.lemmas.Bool.{ltb-false}
-use Rattle.trace_values.specs.Declarations.{cells_of}
+use Rattle.std.proofs.Common.{◌≡◌, ◌≤◌, Some, ap, refl, sym, ◌∙◌, subst, length}
+use Rattle.std.proofs.lemmas.Bool.{ltb-false, ltb-true}
+use Rattle.std.proofs.lemmas.Option.{slice_get-get_or}
+use Rattle.std.specs.Prelude.{slice_get}
+use Rattle.trace_text.specs.Grammar.{cells_of}
 use Rattle.serial_elision.specs.States.{state_of, monoids_in}
 use Rattle.serial_elision.proofs.Elisions.{left_stands, left_makes}
 use Rattle.serial_elision.proofs.elision.Elision.step.Goals as goal
@@ -18,3 +20,41 @@ returns-in-None-clause-makes g c =
 
 pub perform-requires-clause-going : goal.perform-requires-clause-going
 perform-requires-clause-going g c = record { stands = c.requires.stands; going = c.requires.going; quiet = c.in_default.is; here = c.function_at-function.ensures }
+
+pub turn-requires-clause-stands : goal.turn-requires-clause-stands
+turn-requires-clause-stands g c = c.requires.stands
+
+pub turn-requires-clause-going : goal.turn-requires-clause-going
+turn-requires-clause-going g c = c.requires.going
+
+pub turn-requires-clause-turns : goal.turn-requires-clause-turns
+turn-requires-clause-turns g c = c.in-Some.is
+
+pub returns-in-Some-clause-stands : goal.returns-in-Some-clause-stands
+returns-in-Some-clause-stands g c = c.turn.ensures.stands
+
+pub returns-in-Some-clause-makes : goal.returns-in-Some-clause-makes
+returns-in-Some-clause-makes g c = c.turn.ensures.makes
+
+pub function_at-function-requires : goal.function_at-function-requires
+function_at-function-requires g c = c.requires.stands.top.known
+
+pub get-requires : goal.get-requires
+get-requires g c = λ k. (refl, tt)
+
+pub perform-requires-clause-at : goal.perform-requires-clause-at
+perform-requires-clause-at g c =
+    let here = c.in-Some-get.ensures.lookup in
+    let statement = c.in-Some-get.statement.now in
+    let place = c.args.self.now.top.place in
+    let body : c.as_slice.result.now ≡ c.function_at-function.result.now.body = c.as_slice.ensures ∙ ap (λ f. f.body) c.function.view_is in
+    subst (λ b. slice_get b place ≡ Some statement) body (slice_get-get_or c.as_slice.result.now place statement (ltb-true _ _ (sym here.0)) ∙ ap Some (sym here.1))
+
+pub leave-requires : goal.leave-requires
+leave-requires g c = c.requires.going
+
+pub returns-in-Some-get-clause-stands : goal.returns-in-Some-get-clause-stands
+returns-in-Some-get-clause-stands g c = c.perform.ensures.stands
+
+pub returns-in-Some-get-clause-makes : goal.returns-in-Some-get-clause-makes
+returns-in-Some-get-clause-makes g c = c.perform.ensures.makes

@@ -1,0 +1,19 @@
+use Rattle.std.proofs.Common.{arith, ap, length}
+use Rattle.program_text.specs.Drafts.{Open}
+use Rattle.program_text.proofs.open_function.Open.decide.Goals as goal
+
+pub overflow_cast-place : goal.overflow_cast-place
+overflow_cast-place g c =
+    let few = c.requires in
+    let same = ap (λ (o : Open). length o.body) c.self.view_is in
+    let size = c.len-place.ensures in
+    omega (arith, few, same, size)
+
+pub invariant_of-self : goal.invariant_of-self
+invariant_of-self g c = c.self.invariant
+
+pub invariant_of-self-in_err-push-2 : goal.invariant_of-self-in_err-push-2
+invariant_of-self-in_err-push-2 g c = c.self.invariant
+
+pub invariant_of-self-2 : goal.invariant_of-self-2
+invariant_of-self-2 g c = c.self.invariant

@@ -1,0 +1,11 @@
+use Rattle.std.proofs.Common.{[], ap, sym, ◌∙◌}
+use Rattle.std.proofs.lemmas.Bool.{ltb-true}
+use Rattle.std.proofs.lemmas.List.{get_or-map}
+use Rattle.program_text.specs.Codes.{Code}
+use Rattle.program_text.proofs.print.function_name.Goals as goal
+
+pub returns-in-Some : goal.returns-in-Some
+returns-in-Some g c =
+    let found = c.in-Some.ensures.lookup in
+    let name : Code → _ = λ (code : Code). code.name in
+    c.as_str.ensures ∙ (ap name c.function.view_is ∙ (ap name found.1 ∙ sym (get_or-map name c.args.functions.now c.args.number _ [] (ltb-true _ _ (sym found.0)))))
