@@ -110,138 +110,165 @@ fn check(
     Ok(())
 }
 
-/// The same of the requests behind `cilk 1` and `mem x`.
-fn check_x(
+/// The same of the requests behind a head.
+fn check_behind(
     rt: &impl Abort,
     alloc: Global,
+    head: &str,
     requests: &str,
     verdicts: &str,
     status: u8,
 ) -> Result<(), Fail> {
-    let trace = format!(in alloc; "cilk 1; mem x; {requests}")?;
+    let trace = format!(in alloc; "{head}{requests}")?;
     check(rt, alloc, trace.as_str(), MOST, verdicts, status)
+}
+
+/// The head of a trace of one cell.
+const ONE_CELL: &str = "cilk 1; mem x; ";
+
+/// The same of each list of requests, with its verdict lines and its status.
+fn check_each(
+    rt: &impl Abort,
+    alloc: Global,
+    head: &str,
+    cases: &[(&str, &str, u8)],
+) -> Result<(), Fail> {
+    for (requests, verdicts, status) in cases {
+        check_behind(rt, alloc, head, requests, verdicts, *status)?;
+    }
+    Ok(())
 }
 
 #[test]
 fn control_and_values(rt: HostRuntime) -> Result<(), Fail> {
     check(&rt, rt.alloc(), "cilk 1; mem x", MOST, "", 0)?;
-    for (requests, verdicts, status) in [
-        ("write 0 x 5; read 0 x", "1 granted / 2 value 5", 0u8),
-        (
-            "spawn 0; read 1 x; read 2 x",
-            "1 split 1 2 3 / 2 value 0 / 3 value 0",
-            0,
-        ),
-        (
-            "spawn 0; read 1 x; sync 2; return 1; write 3 x 4",
-            "1 split 1 2 3 / 2 value 0 / 3 waits / 4 ended-joined 3 / 5 granted",
-            0,
-        ),
-        (
-            "sync 0; return 0; read 0 x",
-            "1 same / 2 finished / illegal not-running",
-            2,
-        ),
-        (
-            "spawn 0; call 2; spawn 2; return 4; sync 5; return 6; sync 6; return 1",
-            "1 split 1 2 3 / 2 same / 3 split 4 5 6 / 4 ended / 5 joined 6 / 6 resumed / 7 waits / 8 ended-joined 3",
-            0,
-        ),
-        (
-            "spawn 0; return 2; read 2 x",
-            "1 split 1 2 3 / illegal unsynced / 2 value 0",
-            2,
-        ),
-    ] {
-        check_x(&rt, rt.alloc(), requests, verdicts, status)?;
-    }
-    Ok(())
+    check_each(
+        &rt,
+        rt.alloc(),
+        ONE_CELL,
+        &[
+            ("write 0 x 5; read 0 x", "1 granted / 2 value 5", 0),
+            (
+                "spawn 0; read 1 x; read 2 x",
+                "1 split 1 2 3 / 2 value 0 / 3 value 0",
+                0,
+            ),
+            (
+                "spawn 0; read 1 x; sync 2; return 1; write 3 x 4",
+                "1 split 1 2 3 / 2 value 0 / 3 waits / 4 ended-joined 3 / 5 granted",
+                0,
+            ),
+            (
+                "sync 0; return 0; read 0 x",
+                "1 same / 2 finished / illegal not-running",
+                2,
+            ),
+            (
+                "spawn 0; call 2; spawn 2; return 4; sync 5; return 6; sync 6; return 1",
+                "1 split 1 2 3 / 2 same / 3 split 4 5 6 / 4 ended / 5 joined 6 / 6 resumed / 7 waits / 8 ended-joined 3",
+                0,
+            ),
+            (
+                "spawn 0; return 2; read 2 x",
+                "1 split 1 2 3 / illegal unsynced / 2 value 0",
+                2,
+            ),
+        ],
+    )
 }
 
 #[test]
 fn races(rt: HostRuntime) -> Result<(), Fail> {
-    for (requests, verdicts) in [
-        (
-            "spawn 0; read 1 x; read 2 x; write 2 x 9",
-            "1 split 1 2 3 / 2 value 0 / 3 value 0 / 4 refused read-write 2",
-        ),
-        (
-            "spawn 0; read 2 x; write 1 x 9",
-            "1 split 1 2 3 / 2 value 0 / 3 refused read-write 2",
-        ),
-        (
-            "spawn 0; write 1 x 5; write 2 x 6; read 1 x",
-            "1 split 1 2 3 / 2 granted / 3 refused write-write 2 / 4 value 5",
-        ),
-    ] {
-        check_x(&rt, rt.alloc(), requests, verdicts, 1)?;
-    }
-    Ok(())
+    check_each(
+        &rt,
+        rt.alloc(),
+        ONE_CELL,
+        &[
+            (
+                "spawn 0; read 1 x; read 2 x; write 2 x 9",
+                "1 split 1 2 3 / 2 value 0 / 3 value 0 / 4 refused read-write 2",
+                1,
+            ),
+            (
+                "spawn 0; read 2 x; write 1 x 9",
+                "1 split 1 2 3 / 2 value 0 / 3 refused read-write 2",
+                1,
+            ),
+            (
+                "spawn 0; write 1 x 5; write 2 x 6; read 1 x",
+                "1 split 1 2 3 / 2 granted / 3 refused write-write 2 / 4 value 5",
+                1,
+            ),
+        ],
+    )
 }
 
 #[test]
 fn bumps(rt: HostRuntime) -> Result<(), Fail> {
-    for (requests, verdicts, status) in [
-        (
-            "write 0 x 1; spawn 0; bump 1 x 2; bump 2 x 3; read 2 x; sync 2; return 1; read 3 x",
-            "1 granted / 2 split 1 2 3 / 3 granted / 4 granted / 5 refused bump-read 3 / 6 waits / 7 ended-joined 3 / 8 value 6",
-            1u8,
-        ),
-        (
-            "write 0 x 18446744073709551615; bump 0 x 2; read 0 x",
-            "1 granted / 2 granted / 3 value 1",
-            0,
-        ),
-        (
-            "spawn 0; bump 1 x 2; write 2 x 9",
-            "1 split 1 2 3 / 2 granted / 3 refused bump-write 2",
-            1,
-        ),
-        (
-            "spawn 0; write 1 x 9; bump 2 x 2",
-            "1 split 1 2 3 / 2 granted / 3 refused write-bump 2",
-            1,
-        ),
-        (
-            "spawn 0; read 1 x; bump 2 x 1",
-            "1 split 1 2 3 / 2 value 0 / 3 refused read-bump 2",
-            1,
-        ),
-    ] {
-        let trace = format!(in rt.alloc(); "cilk 2; mem x; {requests}")?;
-        check(&rt, rt.alloc(), trace.as_str(), MOST, verdicts, status)?;
-    }
-    Ok(())
+    check_each(
+        &rt,
+        rt.alloc(),
+        "cilk 2; mem x; ",
+        &[
+            (
+                "write 0 x 1; spawn 0; bump 1 x 2; bump 2 x 3; read 2 x; sync 2; return 1; read 3 x",
+                "1 granted / 2 split 1 2 3 / 3 granted / 4 granted / 5 refused bump-read 3 / 6 waits / 7 ended-joined 3 / 8 value 6",
+                1,
+            ),
+            (
+                "write 0 x 18446744073709551615; bump 0 x 2; read 0 x",
+                "1 granted / 2 granted / 3 value 1",
+                0,
+            ),
+            (
+                "spawn 0; bump 1 x 2; write 2 x 9",
+                "1 split 1 2 3 / 2 granted / 3 refused bump-write 2",
+                1,
+            ),
+            (
+                "spawn 0; write 1 x 9; bump 2 x 2",
+                "1 split 1 2 3 / 2 granted / 3 refused write-bump 2",
+                1,
+            ),
+            (
+                "spawn 0; read 1 x; bump 2 x 1",
+                "1 split 1 2 3 / 2 value 0 / 3 refused read-bump 2",
+                1,
+            ),
+        ],
+    )
 }
 
 #[test]
 fn reducers(rt: HostRuntime) -> Result<(), Fail> {
-    for (trace, verdicts, status) in [
-        (
-            "cilk 1; reducer h sum; put 0 h 0; spawn 0; update 1 h 5; get 2 h; return 1; sync 2; get 3 h",
-            "1 granted / 2 split 1 2 3 / 3 granted / 4 refused view-read 1 / 5 ended / 6 joined 3 / 7 value 5",
-            1u8,
-        ),
-        (
-            "cilk 1; reducer h last; put 0 h 1; spawn 0; update 2 h 7; update 1 h 5; return 1; sync 2; get 3 h",
-            "1 granted / 2 split 1 2 3 / 3 granted / 4 granted / 5 ended / 6 joined 3 / 7 value 7",
-            0,
-        ),
-        ("cilk 1; reducer h last; get 0 h", "1 refused unset", 1),
-        (
-            "cilk 1; reducer h sum; spawn 0; put 1 h 5; get 2 h",
-            "1 split 1 2 3 / 2 granted / 3 refused view-read 2",
-            1,
-        ),
-        (
-            "cilk 2; reducer h digits; put 0 h 0; spawn 0; update 2 h 2; update 1 h 1; return 1; sync 2; get 3 h",
-            "1 granted / 2 split 1 2 3 / 3 granted / 4 granted / 5 ended / 6 joined 3 / 7 value 33",
-            0,
-        ),
-    ] {
-        check(&rt, rt.alloc(), trace, MOST, verdicts, status)?;
-    }
-    Ok(())
+    check_each(
+        &rt,
+        rt.alloc(),
+        "",
+        &[
+            (
+                "cilk 1; reducer h sum; put 0 h 0; spawn 0; update 1 h 5; get 2 h; return 1; sync 2; get 3 h",
+                "1 granted / 2 split 1 2 3 / 3 granted / 4 refused view-read 1 / 5 ended / 6 joined 3 / 7 value 5",
+                1,
+            ),
+            (
+                "cilk 1; reducer h last; put 0 h 1; spawn 0; update 2 h 7; update 1 h 5; return 1; sync 2; get 3 h",
+                "1 granted / 2 split 1 2 3 / 3 granted / 4 granted / 5 ended / 6 joined 3 / 7 value 7",
+                0,
+            ),
+            ("cilk 1; reducer h last; get 0 h", "1 refused unset", 1),
+            (
+                "cilk 1; reducer h sum; spawn 0; put 1 h 5; get 2 h",
+                "1 split 1 2 3 / 2 granted / 3 refused view-read 2",
+                1,
+            ),
+            (
+                "cilk 2; reducer h digits; put 0 h 0; spawn 0; update 2 h 2; update 1 h 1; return 1; sync 2; get 3 h",
+                "1 granted / 2 split 1 2 3 / 3 granted / 4 granted / 5 ended / 6 joined 3 / 7 value 33",
+                0,
+            ),
+        ],
+    )
 }
 
 #[test]
@@ -323,17 +350,31 @@ fn spawns_in_a_long_loop(rt: HostRuntime) -> Result<(), Fail> {
     Ok(())
 }
 
-#[test]
-fn faults_of_the_text(rt: HostRuntime) -> Result<(), Fail> {
-    for (text, wanted) in [
-        ("", "trace line 1: BadHeader"),
-        ("cilk 1\nmem x\nmem x\n", "trace line 3: TwiceNamed"),
-        ("cilk 1\nmem a 2\nread 0 a[2]\n", "trace line 3: BadNumber"),
-    ] {
-        let outcome = judged(rt.alloc(), text.as_bytes(), Vec::new(rt.alloc()), MOST);
-        check_fault(&rt, rt.alloc(), &outcome, 2, wanted)?;
+/// The text is no trace, for a fault with this text.
+fn check_no_trace(rt: &impl Abort, alloc: Global, text: &str, wanted: &str) -> Result<(), Fail> {
+    let outcome = judged(alloc, text.as_bytes(), Vec::new(alloc), MOST);
+    check_fault(rt, alloc, &outcome, 2, wanted)
+}
+
+/// The same of each text.
+fn check_no_traces(rt: &impl Abort, alloc: Global, cases: &[(&str, &str)]) -> Result<(), Fail> {
+    for (text, wanted) in cases {
+        check_no_trace(rt, alloc, text, wanted)?;
     }
     Ok(())
+}
+
+#[test]
+fn faults_of_the_text(rt: HostRuntime) -> Result<(), Fail> {
+    check_no_traces(
+        &rt,
+        rt.alloc(),
+        &[
+            ("", "trace line 1: BadHeader"),
+            ("cilk 1\nmem x\nmem x\n", "trace line 3: TwiceNamed"),
+            ("cilk 1\nmem a 2\nread 0 a[2]\n", "trace line 3: BadNumber"),
+        ],
+    )
 }
 
 #[test]

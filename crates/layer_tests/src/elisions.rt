@@ -31,21 +31,37 @@ const AFTER_TURNS: &[u8] =
 
 const ENDLESS: &[u8] = b"cilk 1\nfunc main z\ncall main 0\nend\n";
 
-/// Whether the elision of a text ends with this memory after so many requests.
-fn gives(alloc: Global, text: &[u8], limit: u32, memory: &[u64], requests: u32) -> bool {
-    match Program::parse(alloc, text) {
-        Ok(program) => match elide(alloc, &program, limit) {
-            Ok(elided) => elided.memory.as_slice() == memory && elided.requests == requests,
-            Err(_) => false,
-        },
+/// Whether the elision of a program ends with this memory after so many requests.
+fn leaves(
+    alloc: Global,
+    program: &Program<Global>,
+    limit: u32,
+    memory: &[u64],
+    requests: u32,
+) -> bool {
+    match elide(alloc, program, limit) {
+        Ok(elided) => elided.memory.as_slice() == memory && elided.requests == requests,
         Err(_) => false,
     }
 }
 
-/// Whether the elision of a text passes the limit.
+/// The same of the program that a text means.
+fn gives(alloc: Global, text: &[u8], limit: u32, memory: &[u64], requests: u32) -> bool {
+    match Program::parse(alloc, text) {
+        Ok(program) => leaves(alloc, &program, limit, memory, requests),
+        Err(_) => false,
+    }
+}
+
+/// Whether the elision of a program passes the limit.
+fn passes(alloc: Global, program: &Program<Global>, limit: u32) -> bool {
+    matches!(elide(alloc, program, limit), Err(ElideFault::Limit))
+}
+
+/// The same of the program that a text means.
 fn is_limited(alloc: Global, text: &[u8], limit: u32) -> bool {
     match Program::parse(alloc, text) {
-        Ok(program) => matches!(elide(alloc, &program, limit), Err(ElideFault::Limit)),
+        Ok(program) => passes(alloc, &program, limit),
         Err(_) => false,
     }
 }

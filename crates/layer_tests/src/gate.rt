@@ -79,8 +79,11 @@ fn has_entries(gate: &Gate<Global>, entries: usize) -> bool {
     gate.history().len() == entries
 }
 
+/// A strand's act, and how a gate answers it.
+type Asked = (u32, Act, Answer);
+
 /// The gate, which was asked nothing, answers each act, by its strand, by what stands beside it, and then has no other entries.
-fn answers_all(rt: &impl Abort, gate: &mut Gate<Global>, acts: &[(u32, Act, Answer)]) {
+fn answers_all(rt: &impl Abort, gate: &mut Gate<Global>, acts: &[Asked]) {
     let mut number = 0u32;
     for (strand, act, answer) in acts {
         number = number.wrapping_add(1);
@@ -90,22 +93,33 @@ fn answers_all(rt: &impl Abort, gate: &mut Gate<Global>, acts: &[(u32, Act, Answ
     assert!(rt; has_entries(gate, acts.len()));
 }
 
-/// Each act, by its strand, is answered by what stands beside it.
-fn check(rt: &impl Abort, alloc: Global, acts: &[(u32, Act, Answer)]) -> Result<(), Fail> {
-    check_with(rt, alloc, &[], acts)
-}
-
-/// The same of a program with these reducers.
+/// Each act, by its strand, of a program with these reducers is answered by what stands beside it.
 fn check_with(
     rt: &impl Abort,
     alloc: Global,
     monoids: &[Monoid],
-    acts: &[(u32, Act, Answer)],
+    acts: &[Asked],
 ) -> Result<(), Fail>
     requires { length monoids.now ≤ most_reducers }
 {
     let mut gate = opening_with(alloc, monoids, 1_000_000)?;
     answers_all(rt, &mut gate, acts);
+    Ok(())
+}
+
+/// The same of programs with one reducer, each by a gate of its own.
+fn check_reducers(rt: &impl Abort, alloc: Global, runs: &[(Monoid, &[Asked])]) -> Result<(), Fail> {
+    for (monoid, acts) in runs {
+        check_with(rt, alloc, &[*monoid], acts)?;
+    }
+    Ok(())
+}
+
+/// The same of programs without reducers.
+fn check(rt: &impl Abort, alloc: Global, runs: &[&[Asked]]) -> Result<(), Fail> {
+    for acts in runs {
+        check_with(rt, alloc, &[], acts)?;
+    }
     Ok(())
 }
 
@@ -166,7 +180,7 @@ fn values_go_along_a_strand(rt: HostRuntime) -> Result<(), Fail> {
     check(
         &rt,
         rt.alloc(),
-        &[(0, Write(0, 5), Granted), (0, Read(0), Value(5))],
+        &[&[(0, Write(0, 5), Granted), (0, Read(0), Value(5))]],
     )
 }
 
@@ -176,29 +190,23 @@ fn parallel_reads_are_granted_and_a_parallel_write_is_refused(rt: HostRuntime) -
         &rt,
         rt.alloc(),
         &[
-            (0, Spawn, split(1, 2, 3, true)),
-            (1, Read(0), Value(0)),
-            (2, Read(0), Value(0)),
-            (2, Write(0, 9), refused(2, 1, Kind::Read)),
-        ],
-    )?;
-    check(
-        &rt,
-        rt.alloc(),
-        &[
-            (0, Spawn, split(1, 2, 3, true)),
-            (2, Read(0), Value(0)),
-            (1, Write(0, 9), refused(2, 2, Kind::Read)),
-        ],
-    )?;
-    check(
-        &rt,
-        rt.alloc(),
-        &[
-            (0, Spawn, split(1, 2, 3, true)),
-            (2, Read(0), Value(0)),
-            (1, Read(0), Value(0)),
-            (1, Write(0, 9), refused(2, 2, Kind::Read)),
+            &[
+                (0, Spawn, split(1, 2, 3, true)),
+                (1, Read(0), Value(0)),
+                (2, Read(0), Value(0)),
+                (2, Write(0, 9), refused(2, 1, Kind::Read)),
+            ],
+            &[
+                (0, Spawn, split(1, 2, 3, true)),
+                (2, Read(0), Value(0)),
+                (1, Write(0, 9), refused(2, 2, Kind::Read)),
+            ],
+            &[
+                (0, Spawn, split(1, 2, 3, true)),
+                (2, Read(0), Value(0)),
+                (1, Read(0), Value(0)),
+                (1, Write(0, 9), refused(2, 2, Kind::Read)),
+            ],
         ],
     )
 }
@@ -208,13 +216,13 @@ fn a_write_behind_the_join_is_granted(rt: HostRuntime) -> Result<(), Fail> {
     check(
         &rt,
         rt.alloc(),
-        &[
+        &[&[
             (0, Spawn, split(1, 2, 3, true)),
             (1, Read(0), Value(0)),
             (2, Sync, Waits),
             (1, Return, EndedJoined(3)),
             (3, Write(0, 4), Granted),
-        ],
+        ]],
     )
 }
 
@@ -223,12 +231,12 @@ fn a_refused_write_is_not_done(rt: HostRuntime) -> Result<(), Fail> {
     check(
         &rt,
         rt.alloc(),
-        &[
+        &[&[
             (0, Spawn, split(1, 2, 3, true)),
             (1, Write(0, 5), Granted),
             (2, Write(0, 6), refused(2, 1, Kind::Write)),
             (1, Read(0), Value(5)),
-        ],
+        ]],
     )
 }
 
@@ -237,7 +245,7 @@ fn a_called_function_syncs_its_own_children(rt: HostRuntime) -> Result<(), Fail>
     check(
         &rt,
         rt.alloc(),
-        &[
+        &[&[
             (0, Spawn, split(1, 2, 3, true)),
             (2, Call, Same),
             (2, Spawn, split(4, 5, 6, true)),
@@ -246,7 +254,7 @@ fn a_called_function_syncs_its_own_children(rt: HostRuntime) -> Result<(), Fail>
             (6, Return, Resumed),
             (6, Sync, Waits),
             (1, Return, EndedJoined(3)),
-        ],
+        ]],
     )
 }
 
@@ -256,50 +264,36 @@ fn bumps_are_added_and_race_with_reads_and_writes(rt: HostRuntime) -> Result<(),
         &rt,
         rt.alloc(),
         &[
-            (0, Write(0, 1), Granted),
-            (0, Spawn, split(1, 2, 3, true)),
-            (1, Bump(0, 2), Granted),
-            (2, Bump(0, 3), Granted),
-            (2, Read(0), refused(3, 1, Kind::Bump)),
-            (2, Sync, Waits),
-            (1, Return, EndedJoined(3)),
-            (3, Read(0), Value(6)),
-        ],
-    )?;
-    check(
-        &rt,
-        rt.alloc(),
-        &[
-            (0, Write(0, 18_446_744_073_709_551_615), Granted),
-            (0, Bump(0, 2), Granted),
-            (0, Read(0), Value(1)),
-        ],
-    )?;
-    check(
-        &rt,
-        rt.alloc(),
-        &[
-            (0, Spawn, split(1, 2, 3, true)),
-            (1, Bump(0, 2), Granted),
-            (2, Write(0, 9), refused(2, 1, Kind::Bump)),
-        ],
-    )?;
-    check(
-        &rt,
-        rt.alloc(),
-        &[
-            (0, Spawn, split(1, 2, 3, true)),
-            (1, Write(0, 9), Granted),
-            (2, Bump(0, 2), refused(2, 1, Kind::Write)),
-        ],
-    )?;
-    check(
-        &rt,
-        rt.alloc(),
-        &[
-            (0, Spawn, split(1, 2, 3, true)),
-            (1, Read(0), Value(0)),
-            (2, Bump(0, 1), refused(2, 1, Kind::Read)),
+            &[
+                (0, Write(0, 1), Granted),
+                (0, Spawn, split(1, 2, 3, true)),
+                (1, Bump(0, 2), Granted),
+                (2, Bump(0, 3), Granted),
+                (2, Read(0), refused(3, 1, Kind::Bump)),
+                (2, Sync, Waits),
+                (1, Return, EndedJoined(3)),
+                (3, Read(0), Value(6)),
+            ],
+            &[
+                (0, Write(0, 18_446_744_073_709_551_615), Granted),
+                (0, Bump(0, 2), Granted),
+                (0, Read(0), Value(1)),
+            ],
+            &[
+                (0, Spawn, split(1, 2, 3, true)),
+                (1, Bump(0, 2), Granted),
+                (2, Write(0, 9), refused(2, 1, Kind::Bump)),
+            ],
+            &[
+                (0, Spawn, split(1, 2, 3, true)),
+                (1, Write(0, 9), Granted),
+                (2, Bump(0, 2), refused(2, 1, Kind::Write)),
+            ],
+            &[
+                (0, Spawn, split(1, 2, 3, true)),
+                (1, Read(0), Value(0)),
+                (2, Bump(0, 1), refused(2, 1, Kind::Read)),
+            ],
         ],
     )
 }

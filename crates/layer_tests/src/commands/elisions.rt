@@ -72,58 +72,82 @@ fn check_no_elision(
     check_fault(rt, alloc, &outcome, status, wanted)
 }
 
-#[test]
-fn elisions(rt: HostRuntime) -> Result<(), Fail> {
-    for (program, limit, wanted) in [
-        (FIB, MOST, "x 55 / requests 713"),
-        (FIB, 713u32, "x 55 / requests 713"),
-        (
-            "cilk 1; mem x; mem y; func main z; spawn f 7; read r x; end; func f v; write x v; end",
-            MOST,
-            "x 7 / y 0 / requests 7",
-        ),
-        (
-            "cilk 2; mem a 4; func main z; pfor i 4 f; end; func f n; write a[n] n; end",
-            MOST,
-            "a[0] 0 / a[1] 1 / a[2] 2 / a[3] 3 / requests 19",
-        ),
-        (
-            "cilk 1; mem x; mem a 2; mem y; func main z; write a[1] 5; write y 6; end",
-            MOST,
-            "x 0 / a[0] 0 / a[1] 5 / y 6 / requests 4",
-        ),
-        ("cilk 1; func main z; end", 2, "requests 2"),
-    ] {
-        check_elision(&rt, rt.alloc(), program, limit, wanted)?;
+/// Each program's elision within the limit is written so.
+fn check_elisions(rt: &impl Abort, alloc: Global, cases: &[(&str, u32, &str)]) -> Result<(), Fail> {
+    for (program, limit, wanted) in cases {
+        assert!(rt; *limit <= MOST);
+        check_elision(rt, alloc, program, *limit, wanted)?;
+    }
+    Ok(())
+}
+
+/// No elision of each program is written, for the fault beside it.
+fn check_no_elisions(
+    rt: &impl Abort,
+    alloc: Global,
+    cases: &[(&str, u32, &str, u8)],
+) -> Result<(), Fail> {
+    for (program, limit, wanted, status) in cases {
+        assert!(rt; *limit <= MOST);
+        check_no_elision(rt, alloc, program, *limit, wanted, *status)?;
     }
     Ok(())
 }
 
 #[test]
+fn elisions(rt: HostRuntime) -> Result<(), Fail> {
+    check_elisions(
+        &rt,
+        rt.alloc(),
+        &[
+            (FIB, MOST, "x 55 / requests 713"),
+            (FIB, 713, "x 55 / requests 713"),
+            (
+                "cilk 1; mem x; mem y; func main z; spawn f 7; read r x; end; func f v; write x v; end",
+                MOST,
+                "x 7 / y 0 / requests 7",
+            ),
+            (
+                "cilk 2; mem a 4; func main z; pfor i 4 f; end; func f n; write a[n] n; end",
+                MOST,
+                "a[0] 0 / a[1] 1 / a[2] 2 / a[3] 3 / requests 19",
+            ),
+            (
+                "cilk 1; mem x; mem a 2; mem y; func main z; write a[1] 5; write y 6; end",
+                MOST,
+                "x 0 / a[0] 0 / a[1] 5 / y 6 / requests 4",
+            ),
+            ("cilk 1; func main z; end", 2, "requests 2"),
+        ],
+    )
+}
+
+#[test]
 fn faults_of_elisions(rt: HostRuntime) -> Result<(), Fail> {
-    for (program, limit, wanted, status) in [
-        (FIB, 712u32, "limit", 4u8),
-        (FIB, 0, "limit", 4),
-        (ENDLESS, 5, "limit", 4),
-        (ENDLESS, MOST, "limit", 4),
-        ("", MOST, "program line 1: BadHeader", 2),
-        ("cilk 1; mem a 0", MOST, "program line 2: BadNumber", 2),
-        (
-            "cilk 1; func main z; sync",
-            MOST,
-            "program line 4: BadNesting",
-            2,
-        ),
-        (
-            "cilk 1; func main z; spawn g 1; end",
-            MOST,
-            "program line 3: UnknownName",
-            2,
-        ),
-    ] {
-        check_no_elision(&rt, rt.alloc(), program, limit, wanted, status)?;
-    }
-    Ok(())
+    check_no_elisions(
+        &rt,
+        rt.alloc(),
+        &[
+            (FIB, 712, "limit", 4),
+            (FIB, 0, "limit", 4),
+            (ENDLESS, 5, "limit", 4),
+            (ENDLESS, MOST, "limit", 4),
+            ("", MOST, "program line 1: BadHeader", 2),
+            ("cilk 1; mem a 0", MOST, "program line 2: BadNumber", 2),
+            (
+                "cilk 1; func main z; sync",
+                MOST,
+                "program line 4: BadNesting",
+                2,
+            ),
+            (
+                "cilk 1; func main z; spawn g 1; end",
+                MOST,
+                "program line 3: UnknownName",
+                2,
+            ),
+        ],
+    )
 }
 
 #[test]

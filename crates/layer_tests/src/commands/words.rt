@@ -56,57 +56,93 @@ fn check_shown(rt: &impl Abort, alloc: Global, words: &str, part: &str) -> Resul
     Ok(())
 }
 
-#[test]
-fn words_of_judge(rt: HostRuntime) -> Result<(), Fail> {
-    for (words, limit) in [
-        ("judge", 1_000_000u32),
-        ("judge --limit 3", 3),
-        ("judge --limit=0", 0),
-        ("judge --limit 1000000", 1_000_000),
-    ] {
-        check_limit(&rt, rt.alloc(), words, limit)?;
+/// Each line's words ask to judge with the limit beside it.
+fn check_limits(rt: &impl Abort, alloc: Global, cases: &[(&str, u32)]) -> Result<(), Fail> {
+    for (words, wanted) in cases {
+        check_limit(rt, alloc, words, *wanted)?;
     }
     Ok(())
+}
+
+/// Each line's words ask for the elision of the program in the file `f`, with the limit beside it.
+fn check_elisions(rt: &impl Abort, alloc: Global, cases: &[(&str, u32)]) -> Result<(), Fail> {
+    for (words, wanted) in cases {
+        check_elide(rt, alloc, words, *wanted)?;
+    }
+    Ok(())
+}
+
+/// Each line's words are refused with the text beside it.
+fn check_refusals(rt: &impl Abort, alloc: Global, cases: &[(&str, &str)]) -> Result<(), Fail> {
+    for (words, wanted) in cases {
+        check_usage(rt, alloc, words, wanted)?;
+    }
+    Ok(())
+}
+
+/// Each line's words ask for a text with the part beside it.
+fn check_texts(rt: &impl Abort, alloc: Global, cases: &[(&str, &str)]) -> Result<(), Fail> {
+    for (words, part) in cases {
+        check_shown(rt, alloc, words, part)?;
+    }
+    Ok(())
+}
+
+#[test]
+fn words_of_judge(rt: HostRuntime) -> Result<(), Fail> {
+    check_limits(
+        &rt,
+        rt.alloc(),
+        &[
+            ("judge", 1_000_000),
+            ("judge --limit 3", 3),
+            ("judge --limit=0", 0),
+            ("judge --limit 1000000", 1_000_000),
+        ],
+    )
 }
 
 #[test]
 fn words_of_elide(rt: HostRuntime) -> Result<(), Fail> {
-    for (words, limit) in [
-        ("elide f", 1_000_000u32),
-        ("elide f --limit 713", 713),
-        ("elide --limit=0 f", 0),
-    ] {
-        check_elide(&rt, rt.alloc(), words, limit)?;
-    }
-    Ok(())
+    check_elisions(
+        &rt,
+        rt.alloc(),
+        &[
+            ("elide f", 1_000_000),
+            ("elide f --limit 713", 713),
+            ("elide --limit=0 f", 0),
+        ],
+    )
 }
 
 #[test]
 fn words_that_are_refused(rt: HostRuntime) -> Result<(), Fail> {
-    for (words, wanted) in [
-        ("judge --limit 1000001", NO_LIMIT),
-        ("judge --limit many", NO_LIMIT),
-        ("elide f --limit 1000001", NO_LIMIT),
-        ("elide", "no file is given; see 'cilkcheck --help'"),
-        ("elide f g", "unexpected argument 'g' found"),
-        ("judge x", "unexpected argument 'x' found"),
-        ("jugde", "unrecognized subcommand 'jugde'"),
-        ("", "no command is given; see 'cilkcheck --help'"),
-    ] {
-        check_usage(&rt, rt.alloc(), words, wanted)?;
-    }
-    Ok(())
+    check_refusals(
+        &rt,
+        rt.alloc(),
+        &[
+            ("judge --limit 1000001", NO_LIMIT),
+            ("judge --limit many", NO_LIMIT),
+            ("elide f --limit 1000001", NO_LIMIT),
+            ("elide", "no file is given; see 'cilkcheck --help'"),
+            ("elide f g", "unexpected argument 'g' found"),
+            ("judge x", "unexpected argument 'x' found"),
+            ("jugde", "unrecognized subcommand 'jugde'"),
+            ("", "no command is given; see 'cilkcheck --help'"),
+        ],
+    )
 }
 
 #[test]
 fn texts_that_are_shown(rt: HostRuntime) -> Result<(), Fail> {
-    for (words, part) in [
-        ("--help", "Usage: cilkcheck [COMMAND]\n"),
-        ("judge --help", "Usage: cilkcheck judge [OPTIONS]\n"),
-        ("elide --help", "Usage: cilkcheck elide [OPTIONS] <FILE>\n"),
-        ("--version", "cilkcheck 0.1.0\n"),
-    ] {
-        check_shown(&rt, rt.alloc(), words, part)?;
-    }
-    Ok(())
+    check_texts(
+        &rt,
+        rt.alloc(),
+        &[
+            ("--help", "Usage: cilkcheck [COMMAND]\n"),
+            ("judge --help", "Usage: cilkcheck judge [OPTIONS]\n"),
+            ("elide --help", "Usage: cilkcheck elide [OPTIONS] <FILE>\n"),
+            ("--version", "cilkcheck 0.1.0\n"),
+        ],
+    )
 }

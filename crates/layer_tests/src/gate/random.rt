@@ -178,7 +178,22 @@ fn compare_all(
     compare(rt, alloc, reference, gate.history(), monoids, seed)
 }
 
-/// The trace of this seed, with these reducers and from this state of the generator.
+/// A new gate's trace of this seed, from this state of the generator, is the reference's.
+fn agrees_in(
+    rt: &impl Abort,
+    alloc: Global,
+    gate: &mut Gate<Global>,
+    monoids: &[Monoid],
+    seed: u64,
+    state: u64,
+) -> Result<(), AllocError> {
+    let mut reference = Reference::new(alloc);
+    play(gate, &mut reference, seed % 2 == 0, state)?;
+    reference.close();
+    compare_all(rt, alloc, &reference, gate, monoids, seed)
+}
+
+/// The same of a gate with these reducers.
 fn agrees_with(
     rt: &impl Abort,
     alloc: Global,
@@ -189,10 +204,7 @@ fn agrees_with(
     requires { length monoids.now ≤ most_reducers }
 {
     let mut gate = opening_with(alloc, monoids, 1_000)?;
-    let mut reference = Reference::new(alloc);
-    play(&mut gate, &mut reference, seed % 2 == 0, state)?;
-    reference.close();
-    compare_all(rt, alloc, &reference, &gate, monoids, seed)
+    agrees_in(rt, alloc, &mut gate, monoids, seed, state)
 }
 
 /// The trace of this seed.
