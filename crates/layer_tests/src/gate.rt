@@ -12,19 +12,13 @@ use Act::{Bump, Call, Get, Read, Return, Spawn, Sync, Write};
 use Answer::{Ended, EndedJoined, Finished, Granted, Joined, Resumed, Same, Value, Waits};
 use access_table::{Kind, Rule};
 use race_gate::{Answer, Gate, GateFault, Receipt, Reply, judge_all, laws};
+use random::agrees_in;
 use shadow_history::Witness;
 use sp_labels::Spawned;
 use std::alloc::{AllocError, Global};
 use std::process::Abort;
 use std::test::Fail;
 use trace_text::{Act, Monoid, Monoids, Request, Shape};
-
-/// One cell, x, with the number 0.
-fn opening(alloc: Global, limit: u32) -> Result<Gate<Global>, AllocError>
-    requires { limit ≤ most_entries }
-{
-    opening_with(alloc, &[], limit)
-}
 
 /// Three cells beside these reducers, or one where there are none.
 fn opening_with(alloc: Global, monoids: &[Monoid], limit: u32) -> Result<Gate<Global>, AllocError>
@@ -93,6 +87,59 @@ fn answers_all(rt: &impl Abort, gate: &mut Gate<Global>, acts: &[Asked]) {
     assert!(rt; has_entries(gate, acts.len()));
 }
 
+/// An act of strand 0, and what the gate makes of it.
+type Outcome = (Act, Result<Answer, GateFault>);
+
+/// What a new gate is asked.
+#[derive(Clone, Copy)]
+enum Asks<'a> {
+    Nothing,
+    /// Each act has the answer beside it.
+    Acts(&'a [Asked]),
+    /// Each act has the outcome beside it. Then there are so many entries, it has finished or not, and its cell holds this number.
+    Outcomes(&'a [Outcome], (usize, bool, u64)),
+    /// What has a fault, fault by fault.
+    Faults,
+    /// Ten thousand spawns.
+    SpawnsLong,
+    /// The drawn acts of this seed, from this state of the generator.
+    Drawn(u64, u64),
+}
+
+/// Asks a new gate with these reducers, and checks its answers.
+fn ask(
+    rt: &impl Abort,
+    alloc: Global,
+    gate: &mut Gate<Global>,
+    monoids: &[Monoid],
+    asks: Asks<'_>,
+) -> Result<(), Fail> {
+    match asks {
+        Asks::Nothing => is_new(rt, gate),
+        Asks::Acts(acts) => answers_all(rt, gate, acts),
+        Asks::Outcomes(cases, end) => check_outcomes(rt, alloc, gate, cases, end)?,
+        Asks::Faults => answers_faults(rt, gate),
+        Asks::SpawnsLong => spawns_long(rt, gate),
+        Asks::Drawn(seed, state) => agrees_in(rt, alloc, gate, monoids, seed, state)?,
+    }
+    Ok(())
+}
+
+/// The same, with this limit. No other function here owns a gate, since each that does is dear to prove.
+fn check_new(
+    rt: &impl Abort,
+    alloc: Global,
+    monoids: &[Monoid],
+    limit: u32,
+    asks: Asks<'_>,
+) -> Result<(), Fail>
+    requires entries { limit ≤ most_entries }
+    requires reducers { length monoids.now ≤ most_reducers }
+{
+    let mut gate = opening_with(alloc, monoids, limit)?;
+    ask(rt, alloc, &mut gate, monoids, asks)
+}
+
 /// Each act, by its strand, of a program with these reducers is answered by what stands beside it.
 fn check_with(
     rt: &impl Abort,
@@ -102,9 +149,7 @@ fn check_with(
 ) -> Result<(), Fail>
     requires { length monoids.now ≤ most_reducers }
 {
-    let mut gate = opening_with(alloc, monoids, 1_000_000)?;
-    answers_all(rt, &mut gate, acts);
-    Ok(())
+    check_new(rt, alloc, monoids, 1_000_000, Asks::Acts(acts))
 }
 
 /// The same of programs with one reducer, each by a gate of its own.
@@ -170,9 +215,7 @@ fn is_new(rt: &impl Abort, gate: &Gate<Global>) {
 
 #[test]
 fn a_gate_begins_without_entries(rt: HostRuntime) -> Result<(), Fail> {
-    let gate = opening(rt.alloc(), 7)?;
-    is_new(&rt, &gate);
-    Ok(())
+    check_new(&rt, rt.alloc(), &[], 7, Asks::Nothing)
 }
 
 #[test]
@@ -314,16 +357,11 @@ fn answers_faults(rt: &impl Abort, gate: &mut Gate<Global>) {
 
 #[test]
 fn faults_come_in_their_order(rt: HostRuntime) -> Result<(), Fail> {
-    let mut gate = opening(rt.alloc(), 2)?;
-    answers_faults(&rt, &mut gate);
-    Ok(())
+    check_new(&rt, rt.alloc(), &[], 2, Asks::Faults)
 }
 
 /// What strand 0 asks on line 1, and the replies that the outcomes make.
-fn lists(
-    alloc: Global,
-    cases: &[(Act, Result<Answer, GateFault>)],
-) -> Result<(Vec<Request>, Vec<Reply>), AllocError> {
+fn lists(alloc: Global, cases: &[Outcome]) -> Result<(Vec<Request>, Vec<Reply>), AllocError> {
     let mut requests = Vec::new(alloc);
     let mut replies = Vec::new(alloc);
     let mut number = 0u32;
@@ -354,7 +392,7 @@ fn check_outcomes(
     rt: &impl Abort,
     alloc: Global,
     gate: &mut Gate<Global>,
-    cases: &[(Act, Result<Answer, GateFault>)],
+    cases: &[Outcome],
     end: (usize, bool, u64),
 ) -> Result<(), Fail> {
     let (requests, expected) = lists(alloc, cases)?;
@@ -364,50 +402,28 @@ fn check_outcomes(
     Ok(())
 }
 
-/// The same of a new gate of this limit.
-fn check_list(
-    rt: &impl Abort,
-    alloc: Global,
-    limit: u32,
-    cases: &[(Act, Result<Answer, GateFault>)],
-    end: (usize, bool, u64),
-) -> Result<(), Fail>
-    requires { limit ≤ most_entries }
-{
-    let mut gate = opening(alloc, limit)?;
-    check_outcomes(rt, alloc, &mut gate, cases, end)
-}
-
 #[test]
 fn a_list_has_one_reply_to_each_request(rt: HostRuntime) -> Result<(), Fail> {
-    check_list(
-        &rt,
-        rt.alloc(),
-        3,
-        &[
-            (Write(0, 1), Ok(Granted)),
-            (Write(0, 1), Ok(Granted)),
-            (Write(0, 1), Ok(Granted)),
-            (Write(0, 1), Err(GateFault::Limit)),
-        ],
-        (3, false, 1),
-    )
+    let outcomes = [
+        (Write(0, 1), Ok(Granted)),
+        (Write(0, 1), Ok(Granted)),
+        (Write(0, 1), Ok(Granted)),
+        (Write(0, 1), Err(GateFault::Limit)),
+    ];
+    let asks = Asks::Outcomes(&outcomes, (3, false, 1));
+    check_new(&rt, rt.alloc(), &[], 3, asks)
 }
 
 #[test]
 fn the_root_function_finishes(rt: HostRuntime) -> Result<(), Fail> {
     laws_hold();
-    check_list(
-        &rt,
-        rt.alloc(),
-        1_000_000,
-        &[
-            (Sync, Ok(Same)),
-            (Return, Ok(Finished)),
-            (Read(0), Err(GateFault::NotRunning)),
-        ],
-        (2, true, 0),
-    )
+    let outcomes = [
+        (Sync, Ok(Same)),
+        (Return, Ok(Finished)),
+        (Read(0), Err(GateFault::NotRunning)),
+    ];
+    let asks = Asks::Outcomes(&outcomes, (2, true, 0));
+    check_new(&rt, rt.alloc(), &[], 1_000_000, asks)
 }
 
 fn laws_hold() {
@@ -461,7 +477,5 @@ fn spawns_long(rt: &impl Abort, gate: &mut Gate<Global>) {
 
 #[test]
 fn spawns_in_a_long_loop(rt: HostRuntime) -> Result<(), Fail> {
-    let mut gate = opening(rt.alloc(), 1_000_000)?;
-    spawns_long(&rt, &mut gate);
-    Ok(())
+    check_new(&rt, rt.alloc(), &[], 1_000_000, Asks::SpawnsLong)
 }
