@@ -8,6 +8,8 @@ mod elisions;
 mod failures;
 mod words;
 
+use crate::checks::equal;
+use devices::Filling;
 use race_gate::{Answer, GateFault, Receipt, Reply};
 use std::alloc::{AllocError, Global};
 use std::io::{Read, Write};
@@ -44,6 +46,14 @@ fn judged<R: Read + Drop, W: Write>(alloc: Global, reader: R, writer: W, limit: 
     }
 }
 
+/// Whether the command has ended with this status.
+fn has_ended(answer: &Result<u8, CliFault>, status: u8) -> bool {
+    match answer {
+        Ok(found) => *found == status,
+        Err(_) => false,
+    }
+}
+
 /// The command has ended with this status and has written this text.
 fn check_written(
     rt: &impl Abort,
@@ -53,11 +63,22 @@ fn check_written(
     what: &str,
 ) {
     assert!(rt; !outcome.read_failed && !outcome.write_failed, "{what}");
-    assert!(rt;
-        matches!(outcome.answer, Ok(found) if found == status),
-        "the status of {what}"
-    );
-    assert_eq!(rt; outcome.output.as_slice(), wanted.as_bytes(), "{what}");
+    assert!(rt; has_ended(&outcome.answer, status), "{what}");
+    equal(rt, &what, &outcome.output.as_slice(), &wanted.as_bytes());
+}
+
+/// The fault has this text and status.
+fn is_fault(
+    rt: &impl Abort,
+    alloc: Global,
+    fault: &CliFault,
+    status: u8,
+    wanted: &str,
+) -> Result<(), Fail> {
+    let told = format!(in alloc; "{fault}")?;
+    equal(rt, &wanted, &told.as_str(), &wanted);
+    equal(rt, &wanted, &fault.status(), &status);
+    Ok(())
 }
 
 /// The command has written nothing, and answers a fault with this text and status.
@@ -68,28 +89,77 @@ fn check_fault(
     status: u8,
     wanted: &str,
 ) -> Result<(), Fail> {
+    assert!(rt; outcome.output.is_empty());
     match &outcome.answer {
         Ok(_) => assert!(rt; false, "{wanted} is not answered"),
-        Err(fault) => {
-            let told = format!(in alloc; "{fault}")?;
-            assert_eq!(rt; told.as_str(), wanted);
-            assert_eq!(rt; fault.status(), status, "{wanted}");
-        }
+        Err(fault) => is_fault(rt, alloc, fault, status, wanted)?,
     }
-    assert!(rt; outcome.output.is_empty());
     Ok(())
 }
 
-/// The text with a line feed in place of each separator, and one behind it.
-fn lined(alloc: Global, text: &str, separator: &str) -> Result<String, AllocError> {
-    let mut lines = String::new(alloc);
+/// The command has written this text, and where there is none, it has ended as it is never to end.
+fn check_told(rt: &impl Abort, outcome: &Outcome<Vec<u8>>, wanted: Option<&str>) {
+    match wanted {
+        Some(text) => equal(rt, &text, &outcome.output.as_slice(), &text.as_bytes()),
+        None => assert!(rt; false, "{:?}", outcome.answer),
+    }
+}
+
+/// The reader has failed behind so many reads, which is told, and nothing is written.
+fn is_unread(rt: &impl Abort, outcome: &Outcome<Vec<u8>>, left: u32) {
+    assert!(rt;
+        matches!(outcome.answer, Err(CliFault::Read)),
+        "at read {left}"
+    );
+    assert!(rt;
+        outcome.read_failed && outcome.output.is_empty(),
+        "at read {left}"
+    );
+}
+
+/// The writer, which went along with so many calls, has failed just where they are fewer than the text takes, and holds what they wrote.
+fn has_filled(rt: &impl Abort, outcome: &Outcome<Filling>, left: u32, calls: u32, text: &str) {
+    let has_failed = matches!(outcome.answer, Err(CliFault::Write));
+    let held = outcome.output.held.as_slice();
+    let found = (
+        outcome.write_failed,
+        has_failed,
+        has_ended(&outcome.answer, 0),
+    );
+    equal(
+        rt,
+        &left,
+        &found,
+        &(left < calls, left < calls, left >= calls),
+    );
+    assert!(rt; text.as_bytes().starts_with(held), "{left} writes");
+    equal(rt, &left, &held.len(), &(left as usize).min(text.len()));
+}
+
+/// Appends the text with a line feed in place of each separator, and one behind it.
+fn append_lines(lines: &mut String, text: &str, separator: &str) -> Result<(), AllocError> {
     if !text.is_empty() {
         for line in text.split(separator) {
             lines.push_str(line)?;
             lines.push_str("\n")?;
         }
     }
+    Ok(())
+}
+
+/// The text with a line feed in place of each separator, and one behind it.
+fn lined(alloc: Global, text: &str, separator: &str) -> Result<String, AllocError> {
+    let mut lines = String::new(alloc);
+    append_lines(&mut lines, text, separator)?;
     Ok(lines)
+}
+
+/// The text is judged with this status, and these verdict lines are written.
+fn check_text(rt: &impl Abort, alloc: Global, text: &str, limit: u32, wanted: &str, status: u8)
+    requires { limit ≤ most_entries }
+{
+    let outcome = judged(alloc, text.as_bytes(), Vec::new(alloc), limit);
+    check_written(rt, &outcome, status, wanted, text);
 }
 
 /// The trace is judged with this status and these verdict lines, which stand between slashes.
@@ -105,8 +175,7 @@ fn check(
 {
     let text = lined(alloc, trace, "; ")?;
     let wanted = lined(alloc, verdicts, " / ")?;
-    let outcome = judged(alloc, text.as_bytes(), Vec::new(alloc), limit);
-    check_written(rt, &outcome, status, wanted.as_str(), trace);
+    check_text(rt, alloc, text.as_str(), limit, wanted.as_str(), status);
     Ok(())
 }
 
@@ -323,14 +392,8 @@ impl SpawnLoop {
     }
 }
 
-/// 10,000 spawns with a write behind each hundredth.
-fn long_loop(alloc: Global) -> Result<SpawnLoop, Fail> {
-    let mut made = SpawnLoop {
-        text: String::from_str(alloc, "cilk 1\nmem x\n")?,
-        wanted: String::new(alloc),
-        newest: 0,
-        entry: 0,
-    };
+/// 10,000 spawns with a write behind each hundredth, and the end.
+fn spawn_all(made: &mut SpawnLoop) -> Result<(), Fail> {
     for k in 1..10_001u32 {
         made.spawn(if k == 1 { 1 } else { 2 * k })?;
         if k % 100 == 0 {
@@ -339,15 +402,25 @@ fn long_loop(alloc: Global) -> Result<SpawnLoop, Fail> {
     }
     made.text.push_str("sync 20001\nreturn 3\n")?;
     made.wanted.push_str("20101 joined 3\n20102 finished\n")?;
-    Ok(made)
+    Ok(())
+}
+
+/// The long loop that is written so is judged so.
+fn check_loop(rt: &impl Abort, alloc: Global, made: &mut SpawnLoop) -> Result<(), Fail> {
+    spawn_all(made)?;
+    check_text(rt, alloc, made.text.as_str(), MOST, made.wanted.as_str(), 0);
+    Ok(())
 }
 
 #[test]
 fn spawns_in_a_long_loop(rt: HostRuntime) -> Result<(), Fail> {
-    let made = long_loop(rt.alloc())?;
-    let outcome = judged(rt.alloc(), made.text.as_bytes(), Vec::new(rt.alloc()), MOST);
-    check_written(&rt, &outcome, 0, made.wanted.as_str(), "a long loop");
-    Ok(())
+    let mut made = SpawnLoop {
+        text: String::from_str(rt.alloc(), "cilk 1\nmem x\n")?,
+        wanted: String::new(rt.alloc()),
+        newest: 0,
+        entry: 0,
+    };
+    check_loop(&rt, rt.alloc(), &mut made)
 }
 
 /// The text is no trace, for a fault with this text.
@@ -380,10 +453,7 @@ fn faults_of_the_text(rt: HostRuntime) -> Result<(), Fail> {
 #[test]
 fn want_of_memory_for_a_text(rt: HostRuntime) -> Result<(), Fail> {
     let fault = CliFault::from(TextFault::Memory);
-    let told = format!(in rt.alloc(); "{fault}")?;
-    assert_eq!(rt; fault.status(), 3);
-    assert_eq!(rt; told.as_str(), "memory");
-    Ok(())
+    is_fault(&rt, rt.alloc(), &fault, 3, "memory")
 }
 
 #[test]

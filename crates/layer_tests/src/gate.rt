@@ -117,7 +117,10 @@ fn ask(
     match asks {
         Asks::Nothing => is_new(rt, gate),
         Asks::Acts(acts) => answers_all(rt, gate, acts),
-        Asks::Outcomes(cases, end) => check_outcomes(rt, alloc, gate, cases, end)?,
+        Asks::Outcomes(cases, end) => {
+            check_outcomes(rt, alloc, gate, cases)?;
+            ends(rt, gate, end);
+        }
         Asks::Faults => answers_faults(rt, gate),
         Asks::SpawnsLong => spawns_long(rt, gate),
         Asks::Drawn(seed, state) => agrees_in(rt, alloc, gate, monoids, seed, state)?,
@@ -387,19 +390,21 @@ fn check_replies(
     Ok(())
 }
 
-/// The gate gives strand 0 these outcomes, one to each act, and then has so many entries, has finished or not, and holds this number.
+/// The gate gives strand 0 these outcomes, one to each act.
 fn check_outcomes(
     rt: &impl Abort,
     alloc: Global,
     gate: &mut Gate<Global>,
     cases: &[Outcome],
-    end: (usize, bool, u64),
 ) -> Result<(), Fail> {
     let (requests, expected) = lists(alloc, cases)?;
-    check_replies(rt, alloc, gate, requests.as_slice(), expected.as_slice())?;
+    check_replies(rt, alloc, gate, requests.as_slice(), expected.as_slice())
+}
+
+/// The gate has so many entries, has finished or not, is not stopped, and holds this number.
+fn ends(rt: &impl Abort, gate: &Gate<Global>, end: (usize, bool, u64)) {
     assert!(rt; stands(gate, end.0, end.1, false));
     assert!(rt; holds(gate, &[end.2]));
-    Ok(())
 }
 
 #[test]

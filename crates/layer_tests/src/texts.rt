@@ -202,7 +202,7 @@ fn ask_for(rt: &impl Abort, lines: &[TraceLine], acts: &[Act]) {
             act: *act,
             line: line.at,
         };
-        assert!(rt; line.request == request && !line.marked, "{line:?}");
+        is_line(rt, line, request, line.at, false);
     }
 }
 
@@ -268,11 +268,17 @@ fn printed_of(alloc: Global, text: &[u8]) -> Result<Vec<u8>, Fail> {
     Ok(Trace::parse(alloc, text)?.print(alloc)?)
 }
 
+/// Checks that a text is printed so.
+fn prints_once(rt: &impl Abort, alloc: Global, text: &[u8], plain: &[u8]) -> Result<(), Fail> {
+    let printed = printed_of(alloc, text)?;
+    equal(rt, &text, &printed.as_slice(), &plain);
+    Ok(())
+}
+
 /// Checks that a text is printed so, and that the printed text is printed alike.
 fn prints(rt: &impl Abort, alloc: Global, text: &[u8], plain: &[u8]) -> Result<(), Fail> {
-    equal(rt, &text, &printed_of(alloc, text)?.as_slice(), &plain);
-    equal(rt, &plain, &printed_of(alloc, plain)?.as_slice(), &plain);
-    Ok(())
+    prints_once(rt, alloc, text, plain)?;
+    prints_once(rt, alloc, plain, plain)
 }
 
 #[test]
