@@ -17,7 +17,7 @@ use std::process::Abort;
 use std::test::Fail;
 
 /// What a strand does: the accesses are to location 0 or 1.
-#[derive(Clone, Copy, Debug)]
+#[derive(Clone, Copy)]
 enum Act {
     Spawn,
     Sync,
@@ -93,14 +93,38 @@ fn witness(entry: u32, strand: u32, kind: Kind) -> Option<Witness> {
     })
 }
 
+/// An act by a strand, and the witness that it finds.
+type Found = (u32, Act, Option<Witness>);
+
 /// Each act, by its strand, finds the witness beside it.
-fn check(rt: &impl Abort, alloc: Global, acts: &[(u32, Act, Option<Witness>)]) -> Result<(), Fail> {
-    let (mut strands, mut shadow) = opening(alloc, alloc, 2)?;
+fn finds_all(
+    rt: &impl Abort,
+    strands: &mut Strands<Global>,
+    shadow: &mut Shadow<Global>,
+    acts: &[Found],
+)
+    requires stands { StandsOn shadow.old strands.old }
+    requires locations { 2 ≤ length shadow.old }
+{
     let mut entry = 0u32;
     for (strand, asked, expected) in acts {
         entry = entry.wrapping_add(1);
-        let found = step(&mut strands, &mut shadow, entry, *strand, *asked);
-        equal(rt, &(*strand, *asked), &found, expected);
+        let found = step(strands, shadow, entry, *strand, *asked);
+        equal(rt, &entry, &found, expected);
+    }
+}
+
+/// The same of new strands.
+fn check_run(rt: &impl Abort, alloc: Global, acts: &[Found]) -> Result<(), AllocError> {
+    let (mut strands, mut shadow) = opening(alloc, alloc, 2)?;
+    finds_all(rt, &mut strands, &mut shadow, acts);
+    Ok(())
+}
+
+/// The same of each run.
+fn check(rt: &impl Abort, alloc: Global, runs: &[&[Found]]) -> Result<(), Fail> {
+    for acts in runs {
+        check_run(rt, alloc, acts)?;
     }
     Ok(())
 }
@@ -111,29 +135,23 @@ fn a_write_races_with_the_child_that_read(rt: HostRuntime) -> Result<(), Fail> {
         &rt,
         rt.alloc(),
         &[
-            (0, Spawn, None),
-            (1, Access(Kind::Read, 0), None),
-            (2, Access(Kind::Read, 0), None),
-            (2, Access(Kind::Write, 0), witness(2, 1, Kind::Read)),
-        ],
-    )?;
-    check(
-        &rt,
-        rt.alloc(),
-        &[
-            (0, Spawn, None),
-            (2, Access(Kind::Read, 0), None),
-            (1, Access(Kind::Write, 0), witness(2, 2, Kind::Read)),
-        ],
-    )?;
-    check(
-        &rt,
-        rt.alloc(),
-        &[
-            (0, Spawn, None),
-            (2, Access(Kind::Read, 0), None),
-            (1, Access(Kind::Read, 0), None),
-            (1, Access(Kind::Write, 0), witness(2, 2, Kind::Read)),
+            &[
+                (0, Spawn, None),
+                (1, Access(Kind::Read, 0), None),
+                (2, Access(Kind::Read, 0), None),
+                (2, Access(Kind::Write, 0), witness(2, 1, Kind::Read)),
+            ],
+            &[
+                (0, Spawn, None),
+                (2, Access(Kind::Read, 0), None),
+                (1, Access(Kind::Write, 0), witness(2, 2, Kind::Read)),
+            ],
+            &[
+                (0, Spawn, None),
+                (2, Access(Kind::Read, 0), None),
+                (1, Access(Kind::Read, 0), None),
+                (1, Access(Kind::Write, 0), witness(2, 2, Kind::Read)),
+            ],
         ],
     )
 }
@@ -143,12 +161,12 @@ fn a_refused_write_is_not_kept(rt: HostRuntime) -> Result<(), Fail> {
     check(
         &rt,
         rt.alloc(),
-        &[
+        &[&[
             (0, Spawn, None),
             (1, Access(Kind::Write, 0), None),
             (2, Access(Kind::Write, 0), witness(2, 1, Kind::Write)),
             (1, Access(Kind::Read, 0), None),
-        ],
+        ]],
     )
 }
 
@@ -157,39 +175,59 @@ fn a_join_comes_behind_its_block(rt: HostRuntime) -> Result<(), Fail> {
     check(
         &rt,
         rt.alloc(),
-        &[
+        &[&[
             (0, Spawn, None),
             (1, Access(Kind::Read, 0), None),
             (2, Sync, None),
             (1, Return, None),
             (3, Access(Kind::Write, 0), None),
-        ],
+        ]],
     )
+}
+
+/// A bump, write or read by a child, and another access by its continuation, which races with it or not.
+fn check_pair(
+    rt: &impl Abort,
+    alloc: Global,
+    earlier: Kind,
+    new: Kind,
+    races: bool,
+) -> Result<(), Fail> {
+    let found = if races { witness(2, 1, earlier) } else { None };
+    check(
+        rt,
+        alloc,
+        &[&[
+            (0, Spawn, None),
+            (1, Access(earlier, 0), None),
+            (2, Access(new, 0), found),
+            (2, Access(new, 1), None),
+        ]],
+    )
+}
+
+/// The same of each pair.
+fn check_pairs(rt: &impl Abort, alloc: Global, cases: &[(Kind, Kind, bool)]) -> Result<(), Fail> {
+    for (earlier, new, races) in cases {
+        check_pair(rt, alloc, *earlier, *new, *races)?;
+    }
+    Ok(())
 }
 
 #[test]
 fn bumps_race_with_reads_and_writes_alone(rt: HostRuntime) -> Result<(), Fail> {
-    for (earlier, new, races) in [
-        (Kind::Bump, Kind::Bump, false),
-        (Kind::Bump, Kind::Write, true),
-        (Kind::Write, Kind::Bump, true),
-        (Kind::Read, Kind::Bump, true),
-        (Kind::Bump, Kind::Read, true),
-        (Kind::Read, Kind::Read, false),
-    ] {
-        let found = if races { witness(2, 1, earlier) } else { None };
-        check(
-            &rt,
-            rt.alloc(),
-            &[
-                (0, Spawn, None),
-                (1, Access(earlier, 0), None),
-                (2, Access(new, 0), found),
-                (2, Access(new, 1), None),
-            ],
-        )?;
-    }
-    Ok(())
+    check_pairs(
+        &rt,
+        rt.alloc(),
+        &[
+            (Kind::Bump, Kind::Bump, false),
+            (Kind::Bump, Kind::Write, true),
+            (Kind::Write, Kind::Bump, true),
+            (Kind::Read, Kind::Bump, true),
+            (Kind::Bump, Kind::Read, true),
+            (Kind::Read, Kind::Read, false),
+        ],
+    )
 }
 
 #[test]
@@ -197,7 +235,7 @@ fn the_first_kind_and_its_earliest_entry_count(rt: HostRuntime) -> Result<(), Fa
     check(
         &rt,
         rt.alloc(),
-        &[
+        &[&[
             (0, Spawn, None),
             (1, Access(Kind::Read, 0), None),
             (1, Access(Kind::Bump, 0), None),
@@ -205,7 +243,7 @@ fn the_first_kind_and_its_earliest_entry_count(rt: HostRuntime) -> Result<(), Fa
             (2, Access(Kind::Write, 0), witness(3, 1, Kind::Bump)),
             (2, Access(Kind::Bump, 0), witness(2, 1, Kind::Read)),
             (2, Access(Kind::Read, 0), witness(3, 1, Kind::Bump)),
-        ],
+        ]],
     )
 }
 
@@ -232,6 +270,42 @@ fn finds_nothing<A: Allocator>(
     assert!(rt; found.is_none(), "{kind:?}");
 }
 
+/// The heap has used up so many bytes, and has no room for a second shadow history.
+fn is_used_up(rt: &impl Abort, heap: &LocalHeap, bytes: usize) {
+    equal(rt, &"bytes", &heap.used(), &bytes);
+    assert!(rt; Shadow::new(heap, 1).is_err());
+}
+
+/// A write and a read of location 1 find nothing.
+fn finds_nothing_twice<A: Allocator>(
+    rt: &impl Abort,
+    strands: &mut Strands<Global>,
+    shadow: &mut Shadow<A>,
+)
+    requires stands { StandsOn shadow.old strands.old }
+    requires locations { 2 ≤ length shadow.old }
+{
+    finds_nothing(rt, strands, shadow, Kind::Write);
+    finds_nothing(rt, strands, shadow, Kind::Read);
+}
+
+/// Accesses of so many locations take no bytes of the heap beyond so many, which their cells take.
+fn takes_no_more(
+    rt: &impl Abort,
+    alloc: Global,
+    heap: &LocalHeap,
+    locations: u32,
+    bytes: usize,
+) -> Result<(), AllocError>
+    requires { 2 ≤ locations }
+{
+    let (mut strands, mut shadow) = opening(alloc, heap, locations)?;
+    is_used_up(rt, heap, bytes);
+    finds_nothing_twice(rt, &mut strands, &mut shadow);
+    equal(rt, &"bytes", &heap.used(), &bytes);
+    Ok(())
+}
+
 /// Accesses take no bytes beyond those of the cells of so many locations, and a heap of these has no room for a second allocation.
 fn takes_only(
     rt: &impl Abort,
@@ -242,13 +316,7 @@ fn takes_only(
     requires { 2 ≤ locations }
 {
     let heap = LocalHeap::new(alloc, bytes)?;
-    let (mut strands, mut shadow) = opening(alloc, &heap, locations)?;
-    assert_eq!(rt; heap.used(), bytes);
-    assert!(rt; Shadow::new(&heap, 1).is_err());
-    finds_nothing(rt, &mut strands, &mut shadow, Kind::Write);
-    finds_nothing(rt, &mut strands, &mut shadow, Kind::Read);
-    assert_eq!(rt; heap.used(), bytes);
-    Ok(())
+    takes_no_more(rt, alloc, &heap, locations, bytes)
 }
 
 fn laws_hold() {
@@ -404,7 +472,7 @@ fn run_alike(strands: &Strands<Global>, dag: &Dag) -> bool {
 }
 
 /// An act that is drawn for a seed, with the number of its entry.
-#[derive(Clone, Copy, Debug)]
+#[derive(Clone, Copy)]
 struct Drawn {
     seed: u64,
     entry: u32,
@@ -450,7 +518,13 @@ fn remember(
 
 /// What is found is the reference's witness, and one exactly where any access races.
 fn compare(rt: &impl Abort, drawn: Drawn, found: Option<Witness>, wanted: (Option<Witness>, bool)) {
-    equal(rt, &drawn, &(found, found.is_some()), &wanted);
+    let case = (drawn.seed, drawn.entry, drawn.strand);
+    equal(rt, &case, &(found, found.is_some()), &wanted);
+}
+
+/// The same strands run in both after the act.
+fn compare_runs(rt: &impl Abort, strands: &Strands<Global>, dag: &Dag, drawn: Drawn) {
+    assert!(rt; run_alike(strands, dag), "{} {}", drawn.seed, drawn.entry);
 }
 
 /// Does an act in both, compares what they find, and says whether it races.
@@ -471,25 +545,54 @@ fn play_one(
     let wanted = expected(dag, granted.as_slice(), drawn.strand as usize, drawn.asked)?;
     let found = step(strands, shadow, drawn.entry, drawn.strand, drawn.asked);
     compare(rt, drawn, found, wanted);
-    assert!(rt; run_alike(strands, dag), "{drawn:?}");
+    compare_runs(rt, strands, dag, drawn);
     remember(granted, drawn, runs, found)?;
     Ok(wanted.1)
 }
 
 /// How many of the 79 acts of this seed's run race.
-fn play(rt: &impl Abort, alloc: Global, seed: u64) -> Result<u32, AllocError> {
-    let (mut strands, mut shadow) = opening(alloc, alloc, 2)?;
-    let mut dag = Dag::new(alloc)?;
-    let mut granted = Vec::new(alloc);
+fn play_all(
+    rt: &impl Abort,
+    strands: &mut Strands<Global>,
+    shadow: &mut Shadow<Global>,
+    dag: &mut Dag,
+    granted: &mut Vec<(u32, Witness)>,
+    seed: u64,
+) -> Result<u32, AllocError>
+    requires stands { StandsOn shadow.old strands.old }
+    requires locations { 2 ≤ length shadow.old }
+{
     let mut state = seed;
     let mut raced = 0u32;
     for entry in 1..80u32 {
-        let (drawn, state_next) = draw_one(&dag, seed, entry, state);
+        let (drawn, state_next) = draw_one(dag, seed, entry, state);
         state = state_next;
-        let is_race = play_one(rt, &mut strands, &mut shadow, &mut dag, &mut granted, drawn)?;
+        let is_race = play_one(rt, strands, shadow, dag, granted, drawn)?;
         raced = raced.saturating_add(u32::from(is_race));
     }
     Ok(raced)
+}
+
+/// The same against a new dag.
+fn play_against(
+    rt: &impl Abort,
+    alloc: Global,
+    strands: &mut Strands<Global>,
+    shadow: &mut Shadow<Global>,
+    seed: u64,
+) -> Result<u32, AllocError>
+    requires stands { StandsOn shadow.old strands.old }
+    requires locations { 2 ≤ length shadow.old }
+{
+    let mut dag = Dag::new(alloc)?;
+    let mut granted = Vec::new(alloc);
+    play_all(rt, strands, shadow, &mut dag, &mut granted, seed)
+}
+
+/// The same of new strands.
+fn play(rt: &impl Abort, alloc: Global, seed: u64) -> Result<u32, AllocError> {
+    let (mut strands, mut shadow) = opening(alloc, alloc, 2)?;
+    play_against(rt, alloc, &mut strands, &mut shadow, seed)
 }
 
 #[test]

@@ -31,67 +31,97 @@ fn is_before(rt: &impl Abort, list: &OrderList<Global>, a: u32, b: u32) -> bool 
     list.is_before(a, b)
 }
 
+/// The list has so many items, and reserved room for so many more.
+fn has_items(rt: &impl Abort, list: &OrderList<Global>, items: usize, reserved: u32) {
+    equal(rt, &items, &list.len(), &items);
+    assert!(rt; list.reserved() >= reserved);
+}
+
+/// The first item of each pair stands before the second one, and not behind it.
+fn stand_before(rt: &impl Abort, list: &OrderList<Global>, pairs: &[(u32, u32)]) {
+    for (a, b) in pairs {
+        assert!(rt; is_before(rt, list, *a, *b));
+        assert!(rt; !is_before(rt, list, *b, *a));
+    }
+}
+
+/// A new list keeps its order while three items are placed.
+fn places_three(rt: &impl Abort, list: &mut OrderList<Global>) {
+    has_items(rt, list, 1, 0);
+    assert!(rt; list.reserved() == 0);
+    reserves(rt, list, 3_000_001, Err(OrderFault::Full));
+    reserves(rt, list, 0, Ok(()));
+    reserves(rt, list, 3, Ok(()));
+    has_items(rt, list, 1, 3);
+    places(rt, list, 0, 1);
+    places(rt, list, 0, 2);
+    places(rt, list, 1, 3);
+    has_items(rt, list, 4, 0);
+}
+
 #[test]
 fn places_items_behind_others(rt: HostRuntime) -> Result<(), Fail> {
     let mut list = OrderList::new(rt.alloc())?;
-    assert!(rt; list.len() == 1 && list.reserved() == 0);
-    reserves(&rt, &mut list, 3_000_001, Err(OrderFault::Full));
-    reserves(&rt, &mut list, 0, Ok(()));
-    reserves(&rt, &mut list, 3, Ok(()));
-    assert!(rt; list.len() == 1 && list.reserved() >= 3);
-    places(&rt, &mut list, 0, 1);
-    places(&rt, &mut list, 0, 2);
-    places(&rt, &mut list, 1, 3);
-    assert_eq!(rt; list.len(), 4);
-    for (a, b) in [(0, 2), (2, 1), (1, 3), (0, 1), (0, 3), (2, 3)] {
-        assert!(rt; is_before(&rt, &list, a, b));
-        assert!(rt; !is_before(&rt, &list, b, a));
-    }
+    places_three(&rt, &mut list);
+    stand_before(
+        &rt,
+        &list,
+        &[(0, 2), (2, 1), (1, 3), (0, 1), (0, 3), (2, 3)],
+    );
     assert!(rt; !is_before(&rt, &list, 3, 3));
     Ok(())
+}
+
+/// A new list keeps its order while many items are placed behind its first one.
+fn places_many(rt: &impl Abort, list: &mut OrderList<Global>) {
+    reserves(rt, list, 100_000, Ok(()));
+    for item in 1..100_001u32 {
+        places(rt, list, 0, item);
+    }
+    has_items(rt, list, 100_001, 0);
+    for item in 1..100_000u32 {
+        assert!(rt; is_before(rt, list, item + 1, item));
+    }
+    assert!(rt; is_before(rt, list, 0, 1));
 }
 
 #[test]
 fn orders_many_items_at_one_place(rt: HostRuntime) -> Result<(), Fail> {
     let mut list = OrderList::new(rt.alloc())?;
-    reserves(&rt, &mut list, 100_000, Ok(()));
-    for item in 1..100_001u32 {
-        places(&rt, &mut list, 0, item);
-    }
-    assert_eq!(rt; list.len(), 100_001);
-    for item in 1..100_000u32 {
-        assert!(rt; is_before(&rt, &list, item + 1, item));
-    }
-    assert!(rt; is_before(&rt, &list, 0, 1));
+    places_many(&rt, &mut list);
     Ok(())
 }
 
 /// Whether there is room for twenty items more. A refusal changes nothing.
 fn grows<A: Allocator>(rt: &impl Abort, list: &mut OrderList<A>) -> bool {
-    match list.reserve(20) {
-        Ok(()) => {
-            assert!(rt; list.reserved() >= 20);
-            true
-        }
-        Err(fault) => {
-            assert_eq!(rt; fault, OrderFault::Memory);
-            assert!(rt; list.len() == 1 && list.reserved() == 0);
-            assert!(rt; list.reserve(0).is_ok());
-            false
+    let outcome = list.reserve(20);
+    if outcome.is_ok() {
+        assert!(rt; list.reserved() >= 20);
+        return true;
+    }
+    equal(rt, &"room", &outcome, &Err(OrderFault::Memory));
+    assert!(rt; list.len() == 1 && list.reserved() == 0);
+    assert!(rt; list.reserve(0).is_ok());
+    false
+}
+
+/// Whether a list in a new heap grows, or none where there is no list.
+fn grows_on(rt: &impl Abort, heap: &LocalHeap) -> Option<bool> {
+    match OrderList::new(heap) {
+        Ok(mut list) => Some(grows(rt, &mut list)),
+        Err(_) => {
+            equal(rt, &"bytes", &heap.used(), &0);
+            None
         }
     }
 }
 
-/// Whether a list in a heap of so many blocks grows, or none where there is no list.
+/// The same of a heap of so many blocks.
 fn grows_in(rt: &impl Abort, alloc: Global, blocks: usize) -> Result<Option<bool>, AllocError>
     requires { blocks < 60 }
 {
     let heap = LocalHeap::new(alloc, 16 * blocks)?;
-    let Ok(mut list) = OrderList::new(&heap) else {
-        assert_eq!(rt; heap.used(), 0);
-        return Ok(None);
-    };
-    Ok(Some(grows(rt, &mut list)))
+    Ok(grows_on(rt, &heap))
 }
 
 // The larger the heap, the later a growth is refused.
@@ -116,7 +146,8 @@ fn is_told(
     fault: OrderFault,
     wanted: &str,
 ) -> Result<(), AllocError> {
-    assert_eq!(rt; format!(in alloc; "{fault}")?.as_str(), wanted);
+    let told = format!(in alloc; "{fault}")?;
+    equal(rt, &wanted, &told.as_str(), &wanted);
     Ok(())
 }
 

@@ -234,12 +234,17 @@ impl Dag {
     fn ancestors(&self, strand: usize) -> Result<Vec<bool, Global>, AllocError> {
         let mut found = vec![in self.alloc; false; self.strands.len()]?;
         set(&mut found, strand);
+        self.mark_ancestors(&mut found);
+        Ok(found)
+    }
+
+    /// Marks the strands from which an edge leads to a marked one.
+    fn mark_ancestors(&self, found: &mut [bool]) {
         for (from, to) in self.edges.iter().rev() {
-            if has(&found, *to) {
-                set(&mut found, *from);
+            if has(found, *to) {
+                set(found, *from);
             }
         }
-        Ok(found)
     }
 
     /// Whether no path leads from either strand to the other.
@@ -250,23 +255,29 @@ impl Dag {
     }
 
     /// Whether a strand is before another in the English order, or in the Hebrew one: along a path, or else by the spawn
-    /// at which the two part, where the English order has the child's side first.
+    /// at which the two part.
     pub fn is_before(&self, english: bool, a: usize, b: usize) -> Result<bool, AllocError> {
         let before_a = self.ancestors(a)?;
         let before_b = self.ancestors(b)?;
         if has(&before_b, a) || has(&before_a, b) {
             return Ok(a != b && has(&before_b, a));
         }
+        Ok(self.parts_before(english, &before_a, &before_b))
+    }
+
+    /// Whether the strand with the first ancestors is before that with the others, where no path leads from either to the other:
+    /// the English order has the child's side first.
+    fn parts_before(&self, english: bool, before_a: &[bool], before_b: &[bool]) -> bool {
         for (child, next) in &self.splits {
-            let a_in = (has(&before_a, *child), has(&before_a, *next));
-            let b_in = (has(&before_b, *child), has(&before_b, *next));
+            let a_in = (has(before_a, *child), has(before_a, *next));
+            let b_in = (has(before_b, *child), has(before_b, *next));
             if a_in == (true, false) && b_in == (false, true) {
-                return Ok(english);
+                return english;
             }
             if a_in == (false, true) && b_in == (true, false) {
-                return Ok(!english);
+                return !english;
             }
         }
-        Ok(false)
+        false
     }
 }
