@@ -1,13 +1,14 @@
 //! Traces as text: each cause, each limit, each kind of line.
 
 ghost use Rattle.std.specs.Prelude.{◌≡◌, ◌<◌, OnOk};
-ghost use Rattle.trace_text.specs.Grammar.{cells_of};
+ghost use Rattle.trace_values.specs.Declarations.{cells_of};
 
 use crate::checks::equal;
 use std::alloc::Global;
 use std::process::Abort;
 use std::test::Fail;
-use trace_text::{Act, Cause, Monoid, Request, TextFault, Trace, TraceLine, cell_name};
+use trace_text::{Trace, cell_name};
+use trace_values::{Act, Cause, Monoid, Request, TextFault, TraceLine};
 
 /// The fault of a text, or none where it means a trace.
 fn fault_of(alloc: Global, text: &[u8]) -> Option<(u32, Cause)> {

@@ -1,7 +1,7 @@
 //! Calls of functions.
 
 ghost use Rattle.std.specs.Prelude.{◌≡◌, ℕ, ◌+◌, ◌<◌, ◌≤◌, ◌∷◌, Some, None, length, slice_get, IfSome, IsTrue};
-ghost use Rattle.trace_text.specs.Grammar.{cells_of};
+ghost use Rattle.trace_values.specs.Declarations.{cells_of};
 ghost use Rattle.program_lines.specs.declared.statement.Register.{Register};
 ghost use Rattle.program_lines.specs.declared.statement.Expression.{Expression};
 ghost use Rattle.program_lines.specs.declared.statement.Statement.{Statement};
@@ -18,7 +18,7 @@ use crate::request::{Want, act_of, line_of};
 use crate::value::{result_of, value_of};
 use program_text::{Expression, Function, Operand, Program, REGISTERS, Register, Statement};
 use std::alloc::Allocator;
-use trace_text::Act;
+use trace_values::Act;
 
 /// What an activation stands before.
 #[derive(Clone, Copy)]

@@ -1,15 +1,15 @@
 -- One line that is read, and the lines behind the header.
 use Rattle.std.proofs.Common.{◌≡◌, ◌≢◌, ℕ, ◌<◌, ◌+◌, ◌∷◌, [], List, Bool, true, false, cond, length, suc, arith, refl, sym, ◌∙◌, subst, ap, inl, inr}
 use Rattle.std.specs.Prelude.{◌⊎◌, IsTrue, codes, Option, Some, None, Result, Ok, Err, MatchResult, IfOk}
-use Rattle.trace_text.specs.declared.fault.Cause.{Cause}
-use Rattle.trace_text.specs.declared.fault.Cause.TheVariants.{NotText, BadHeader, BadWord, BadNumber, UnknownName, TwiceNamed, BadNesting, NoMain, TooMany}
-use Rattle.trace_text.specs.declared.fault.TextFault.{TextFault}
-use Rattle.trace_text.specs.declared.fault.TextFault.TheVariants.{At, Memory}
-use Rattle.trace_text.specs.declared.value.Version.{Version}
-use Rattle.trace_text.specs.Text.{words, lines, IsTextLine}
+use Rattle.trace_values.specs.declared.fault.Cause.{Cause}
+use Rattle.trace_values.specs.declared.fault.Cause.TheVariants.{NotText, BadHeader, BadWord, BadNumber, UnknownName, TwiceNamed, BadNesting, NoMain, TooMany}
+use Rattle.trace_values.specs.declared.fault.TextFault.{TextFault}
+use Rattle.trace_values.specs.declared.fault.TextFault.TheVariants.{At, Memory}
+use Rattle.trace_values.specs.declared.value.Version.{Version}
+use Rattle.trace_values.specs.Text.{words, lines, IsTextLine}
 use Rattle.trace_text.specs.Grammar.{IsHeader}
-use Rattle.trace_text.specs.Faults.{IsLowest, cause_number}
-use Rattle.trace_text.specs.Values.{Known}
+use Rattle.trace_values.specs.Causes.{IsLowest, cause_number}
+use Rattle.trace_values.specs.Values.{Known}
 use Rattle.program_lines.specs.Scopes.{Scope}
 use Rattle.program_text.specs.declared.open_function.Part.{Part}
 use Rattle.program_lines.specs.Grammar.{Item, Blank, Declared, Reduces, Begins, Does, Decides, Otherwise, Ends, ItemMeans}

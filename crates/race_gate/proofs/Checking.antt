@@ -1,6 +1,6 @@
 -- Which fault of a request is the first.
 use Rattle.std.proofs.Common.{◌≡◌, ℕ, ◌<◌, true, false, length, subst, arith}
-use Rattle.trace_text.specs.declared.value.Request.{Request}
+use Rattle.trace_values.specs.declared.value.Request.{Request}
 use Rattle.control_history.specs.Strands.{Running}
 use Rattle.race_gate.specs.declared.fault.GateFault.{GateFault}
 use Rattle.race_gate.specs.declared.fault.GateFault.TheVariants.{Stopped, Limit, NotRunning, BadName, Unsynced, Memory}

@@ -1,7 +1,7 @@
 -- Acts of control and accesses, and the books of reducers that there may be.
 use Rattle.std.proofs.Common.{◌≡◌, ℕ, length, Option, Some, None, refl, sym, ◌∙◌, ap, subst, arith}
-use Rattle.trace_text.specs.declared.value.Act.{Act}
-use Rattle.trace_text.specs.declared.value.Act.TheVariants.{Update, Put, Get}
+use Rattle.trace_values.specs.declared.value.Act.{Act}
+use Rattle.trace_values.specs.declared.value.Act.TheVariants.{Update, Put, Get}
 use Rattle.control_history.specs.History.{Event, History}
 use Rattle.control_history.specs.Legal.{Allowed}
 use Rattle.sp_labels.specs.Roster.{Roster}

@@ -2,8 +2,8 @@
 use Rattle.std.proofs.Common.{◌≡◌, ℕ, suc, ◌+◌, ◌<◌, Bool, List, [], ◌∷◌, ◌++◌, length, reverse, take, drop, Option, Some, Result, Ok, Err, refl, sym, ap, ◌∙◌, subst, arith}
 use Rattle.std.specs.Prelude.{MatchResult, IfOk, IfErr, OnErr, slice_index}
 use Rattle.std.proofs.lemmas.List.{length-reverse, reverse-append}
-use Rattle.trace_text.specs.declared.value.Act.TheVariants.{Return}
-use Rattle.trace_text.specs.declared.value.Request.{Request}
+use Rattle.trace_values.specs.declared.value.Act.TheVariants.{Return}
+use Rattle.trace_values.specs.declared.value.Request.{Request}
 use Rattle.control_history.specs.History.{Event, History}
 use Rattle.control_history.specs.Strands.{Running}
 use Rattle.control_history.specs.Blocks.{stack, IsSynced}

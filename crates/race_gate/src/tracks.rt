@@ -15,7 +15,7 @@ use crate::step::{control, judge_access, judge_reducer};
 use shadow_history::Shadow;
 use sp_labels::Strands;
 use std::alloc::{AllocError, Allocator};
-use trace_text::{Monoid, Request};
+use trace_values::{Monoid, Request};
 
 /// What is kept of the strands, of the granted accesses of cells, and of the reducers.
 #[derive(Drop)]

@@ -6,7 +6,7 @@ ghost use Rattle.reducer_views.specs.Touched.{Changes, added, both, combined, to
 use crate::view::{View, product};
 use std::alloc::{AllocError, Allocator};
 use std::mem::swap;
-use trace_text::Monoid;
+use trace_values::Monoid;
 
 /// The view that was gathered of a reducer, and its monoid.
 #[derive(Clone, Copy)]

@@ -1,6 +1,6 @@
 -- The evaluator's stack and store.
 use Rattle.std.specs.Prelude.{◌≡◌, ℕ, ◌+◌, ◌<◌, ◌≤◌, ◌^◌, Bool, true, false, List, [], ◌∷◌, ◌++◌, map, reverse, Option, Some, None, length, drop, replicate, slice_get, slice_index_or}
-use Rattle.trace_text.specs.declared.value.Monoid.{Monoid}
+use Rattle.trace_values.specs.declared.value.Monoid.{Monoid}
 use Rattle.reducer_views.specs.declared.view.View.{View}
 use Rattle.reducer_views.specs.declared.view.View.TheVariants.{Nothing}
 use Rattle.reducer_views.specs.Products.{FitsMonoid, identity_of}

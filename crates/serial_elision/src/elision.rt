@@ -1,8 +1,8 @@
 //! The elision of a program, statement by statement.
 
 ghost use Rattle.std.specs.Prelude.{◌≡◌, ◌≢◌, ◌+◌, ◌-◌, ◌%◌, ◌^◌, ◌<◌, ◌≤◌, IsTrue, false, true, Some, None, Err, map, length, replicate, slice_index, slice_get, OnOk, IfOk};
-ghost use Rattle.trace_text.specs.Grammar.{cells_of};
-ghost use Rattle.trace_text.specs.Limits.{max_cells};
+ghost use Rattle.trace_values.specs.Declarations.{cells_of};
+ghost use Rattle.trace_values.specs.Limits.{max_cells};
 ghost use Rattle.reducer_views.specs.Products.{FitsMonoid, identity_of, product_of, put_view, update_view};
 ghost use Rattle.reducer_views.specs.Touched.{monoid_of};
 ghost use Rattle.program_text.specs.Sound.{is_located};
@@ -18,7 +18,7 @@ use program_steps::{cell_of, result_of, value_of};
 use program_text::{Function, Program};
 use reducer_views::{View, combine, identity, of_put, of_update, value};
 use std::alloc::{AllocError, Allocator};
-use trace_text::{Monoid, Monoids, Shape};
+use trace_values::{Monoid, Monoids, Shape};
 
 /// The functions that are begun, the topmost apart, with the cells' values and the reducers' views.
 #[derive(Drop)]

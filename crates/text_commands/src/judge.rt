@@ -19,7 +19,8 @@ use race_gate::{Gate, Reply, judge_all};
 use race_report::verdict_lines;
 use std::alloc::{AllocError, Allocator};
 use std::io::{Read, Write};
-use trace_text::{Request, Shape, Trace};
+use trace_text::Trace;
+use trace_values::{Request, Shape};
 
 /// The most bytes that are read.
 const MOST_BYTES: usize = 67_108_864;

@@ -1,6 +1,6 @@
 use Rattle.std.proofs.Common.{refl}
 use Rattle.std.proofs.lemmas.List.{map_more, take_all}
-use Rattle.trace_text.specs.declared.value.Monoid.TheVariants.{Sum}
+use Rattle.trace_values.specs.declared.value.Monoid.TheVariants.{Sum}
 use Rattle.reducer_views.specs.Products.{identity_of}
 use Rattle.serial_elision.proofs.elision.identities.Goals as goal
 

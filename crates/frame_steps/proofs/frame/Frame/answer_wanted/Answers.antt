@@ -1,5 +1,5 @@
 use Rattle.std.proofs.Common.{◌≡◌, ◌∙◌, ap, sym, Some, None, length}
-use Rattle.trace_text.specs.Grammar.{cells_of}
+use Rattle.trace_values.specs.Declarations.{cells_of}
 use Rattle.program_lines.specs.declared.statement.Statement.TheVariants.{Call}
 use Rattle.program_steps.specs.declared.activation.Activation.{Activation}
 use Rattle.program_steps.specs.Values.{value_of}

@@ -1,5 +1,5 @@
 use Rattle.std.proofs.Common.{◌∙◌, ap, sym, refl, length}
-use Rattle.trace_text.specs.Grammar.{cells_of}
+use Rattle.trace_values.specs.Declarations.{cells_of}
 use Rattle.program_steps.specs.Scripts.{none_passed}
 use Rattle.program_steps.proofs.Turns.{passes_more}
 use Rattle.program_steps.proofs.Located.{stands_in, same_function, in_place, passed_is, return_asks, statement_asks, statement_asked, sound_of, statement_within, placed, named}
