@@ -114,11 +114,17 @@ fn finds_all(
     }
 }
 
-/// Each act of each run, by its strand, finds the witness beside it.
+/// The same of new strands.
+fn check_run(rt: &impl Abort, alloc: Global, acts: &[Found]) -> Result<(), AllocError> {
+    let (mut strands, mut shadow) = opening(alloc, alloc, 2)?;
+    finds_all(rt, &mut strands, &mut shadow, acts);
+    Ok(())
+}
+
+/// The same of each run.
 fn check(rt: &impl Abort, alloc: Global, runs: &[&[Found]]) -> Result<(), Fail> {
     for acts in runs {
-        let (mut strands, mut shadow) = opening(alloc, alloc, 2)?;
-        finds_all(rt, &mut strands, &mut shadow, acts);
+        check_run(rt, alloc, acts)?;
     }
     Ok(())
 }

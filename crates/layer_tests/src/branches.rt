@@ -1,13 +1,18 @@
 //! Which strands of two blocks, one after the other, have one branch.
 
+ghost use Rattle.std.specs.Prelude.{[]};
+ghost use Rattle.branch_names.specs.Names.{Follows};
+
 use branch_names::Branches;
 use sp_labels::Spawned;
+use std::alloc::Global;
+use std::process::Abort;
 use std::test::Fail;
 
 // A spawn by strand 0, the child's return, a sync that begins join 3; then the same by strand 3, and join 6.
-#[test]
-fn names_joins_as_their_openers(rt: HostRuntime) -> Result<(), Fail> {
-    let mut branches = Branches::new(rt.alloc())?;
+fn names_two_joins(rt: &impl Abort, branches: &mut Branches<Global>) -> Result<(), Fail>
+    requires { Follows branches.old [] }
+{
     branches.reserve_event()?;
     assert!(rt; branches.has_room());
     branches.spawned(
@@ -42,4 +47,10 @@ fn names_joins_as_their_openers(rt: HostRuntime) -> Result<(), Fail> {
     branches.joined(6);
     assert!(rt; branches.same(0, 6));
     Ok(())
+}
+
+#[test]
+fn names_joins_as_their_openers(rt: HostRuntime) -> Result<(), Fail> {
+    let mut branches = Branches::new(rt.alloc())?;
+    names_two_joins(&rt, &mut branches)
 }

@@ -8,6 +8,8 @@ mod elisions;
 mod failures;
 mod words;
 
+use crate::checks::equal;
+use devices::Filling;
 use race_gate::{Answer, GateFault, Receipt, Reply};
 use std::alloc::{AllocError, Global};
 use std::io::{Read, Write};
@@ -44,6 +46,14 @@ fn judged<R: Read + Drop, W: Write>(alloc: Global, reader: R, writer: W, limit: 
     }
 }
 
+/// Whether the command has ended with this status.
+fn has_ended(answer: &Result<u8, CliFault>, status: u8) -> bool {
+    match answer {
+        Ok(found) => *found == status,
+        Err(_) => false,
+    }
+}
+
 /// The command has ended with this status and has written this text.
 fn check_written(
     rt: &impl Abort,
@@ -53,11 +63,22 @@ fn check_written(
     what: &str,
 ) {
     assert!(rt; !outcome.read_failed && !outcome.write_failed, "{what}");
-    assert!(rt;
-        matches!(outcome.answer, Ok(found) if found == status),
-        "the status of {what}"
-    );
-    assert_eq!(rt; outcome.output.as_slice(), wanted.as_bytes(), "{what}");
+    assert!(rt; has_ended(&outcome.answer, status), "{what}");
+    equal(rt, &what, &outcome.output.as_slice(), &wanted.as_bytes());
+}
+
+/// The fault has this text and status.
+fn is_fault(
+    rt: &impl Abort,
+    alloc: Global,
+    fault: &CliFault,
+    status: u8,
+    wanted: &str,
+) -> Result<(), Fail> {
+    let told = format!(in alloc; "{fault}")?;
+    equal(rt, &wanted, &told.as_str(), &wanted);
+    equal(rt, &wanted, &fault.status(), &status);
+    Ok(())
 }
 
 /// The command has written nothing, and answers a fault with this text and status.
@@ -68,28 +89,77 @@ fn check_fault(
     status: u8,
     wanted: &str,
 ) -> Result<(), Fail> {
+    assert!(rt; outcome.output.is_empty());
     match &outcome.answer {
         Ok(_) => assert!(rt; false, "{wanted} is not answered"),
-        Err(fault) => {
-            let told = format!(in alloc; "{fault}")?;
-            assert_eq!(rt; told.as_str(), wanted);
-            assert_eq!(rt; fault.status(), status, "{wanted}");
-        }
+        Err(fault) => is_fault(rt, alloc, fault, status, wanted)?,
     }
-    assert!(rt; outcome.output.is_empty());
     Ok(())
 }
 
-/// The text with a line feed in place of each separator, and one behind it.
-fn lined(alloc: Global, text: &str, separator: &str) -> Result<String, AllocError> {
-    let mut lines = String::new(alloc);
+/// The command has written this text, and where there is none, it has ended as it is never to end.
+fn check_told(rt: &impl Abort, outcome: &Outcome<Vec<u8>>, wanted: Option<&str>) {
+    match wanted {
+        Some(text) => equal(rt, &text, &outcome.output.as_slice(), &text.as_bytes()),
+        None => assert!(rt; false, "{:?}", outcome.answer),
+    }
+}
+
+/// The reader has failed behind so many reads, which is told, and nothing is written.
+fn is_unread(rt: &impl Abort, outcome: &Outcome<Vec<u8>>, left: u32) {
+    assert!(rt;
+        matches!(outcome.answer, Err(CliFault::Read)),
+        "at read {left}"
+    );
+    assert!(rt;
+        outcome.read_failed && outcome.output.is_empty(),
+        "at read {left}"
+    );
+}
+
+/// The writer, which went along with so many calls, has failed just where they are fewer than the text takes, and holds what they wrote.
+fn has_filled(rt: &impl Abort, outcome: &Outcome<Filling>, left: u32, calls: u32, text: &str) {
+    let has_failed = matches!(outcome.answer, Err(CliFault::Write));
+    let held = outcome.output.held.as_slice();
+    let found = (
+        outcome.write_failed,
+        has_failed,
+        has_ended(&outcome.answer, 0),
+    );
+    equal(
+        rt,
+        &left,
+        &found,
+        &(left < calls, left < calls, left >= calls),
+    );
+    assert!(rt; text.as_bytes().starts_with(held), "{left} writes");
+    equal(rt, &left, &held.len(), &(left as usize).min(text.len()));
+}
+
+/// Appends the text with a line feed in place of each separator, and one behind it.
+fn append_lines(lines: &mut String, text: &str, separator: &str) -> Result<(), AllocError> {
     if !text.is_empty() {
         for line in text.split(separator) {
             lines.push_str(line)?;
             lines.push_str("\n")?;
         }
     }
+    Ok(())
+}
+
+/// The text with a line feed in place of each separator, and one behind it.
+fn lined(alloc: Global, text: &str, separator: &str) -> Result<String, AllocError> {
+    let mut lines = String::new(alloc);
+    append_lines(&mut lines, text, separator)?;
     Ok(lines)
+}
+
+/// The text is judged with this status, and these verdict lines are written.
+fn check_text(rt: &impl Abort, alloc: Global, text: &str, limit: u32, wanted: &str, status: u8)
+    requires { limit ≤ most_entries }
+{
+    let outcome = judged(alloc, text.as_bytes(), Vec::new(alloc), limit);
+    check_written(rt, &outcome, status, wanted, text);
 }
 
 /// The trace is judged with this status and these verdict lines, which stand between slashes.
@@ -105,143 +175,169 @@ fn check(
 {
     let text = lined(alloc, trace, "; ")?;
     let wanted = lined(alloc, verdicts, " / ")?;
-    let outcome = judged(alloc, text.as_bytes(), Vec::new(alloc), limit);
-    check_written(rt, &outcome, status, wanted.as_str(), trace);
+    check_text(rt, alloc, text.as_str(), limit, wanted.as_str(), status);
     Ok(())
 }
 
-/// The same of the requests behind `cilk 1` and `mem x`.
-fn check_x(
+/// The same of the requests behind a head.
+fn check_behind(
     rt: &impl Abort,
     alloc: Global,
+    head: &str,
     requests: &str,
     verdicts: &str,
     status: u8,
 ) -> Result<(), Fail> {
-    let trace = format!(in alloc; "cilk 1; mem x; {requests}")?;
+    let trace = format!(in alloc; "{head}{requests}")?;
     check(rt, alloc, trace.as_str(), MOST, verdicts, status)
+}
+
+/// The head of a trace of one cell.
+const ONE_CELL: &str = "cilk 1; mem x; ";
+
+/// The same of each list of requests, with its verdict lines and its status.
+fn check_each(
+    rt: &impl Abort,
+    alloc: Global,
+    head: &str,
+    cases: &[(&str, &str, u8)],
+) -> Result<(), Fail> {
+    for (requests, verdicts, status) in cases {
+        check_behind(rt, alloc, head, requests, verdicts, *status)?;
+    }
+    Ok(())
 }
 
 #[test]
 fn control_and_values(rt: HostRuntime) -> Result<(), Fail> {
     check(&rt, rt.alloc(), "cilk 1; mem x", MOST, "", 0)?;
-    for (requests, verdicts, status) in [
-        ("write 0 x 5; read 0 x", "1 granted / 2 value 5", 0u8),
-        (
-            "spawn 0; read 1 x; read 2 x",
-            "1 split 1 2 3 / 2 value 0 / 3 value 0",
-            0,
-        ),
-        (
-            "spawn 0; read 1 x; sync 2; return 1; write 3 x 4",
-            "1 split 1 2 3 / 2 value 0 / 3 waits / 4 ended-joined 3 / 5 granted",
-            0,
-        ),
-        (
-            "sync 0; return 0; read 0 x",
-            "1 same / 2 finished / illegal not-running",
-            2,
-        ),
-        (
-            "spawn 0; call 2; spawn 2; return 4; sync 5; return 6; sync 6; return 1",
-            "1 split 1 2 3 / 2 same / 3 split 4 5 6 / 4 ended / 5 joined 6 / 6 resumed / 7 waits / 8 ended-joined 3",
-            0,
-        ),
-        (
-            "spawn 0; return 2; read 2 x",
-            "1 split 1 2 3 / illegal unsynced / 2 value 0",
-            2,
-        ),
-    ] {
-        check_x(&rt, rt.alloc(), requests, verdicts, status)?;
-    }
-    Ok(())
+    check_each(
+        &rt,
+        rt.alloc(),
+        ONE_CELL,
+        &[
+            ("write 0 x 5; read 0 x", "1 granted / 2 value 5", 0),
+            (
+                "spawn 0; read 1 x; read 2 x",
+                "1 split 1 2 3 / 2 value 0 / 3 value 0",
+                0,
+            ),
+            (
+                "spawn 0; read 1 x; sync 2; return 1; write 3 x 4",
+                "1 split 1 2 3 / 2 value 0 / 3 waits / 4 ended-joined 3 / 5 granted",
+                0,
+            ),
+            (
+                "sync 0; return 0; read 0 x",
+                "1 same / 2 finished / illegal not-running",
+                2,
+            ),
+            (
+                "spawn 0; call 2; spawn 2; return 4; sync 5; return 6; sync 6; return 1",
+                "1 split 1 2 3 / 2 same / 3 split 4 5 6 / 4 ended / 5 joined 6 / 6 resumed / 7 waits / 8 ended-joined 3",
+                0,
+            ),
+            (
+                "spawn 0; return 2; read 2 x",
+                "1 split 1 2 3 / illegal unsynced / 2 value 0",
+                2,
+            ),
+        ],
+    )
 }
 
 #[test]
 fn races(rt: HostRuntime) -> Result<(), Fail> {
-    for (requests, verdicts) in [
-        (
-            "spawn 0; read 1 x; read 2 x; write 2 x 9",
-            "1 split 1 2 3 / 2 value 0 / 3 value 0 / 4 refused read-write 2",
-        ),
-        (
-            "spawn 0; read 2 x; write 1 x 9",
-            "1 split 1 2 3 / 2 value 0 / 3 refused read-write 2",
-        ),
-        (
-            "spawn 0; write 1 x 5; write 2 x 6; read 1 x",
-            "1 split 1 2 3 / 2 granted / 3 refused write-write 2 / 4 value 5",
-        ),
-    ] {
-        check_x(&rt, rt.alloc(), requests, verdicts, 1)?;
-    }
-    Ok(())
+    check_each(
+        &rt,
+        rt.alloc(),
+        ONE_CELL,
+        &[
+            (
+                "spawn 0; read 1 x; read 2 x; write 2 x 9",
+                "1 split 1 2 3 / 2 value 0 / 3 value 0 / 4 refused read-write 2",
+                1,
+            ),
+            (
+                "spawn 0; read 2 x; write 1 x 9",
+                "1 split 1 2 3 / 2 value 0 / 3 refused read-write 2",
+                1,
+            ),
+            (
+                "spawn 0; write 1 x 5; write 2 x 6; read 1 x",
+                "1 split 1 2 3 / 2 granted / 3 refused write-write 2 / 4 value 5",
+                1,
+            ),
+        ],
+    )
 }
 
 #[test]
 fn bumps(rt: HostRuntime) -> Result<(), Fail> {
-    for (requests, verdicts, status) in [
-        (
-            "write 0 x 1; spawn 0; bump 1 x 2; bump 2 x 3; read 2 x; sync 2; return 1; read 3 x",
-            "1 granted / 2 split 1 2 3 / 3 granted / 4 granted / 5 refused bump-read 3 / 6 waits / 7 ended-joined 3 / 8 value 6",
-            1u8,
-        ),
-        (
-            "write 0 x 18446744073709551615; bump 0 x 2; read 0 x",
-            "1 granted / 2 granted / 3 value 1",
-            0,
-        ),
-        (
-            "spawn 0; bump 1 x 2; write 2 x 9",
-            "1 split 1 2 3 / 2 granted / 3 refused bump-write 2",
-            1,
-        ),
-        (
-            "spawn 0; write 1 x 9; bump 2 x 2",
-            "1 split 1 2 3 / 2 granted / 3 refused write-bump 2",
-            1,
-        ),
-        (
-            "spawn 0; read 1 x; bump 2 x 1",
-            "1 split 1 2 3 / 2 value 0 / 3 refused read-bump 2",
-            1,
-        ),
-    ] {
-        let trace = format!(in rt.alloc(); "cilk 2; mem x; {requests}")?;
-        check(&rt, rt.alloc(), trace.as_str(), MOST, verdicts, status)?;
-    }
-    Ok(())
+    check_each(
+        &rt,
+        rt.alloc(),
+        "cilk 2; mem x; ",
+        &[
+            (
+                "write 0 x 1; spawn 0; bump 1 x 2; bump 2 x 3; read 2 x; sync 2; return 1; read 3 x",
+                "1 granted / 2 split 1 2 3 / 3 granted / 4 granted / 5 refused bump-read 3 / 6 waits / 7 ended-joined 3 / 8 value 6",
+                1,
+            ),
+            (
+                "write 0 x 18446744073709551615; bump 0 x 2; read 0 x",
+                "1 granted / 2 granted / 3 value 1",
+                0,
+            ),
+            (
+                "spawn 0; bump 1 x 2; write 2 x 9",
+                "1 split 1 2 3 / 2 granted / 3 refused bump-write 2",
+                1,
+            ),
+            (
+                "spawn 0; write 1 x 9; bump 2 x 2",
+                "1 split 1 2 3 / 2 granted / 3 refused write-bump 2",
+                1,
+            ),
+            (
+                "spawn 0; read 1 x; bump 2 x 1",
+                "1 split 1 2 3 / 2 value 0 / 3 refused read-bump 2",
+                1,
+            ),
+        ],
+    )
 }
 
 #[test]
 fn reducers(rt: HostRuntime) -> Result<(), Fail> {
-    for (trace, verdicts, status) in [
-        (
-            "cilk 1; reducer h sum; put 0 h 0; spawn 0; update 1 h 5; get 2 h; return 1; sync 2; get 3 h",
-            "1 granted / 2 split 1 2 3 / 3 granted / 4 refused view-read 1 / 5 ended / 6 joined 3 / 7 value 5",
-            1u8,
-        ),
-        (
-            "cilk 1; reducer h last; put 0 h 1; spawn 0; update 2 h 7; update 1 h 5; return 1; sync 2; get 3 h",
-            "1 granted / 2 split 1 2 3 / 3 granted / 4 granted / 5 ended / 6 joined 3 / 7 value 7",
-            0,
-        ),
-        ("cilk 1; reducer h last; get 0 h", "1 refused unset", 1),
-        (
-            "cilk 1; reducer h sum; spawn 0; put 1 h 5; get 2 h",
-            "1 split 1 2 3 / 2 granted / 3 refused view-read 2",
-            1,
-        ),
-        (
-            "cilk 2; reducer h digits; put 0 h 0; spawn 0; update 2 h 2; update 1 h 1; return 1; sync 2; get 3 h",
-            "1 granted / 2 split 1 2 3 / 3 granted / 4 granted / 5 ended / 6 joined 3 / 7 value 33",
-            0,
-        ),
-    ] {
-        check(&rt, rt.alloc(), trace, MOST, verdicts, status)?;
-    }
-    Ok(())
+    check_each(
+        &rt,
+        rt.alloc(),
+        "",
+        &[
+            (
+                "cilk 1; reducer h sum; put 0 h 0; spawn 0; update 1 h 5; get 2 h; return 1; sync 2; get 3 h",
+                "1 granted / 2 split 1 2 3 / 3 granted / 4 refused view-read 1 / 5 ended / 6 joined 3 / 7 value 5",
+                1,
+            ),
+            (
+                "cilk 1; reducer h last; put 0 h 1; spawn 0; update 2 h 7; update 1 h 5; return 1; sync 2; get 3 h",
+                "1 granted / 2 split 1 2 3 / 3 granted / 4 granted / 5 ended / 6 joined 3 / 7 value 7",
+                0,
+            ),
+            ("cilk 1; reducer h last; get 0 h", "1 refused unset", 1),
+            (
+                "cilk 1; reducer h sum; spawn 0; put 1 h 5; get 2 h",
+                "1 split 1 2 3 / 2 granted / 3 refused view-read 2",
+                1,
+            ),
+            (
+                "cilk 2; reducer h digits; put 0 h 0; spawn 0; update 2 h 2; update 1 h 1; return 1; sync 2; get 3 h",
+                "1 granted / 2 split 1 2 3 / 3 granted / 4 granted / 5 ended / 6 joined 3 / 7 value 33",
+                0,
+            ),
+        ],
+    )
 }
 
 #[test]
@@ -296,14 +392,8 @@ impl SpawnLoop {
     }
 }
 
-/// 10,000 spawns with a write behind each hundredth.
-fn long_loop(alloc: Global) -> Result<SpawnLoop, Fail> {
-    let mut made = SpawnLoop {
-        text: String::from_str(alloc, "cilk 1\nmem x\n")?,
-        wanted: String::new(alloc),
-        newest: 0,
-        entry: 0,
-    };
+/// 10,000 spawns with a write behind each hundredth, and the end.
+fn spawn_all(made: &mut SpawnLoop) -> Result<(), Fail> {
     for k in 1..10_001u32 {
         made.spawn(if k == 1 { 1 } else { 2 * k })?;
         if k % 100 == 0 {
@@ -312,37 +402,58 @@ fn long_loop(alloc: Global) -> Result<SpawnLoop, Fail> {
     }
     made.text.push_str("sync 20001\nreturn 3\n")?;
     made.wanted.push_str("20101 joined 3\n20102 finished\n")?;
-    Ok(made)
+    Ok(())
 }
 
-#[test]
-fn spawns_in_a_long_loop(rt: HostRuntime) -> Result<(), Fail> {
-    let made = long_loop(rt.alloc())?;
-    let outcome = judged(rt.alloc(), made.text.as_bytes(), Vec::new(rt.alloc()), MOST);
-    check_written(&rt, &outcome, 0, made.wanted.as_str(), "a long loop");
+/// The long loop that is written so is judged so.
+fn check_loop(rt: &impl Abort, alloc: Global, made: &mut SpawnLoop) -> Result<(), Fail> {
+    spawn_all(made)?;
+    check_text(rt, alloc, made.text.as_str(), MOST, made.wanted.as_str(), 0);
     Ok(())
 }
 
 #[test]
-fn faults_of_the_text(rt: HostRuntime) -> Result<(), Fail> {
-    for (text, wanted) in [
-        ("", "trace line 1: BadHeader"),
-        ("cilk 1\nmem x\nmem x\n", "trace line 3: TwiceNamed"),
-        ("cilk 1\nmem a 2\nread 0 a[2]\n", "trace line 3: BadNumber"),
-    ] {
-        let outcome = judged(rt.alloc(), text.as_bytes(), Vec::new(rt.alloc()), MOST);
-        check_fault(&rt, rt.alloc(), &outcome, 2, wanted)?;
+fn spawns_in_a_long_loop(rt: HostRuntime) -> Result<(), Fail> {
+    let mut made = SpawnLoop {
+        text: String::from_str(rt.alloc(), "cilk 1\nmem x\n")?,
+        wanted: String::new(rt.alloc()),
+        newest: 0,
+        entry: 0,
+    };
+    check_loop(&rt, rt.alloc(), &mut made)
+}
+
+/// The text is no trace, for a fault with this text.
+fn check_no_trace(rt: &impl Abort, alloc: Global, text: &str, wanted: &str) -> Result<(), Fail> {
+    let outcome = judged(alloc, text.as_bytes(), Vec::new(alloc), MOST);
+    check_fault(rt, alloc, &outcome, 2, wanted)
+}
+
+/// The same of each text.
+fn check_no_traces(rt: &impl Abort, alloc: Global, cases: &[(&str, &str)]) -> Result<(), Fail> {
+    for (text, wanted) in cases {
+        check_no_trace(rt, alloc, text, wanted)?;
     }
     Ok(())
 }
 
 #[test]
+fn faults_of_the_text(rt: HostRuntime) -> Result<(), Fail> {
+    check_no_traces(
+        &rt,
+        rt.alloc(),
+        &[
+            ("", "trace line 1: BadHeader"),
+            ("cilk 1\nmem x\nmem x\n", "trace line 3: TwiceNamed"),
+            ("cilk 1\nmem a 2\nread 0 a[2]\n", "trace line 3: BadNumber"),
+        ],
+    )
+}
+
+#[test]
 fn want_of_memory_for_a_text(rt: HostRuntime) -> Result<(), Fail> {
     let fault = CliFault::from(TextFault::Memory);
-    let told = format!(in rt.alloc(); "{fault}")?;
-    assert_eq!(rt; fault.status(), 3);
-    assert_eq!(rt; told.as_str(), "memory");
-    Ok(())
+    is_fault(&rt, rt.alloc(), &fault, 3, "memory")
 }
 
 #[test]

@@ -31,23 +31,33 @@ const AFTER_TURNS: &[u8] =
 
 const ENDLESS: &[u8] = b"cilk 1\nfunc main z\ncall main 0\nend\n";
 
-/// Whether the elision of a text ends with this memory after so many requests.
-fn gives(alloc: Global, text: &[u8], limit: u32, memory: &[u64], requests: u32) -> bool {
+/// What an elision leaves, and after how many requests.
+type Left<'a> = (&'a [u64], u32);
+
+/// Whether the elision of a program leaves this, or passes the limit where nothing is given.
+fn leaves(alloc: Global, program: &Program<Global>, limit: u32, wanted: Option<Left<'_>>) -> bool {
+    match elide(alloc, program, limit) {
+        Ok(elided) => wanted == Some((elided.memory.as_slice(), elided.requests)),
+        Err(fault) => wanted.is_none() && fault == ElideFault::Limit,
+    }
+}
+
+/// The same of the program that a text means.
+fn of_text(alloc: Global, text: &[u8], limit: u32, wanted: Option<Left<'_>>) -> bool {
     match Program::parse(alloc, text) {
-        Ok(program) => match elide(alloc, &program, limit) {
-            Ok(elided) => elided.memory.as_slice() == memory && elided.requests == requests,
-            Err(_) => false,
-        },
+        Ok(program) => leaves(alloc, &program, limit, wanted),
         Err(_) => false,
     }
 }
 
+/// Whether the elision of a text ends with this memory after so many requests.
+fn gives(alloc: Global, text: &[u8], limit: u32, memory: &[u64], requests: u32) -> bool {
+    of_text(alloc, text, limit, Some((memory, requests)))
+}
+
 /// Whether the elision of a text passes the limit.
 fn is_limited(alloc: Global, text: &[u8], limit: u32) -> bool {
-    match Program::parse(alloc, text) {
-        Ok(program) => matches!(elide(alloc, &program, limit), Err(ElideFault::Limit)),
-        Err(_) => false,
-    }
+    of_text(alloc, text, limit, None)
 }
 
 #[test]

@@ -62,22 +62,6 @@ fn says(
     Ok(())
 }
 
-/// Checks what a frame asks, act by act with its line, and answers each by what stands beside it.
-fn plays(
-    rt: &impl Abort,
-    program: &Program<Global>,
-    frame: &mut Frame<Global>,
-    steps: &[(Act, u32, Answer)],
-) -> Result<(), Fail>
-    requires { Stands program.now.functions frame.old }
-    ensures { Stands program.now.functions frame.new }
-{
-    for (act, line, answer) in steps {
-        says(rt, program, frame, *act, *line, *answer)?;
-    }
-    Ok(())
-}
-
 /// Checks that an answer is not one to what a frame asks.
 fn is_strange(rt: &impl Abort, program: &Program<Global>, frame: &mut Frame<Global>, answer: Answer)
     requires { Stands program.now.functions frame.old }
@@ -133,59 +117,139 @@ fn returns(
     Ok(())
 }
 
+/// Checks that there is room for a call once it was asked for.
+fn reserves(
+    rt: &impl Abort,
+    program: &Program<Global>,
+    frame: &mut Frame<Global>,
+) -> Result<(), Fail>
+    requires { Stands program.now.functions frame.old }
+    ensures { Stands program.now.functions frame.new }
+{
+    frame.reserve_call()?;
+    assert!(rt; frame.has_room());
+    Ok(())
+}
+
+/// What a frame does.
+#[derive(Clone, Copy)]
+enum Step {
+    /// It asks this on that line, and is answered so.
+    Says(Act, u32, Answer),
+    /// It spawns function 1 on this line, with this argument.
+    Splits(u32, u64),
+    /// It returns on this line. The first answer is not one to that, the second is the one that it is given.
+    Returns(u32, Answer, Answer),
+    /// It does not take this answer.
+    Refuses(Answer),
+    /// It takes room for a call.
+    Reserves,
+    /// Its open block has this join, or it has no open block.
+    HasJoin(Option<u32>),
+    IsOver,
+}
+
+use Step::{HasJoin, IsOver, Refuses, Reserves, Returns, Says, Splits};
+
+/// Checks a step of a frame.
+fn take(
+    rt: &impl Abort,
+    program: &Program<Global>,
+    frame: &mut Frame<Global>,
+    step: Step,
+) -> Result<(), Fail>
+    requires { Stands program.now.functions frame.old }
+    ensures { Stands program.now.functions frame.new }
+{
+    match step {
+        Says(act, line, answer) => says(rt, program, frame, act, line, answer)?,
+        Splits(line, argument) => splits(rt, program, frame, line, argument)?,
+        Returns(line, strange, answer) => returns(rt, program, frame, line, strange, answer)?,
+        Refuses(answer) => is_strange(rt, program, frame, answer),
+        Reserves => reserves(rt, program, frame)?,
+        HasJoin(join) => assert!(rt; frame.block_join() == join),
+        IsOver => assert!(rt; frame.is_over()),
+    }
+    Ok(())
+}
+
+/// Checks the steps of a frame, one after another.
+fn plays(
+    rt: &impl Abort,
+    program: &Program<Global>,
+    frame: &mut Frame<Global>,
+    steps: &[Step],
+) -> Result<(), Fail>
+    requires { Stands program.now.functions frame.old }
+    ensures { Stands program.now.functions frame.new }
+{
+    for step in steps {
+        take(rt, program, frame, *step)?;
+    }
+    Ok(())
+}
+
+/// Checks the steps of a new frame of the program's first function.
+fn begins(
+    rt: &impl Abort,
+    alloc: Global,
+    program: &Program<Global>,
+    steps: &[Step],
+) -> Result<(), Fail> {
+    let mut frame = Frame::new(alloc, program, 0, 0);
+    plays(rt, program, &mut frame, steps)
+}
+
+/// Checks the steps of a new frame of the first function of this text's program.
+fn check(rt: &impl Abort, alloc: Global, text: &[u8], steps: &[Step]) -> Result<(), Fail> {
+    let program = Program::parse(alloc, text)?;
+    begins(rt, alloc, &program, steps)
+}
+
 // A spawn, a refused read, the sync at the end.
 #[test]
 fn a_frame_is_answered(rt: HostRuntime) -> Result<(), Fail> {
-    let program = Program::parse(rt.alloc(), PAIR)?;
-    let mut frame = Frame::new(rt.alloc(), &program, 0, 0);
-    is_strange(&rt, &program, &mut frame, Answer::Granted);
-    splits(&rt, &program, &mut frame, 5, 7)?;
-    assert!(rt; frame.block_join() == Some(3));
-    plays(
+    check(
         &rt,
-        &program,
-        &mut frame,
-        &[(Act::Read(0), 6, refused()), (Act::Sync, 7, Answer::Waits)],
-    )?;
-    assert!(rt; frame.block_join() == None);
-    returns(
-        &rt,
-        &program,
-        &mut frame,
-        7,
-        Answer::Resumed,
-        Answer::Finished,
-    )?;
-    assert!(rt; frame.is_over());
-    Ok(())
+        rt.alloc(),
+        PAIR,
+        &[
+            Refuses(Answer::Granted),
+            Splits(5, 7),
+            HasJoin(Some(3)),
+            Says(Act::Read(0), 6, refused()),
+            Says(Act::Sync, 7, Answer::Waits),
+            HasJoin(None),
+            Returns(7, Answer::Resumed, Answer::Finished),
+            IsOver,
+        ],
+    )
 }
+
+const REFUSED_OR_NOT: &[u8] =
+    b"cilk 1\nmem x\nfunc main z\n  let r = 4\n  read r x\n  if ok\n    write x 1\n  else\n    write x r\n  end\nend\n";
 
 // A refused read leaves its register and clears `ok`, which decides; then the else part runs.
 #[test]
 fn a_refused_read_keeps_its_register(rt: HostRuntime) -> Result<(), Fail> {
-    let text =
-        b"cilk 1\nmem x\nfunc main z\n  let r = 4\n  read r x\n  if ok\n    write x 1\n  else\n    write x r\n  end\nend\n";
-    let program = Program::parse(rt.alloc(), text)?;
-    let mut frame = Frame::new(rt.alloc(), &program, 0, 0);
-    plays(
+    check(
         &rt,
-        &program,
-        &mut frame,
+        rt.alloc(),
+        REFUSED_OR_NOT,
         &[
-            (Act::Read(0), 5, refused()),
-            (Act::Write(0, 4), 9, Answer::Granted),
-            (Act::Sync, 11, Answer::Same),
+            Says(Act::Read(0), 5, refused()),
+            Says(Act::Write(0, 4), 9, Answer::Granted),
+            Says(Act::Sync, 11, Answer::Same),
         ],
     )?;
-    let mut other = Frame::new(rt.alloc(), &program, 0, 0);
-    plays(
+    check(
         &rt,
-        &program,
-        &mut other,
+        rt.alloc(),
+        REFUSED_OR_NOT,
         &[
-            (Act::Read(0), 5, Answer::Value(6)),
-            (Act::Write(0, 1), 7, Answer::Granted),
-            (Act::Sync, 11, Answer::Same),
+            Says(Act::Read(0), 5, Answer::Value(6)),
+            Says(Act::Write(0, 1), 7, Answer::Granted),
+            Says(Act::Sync, 11, Answer::Same),
         ],
     )
 }
@@ -193,65 +257,35 @@ fn a_refused_read_keeps_its_register(rt: HostRuntime) -> Result<(), Fail> {
 // A called function has registers of its own, and returns to the statement behind the call.
 #[test]
 fn a_call_has_registers_of_its_own(rt: HostRuntime) -> Result<(), Fail> {
-    let text =
-        b"cilk 1\nmem x\nfunc main z\n  let r = 4\n  call f 9\n  write x r\nend\nfunc f v\n  let r = v + 1\n  write x r\nend\n";
-    let program = Program::parse(rt.alloc(), text)?;
-    let mut frame = Frame::new(rt.alloc(), &program, 0, 0);
-    frame.reserve_call()?;
-    assert!(rt; frame.has_room());
-    plays(
+    check(
         &rt,
-        &program,
-        &mut frame,
+        rt.alloc(),
+        b"cilk 1\nmem x\nfunc main z\n  let r = 4\n  call f 9\n  write x r\nend\nfunc f v\n  let r = v + 1\n  write x r\nend\n",
         &[
-            (Act::Call, 5, Answer::Same),
-            (Act::Write(0, 10), 10, Answer::Granted),
-            (Act::Sync, 11, Answer::Same),
+            Reserves,
+            Says(Act::Call, 5, Answer::Same),
+            Says(Act::Write(0, 10), 10, Answer::Granted),
+            Says(Act::Sync, 11, Answer::Same),
+            Returns(11, Answer::Ended, Answer::Resumed),
+            Says(Act::Write(0, 4), 6, Answer::Granted),
         ],
-    )?;
-    returns(
-        &rt,
-        &program,
-        &mut frame,
-        11,
-        Answer::Ended,
-        Answer::Resumed,
-    )?;
-    says(
-        &rt,
-        &program,
-        &mut frame,
-        Act::Write(0, 4),
-        6,
-        Answer::Granted,
     )
 }
 
 // A `pfor` spawns once for each number, and then syncs; its register keeps the last number. With no number it syncs alone.
 #[test]
 fn a_pfor_spawns_for_each_number(rt: HostRuntime) -> Result<(), Fail> {
-    let text =
-        b"cilk 2\nmem x\nfunc main z\n  let i = 5\n  pfor i 0 f\n  write x i\n  pfor i 2 f\n  write x i\nend\nfunc f n\nend\n";
-    let program = Program::parse(rt.alloc(), text)?;
-    let mut frame = Frame::new(rt.alloc(), &program, 0, 0);
-    plays(
+    check(
         &rt,
-        &program,
-        &mut frame,
+        rt.alloc(),
+        b"cilk 2\nmem x\nfunc main z\n  let i = 5\n  pfor i 0 f\n  write x i\n  pfor i 2 f\n  write x i\nend\nfunc f n\nend\n",
         &[
-            (Act::Sync, 5, Answer::Same),
-            (Act::Write(0, 5), 6, Answer::Granted),
-        ],
-    )?;
-    splits(&rt, &program, &mut frame, 7, 0)?;
-    splits(&rt, &program, &mut frame, 7, 1)?;
-    plays(
-        &rt,
-        &program,
-        &mut frame,
-        &[
-            (Act::Sync, 7, Answer::Waits),
-            (Act::Write(0, 1), 8, Answer::Granted),
+            Says(Act::Sync, 5, Answer::Same),
+            Says(Act::Write(0, 5), 6, Answer::Granted),
+            Splits(7, 0),
+            Splits(7, 1),
+            Says(Act::Sync, 7, Answer::Waits),
+            Says(Act::Write(0, 1), 8, Answer::Granted),
         ],
     )
 }

@@ -12,19 +12,13 @@ use Act::{Bump, Call, Get, Read, Return, Spawn, Sync, Write};
 use Answer::{Ended, EndedJoined, Finished, Granted, Joined, Resumed, Same, Value, Waits};
 use access_table::{Kind, Rule};
 use race_gate::{Answer, Gate, GateFault, Receipt, Reply, judge_all, laws};
+use random::agrees_in;
 use shadow_history::Witness;
 use sp_labels::Spawned;
 use std::alloc::{AllocError, Global};
 use std::process::Abort;
 use std::test::Fail;
 use trace_text::{Act, Monoid, Monoids, Request, Shape};
-
-/// One cell, x, with the number 0.
-fn opening(alloc: Global, limit: u32) -> Result<Gate<Global>, AllocError>
-    requires { limit ≤ most_entries }
-{
-    opening_with(alloc, &[], limit)
-}
 
 /// Three cells beside these reducers, or one where there are none.
 fn opening_with(alloc: Global, monoids: &[Monoid], limit: u32) -> Result<Gate<Global>, AllocError>
@@ -79,8 +73,11 @@ fn has_entries(gate: &Gate<Global>, entries: usize) -> bool {
     gate.history().len() == entries
 }
 
+/// A strand's act, and how a gate answers it.
+type Asked = (u32, Act, Answer);
+
 /// The gate, which was asked nothing, answers each act, by its strand, by what stands beside it, and then has no other entries.
-fn answers_all(rt: &impl Abort, gate: &mut Gate<Global>, acts: &[(u32, Act, Answer)]) {
+fn answers_all(rt: &impl Abort, gate: &mut Gate<Global>, acts: &[Asked]) {
     let mut number = 0u32;
     for (strand, act, answer) in acts {
         number = number.wrapping_add(1);
@@ -90,22 +87,87 @@ fn answers_all(rt: &impl Abort, gate: &mut Gate<Global>, acts: &[(u32, Act, Answ
     assert!(rt; has_entries(gate, acts.len()));
 }
 
-/// Each act, by its strand, is answered by what stands beside it.
-fn check(rt: &impl Abort, alloc: Global, acts: &[(u32, Act, Answer)]) -> Result<(), Fail> {
-    check_with(rt, alloc, &[], acts)
+/// An act of strand 0, and what the gate makes of it.
+type Outcome = (Act, Result<Answer, GateFault>);
+
+/// What a new gate is asked.
+#[derive(Clone, Copy)]
+enum Asks<'a> {
+    Nothing,
+    /// Each act has the answer beside it.
+    Acts(&'a [Asked]),
+    /// Each act has the outcome beside it. Then there are so many entries, it has finished or not, and its cell holds this number.
+    Outcomes(&'a [Outcome], (usize, bool, u64)),
+    /// What has a fault, fault by fault.
+    Faults,
+    /// Ten thousand spawns.
+    SpawnsLong,
+    /// The drawn acts of this seed, from this state of the generator.
+    Drawn(u64, u64),
 }
 
-/// The same of a program with these reducers.
+/// Asks a new gate with these reducers, and checks its answers.
+fn ask(
+    rt: &impl Abort,
+    alloc: Global,
+    gate: &mut Gate<Global>,
+    monoids: &[Monoid],
+    asks: Asks<'_>,
+) -> Result<(), Fail> {
+    match asks {
+        Asks::Nothing => is_new(rt, gate),
+        Asks::Acts(acts) => answers_all(rt, gate, acts),
+        Asks::Outcomes(cases, end) => {
+            check_outcomes(rt, alloc, gate, cases)?;
+            ends(rt, gate, end);
+        }
+        Asks::Faults => answers_faults(rt, gate),
+        Asks::SpawnsLong => spawns_long(rt, gate),
+        Asks::Drawn(seed, state) => agrees_in(rt, alloc, gate, monoids, seed, state)?,
+    }
+    Ok(())
+}
+
+/// The same, with this limit. No other function here owns a gate, since each that does is dear to prove.
+fn check_new(
+    rt: &impl Abort,
+    alloc: Global,
+    monoids: &[Monoid],
+    limit: u32,
+    asks: Asks<'_>,
+) -> Result<(), Fail>
+    requires entries { limit ≤ most_entries }
+    requires reducers { length monoids.now ≤ most_reducers }
+{
+    let mut gate = opening_with(alloc, monoids, limit)?;
+    ask(rt, alloc, &mut gate, monoids, asks)
+}
+
+/// Each act, by its strand, of a program with these reducers is answered by what stands beside it.
 fn check_with(
     rt: &impl Abort,
     alloc: Global,
     monoids: &[Monoid],
-    acts: &[(u32, Act, Answer)],
+    acts: &[Asked],
 ) -> Result<(), Fail>
     requires { length monoids.now ≤ most_reducers }
 {
-    let mut gate = opening_with(alloc, monoids, 1_000_000)?;
-    answers_all(rt, &mut gate, acts);
+    check_new(rt, alloc, monoids, 1_000_000, Asks::Acts(acts))
+}
+
+/// The same of programs with one reducer, each by a gate of its own.
+fn check_reducers(rt: &impl Abort, alloc: Global, runs: &[(Monoid, &[Asked])]) -> Result<(), Fail> {
+    for (monoid, acts) in runs {
+        check_with(rt, alloc, &[*monoid], acts)?;
+    }
+    Ok(())
+}
+
+/// The same of programs without reducers.
+fn check(rt: &impl Abort, alloc: Global, runs: &[&[Asked]]) -> Result<(), Fail> {
+    for acts in runs {
+        check_with(rt, alloc, &[], acts)?;
+    }
     Ok(())
 }
 
@@ -156,9 +218,7 @@ fn is_new(rt: &impl Abort, gate: &Gate<Global>) {
 
 #[test]
 fn a_gate_begins_without_entries(rt: HostRuntime) -> Result<(), Fail> {
-    let gate = opening(rt.alloc(), 7)?;
-    is_new(&rt, &gate);
-    Ok(())
+    check_new(&rt, rt.alloc(), &[], 7, Asks::Nothing)
 }
 
 #[test]
@@ -166,7 +226,7 @@ fn values_go_along_a_strand(rt: HostRuntime) -> Result<(), Fail> {
     check(
         &rt,
         rt.alloc(),
-        &[(0, Write(0, 5), Granted), (0, Read(0), Value(5))],
+        &[&[(0, Write(0, 5), Granted), (0, Read(0), Value(5))]],
     )
 }
 
@@ -176,29 +236,23 @@ fn parallel_reads_are_granted_and_a_parallel_write_is_refused(rt: HostRuntime) -
         &rt,
         rt.alloc(),
         &[
-            (0, Spawn, split(1, 2, 3, true)),
-            (1, Read(0), Value(0)),
-            (2, Read(0), Value(0)),
-            (2, Write(0, 9), refused(2, 1, Kind::Read)),
-        ],
-    )?;
-    check(
-        &rt,
-        rt.alloc(),
-        &[
-            (0, Spawn, split(1, 2, 3, true)),
-            (2, Read(0), Value(0)),
-            (1, Write(0, 9), refused(2, 2, Kind::Read)),
-        ],
-    )?;
-    check(
-        &rt,
-        rt.alloc(),
-        &[
-            (0, Spawn, split(1, 2, 3, true)),
-            (2, Read(0), Value(0)),
-            (1, Read(0), Value(0)),
-            (1, Write(0, 9), refused(2, 2, Kind::Read)),
+            &[
+                (0, Spawn, split(1, 2, 3, true)),
+                (1, Read(0), Value(0)),
+                (2, Read(0), Value(0)),
+                (2, Write(0, 9), refused(2, 1, Kind::Read)),
+            ],
+            &[
+                (0, Spawn, split(1, 2, 3, true)),
+                (2, Read(0), Value(0)),
+                (1, Write(0, 9), refused(2, 2, Kind::Read)),
+            ],
+            &[
+                (0, Spawn, split(1, 2, 3, true)),
+                (2, Read(0), Value(0)),
+                (1, Read(0), Value(0)),
+                (1, Write(0, 9), refused(2, 2, Kind::Read)),
+            ],
         ],
     )
 }
@@ -208,13 +262,13 @@ fn a_write_behind_the_join_is_granted(rt: HostRuntime) -> Result<(), Fail> {
     check(
         &rt,
         rt.alloc(),
-        &[
+        &[&[
             (0, Spawn, split(1, 2, 3, true)),
             (1, Read(0), Value(0)),
             (2, Sync, Waits),
             (1, Return, EndedJoined(3)),
             (3, Write(0, 4), Granted),
-        ],
+        ]],
     )
 }
 
@@ -223,12 +277,12 @@ fn a_refused_write_is_not_done(rt: HostRuntime) -> Result<(), Fail> {
     check(
         &rt,
         rt.alloc(),
-        &[
+        &[&[
             (0, Spawn, split(1, 2, 3, true)),
             (1, Write(0, 5), Granted),
             (2, Write(0, 6), refused(2, 1, Kind::Write)),
             (1, Read(0), Value(5)),
-        ],
+        ]],
     )
 }
 
@@ -237,7 +291,7 @@ fn a_called_function_syncs_its_own_children(rt: HostRuntime) -> Result<(), Fail>
     check(
         &rt,
         rt.alloc(),
-        &[
+        &[&[
             (0, Spawn, split(1, 2, 3, true)),
             (2, Call, Same),
             (2, Spawn, split(4, 5, 6, true)),
@@ -246,7 +300,7 @@ fn a_called_function_syncs_its_own_children(rt: HostRuntime) -> Result<(), Fail>
             (6, Return, Resumed),
             (6, Sync, Waits),
             (1, Return, EndedJoined(3)),
-        ],
+        ]],
     )
 }
 
@@ -256,50 +310,36 @@ fn bumps_are_added_and_race_with_reads_and_writes(rt: HostRuntime) -> Result<(),
         &rt,
         rt.alloc(),
         &[
-            (0, Write(0, 1), Granted),
-            (0, Spawn, split(1, 2, 3, true)),
-            (1, Bump(0, 2), Granted),
-            (2, Bump(0, 3), Granted),
-            (2, Read(0), refused(3, 1, Kind::Bump)),
-            (2, Sync, Waits),
-            (1, Return, EndedJoined(3)),
-            (3, Read(0), Value(6)),
-        ],
-    )?;
-    check(
-        &rt,
-        rt.alloc(),
-        &[
-            (0, Write(0, 18_446_744_073_709_551_615), Granted),
-            (0, Bump(0, 2), Granted),
-            (0, Read(0), Value(1)),
-        ],
-    )?;
-    check(
-        &rt,
-        rt.alloc(),
-        &[
-            (0, Spawn, split(1, 2, 3, true)),
-            (1, Bump(0, 2), Granted),
-            (2, Write(0, 9), refused(2, 1, Kind::Bump)),
-        ],
-    )?;
-    check(
-        &rt,
-        rt.alloc(),
-        &[
-            (0, Spawn, split(1, 2, 3, true)),
-            (1, Write(0, 9), Granted),
-            (2, Bump(0, 2), refused(2, 1, Kind::Write)),
-        ],
-    )?;
-    check(
-        &rt,
-        rt.alloc(),
-        &[
-            (0, Spawn, split(1, 2, 3, true)),
-            (1, Read(0), Value(0)),
-            (2, Bump(0, 1), refused(2, 1, Kind::Read)),
+            &[
+                (0, Write(0, 1), Granted),
+                (0, Spawn, split(1, 2, 3, true)),
+                (1, Bump(0, 2), Granted),
+                (2, Bump(0, 3), Granted),
+                (2, Read(0), refused(3, 1, Kind::Bump)),
+                (2, Sync, Waits),
+                (1, Return, EndedJoined(3)),
+                (3, Read(0), Value(6)),
+            ],
+            &[
+                (0, Write(0, 18_446_744_073_709_551_615), Granted),
+                (0, Bump(0, 2), Granted),
+                (0, Read(0), Value(1)),
+            ],
+            &[
+                (0, Spawn, split(1, 2, 3, true)),
+                (1, Bump(0, 2), Granted),
+                (2, Write(0, 9), refused(2, 1, Kind::Bump)),
+            ],
+            &[
+                (0, Spawn, split(1, 2, 3, true)),
+                (1, Write(0, 9), Granted),
+                (2, Bump(0, 2), refused(2, 1, Kind::Write)),
+            ],
+            &[
+                (0, Spawn, split(1, 2, 3, true)),
+                (1, Read(0), Value(0)),
+                (2, Bump(0, 1), refused(2, 1, Kind::Read)),
+            ],
         ],
     )
 }
@@ -320,16 +360,11 @@ fn answers_faults(rt: &impl Abort, gate: &mut Gate<Global>) {
 
 #[test]
 fn faults_come_in_their_order(rt: HostRuntime) -> Result<(), Fail> {
-    let mut gate = opening(rt.alloc(), 2)?;
-    answers_faults(&rt, &mut gate);
-    Ok(())
+    check_new(&rt, rt.alloc(), &[], 2, Asks::Faults)
 }
 
 /// What strand 0 asks on line 1, and the replies that the outcomes make.
-fn lists(
-    alloc: Global,
-    cases: &[(Act, Result<Answer, GateFault>)],
-) -> Result<(Vec<Request>, Vec<Reply>), AllocError> {
+fn lists(alloc: Global, cases: &[Outcome]) -> Result<(Vec<Request>, Vec<Reply>), AllocError> {
     let mut requests = Vec::new(alloc);
     let mut replies = Vec::new(alloc);
     let mut number = 0u32;
@@ -355,65 +390,45 @@ fn check_replies(
     Ok(())
 }
 
-/// The gate gives strand 0 these outcomes, one to each act, and then has so many entries, has finished or not, and holds this number.
+/// The gate gives strand 0 these outcomes, one to each act.
 fn check_outcomes(
     rt: &impl Abort,
     alloc: Global,
     gate: &mut Gate<Global>,
-    cases: &[(Act, Result<Answer, GateFault>)],
-    end: (usize, bool, u64),
+    cases: &[Outcome],
 ) -> Result<(), Fail> {
     let (requests, expected) = lists(alloc, cases)?;
-    check_replies(rt, alloc, gate, requests.as_slice(), expected.as_slice())?;
-    assert!(rt; stands(gate, end.0, end.1, false));
-    assert!(rt; holds(gate, &[end.2]));
-    Ok(())
+    check_replies(rt, alloc, gate, requests.as_slice(), expected.as_slice())
 }
 
-/// The same of a new gate of this limit.
-fn check_list(
-    rt: &impl Abort,
-    alloc: Global,
-    limit: u32,
-    cases: &[(Act, Result<Answer, GateFault>)],
-    end: (usize, bool, u64),
-) -> Result<(), Fail>
-    requires { limit ≤ most_entries }
-{
-    let mut gate = opening(alloc, limit)?;
-    check_outcomes(rt, alloc, &mut gate, cases, end)
+/// The gate has so many entries, has finished or not, is not stopped, and holds this number.
+fn ends(rt: &impl Abort, gate: &Gate<Global>, end: (usize, bool, u64)) {
+    assert!(rt; stands(gate, end.0, end.1, false));
+    assert!(rt; holds(gate, &[end.2]));
 }
 
 #[test]
 fn a_list_has_one_reply_to_each_request(rt: HostRuntime) -> Result<(), Fail> {
-    check_list(
-        &rt,
-        rt.alloc(),
-        3,
-        &[
-            (Write(0, 1), Ok(Granted)),
-            (Write(0, 1), Ok(Granted)),
-            (Write(0, 1), Ok(Granted)),
-            (Write(0, 1), Err(GateFault::Limit)),
-        ],
-        (3, false, 1),
-    )
+    let outcomes = [
+        (Write(0, 1), Ok(Granted)),
+        (Write(0, 1), Ok(Granted)),
+        (Write(0, 1), Ok(Granted)),
+        (Write(0, 1), Err(GateFault::Limit)),
+    ];
+    let asks = Asks::Outcomes(&outcomes, (3, false, 1));
+    check_new(&rt, rt.alloc(), &[], 3, asks)
 }
 
 #[test]
 fn the_root_function_finishes(rt: HostRuntime) -> Result<(), Fail> {
     laws_hold();
-    check_list(
-        &rt,
-        rt.alloc(),
-        1_000_000,
-        &[
-            (Sync, Ok(Same)),
-            (Return, Ok(Finished)),
-            (Read(0), Err(GateFault::NotRunning)),
-        ],
-        (2, true, 0),
-    )
+    let outcomes = [
+        (Sync, Ok(Same)),
+        (Return, Ok(Finished)),
+        (Read(0), Err(GateFault::NotRunning)),
+    ];
+    let asks = Asks::Outcomes(&outcomes, (2, true, 0));
+    check_new(&rt, rt.alloc(), &[], 1_000_000, asks)
 }
 
 fn laws_hold() {
@@ -467,7 +482,5 @@ fn spawns_long(rt: &impl Abort, gate: &mut Gate<Global>) {
 
 #[test]
 fn spawns_in_a_long_loop(rt: HostRuntime) -> Result<(), Fail> {
-    let mut gate = opening(rt.alloc(), 1_000_000)?;
-    spawns_long(&rt, &mut gate);
-    Ok(())
+    check_new(&rt, rt.alloc(), &[], 1_000_000, Asks::SpawnsLong)
 }

@@ -49,6 +49,18 @@ fn check_lines(
     }
 }
 
+/// What each line says where these functions are named, of which the first has begun, and the registers `n` and `t`.
+fn reads_with(
+    rt: &impl Abort,
+    names: &Names<Global>,
+    functions: &FunctionNames<'_, Global>,
+    cases: &[(&[u8], Result<Statement, Cause>)],
+) {
+    let registers = [Name::new("n"), Name::new("t")];
+    let scope = Scope::new(names, functions, 1, registers.as_slice());
+    check_lines(rt, &scope, cases);
+}
+
 /// What each line says in a text of that version that declares nothing, with the functions `main` and `fib`, of which the first has begun,
 /// and the registers `n` and `t`.
 fn reads(
@@ -59,9 +71,7 @@ fn reads(
 ) -> Result<(), Fail> {
     let names = Names::new(alloc, version);
     let functions = functions(alloc)?;
-    let registers = [Name::new("n"), Name::new("t")];
-    let scope = Scope::new(&names, &functions, 1, registers.as_slice());
-    check_lines(rt, &scope, cases);
+    reads_with(rt, &names, &functions, cases);
     Ok(())
 }
 

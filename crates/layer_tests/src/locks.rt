@@ -135,8 +135,26 @@ fn is_clean<L: Ledger>(
     Ok(gather(alloc, program, locked, logs)?.clean)
 }
 
-/// How much was asked on both seats, and whether the run of the program that was gathered is clean. A gate of other cells has so many. A
-/// stopped gate is stopped once all was asked.
+/// How much was asked on both seats. A stopped gate is stopped once all was asked. The first log keeps what the case says.
+fn asked_of<L: Ledger, R: Wait>(
+    rt: &R,
+    alloc: Global,
+    locked: &LockedGate<L>,
+    first: &mut WorkerLog<L>,
+    second: &mut WorkerLog<L>,
+    case: Case<'_>,
+    stopped: bool,
+) -> Result<u64, RunFault> {
+    ask_all(rt, locked, first, second, case)?;
+    if stopped {
+        stop(rt, locked, first)?;
+    }
+    let asked = first.seat.asked().wrapping_add(second.seat.asked());
+    first.receipts = kept(alloc, first.receipts.as_slice(), case.kept)?;
+    Ok(asked)
+}
+
+/// How much was asked on both seats, and whether the run of the program that was gathered is clean. A gate of other cells has so many.
 fn gathered_of<L: Ledger, R: Wait>(
     rt: &R,
     alloc: Global,
@@ -161,12 +179,7 @@ fn gathered_of<L: Ledger, R: Wait>(
         seat,
         receipts: Vec::new(alloc),
     };
-    ask_all(rt, &locked, &mut first, &mut second, case)?;
-    if stopped {
-        stop(rt, &locked, &mut first)?;
-    }
-    let asked = first.seat.asked().wrapping_add(second.seat.asked());
-    first.receipts = kept(alloc, first.receipts.as_slice(), case.kept)?;
+    let asked = asked_of(rt, alloc, &locked, &mut first, &mut second, case, stopped)?;
     let clean = is_clean(alloc, program, locked, first, second)?;
     Ok((asked, clean))
 }

@@ -63,7 +63,11 @@ fn places_three(rt: &impl Abort, list: &mut OrderList<Global>) {
 fn places_items_behind_others(rt: HostRuntime) -> Result<(), Fail> {
     let mut list = OrderList::new(rt.alloc())?;
     places_three(&rt, &mut list);
-    stand_before(&rt, &list, &[(0, 2), (2, 1), (1, 3), (0, 1), (0, 3), (2, 3)]);
+    stand_before(
+        &rt,
+        &list,
+        &[(0, 2), (2, 1), (1, 3), (0, 1), (0, 3), (2, 3)],
+    );
     assert!(rt; !is_before(&rt, &list, 3, 3));
     Ok(())
 }

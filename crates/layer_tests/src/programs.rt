@@ -37,13 +37,6 @@ fn check_programs(rt: &impl Abort, alloc: Global, texts: &[&[u8]]) {
     }
 }
 
-/// Each text means a program, and the text behind it has too many of something on that line.
-fn check_limit(rt: &impl Abort, alloc: Global, most: &str, more: &str, line: u32) {
-    assert!(rt; is_program(alloc, most.as_bytes()));
-    let found = fault_of(alloc, more.as_bytes());
-    equal(rt, &line, &found, &Some((line, Cause::TooMany)));
-}
-
 /// The names are these.
 fn are_named(rt: &impl Abort, names: &[Name], wanted: &[&str]) {
     assert!(rt; names.len() == wanted.len());
@@ -85,23 +78,58 @@ fn is_function(
     equal(rt, &names, &function.body.as_slice().len(), &statements);
 }
 
-#[test]
-fn fibonacci(rt: HostRuntime) -> Result<(), Fail> {
-    let program = Program::parse(rt.alloc(), FIB)?;
-    assert_eq!(rt; program.main(), 0);
-    let [main, fib] = program.functions.as_slice() else {
-        assert!(rt; false);
-        return Ok(());
-    };
-    is_function(&rt, main, ("main", "z"), (4, 9), 4);
-    is_function(&rt, fib, ("fib", "n"), (10, 21), 10);
-    are_named(&rt, fib.registers.as_slice(), &["n", "t", "a", "b"]);
+/// A function's name and parameter, its first and last line, and how many statements it has.
+type Outline<'a> = ((&'a str, &'a str), (u32, u32), usize);
+
+/// The program has these functions, of which the one with that number is `main`.
+fn has_functions(
+    rt: &impl Abort,
+    program: &Program<Global>,
+    main: u32,
+    wanted: &[Outline<'static>],
+) {
+    equal(rt, &"main", &program.main(), &main);
+    equal(
+        rt,
+        &"functions",
+        &program.functions.as_slice().len(),
+        &wanted.len(),
+    );
+    for (function, (names, lines, statements)) in program.functions.as_slice().iter().zip(wanted) {
+        is_function(rt, function, *names, *lines, *statements);
+    }
+}
+
+/// These statements stand at the places beside them in the function with that number.
+fn stand_in(
+    rt: &impl Abort,
+    program: &Program<Global>,
+    function: usize,
+    wanted: &[(usize, Statement)],
+) {
+    match program.functions.as_slice().get(function) {
+        Some(found) => stand_at(rt, found.body.as_slice(), wanted),
+        None => assert!(rt; false, "{function}"),
+    }
+}
+
+/// The function with that number has these registers.
+fn has_registers(rt: &impl Abort, program: &Program<Global>, function: usize, wanted: &[&str]) {
+    match program.functions.as_slice().get(function) {
+        Some(found) => are_named(rt, found.registers.as_slice(), wanted),
+        None => assert!(rt; false, "{function}"),
+    }
+}
+
+/// What stands in the function `fib`.
+fn is_fibonacci(rt: &impl Abort, program: &Program<Global>) {
     let register = Register { index: 2 };
     let value = Expression::Less(held(1), Operand::Number(2));
     let argument = held(3);
-    stand_at(
-        &rt,
-        fib.body.as_slice(),
+    stand_in(
+        rt,
+        program,
+        1,
         &[
             (
                 0,
@@ -137,6 +165,19 @@ fn fibonacci(rt: HostRuntime) -> Result<(), Fail> {
             (9, Statement::End { line: 20 }),
         ],
     );
+}
+
+#[test]
+fn fibonacci(rt: HostRuntime) -> Result<(), Fail> {
+    let program = Program::parse(rt.alloc(), FIB)?;
+    has_functions(
+        &rt,
+        &program,
+        0,
+        &[(("main", "z"), (4, 9), 4), (("fib", "n"), (10, 21), 10)],
+    );
+    has_registers(&rt, &program, 1, &["n", "t", "a", "b"]);
+    is_fibonacci(&rt, &program);
     Ok(())
 }
 
@@ -207,21 +248,8 @@ fn nesting(rt: HostRuntime) {
     );
 }
 
-#[test]
-fn names_of_the_whole_text(rt: HostRuntime) -> Result<(), Fail> {
-    let alloc = rt.alloc();
-    let program = Program::parse(
-        alloc,
-        b"cilk 1\nfunc f n\n  call g n\nend\nfunc main z\n  let main = 1\n  call f main\nend\n func  g\tx # c\nend",
-    )?;
-    assert_eq!(rt; program.main(), 1);
-    let [first, main, last] = program.functions.as_slice() else {
-        assert!(rt; false);
-        return Ok(());
-    };
-    is_function(&rt, first, ("f", "n"), (2, 4), 1);
-    is_function(&rt, main, ("main", "z"), (5, 8), 2);
-    is_function(&rt, last, ("g", "x"), (9, 10), 0);
+/// The first function calls the last one, and `main`, the second one, calls the first.
+fn calls_each_other(rt: &impl Abort, program: &Program<Global>) {
     let first_call = Statement::Call {
         line: 3,
         function: 2,
@@ -232,11 +260,30 @@ fn names_of_the_whole_text(rt: HostRuntime) -> Result<(), Fail> {
         function: 0,
         argument: held(2),
     };
-    stand_at(&rt, first.body.as_slice(), &[(0, first_call)]);
-    stand_at(&rt, main.body.as_slice(), &[(1, main_call)]);
+    stand_in(rt, program, 0, &[(0, first_call)]);
+    stand_in(rt, program, 1, &[(1, main_call)]);
+}
+
+#[test]
+fn names_of_the_whole_text(rt: HostRuntime) -> Result<(), Fail> {
+    let program = Program::parse(
+        rt.alloc(),
+        b"cilk 1\nfunc f n\n  call g n\nend\nfunc main z\n  let main = 1\n  call f main\nend\n func  g\tx # c\nend",
+    )?;
+    has_functions(
+        &rt,
+        &program,
+        1,
+        &[
+            (("f", "n"), (2, 4), 1),
+            (("main", "z"), (5, 8), 2),
+            (("g", "x"), (9, 10), 0),
+        ],
+    );
+    calls_each_other(&rt, &program);
     check_faults(
         &rt,
-        alloc,
+        rt.alloc(),
         &[
             (
                 b"cilk 1\nfunc main z\n  call g z\nend\nfunc g z # \xFF\n",
@@ -337,38 +384,78 @@ fn reducers(alloc: Global, count: u32) -> Result<String, Fail> {
     Ok(text)
 }
 
+/// A program of so many lines behind its three.
+fn with_lines(alloc: Global, count: u32) -> Result<String, Fail> {
+    let mut text = String::from_str(alloc, "cilk 1\nfunc main z\nend\n")?;
+    append(&mut text, "\n", count)?;
+    Ok(text)
+}
+
+/// What a program has much of.
+#[derive(Clone, Copy)]
+enum Much {
+    Nested,
+    Statements,
+    Functions,
+    Registers,
+    Reducers,
+    Lines,
+}
+
+/// A program of so much.
+fn text_of(alloc: Global, what: Much, count: u32) -> Result<String, Fail> {
+    match what {
+        Much::Nested => nested(alloc, count),
+        Much::Statements => long(alloc, count),
+        Much::Functions => crowd(alloc, count),
+        Much::Registers => registers(alloc, count),
+        Much::Reducers => reducers(alloc, count),
+        Much::Lines => with_lines(alloc, count),
+    }
+}
+
+/// So much means a program.
+fn is_enough(rt: &impl Abort, alloc: Global, what: Much, count: u32) -> Result<(), Fail> {
+    let text = text_of(alloc, what, count)?;
+    assert!(rt; is_program(alloc, text.as_bytes()));
+    Ok(())
+}
+
+/// So much is too much, by what stands on that line.
+fn is_too_much(
+    rt: &impl Abort,
+    alloc: Global,
+    what: Much,
+    count: u32,
+    line: u32,
+) -> Result<(), Fail> {
+    let text = text_of(alloc, what, count)?;
+    let found = fault_of(alloc, text.as_bytes());
+    equal(rt, &line, &found, &Some((line, Cause::TooMany)));
+    Ok(())
+}
+
+/// So much means a program, and one more is too much, by what stands on that line.
+fn check_limits(rt: &impl Abort, alloc: Global, cases: &[(Much, u32, u32)]) -> Result<(), Fail> {
+    for (what, most, line) in cases {
+        is_enough(rt, alloc, *what, *most)?;
+        is_too_much(rt, alloc, *what, most.wrapping_add(1), *line)?;
+    }
+    Ok(())
+}
+
 #[test]
 fn limits(rt: HostRuntime) -> Result<(), Fail> {
-    let alloc = rt.alloc();
-    check_limit(
+    check_limits(
         &rt,
-        alloc,
-        nested(alloc, 64)?.as_str(),
-        nested(alloc, 65)?.as_str(),
-        67,
-    );
-    check_limit(
-        &rt,
-        alloc,
-        long(alloc, 99_999)?.as_str(),
-        long(alloc, 100_000)?.as_str(),
-        200_004,
-    );
-    check_limit(
-        &rt,
-        alloc,
-        crowd(alloc, 999)?.as_str(),
-        crowd(alloc, 1_000)?.as_str(),
-        2_002,
-    );
-    check_limit(
-        &rt,
-        alloc,
-        registers(alloc, 15)?.as_str(),
-        registers(alloc, 16)?.as_str(),
-        18,
-    );
-    Ok(())
+        rt.alloc(),
+        &[
+            (Much::Nested, 64, 67),
+            (Much::Statements, 99_999, 200_004),
+            (Much::Functions, 999, 2_002),
+            (Much::Registers, 15, 18),
+        ],
+    )
 }
 
 #[test]
@@ -391,35 +478,12 @@ fn limits_of_declarations(rt: HostRuntime) -> Result<(), Fail> {
             Cause::TooMany,
         )],
     );
-    check_limit(
-        &rt,
-        alloc,
-        reducers(alloc, 256)?.as_str(),
-        reducers(alloc, 257)?.as_str(),
-        258,
-    );
-    Ok(())
-}
-
-/// A program of so many lines behind its three.
-fn with_lines(alloc: Global, count: u32) -> Result<String, Fail> {
-    let mut text = String::from_str(alloc, "cilk 1\nfunc main z\nend\n")?;
-    append(&mut text, "\n", count)?;
-    Ok(text)
+    check_limits(&rt, alloc, &[(Much::Reducers, 256, 258)])
 }
 
 #[test]
 fn many_lines(rt: HostRuntime) -> Result<(), Fail> {
-    let alloc = rt.alloc();
-    let most = with_lines(alloc, 3_999_997)?;
-    check_limit(
-        &rt,
-        alloc,
-        most.as_str(),
-        with_lines(alloc, 3_999_998)?.as_str(),
-        4_000_001,
-    );
-    Ok(())
+    check_limits(&rt, rt.alloc(), &[(Much::Lines, 3_999_997, 4_000_001)])
 }
 
 /// Checks what a cell of a program is called.
@@ -437,12 +501,16 @@ fn is_called(
     Ok(())
 }
 
-#[test]
-fn names_of_cells(rt: HostRuntime) -> Result<(), Fail> {
-    let alloc = rt.alloc();
-    let program = Program::parse(alloc, b"cilk 1\nmem x\nmem a 2\nfunc main z\nend\n")?;
+/// The program has three cells, of which the first is `x` and the last the second of `a`.
+fn has_cells(rt: &impl Abort, alloc: Global, program: &Program<Global>) -> Result<(), Fail> {
     let shape = program.shape(alloc)?;
     assert_eq!(rt; shape.cells, 3);
-    is_called(&rt, alloc, &program, 0, "x")?;
-    is_called(&rt, alloc, &program, 2, "a[1]")
+    is_called(rt, alloc, program, 0, "x")?;
+    is_called(rt, alloc, program, 2, "a[1]")
+}
+
+#[test]
+fn names_of_cells(rt: HostRuntime) -> Result<(), Fail> {
+    let program = Program::parse(rt.alloc(), b"cilk 1\nmem x\nmem a 2\nfunc main z\nend\n")?;
+    has_cells(&rt, rt.alloc(), &program)
 }

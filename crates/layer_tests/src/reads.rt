@@ -1,21 +1,40 @@
 //! Reads of a reducer by strands with the peers of the first read, and with others.
 
+ghost use Rattle.std.specs.Prelude.{◌≡◌, [], length};
+ghost use Rattle.branch_names.specs.Names.{Follows};
+ghost use Rattle.view_read_rule.specs.Reads.{Remembers};
+
+use crate::checks::equal;
 use access_table::Kind;
 use branch_names::Branches;
 use shadow_history::Witness;
 use sp_labels::Spawned;
+use std::alloc::Global;
+use std::process::Abort;
 use std::test::Fail;
 use view_read_rule::{ReadPeers, ViewVerdict};
 
 // Strand 0 spawns 1 and 2, strand 1 puts, strand 2 asks for a get and spawns, strand 1 gets.
-#[test]
-fn judges_by_the_first_read(rt: HostRuntime) -> Result<(), Fail> {
-    let mut branches = Branches::new(rt.alloc())?;
-    let mut peers = ReadPeers::new(rt.alloc(), 1)?;
-    assert_eq!(rt; peers.judge(&branches, 0, Kind::Get, 0), ViewVerdict::Unset);
-    assert_eq!(rt;
-        peers.judge(&branches, 0, Kind::Put, 0),
-        ViewVerdict::Granted
+fn judges_reads(
+    rt: &impl Abort,
+    branches: &mut Branches<Global>,
+    peers: &mut ReadPeers<Global>,
+) -> Result<(), Fail>
+    requires follows { Follows branches.old [] }
+    requires reducers { length peers.old ≡ 1 }
+    requires empty { Remembers peers.old [] }
+{
+    equal(
+        rt,
+        &1,
+        &peers.judge(branches, 0, Kind::Get, 0),
+        &ViewVerdict::Unset,
+    );
+    equal(
+        rt,
+        &2,
+        &peers.judge(branches, 0, Kind::Put, 0),
+        &ViewVerdict::Granted,
     );
 
     branches.reserve_event()?;
@@ -34,9 +53,11 @@ fn judges_by_the_first_read(rt: HostRuntime) -> Result<(), Fail> {
         strand: 1,
         kind: Kind::Put,
     };
-    assert_eq!(rt;
-        peers.judge(&branches, 0, Kind::Get, 2),
-        ViewVerdict::Refused(put)
+    equal(
+        rt,
+        &3,
+        &peers.judge(branches, 0, Kind::Get, 2),
+        &ViewVerdict::Refused(put),
     );
 
     branches.reserve_event()?;
@@ -49,9 +70,18 @@ fn judges_by_the_first_read(rt: HostRuntime) -> Result<(), Fail> {
             first: false,
         },
     );
-    assert_eq!(rt;
-        peers.judge(&branches, 0, Kind::Get, 1),
-        ViewVerdict::Granted
+    equal(
+        rt,
+        &4,
+        &peers.judge(branches, 0, Kind::Get, 1),
+        &ViewVerdict::Granted,
     );
     Ok(())
+}
+
+#[test]
+fn judges_by_the_first_read(rt: HostRuntime) -> Result<(), Fail> {
+    let mut branches = Branches::new(rt.alloc())?;
+    let mut peers = ReadPeers::new(rt.alloc(), 1)?;
+    judges_reads(&rt, &mut branches, &mut peers)
 }

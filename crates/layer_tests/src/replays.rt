@@ -56,10 +56,20 @@ fn refused() -> Answer {
     }
 }
 
-// Whether the replay of these entries is so.
+// Whether the replay of these entries of a program's run is so.
+fn replays(
+    alloc: Global,
+    program: &Program<Global>,
+    entries: &[Entry],
+    wanted: Result<(), ReplayFault>,
+) -> bool {
+    replay(alloc, program, entries) == wanted
+}
+
+// The same of the program that a text means.
 fn gives(alloc: Global, text: &[u8], entries: &[Entry], wanted: Result<(), ReplayFault>) -> bool {
     match Program::parse(alloc, text) {
-        Ok(program) => replay(alloc, &program, entries) == wanted,
+        Ok(program) => replays(alloc, &program, entries, wanted),
         Err(_) => false,
     }
 }

@@ -74,9 +74,7 @@ enum Step {
     Fills,
 }
 
-use Step::{
-    Calls, Fills, HasRoom, Relates, Reserves, Returns, Spawns, SpawnsLong, Stands, Syncs,
-};
+use Step::{Calls, Fills, HasRoom, Relates, Reserves, Returns, Spawns, SpawnsLong, Stands, Syncs};
 
 /// The strand spawns, with this outcome.
 fn spawns(

@@ -1,6 +1,6 @@
 //! Traces as text: each cause, each limit, each kind of line.
 
-ghost use Rattle.std.specs.Prelude.{◌<◌};
+ghost use Rattle.std.specs.Prelude.{◌≡◌, ◌<◌, OnOk};
 ghost use Rattle.trace_text.specs.Grammar.{cells_of};
 
 use crate::checks::equal;
@@ -202,7 +202,7 @@ fn ask_for(rt: &impl Abort, lines: &[TraceLine], acts: &[Act]) {
             act: *act,
             line: line.at,
         };
-        assert!(rt; line.request == request && !line.marked, "{line:?}");
+        is_line(rt, line, request, line.at, false);
     }
 }
 
@@ -232,30 +232,34 @@ fn requests(rt: HostRuntime) -> Result<(), Fail> {
     asks(&rt, rt.alloc(), head, acts.as_slice())
 }
 
+/// The line asks for this, stands at that line of the text, and is marked or not.
+fn is_line(rt: &impl Abort, line: &TraceLine, request: Request, at: u32, marked: bool) {
+    equal(rt, &at, &line.request, &request);
+    equal(rt, &at, &(line.at, line.marked), &(at, marked));
+}
+
+/// The lines are those of a read and of a marked write, behind a spawn.
+fn are_marked(rt: &impl Abort, lines: &[TraceLine]) {
+    assert!(rt; lines.len() == 3);
+    let write = Request {
+        strand: 2,
+        act: Act::Write(0, 9),
+        line: 7,
+    };
+    let read = Request {
+        strand: 1,
+        act: Act::Read(0),
+        line: 4,
+    };
+    is_line(rt, &lines[2], write, 6, true);
+    is_line(rt, &lines[1], read, 4, false);
+}
+
 #[test]
 fn marks_and_blanks(rt: HostRuntime) -> Result<(), Fail> {
     let text = b"cilk 1\r\nmem x\nspawn 0\nread 1 x # c\n\n  write\t2 x 9 @7\n\r";
     let trace = Trace::parse(rt.alloc(), text)?;
-    let lines = trace.lines.as_slice();
-    assert_eq!(rt; lines.len(), 3);
-    assert_eq!(rt;
-        lines[2].request,
-        Request {
-            strand: 2,
-            act: Act::Write(0, 9),
-            line: 7
-        }
-    );
-    assert_eq!(rt; lines[2].at, 6);
-    assert!(rt; lines[2].marked);
-    assert_eq!(rt;
-        lines[1].request,
-        Request {
-            strand: 1,
-            act: Act::Read(0),
-            line: 4
-        }
-    );
+    are_marked(&rt, trace.lines.as_slice());
     Ok(())
 }
 
@@ -264,11 +268,17 @@ fn printed_of(alloc: Global, text: &[u8]) -> Result<Vec<u8>, Fail> {
     Ok(Trace::parse(alloc, text)?.print(alloc)?)
 }
 
+/// Checks that a text is printed so.
+fn prints_once(rt: &impl Abort, alloc: Global, text: &[u8], plain: &[u8]) -> Result<(), Fail> {
+    let printed = printed_of(alloc, text)?;
+    equal(rt, &text, &printed.as_slice(), &plain);
+    Ok(())
+}
+
 /// Checks that a text is printed so, and that the printed text is printed alike.
 fn prints(rt: &impl Abort, alloc: Global, text: &[u8], plain: &[u8]) -> Result<(), Fail> {
-    equal(rt, &text, &printed_of(alloc, text)?.as_slice(), &plain);
-    equal(rt, &plain, &printed_of(alloc, plain)?.as_slice(), &plain);
-    Ok(())
+    prints_once(rt, alloc, text, plain)?;
+    prints_once(rt, alloc, plain, plain)
 }
 
 #[test]
@@ -304,6 +314,29 @@ fn is_called(
     Ok(())
 }
 
+/// The trace has three cells and two reducers, of these monoids.
+fn is_shaped(
+    rt: &impl Abort,
+    alloc: Global,
+    trace: &Trace<Global>,
+    monoids: &[Monoid],
+) -> Result<(), Fail>
+    ensures { OnOk result (cells_of trace.now.mems ≡ 3) }
+{
+    let shape = trace.shape(alloc)?;
+    assert!(rt; shape.cells == 3);
+    equal(rt, &"monoids", &shape.monoids.as_slice(), &monoids);
+    Ok(())
+}
+
+/// The trace has three cells, of which the first is `x` and the last the second of `a`.
+fn has_cells(rt: &impl Abort, alloc: Global, trace: &Trace<Global>) -> Result<(), Fail>
+    requires { cells_of trace.now.mems ≡ 3 }
+{
+    is_called(rt, alloc, trace, 0, "x")?;
+    is_called(rt, alloc, trace, 2, "a[1]")
+}
+
 #[test]
 fn shapes_and_names(rt: HostRuntime) -> Result<(), Fail> {
     let alloc = rt.alloc();
@@ -311,12 +344,6 @@ fn shapes_and_names(rt: HostRuntime) -> Result<(), Fail> {
         alloc,
         b"cilk 2\nmem x\nmem a 2\nreducer h digits\nreducer g min\n",
     )?;
-    let shape = trace.shape(alloc)?;
-    assert_eq!(rt; shape.cells, 3);
-    assert_eq!(rt;
-        shape.monoids.as_slice(),
-        [Monoid::Digits, Monoid::Min].as_slice()
-    );
-    is_called(&rt, alloc, &trace, 0, "x")?;
-    is_called(&rt, alloc, &trace, 2, "a[1]")
+    is_shaped(&rt, alloc, &trace, &[Monoid::Digits, Monoid::Min])?;
+    has_cells(&rt, alloc, &trace)
 }

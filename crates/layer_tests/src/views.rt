@@ -247,41 +247,62 @@ fn take(rt: &impl Abort, run: &mut Run, step: Step) -> Result<(), AllocError> {
     }
 }
 
-/// Takes the steps with views of these reducers.
+/// Takes the steps, one after another.
+fn take_all(rt: &impl Abort, run: &mut Run, steps: &[Step]) -> Result<(), AllocError> {
+    for step in steps {
+        take(rt, run, *step)?;
+    }
+    Ok(())
+}
+
+/// Takes the steps with new views of these reducers.
 fn check(rt: &impl Abort, alloc: Global, monoids: &[Monoid], steps: &[Step]) -> Result<(), Fail> {
     let views = Views::new(alloc, monoids)?;
     let mut run = Run {
         views,
         count: monoids.len(),
     };
-    for step in steps {
-        take(rt, &mut run, *step)?;
+    take_all(rt, &mut run, steps)?;
+    Ok(())
+}
+
+/// The same of views of one reducer, in turn.
+fn check_each(rt: &impl Abort, alloc: Global, runs: &[(Monoid, &[Step])]) -> Result<(), Fail> {
+    for (monoid, steps) in runs {
+        check(rt, alloc, &[*monoid], steps)?;
     }
     Ok(())
 }
 
+/// A join combines the update of a child, which comes later, with that of its continuation.
+fn check_join(
+    rt: &impl Abort,
+    alloc: Global,
+    monoid: Monoid,
+    numbers: [u64; 3],
+    wanted: u64,
+) -> Result<(), Fail> {
+    let [put, later, earlier] = numbers;
+    check(
+        rt,
+        alloc,
+        &[monoid],
+        &[
+            Put(0, 0, put),
+            Spawn(0, 1, None),
+            Add(2, 0, later),
+            Add(1, 0, earlier),
+            Begin(3),
+            Sees(3, 0, Some(wanted)),
+        ],
+    )
+}
+
 #[test]
 fn a_join_combines_in_order_of_spawning(rt: HostRuntime) -> Result<(), Fail> {
-    for (monoid, put, later, earlier, wanted) in [
-        (Monoid::Last, 1, 7, 5, 7),
-        (Monoid::Min, 9, 6, 4, 4),
-        (Monoid::Digits, 0, 2, 1, 33),
-    ] {
-        check(
-            &rt,
-            rt.alloc(),
-            &[monoid],
-            &[
-                Put(0, 0, put),
-                Spawn(0, 1, None),
-                Add(2, 0, later),
-                Add(1, 0, earlier),
-                Begin(3),
-                Sees(3, 0, Some(wanted)),
-            ],
-        )?;
-    }
-    Ok(())
+    check_join(&rt, rt.alloc(), Monoid::Last, [1, 7, 5], 7)?;
+    check_join(&rt, rt.alloc(), Monoid::Min, [9, 6, 4], 4)?;
+    check_join(&rt, rt.alloc(), Monoid::Digits, [0, 2, 1], 33)
 }
 
 #[test]
@@ -322,57 +343,67 @@ fn a_put_in_a_child_is_gone_on_with(rt: HostRuntime) -> Result<(), Fail> {
 
 #[test]
 fn other_strands_keep_their_views(rt: HostRuntime) -> Result<(), Fail> {
-    check(
+    check_each(
         &rt,
         rt.alloc(),
-        &[Monoid::Sum],
         &[
-            Put(0, 0, 1),
-            Spawn(0, 1, None),
-            Begin(3),
-            Sees(3, 0, Some(1)),
-        ],
-    )?;
-    check(
-        &rt,
-        rt.alloc(),
-        &[Monoid::Sum],
-        &[
-            Spawn(0, 1, None),
-            Put(1, 0, 5),
-            Spawn(2, 4, Some(3)),
-            Sees(1, 0, Some(5)),
+            (
+                Monoid::Sum,
+                &[
+                    Put(0, 0, 1),
+                    Spawn(0, 1, None),
+                    Begin(3),
+                    Sees(3, 0, Some(1)),
+                ],
+            ),
+            (
+                Monoid::Sum,
+                &[
+                    Spawn(0, 1, None),
+                    Put(1, 0, 5),
+                    Spawn(2, 4, Some(3)),
+                    Sees(1, 0, Some(5)),
+                ],
+            ),
         ],
     )
 }
 
+/// New views have no room for an event.
+fn has_no_room(rt: &impl Abort, alloc: Global) -> Result<(), Fail> {
+    let views = Views::new(alloc, &[Monoid::Sum])?;
+    assert!(rt; !views.has_room());
+    Ok(())
+}
+
 #[test]
 fn a_strand_sees_its_own_updates(rt: HostRuntime) -> Result<(), Fail> {
-    let views = Views::new(rt.alloc(), &[Monoid::Sum])?;
-    assert!(rt; !views.has_room());
-    check(
+    has_no_room(&rt, rt.alloc())?;
+    check_each(
         &rt,
         rt.alloc(),
-        &[Monoid::Sum],
         &[
-            Sees(0, 0, Some(0)),
-            Put(0, 0, 18_446_744_073_709_551_615),
-            Add(0, 0, 2),
-            Sees(0, 0, Some(1)),
+            (
+                Monoid::Sum,
+                &[
+                    Sees(0, 0, Some(0)),
+                    Put(0, 0, 18_446_744_073_709_551_615),
+                    Add(0, 0, 2),
+                    Sees(0, 0, Some(1)),
+                ],
+            ),
+            (
+                Monoid::Max,
+                &[
+                    Put(0, 0, 3),
+                    Add(0, 0, 9),
+                    Add(0, 0, 4),
+                    Sees(0, 0, Some(9)),
+                ],
+            ),
+            (Monoid::Last, &[Sees(0, 0, None)]),
         ],
-    )?;
-    check(
-        &rt,
-        rt.alloc(),
-        &[Monoid::Max],
-        &[
-            Put(0, 0, 3),
-            Add(0, 0, 9),
-            Add(0, 0, 4),
-            Sees(0, 0, Some(9)),
-        ],
-    )?;
-    check(&rt, rt.alloc(), &[Monoid::Last], &[Sees(0, 0, None)])
+    )
 }
 
 #[test]

@@ -4,7 +4,9 @@ ghost use Rattle.std.specs.Prelude.{◌≤◌};
 ghost use Rattle.race_gate.specs.Shapes.{most_entries};
 
 use super::devices::{Breaking, Filling};
-use super::{MOST, Outcome, check_fault, check_written, lined};
+use super::{
+    MOST, Outcome, check_fault, check_told, check_written, has_filled, is_fault, is_unread, lined,
+};
 use std::alloc::Global;
 use std::io::{Read, Write};
 use std::process::Abort;
@@ -39,6 +41,14 @@ fn elided<R: Read + Drop, W: Write>(alloc: Global, reader: R, writer: W, limit: 
     }
 }
 
+/// The elision of the program of this text is written so.
+fn check_text(rt: &impl Abort, alloc: Global, text: &str, limit: u32, wanted: &str)
+    requires { limit ≤ most_entries }
+{
+    let outcome = elided(alloc, text.as_bytes(), Vec::new(alloc), limit);
+    check_written(rt, &outcome, 0, wanted, text);
+}
+
 /// The elision of the program is written so, with lines between slashes.
 fn check_elision(
     rt: &impl Abort,
@@ -51,8 +61,7 @@ fn check_elision(
 {
     let text = lined(alloc, program, "; ")?;
     let wanted = lined(alloc, wanted, " / ")?;
-    let outcome = elided(alloc, text.as_bytes(), Vec::new(alloc), limit);
-    check_written(rt, &outcome, 0, wanted.as_str(), program);
+    check_text(rt, alloc, text.as_str(), limit, wanted.as_str());
     Ok(())
 }
 
@@ -72,69 +81,89 @@ fn check_no_elision(
     check_fault(rt, alloc, &outcome, status, wanted)
 }
 
-#[test]
-fn elisions(rt: HostRuntime) -> Result<(), Fail> {
-    for (program, limit, wanted) in [
-        (FIB, MOST, "x 55 / requests 713"),
-        (FIB, 713u32, "x 55 / requests 713"),
-        (
-            "cilk 1; mem x; mem y; func main z; spawn f 7; read r x; end; func f v; write x v; end",
-            MOST,
-            "x 7 / y 0 / requests 7",
-        ),
-        (
-            "cilk 2; mem a 4; func main z; pfor i 4 f; end; func f n; write a[n] n; end",
-            MOST,
-            "a[0] 0 / a[1] 1 / a[2] 2 / a[3] 3 / requests 19",
-        ),
-        (
-            "cilk 1; mem x; mem a 2; mem y; func main z; write a[1] 5; write y 6; end",
-            MOST,
-            "x 0 / a[0] 0 / a[1] 5 / y 6 / requests 4",
-        ),
-        ("cilk 1; func main z; end", 2, "requests 2"),
-    ] {
-        check_elision(&rt, rt.alloc(), program, limit, wanted)?;
+/// Each program's elision within the limit is written so.
+fn check_elisions(rt: &impl Abort, alloc: Global, cases: &[(&str, u32, &str)]) -> Result<(), Fail> {
+    for (program, limit, wanted) in cases {
+        assert!(rt; *limit <= MOST);
+        check_elision(rt, alloc, program, *limit, wanted)?;
+    }
+    Ok(())
+}
+
+/// No elision of each program is written, for the fault beside it.
+fn check_no_elisions(
+    rt: &impl Abort,
+    alloc: Global,
+    cases: &[(&str, u32, &str, u8)],
+) -> Result<(), Fail> {
+    for (program, limit, wanted, status) in cases {
+        assert!(rt; *limit <= MOST);
+        check_no_elision(rt, alloc, program, *limit, wanted, *status)?;
     }
     Ok(())
 }
 
 #[test]
+fn elisions(rt: HostRuntime) -> Result<(), Fail> {
+    check_elisions(
+        &rt,
+        rt.alloc(),
+        &[
+            (FIB, MOST, "x 55 / requests 713"),
+            (FIB, 713, "x 55 / requests 713"),
+            (
+                "cilk 1; mem x; mem y; func main z; spawn f 7; read r x; end; func f v; write x v; end",
+                MOST,
+                "x 7 / y 0 / requests 7",
+            ),
+            (
+                "cilk 2; mem a 4; func main z; pfor i 4 f; end; func f n; write a[n] n; end",
+                MOST,
+                "a[0] 0 / a[1] 1 / a[2] 2 / a[3] 3 / requests 19",
+            ),
+            (
+                "cilk 1; mem x; mem a 2; mem y; func main z; write a[1] 5; write y 6; end",
+                MOST,
+                "x 0 / a[0] 0 / a[1] 5 / y 6 / requests 4",
+            ),
+            ("cilk 1; func main z; end", 2, "requests 2"),
+        ],
+    )
+}
+
+#[test]
 fn faults_of_elisions(rt: HostRuntime) -> Result<(), Fail> {
-    for (program, limit, wanted, status) in [
-        (FIB, 712u32, "limit", 4u8),
-        (FIB, 0, "limit", 4),
-        (ENDLESS, 5, "limit", 4),
-        (ENDLESS, MOST, "limit", 4),
-        ("", MOST, "program line 1: BadHeader", 2),
-        ("cilk 1; mem a 0", MOST, "program line 2: BadNumber", 2),
-        (
-            "cilk 1; func main z; sync",
-            MOST,
-            "program line 4: BadNesting",
-            2,
-        ),
-        (
-            "cilk 1; func main z; spawn g 1; end",
-            MOST,
-            "program line 3: UnknownName",
-            2,
-        ),
-    ] {
-        check_no_elision(&rt, rt.alloc(), program, limit, wanted, status)?;
-    }
-    Ok(())
+    check_no_elisions(
+        &rt,
+        rt.alloc(),
+        &[
+            (FIB, 712, "limit", 4),
+            (FIB, 0, "limit", 4),
+            (ENDLESS, 5, "limit", 4),
+            (ENDLESS, MOST, "limit", 4),
+            ("", MOST, "program line 1: BadHeader", 2),
+            ("cilk 1; mem a 0", MOST, "program line 2: BadNumber", 2),
+            (
+                "cilk 1; func main z; sync",
+                MOST,
+                "program line 4: BadNesting",
+                2,
+            ),
+            (
+                "cilk 1; func main z; spawn g 1; end",
+                MOST,
+                "program line 3: UnknownName",
+                2,
+            ),
+        ],
+    )
 }
 
 #[test]
 fn a_file_that_cannot_be_opened(rt: HostRuntime) -> Result<(), Fail> {
     match opened(&rt, "no/such/file") {
         Ok(_) => assert!(rt; false, "it is opened"),
-        Err(fault) => {
-            let told = format!(in rt.alloc(); "{fault}")?;
-            assert_eq!(rt; told.as_str(), "read");
-            assert_eq!(rt; fault.status(), 2);
-        }
+        Err(fault) => is_fault(&rt, rt.alloc(), &fault, 2, "read")?,
     }
     Ok(())
 }
@@ -144,23 +173,25 @@ fn elided_breaking(alloc: Global, left: u32) -> Outcome<Vec<u8>> {
     elided(alloc, Breaking { text, left }, Vec::new(alloc), MOST)
 }
 
+/// A reader that fails behind so many reads is told, and nothing is written.
+fn check_unread(rt: &impl Abort, alloc: Global, left: u32) {
+    let outcome = elided_breaking(alloc, left);
+    is_unread(rt, &outcome, left);
+}
+
+/// A reader that fails behind so many reads, more than are wanted, is as good as another.
+fn check_read(rt: &impl Abort, alloc: Global, left: u32) {
+    let outcome = elided_breaking(alloc, left);
+    check_written(rt, &outcome, 0, LEFT_BY_SHORT, "an elision");
+}
+
 #[test]
 fn a_program_that_cannot_be_read(rt: HostRuntime) {
     for left in 0..30u32 {
-        let outcome = elided_breaking(rt.alloc(), left);
-        assert!(rt;
-            matches!(outcome.answer, Err(CliFault::Read)),
-            "at read {left}"
-        );
-        assert!(rt;
-            outcome.read_failed && outcome.output.is_empty(),
-            "at read {left}"
-        );
+        check_unread(&rt, rt.alloc(), left);
     }
     for left in 30..32u32 {
-        let outcome = elided_breaking(rt.alloc(), left);
-        assert!(rt; matches!(outcome.answer, Ok(0)) && !outcome.read_failed);
-        assert_eq!(rt; outcome.output.as_slice(), LEFT_BY_SHORT.as_bytes());
+        check_read(&rt, rt.alloc(), left);
     }
 }
 
@@ -173,28 +204,31 @@ fn elided_filling(alloc: Global, left: u32) -> Outcome<Filling> {
     elided(alloc, SHORT.as_bytes(), filling, MOST)
 }
 
+/// A writer that goes along with so many calls fails just where they are too few.
+fn check_filling(rt: &impl Abort, alloc: Global, left: u32) {
+    let outcome = elided_filling(alloc, left);
+    has_filled(rt, &outcome, left, 16, LEFT_BY_SHORT);
+}
+
 #[test]
 fn an_elision_that_cannot_be_written(rt: HostRuntime) {
     for left in 0..17u32 {
-        let outcome = elided_filling(rt.alloc(), left);
-        let has_failed = matches!(outcome.answer, Err(CliFault::Write));
-        let held = outcome.output.held.as_slice();
-        assert_eq!(rt; outcome.write_failed, left < 16, "{left} writes");
-        assert_eq!(rt; has_failed, left < 16, "{left} writes");
-        assert!(rt; left < 16 || matches!(outcome.answer, Ok(0)));
-        assert!(rt; LEFT_BY_SHORT.as_bytes().starts_with(held));
-        assert_eq!(rt; held.len(), (left as usize).min(15));
+        check_filling(&rt, rt.alloc(), left);
+    }
+}
+
+/// What is written by an elision to which memory was given or not, by how it ends.
+fn told_by(answer: &Result<u8, CliFault>) -> Option<&'static str> {
+    match answer {
+        Ok(0) => Some(LEFT_BY_SHORT),
+        // The writer takes memory too.
+        Err(CliFault::Memory | CliFault::Write) => Some(""),
+        _ => None,
     }
 }
 
 #[test]
 fn memory_that_an_elision_wants_is_told(rt: HostRuntime) {
     let outcome = elided(rt.alloc(), SHORT.as_bytes(), Vec::new(rt.alloc()), MOST);
-    let written = outcome.output.as_slice();
-    match outcome.answer {
-        Ok(0) => assert_eq!(rt; written, LEFT_BY_SHORT.as_bytes()),
-        // The writer takes memory too.
-        Err(CliFault::Memory | CliFault::Write) => assert!(rt; written.is_empty()),
-        _ => assert!(rt; false, "{:?}", outcome.answer),
-    }
+    check_told(&rt, &outcome, told_by(&outcome.answer));
 }

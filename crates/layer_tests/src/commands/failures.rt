@@ -1,7 +1,7 @@
 //! Readers, writers and memory that fail while a trace is judged.
 
 use super::devices::{Breaking, Filling, Spaces};
-use super::{MOST, Outcome, judged};
+use super::{MOST, Outcome, check_told, check_written, has_filled, is_unread, judged};
 use std::alloc::Global;
 use std::io;
 use std::process::Abort;
@@ -16,23 +16,25 @@ fn judged_breaking(alloc: Global, left: u32) -> Outcome<Vec<u8>> {
     judged(alloc, Breaking { text, left }, Vec::new(alloc), MOST)
 }
 
+/// A reader that fails behind so many reads is told, and nothing is written.
+fn check_unread(rt: &impl Abort, alloc: Global, left: u32) {
+    let outcome = judged_breaking(alloc, left);
+    is_unread(rt, &outcome, left);
+}
+
+/// A reader that fails behind so many reads, more than are wanted, is as good as another.
+fn check_read(rt: &impl Abort, alloc: Global, left: u32) {
+    let outcome = judged_breaking(alloc, left);
+    check_written(rt, &outcome, 0, VERDICTS, "a trace");
+}
+
 #[test]
 fn a_reader_that_fails(rt: HostRuntime) {
     for left in 0..23u32 {
-        let outcome = judged_breaking(rt.alloc(), left);
-        assert!(rt;
-            matches!(outcome.answer, Err(CliFault::Read)),
-            "at read {left}"
-        );
-        assert!(rt;
-            outcome.read_failed && outcome.output.is_empty(),
-            "at read {left}"
-        );
+        check_unread(&rt, rt.alloc(), left);
     }
     for left in 23..25u32 {
-        let outcome = judged_breaking(rt.alloc(), left);
-        assert!(rt; matches!(outcome.answer, Ok(0)) && !outcome.read_failed);
-        assert_eq!(rt; outcome.output.as_slice(), VERDICTS.as_bytes());
+        check_read(&rt, rt.alloc(), left);
     }
 }
 
@@ -48,13 +50,7 @@ fn judged_filling(alloc: Global, left: u32, answers_an_error: bool) -> Outcome<F
 /// A writer that goes along with so many calls fails just where they are too few.
 fn check_filling(rt: &impl Abort, alloc: Global, left: u32, answers_an_error: bool) {
     let outcome = judged_filling(alloc, left, answers_an_error);
-    let has_failed = matches!(outcome.answer, Err(CliFault::Write));
-    let held = outcome.output.held.as_slice();
-    assert_eq!(rt; outcome.write_failed, left < 11, "{left} writes");
-    assert_eq!(rt; has_failed, left < 11, "{left} writes");
-    assert!(rt; left < 11 || matches!(outcome.answer, Ok(0)));
-    assert!(rt; VERDICTS.as_bytes().starts_with(held));
-    assert_eq!(rt; held.len(), (left as usize).min(10));
+    has_filled(rt, &outcome, left, 11, VERDICTS);
 }
 
 #[test]
@@ -85,15 +81,19 @@ fn a_reader_that_gives_too_much(rt: HostRuntime) {
     assert!(rt; outcome.reads < 1_000);
 }
 
+/// What is written by a judgement to which memory was given or not, by how it ends.
+fn told_by(answer: &Result<u8, CliFault>) -> Option<&'static str> {
+    match answer {
+        Ok(0) => Some(VERDICTS),
+        Ok(3) => Some("illegal memory\n"),
+        // The writer takes memory too.
+        Err(CliFault::Memory | CliFault::Write) => Some(""),
+        _ => None,
+    }
+}
+
 #[test]
 fn memory_that_is_wanting_is_told(rt: HostRuntime) {
     let outcome = judged(rt.alloc(), TRACE.as_bytes(), Vec::new(rt.alloc()), MOST);
-    let written = outcome.output.as_slice();
-    match outcome.answer {
-        Ok(0) => assert_eq!(rt; written, VERDICTS.as_bytes()),
-        Ok(3) => assert_eq!(rt; written, b"illegal memory\n".as_slice()),
-        // The writer takes memory too.
-        Err(CliFault::Memory | CliFault::Write) => assert!(rt; written.is_empty()),
-        _ => assert!(rt; false, "{:?}", outcome.answer),
-    }
+    check_told(&rt, &outcome, told_by(&outcome.answer));
 }

@@ -13,100 +13,105 @@ fn job(alloc: Global, line: &str) -> Result<Result<Job, CliFault>, Fail> {
     Ok(read_words(alloc, words.as_slice()))
 }
 
-/// The words ask to judge with this limit.
-fn check_limit(rt: &impl Abort, alloc: Global, words: &str, wanted: u32) -> Result<(), Fail> {
-    let found = job(alloc, words)?;
-    match &found {
-        Ok(Job::Judge { limit }) => assert_eq!(rt; *limit, wanted),
-        _ => assert!(rt; false, "{words} does not ask to judge"),
+/// What words are to ask for.
+#[derive(Clone, Copy)]
+enum Wanted<'a> {
+    /// To judge with this limit.
+    Judges(u32),
+    /// The elision of the program in the file `f`, with this limit.
+    Elides(u32),
+    /// Nothing: they are refused with this text.
+    Refused(&'a str),
+    /// A text with this part.
+    Shows(&'a str),
+}
+
+use Wanted::{Elides, Judges, Refused, Shows};
+
+/// Whether what words ask for is what they are to ask for.
+fn is_wanted(found: &Result<Job, CliFault>, wanted: Wanted<'_>) -> bool {
+    match (found, wanted) {
+        (Ok(Job::Judge { limit }), Judges(most)) => *limit == most,
+        (Ok(Job::Elide { file, limit }), Elides(most)) => file.as_str() == "f" && *limit == most,
+        (Err(CliFault::Usage(text)), Refused(whole)) => text.as_str() == whole,
+        (Ok(Job::Show { text }), Shows(part)) => text.as_str().contains(part),
+        _ => false,
     }
+}
+
+/// The words ask for this.
+fn check(rt: &impl Abort, alloc: Global, words: &str, wanted: Wanted<'_>) -> Result<(), Fail> {
+    let found = job(alloc, words)?;
+    assert!(rt; is_wanted(&found, wanted), "{words}");
     Ok(())
 }
 
-/// The words ask for the elision of the program in the file `f`, with this limit.
-fn check_elide(rt: &impl Abort, alloc: Global, words: &str, wanted: u32) -> Result<(), Fail> {
-    let found = job(alloc, words)?;
-    match &found {
-        Ok(Job::Elide { file, limit }) => {
-            assert_eq!(rt; file.as_str(), "f");
-            assert_eq!(rt; *limit, wanted);
-        }
-        _ => assert!(rt; false, "{words} does not ask for an elision"),
-    }
-    Ok(())
-}
-
-/// The words are refused with this text.
-fn check_usage(rt: &impl Abort, alloc: Global, words: &str, wanted: &str) -> Result<(), Fail> {
-    let found = job(alloc, words)?;
-    match &found {
-        Err(CliFault::Usage(text)) => assert_eq!(rt; text.as_str(), wanted),
-        _ => assert!(rt; false, "{words} is not refused"),
-    }
-    Ok(())
-}
-
-/// The words ask for a text with this part.
-fn check_shown(rt: &impl Abort, alloc: Global, words: &str, part: &str) -> Result<(), Fail> {
-    let found = job(alloc, words)?;
-    match &found {
-        Ok(Job::Show { text }) => assert!(rt; text.as_str().contains(part), "{text}"),
-        _ => assert!(rt; false, "{words} shows nothing"),
+/// Each line's words ask for what stands beside it.
+fn check_all(rt: &impl Abort, alloc: Global, cases: &[(&str, Wanted<'_>)]) -> Result<(), Fail> {
+    for (words, wanted) in cases {
+        check(rt, alloc, words, *wanted)?;
     }
     Ok(())
 }
 
 #[test]
 fn words_of_judge(rt: HostRuntime) -> Result<(), Fail> {
-    for (words, limit) in [
-        ("judge", 1_000_000u32),
-        ("judge --limit 3", 3),
-        ("judge --limit=0", 0),
-        ("judge --limit 1000000", 1_000_000),
-    ] {
-        check_limit(&rt, rt.alloc(), words, limit)?;
-    }
-    Ok(())
+    check_all(
+        &rt,
+        rt.alloc(),
+        &[
+            ("judge", Judges(1_000_000)),
+            ("judge --limit 3", Judges(3)),
+            ("judge --limit=0", Judges(0)),
+            ("judge --limit 1000000", Judges(1_000_000)),
+        ],
+    )
 }
 
 #[test]
 fn words_of_elide(rt: HostRuntime) -> Result<(), Fail> {
-    for (words, limit) in [
-        ("elide f", 1_000_000u32),
-        ("elide f --limit 713", 713),
-        ("elide --limit=0 f", 0),
-    ] {
-        check_elide(&rt, rt.alloc(), words, limit)?;
-    }
-    Ok(())
+    check_all(
+        &rt,
+        rt.alloc(),
+        &[
+            ("elide f", Elides(1_000_000)),
+            ("elide f --limit 713", Elides(713)),
+            ("elide --limit=0 f", Elides(0)),
+        ],
+    )
 }
 
 #[test]
 fn words_that_are_refused(rt: HostRuntime) -> Result<(), Fail> {
-    for (words, wanted) in [
-        ("judge --limit 1000001", NO_LIMIT),
-        ("judge --limit many", NO_LIMIT),
-        ("elide f --limit 1000001", NO_LIMIT),
-        ("elide", "no file is given; see 'cilkcheck --help'"),
-        ("elide f g", "unexpected argument 'g' found"),
-        ("judge x", "unexpected argument 'x' found"),
-        ("jugde", "unrecognized subcommand 'jugde'"),
-        ("", "no command is given; see 'cilkcheck --help'"),
-    ] {
-        check_usage(&rt, rt.alloc(), words, wanted)?;
-    }
-    Ok(())
+    check_all(
+        &rt,
+        rt.alloc(),
+        &[
+            ("judge --limit 1000001", Refused(NO_LIMIT)),
+            ("judge --limit many", Refused(NO_LIMIT)),
+            ("elide f --limit 1000001", Refused(NO_LIMIT)),
+            ("elide", Refused("no file is given; see 'cilkcheck --help'")),
+            ("elide f g", Refused("unexpected argument 'g' found")),
+            ("judge x", Refused("unexpected argument 'x' found")),
+            ("jugde", Refused("unrecognized subcommand 'jugde'")),
+            ("", Refused("no command is given; see 'cilkcheck --help'")),
+        ],
+    )
 }
 
 #[test]
 fn texts_that_are_shown(rt: HostRuntime) -> Result<(), Fail> {
-    for (words, part) in [
-        ("--help", "Usage: cilkcheck [COMMAND]\n"),
-        ("judge --help", "Usage: cilkcheck judge [OPTIONS]\n"),
-        ("elide --help", "Usage: cilkcheck elide [OPTIONS] <FILE>\n"),
-        ("--version", "cilkcheck 0.1.0\n"),
-    ] {
-        check_shown(&rt, rt.alloc(), words, part)?;
-    }
-    Ok(())
+    check_all(
+        &rt,
+        rt.alloc(),
+        &[
+            ("--help", Shows("Usage: cilkcheck [COMMAND]\n")),
+            ("judge --help", Shows("Usage: cilkcheck judge [OPTIONS]\n")),
+            (
+                "elide --help",
+                Shows("Usage: cilkcheck elide [OPTIONS] <FILE>\n"),
+            ),
+            ("--version", Shows("cilkcheck 0.1.0\n")),
+        ],
+    )
 }

@@ -1,10 +1,7 @@
 //! Random legal traces, against the slow reference.
 
-ghost use Rattle.std.specs.Prelude.{◌≤◌, length};
-ghost use Rattle.race_gate.specs.Shapes.{most_reducers};
-
-use super::opening_with;
 use super::reference::Reference;
+use super::{Asks, check_new};
 use crate::checks::equal;
 use crate::draws::draw;
 use access_table::Rule;
@@ -178,29 +175,27 @@ fn compare_all(
     compare(rt, alloc, reference, gate.history(), monoids, seed)
 }
 
-/// The trace of this seed, with these reducers and from this state of the generator.
-fn agrees_with(
+/// A new gate's trace of this seed, from this state of the generator, is the reference's.
+pub(super) fn agrees_in(
     rt: &impl Abort,
     alloc: Global,
+    gate: &mut Gate<Global>,
     monoids: &[Monoid],
     seed: u64,
     state: u64,
-) -> Result<(), AllocError>
-    requires { length monoids.now ≤ most_reducers }
-{
-    let mut gate = opening_with(alloc, monoids, 1_000)?;
+) -> Result<(), AllocError> {
     let mut reference = Reference::new(alloc);
-    play(&mut gate, &mut reference, seed % 2 == 0, state)?;
+    play(gate, &mut reference, seed % 2 == 0, state)?;
     reference.close();
-    compare_all(rt, alloc, &reference, &gate, monoids, seed)
+    compare_all(rt, alloc, &reference, gate, monoids, seed)
 }
 
 /// The trace of this seed.
-fn agrees(rt: &impl Abort, alloc: Global, seed: u64) -> Result<(), AllocError> {
+fn agrees(rt: &impl Abort, alloc: Global, seed: u64) -> Result<(), Fail> {
     let (first, state_first) = draw(seed, 5);
     let (second, state) = draw(state_first, 5);
     let monoids = [drawn_monoid(first), drawn_monoid(second)];
-    agrees_with(rt, alloc, &monoids, seed, state)
+    check_new(rt, alloc, &monoids, 1_000, Asks::Drawn(seed, state))
 }
 
 #[test]

@@ -230,23 +230,13 @@ impl Reference {
             },
             None => return Ok(0),
         };
-        let mut updates: Vec<(u32, u64)> = Vec::new(alloc);
+        let mut updates = Vec::new(alloc);
         for (place, entry) in earlier.iter().enumerate() {
             if let Act::Update(updated, number) = entry.request.act {
                 let by = entry.request.strand;
-                if place > put
-                    && updated == reducer
-                    && self.reaches(put_by, by)
-                    && self.reaches(by, strand)
-                {
-                    // Of one strand the updates stand in the order of their numbers.
-                    let at = updates
-                        .iter()
-                        .position(|(other, _)| self.is_before(by, *other))
-                        .unwrap_or(updates.len());
-                    if at <= updates.len() {
-                        updates.insert(at, (by, number))?;
-                    }
+                let is_between = self.reaches(put_by, by) && self.reaches(by, strand);
+                if place > put && updated == reducer && is_between {
+                    self.put_in_order(&mut updates, by, number)?;
                 }
             }
         }
@@ -254,6 +244,23 @@ impl Reference {
             value = combined(monoid, value, *number);
         }
         Ok(value)
+    }
+
+    /// Puts an update by the strand in its place. Of one strand the updates stand in the order of their numbers.
+    fn put_in_order(
+        &self,
+        updates: &mut Vec<(u32, u64)>,
+        by: u32,
+        number: u64,
+    ) -> Result<(), AllocError> {
+        let at = updates
+            .iter()
+            .position(|(other, _)| self.is_before(by, *other))
+            .unwrap_or(updates.len());
+        if at <= updates.len() {
+            updates.insert(at, (by, number))?;
+        }
+        Ok(())
     }
 
     /// Whether an access of a cell races with an earlier granted one.
