@@ -128,7 +128,7 @@ fn ask(
     Ok(())
 }
 
-/// The same, with this limit. No other function here owns a gate, since each that does is dear to prove.
+/// The same of a gate of its own, with this limit.
 fn check_new(
     rt: &impl Abort,
     alloc: Global,
