@@ -1,7 +1,3 @@
 mod Bytes
 mod Causes
 mod ElisionCauses
-mod Pairs
-mod Answering
-mod ReplayCauses
-mod RunCauses

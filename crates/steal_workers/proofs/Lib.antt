@@ -1,3 +1,0 @@
-pub mod Balances
-pub mod Sharing
-pub mod Sums

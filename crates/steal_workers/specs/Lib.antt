@@ -1,4 +1,0 @@
-pub mod Faults
-pub mod Finishing
-pub mod Hands
-pub mod Standing
