@@ -6,6 +6,8 @@ ghost use Rattle.race_gate.specs.Shapes.{most_entries};
 mod devices;
 mod elisions;
 mod failures;
+mod replays;
+mod runs;
 mod words;
 
 use crate::checks::equal;

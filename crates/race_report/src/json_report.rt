@@ -82,12 +82,12 @@ fn refusal_value<A: Allocator>(
 {
     let name = name_of(alloc, program, request.act)?;
     json!(in alloc; {
+        "name": name,
+        "witness": witness,
         "entry": number,
         "line": request.line,
-        "name": name,
         "rule": rule,
         "strand": request.strand,
-        "witness": witness,
     })
 }
 
@@ -189,10 +189,10 @@ fn clean_report(
     ensures { IfOk result (λ value. view value ≡ report_with true entries (view memory) (map view refusals.items)) }
 {
     json!(in alloc; {
-        "clean": true,
-        "entries": entries,
         "memory": memory,
         "refusals": refusals,
+        "clean": true,
+        "entries": entries,
         "schedules": "clean for every schedule",
     })
 }
@@ -207,10 +207,10 @@ fn refused_report(
     ensures { IfOk result (λ value. view value ≡ report_with false entries (view memory) (map view refusals.items)) }
 {
     json!(in alloc; {
-        "clean": false,
-        "entries": entries,
         "memory": memory,
         "refusals": refusals,
+        "clean": false,
+        "entries": entries,
     })
 }
 

@@ -72,6 +72,52 @@ pub fn push_number<A: Allocator>(
     push_words(text, Buffer::new().format(number))
 }
 
+/// Adds the word of an answer to an act.
+fn push_word<A: Allocator>(
+    text: &mut Vec<u8, A>,
+    act: Act,
+    answer: Answer,
+) -> Result<(), AllocError>
+    requires { HasWord act answer }
+    ensures { OnOk result (text.new.items ≡ text.old.items ++ answer_word act answer) }
+{
+    let word = match answer {
+        Answer::Split(_) => "split",
+        Answer::Same => "same",
+        Answer::Joined(_) => "joined",
+        Answer::Waits => "waits",
+        Answer::Resumed => "resumed",
+        Answer::Ended => "ended",
+        Answer::EndedJoined(_) => "ended-joined",
+        Answer::Finished => "finished",
+        Answer::Granted => "granted",
+        Answer::Value(_) => "value",
+        Answer::Refused { witness, .. } => {
+            push_words(text, "refused ")?;
+            rule_of_refusal(act, witness.kind)
+        }
+        Answer::Unset => "refused unset",
+    };
+    push_words(text, word)
+}
+
+/// Adds the numbers of an answer, each behind a space.
+fn push_numbers<A: Allocator>(text: &mut Vec<u8, A>, answer: Answer) -> Result<(), AllocError>
+    ensures { OnOk result (text.new.items ≡ text.old.items ++ numbers_text (answer_numbers answer)) }
+{
+    match answer {
+        Answer::Split(spawned) => {
+            push_number(text, " ", u64::from(spawned.child))?;
+            push_number(text, " ", u64::from(spawned.next))?;
+            push_number(text, " ", u64::from(spawned.join))
+        }
+        Answer::Joined(join) | Answer::EndedJoined(join) => push_number(text, " ", u64::from(join)),
+        Answer::Value(value) => push_number(text, " ", value),
+        Answer::Refused { witness, .. } => push_number(text, " ", u64::from(witness.entry)),
+        _ => Ok(()),
+    }
+}
+
 /// Adds what the gate answered to an act.
 fn push_answer<A: Allocator>(
     text: &mut Vec<u8, A>,
@@ -81,31 +127,8 @@ fn push_answer<A: Allocator>(
     requires { HasWord act answer }
     ensures { OnOk result (text.new.items ≡ text.old.items ++ answer_text act answer) }
 {
-    match answer {
-        Answer::Split(spawned) => {
-            push_number(text, "split ", u64::from(spawned.child))?;
-            push_number(text, " ", u64::from(spawned.next))?;
-            push_number(text, " ", u64::from(spawned.join))
-        }
-        Answer::Same => push_words(text, "same"),
-        Answer::Joined(join) => push_number(text, "joined ", u64::from(join)),
-        Answer::Waits => push_words(text, "waits"),
-        Answer::Resumed => push_words(text, "resumed"),
-        Answer::Ended => push_words(text, "ended"),
-        Answer::EndedJoined(join) => {
-            push_words(text, "ended-joined")?;
-            push_number(text, " ", u64::from(join))
-        }
-        Answer::Finished => push_words(text, "finished"),
-        Answer::Granted => push_words(text, "granted"),
-        Answer::Value(value) => push_number(text, "value ", value),
-        Answer::Refused { witness, .. } => {
-            push_words(text, "refused ")?;
-            push_words(text, rule_of_refusal(act, witness.kind))?;
-            push_number(text, " ", u64::from(witness.entry))
-        }
-        Answer::Unset => push_words(text, "refused unset"),
-    }
+    push_word(text, act, answer)?;
+    push_numbers(text, answer)
 }
 
 /// Adds the line of a reply.

@@ -5,7 +5,7 @@ use Rattle.std.proofs.lemmas.List.{take-append-drop}
 use Rattle.std.proofs.lemmas.Bool.{ne_eqb}
 use Rattle.std.specs.Io.KnownBytes.{Consumes, Appends}
 use Rattle.text_commands.specs.declared.fault.CliFault.{CliFault}
-use Rattle.text_commands.specs.declared.fault.CliFault.TheVariants.{Usage, Read, Write, TooLong, Trace, Program, Limit, Memory}
+use Rattle.text_commands.specs.declared.fault.CliFault.TheVariants.{Usage, Read, Write, TooLong, Trace, Program, Shape, Illegal, Limit, Stopped, Torn, Strange, Memory}
 use Rattle.text_commands.specs.Watched.{one_more}
 use Rattle.text_commands.specs.Streams.{with_calls, TakesPiece, StopsPiece, StopsReading}
 
@@ -56,6 +56,11 @@ piece_cause first between last old_calls new_calls text (Usage words) taken stop
 piece_cause first between last old_calls new_calls text Write taken stops = absurd stops
 piece_cause first between last old_calls new_calls text (Trace fault) taken stops = absurd stops
 piece_cause first between last old_calls new_calls text (Program fault) taken stops = absurd stops
+piece_cause first between last old_calls new_calls text Shape taken stops = absurd stops
+piece_cause first between last old_calls new_calls text (Illegal number) taken stops = absurd stops
+piece_cause first between last old_calls new_calls text Stopped taken stops = absurd stops
+piece_cause first between last old_calls new_calls text Torn taken stops = absurd stops
+piece_cause first between last old_calls new_calls text Strange taken stops = absurd stops
 piece_cause first between last old_calls new_calls text Limit taken stops = absurd stops
 
 -- a text and one more piece

@@ -3,7 +3,7 @@ use Rattle.std.proofs.Common.{ℕ, List, Option}
 use Rattle.program_text.specs.Drafts.{Contents}
 use Rattle.program_text.specs.Grammar.{TextMeans}
 use Rattle.text_commands.specs.declared.fault.CliFault.{CliFault}
-use Rattle.text_commands.specs.declared.fault.CliFault.TheVariants.{Usage, Read, Write, TooLong, Trace, Program, Limit, Memory}
+use Rattle.text_commands.specs.declared.fault.CliFault.TheVariants.{Usage, Read, Write, TooLong, Trace, Program, Shape, Illegal, Limit, Stopped, Torn, Strange, Memory}
 use Rattle.text_commands.specs.Streams.{IsRead, StopsWriting}
 use Rattle.text_commands.specs.Elided.{ElidesText, StopsElision, HasElisionCause}
 
@@ -25,6 +25,11 @@ stopping_cause before behind wrote writes old_calls new_calls limit text content
 stopping_cause before behind wrote writes old_calls new_calls limit text contents TooLong read means stops = absurd stops
 stopping_cause before behind wrote writes old_calls new_calls limit text contents (Trace fault) read means stops = absurd stops
 stopping_cause before behind wrote writes old_calls new_calls limit text contents (Program fault) read means stops = absurd stops
+stopping_cause before behind wrote writes old_calls new_calls limit text contents Shape read means stops = absurd stops
+stopping_cause before behind wrote writes old_calls new_calls limit text contents (Illegal number) read means stops = absurd stops
+stopping_cause before behind wrote writes old_calls new_calls limit text contents Stopped read means stops = absurd stops
+stopping_cause before behind wrote writes old_calls new_calls limit text contents Torn read means stops = absurd stops
+stopping_cause before behind wrote writes old_calls new_calls limit text contents Strange read means stops = absurd stops
 
 -- only a part of its lines could be written
 pub cutting_cause : (before behind wrote writes : Option (List ℕ)) (old_calls new_calls limit : ℕ) (text lines : List ℕ) (fault : CliFault) →
@@ -45,5 +50,10 @@ cutting_cause before behind wrote writes old_calls new_calls limit text lines Re
 cutting_cause before behind wrote writes old_calls new_calls limit text lines TooLong read elides stops = absurd stops
 cutting_cause before behind wrote writes old_calls new_calls limit text lines (Trace fault) read elides stops = absurd stops
 cutting_cause before behind wrote writes old_calls new_calls limit text lines (Program fault) read elides stops = absurd stops
+cutting_cause before behind wrote writes old_calls new_calls limit text lines Shape read elides stops = absurd stops
+cutting_cause before behind wrote writes old_calls new_calls limit text lines (Illegal number) read elides stops = absurd stops
+cutting_cause before behind wrote writes old_calls new_calls limit text lines Stopped read elides stops = absurd stops
+cutting_cause before behind wrote writes old_calls new_calls limit text lines Torn read elides stops = absurd stops
+cutting_cause before behind wrote writes old_calls new_calls limit text lines Strange read elides stops = absurd stops
 cutting_cause before behind wrote writes old_calls new_calls limit text lines Limit read elides stops = absurd stops
 cutting_cause before behind wrote writes old_calls new_calls limit text lines Memory read elides stops = absurd stops

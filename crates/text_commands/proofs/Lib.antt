@@ -1,3 +1,7 @@
 mod Bytes
 mod Causes
 mod ElisionCauses
+mod Pairs
+mod Answering
+mod ReplayCauses
+mod RunCauses

@@ -1,11 +1,13 @@
 -- What the words of a command line may ask for.
-use Rattle.std.specs.Prelude.{◌≤◌}
+use Rattle.std.specs.Prelude.{◌<◌, ◌≤◌}
 use Rattle.race_gate.specs.Shapes.{most_entries}
 use Rattle.text_commands.specs.declared.words.Job.{Job}
-use Rattle.text_commands.specs.declared.words.Job.TheVariants.{Judge, Elide, Show}
+use Rattle.text_commands.specs.declared.words.Job.TheVariants.{Judge, Elide, Run, Replay, Show}
 
 -- the numbers of the job are in their ranges
 abbrev pub IsInRange : Job → Type 0
 IsInRange (Judge limit) = limit ≤ most_entries
 IsInRange (Elide file limit) = limit ≤ most_entries
+IsInRange (Run file workers limit) = (0 < workers) × (workers ≤ 64) × (limit ≤ most_entries)
+IsInRange (Replay file trace) = Unit {0}
 IsInRange (Show text) = Unit {0}

@@ -5,3 +5,7 @@ pub mod Streams
 pub mod Jobs
 pub mod ElisionText
 pub mod Elided
+pub mod Declarations
+pub mod Outcomes
+pub mod Replays
+pub mod Runs

@@ -32,15 +32,19 @@ declared_shape contents = record { cells = cells_of contents.known.mems; monoids
 abbrev pub requests_of : Contents → List Request
 requests_of contents = map (λ line. line.request) contents.lines
 
--- These are the replies of a fresh gate to the requests, in their order, and the history that it then has is judged rightly.
-pub record AreAllJudged (shape : Shape) (limit : ℕ) (requests : List Request) (replies : List Reply) : Type 0 where
-  pub last : State
-  pub judges : JudgesAll (opening shape limit) requests replies last
-  pub judged : IsJudged last.shape last.history
+-- A fresh gate judged the requests, in their order, with these replies, and the history that it then has is judged rightly.
+pub record IsJudgedBy (shape : Shape) (limit : ℕ) (requests : List Request) (replies : List Reply) (gate : State) : Type 0 where
+  pub judges : JudgesAll (opening shape limit) requests replies gate
+  pub judged : IsJudged gate.shape gate.history
 
--- These are the replies of a gate to the requests of the trace.
-abbrev pub AreReplies : Contents → (limit : ℕ) → List Reply → Type 0
-AreReplies contents limit replies = AreAllJudged (declared_shape contents) limit (requests_of contents) replies
+-- of a trace's requests
+abbrev pub JudgesTrace : Contents → (limit : ℕ) → List Reply → State → Type 0
+JudgesTrace contents limit replies gate = IsJudgedBy (declared_shape contents) limit (requests_of contents) replies gate
+
+-- These are the replies of such a gate.
+pub record AreReplies (contents : Contents) (limit : ℕ) (replies : List Reply) : Type 0 where
+  pub last : State
+  pub judges : JudgesTrace contents limit replies last
 
 -- The text means a trace, and these are the replies to it.
 pub record AnswersText (text : List ℕ) (limit : ℕ) (replies : List Reply) : Type 0 where

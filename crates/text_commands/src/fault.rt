@@ -29,16 +29,31 @@ pub enum CliFault {
     /// The input means no program.
     #[error("program {0}")]
     Program(TextFault),
-    /// The program makes more requests than the limit.
+    /// The program and the trace do not declare the same.
+    #[error("shape")]
+    Shape,
+    /// The request of the trace with this number, from 1 on, is illegal.
+    #[error("illegal request {0}")]
+    Illegal(u32),
+    /// There are more requests than the limit.
     #[error("limit")]
     Limit,
+    /// The gate was stopped.
+    #[error("stopped")]
+    Stopped,
+    /// What the workers brought back is not the gate's history.
+    #[error("torn")]
+    Torn,
+    /// Something was asked or answered that the program does not do.
+    #[error("strange")]
+    Strange,
     /// There is no memory.
     #[error("memory")]
     Memory,
 }
 
 impl CliFault {
-    /// The exit status of the program: 3 for want of memory, 4 where the limit was passed, and else 2.
+    /// The exit status of the program: 3 for want of memory, 4 where the limit was passed or a run did not come to its end, and else 2.
     pub fn status(&self) -> u8
         ensures { result ≡ status_of_fault self.now }
     {
@@ -46,7 +61,7 @@ impl CliFault {
             CliFault::Memory
             | CliFault::Trace(TextFault::Memory)
             | CliFault::Program(TextFault::Memory) => 3,
-            CliFault::Limit => 4,
+            CliFault::Limit | CliFault::Stopped | CliFault::Torn | CliFault::Strange => 4,
             _ => 2,
         }
     }

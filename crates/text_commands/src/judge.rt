@@ -4,13 +4,14 @@ ghost use Rattle.std.specs.Prelude.{◌≡◌, ◌↔◌, ◌≤◌, ◌≢◌, 
 ghost use Rattle.std.specs.List.{All};
 ghost use Rattle.std.specs.Io.KnownBytes.{Appends};
 ghost use Rattle.trace_text.specs.Grammar.{TextMeans};
+ghost use Rattle.trace_values.specs.Limits.{max_requests};
 ghost use Rattle.trace_text.specs.Traces.{contents};
 ghost use Rattle.race_gate.specs.Shapes.{most_entries, most_cells, most_reducers, shape_of};
 ghost use Rattle.race_gate.specs.declared.answer.Reply.{Reply as SpecReply};
 ghost use Rattle.text_commands.specs.Watched.{held, has_failed, calls_of, one_more};
 ghost use Rattle.race_report.specs.VerdictText.{HasWords};
 ghost use Rattle.text_commands.specs.Statuses.{status_of_replies};
-ghost use Rattle.text_commands.specs.Streams.{most_reads, declared_shape, requests_of, AreAllJudged, AreReplies, AnswersText, IsRead, IsReadTooLong, IsAnswered, IsFaultOf, HasCause, TakesPiece, StopsPiece, StopsReading, StopsWriting};
+ghost use Rattle.text_commands.specs.Streams.{most_reads, declared_shape, requests_of, IsJudgedBy, JudgesTrace, AreReplies, AnswersText, IsRead, IsReadTooLong, IsAnswered, IsFaultOf, HasCause, TakesPiece, StopsPiece, StopsReading, StopsWriting};
 
 use crate::fault::CliFault;
 use crate::status::status_of;
@@ -103,7 +104,7 @@ pub fn write_text<W: Write>(output: &mut Watched<W>, text: &[u8]) -> Result<(), 
 }
 
 /// The trace that a text means, which is let go.
-fn parse<A: Allocator + Copy>(alloc: A, text: Vec<u8, A>) -> Result<Trace<A>, CliFault>
+pub fn parse<A: Allocator + Copy>(alloc: A, text: Vec<u8, A>) -> Result<Trace<A>, CliFault>
     ensures ok { IfOk result (λ trace. TextMeans text.items (contents trace)) }
     ensures fault { IfErr result (IsFaultOf text.items) }
 {
@@ -139,21 +140,39 @@ fn asked<A: Allocator + Copy>(
     Ok((shape, requests(alloc, trace)?))
 }
 
-/// The replies of a fresh gate to these requests.
+/// A fresh gate that has judged these requests, and its replies.
 fn reply_to_all<A: Allocator + Copy>(
     alloc: A,
     shape: &Shape<A>,
     requests: &[Request],
     limit: u32,
-) -> Result<Vec<Reply, A>, AllocError>
+) -> Result<(Gate<A>, Vec<Reply, A>), AllocError>
     requires limit { limit ≤ most_entries }
     requires cells { shape.now.cells ≤ most_cells }
     requires reducers { length shape.now.monoids ≤ most_reducers }
-    ensures judges { IfOk result (λ replies. AreAllJudged (shape_of shape.now) limit requests.now replies.items) }
-    ensures words { IfOk result (λ replies. All HasWords replies.items) }
+    ensures judges { IfOk result (λ pair. IsJudgedBy (shape_of shape.now) limit requests.now pair.1.items pair.0) }
+    ensures words { IfOk result (λ pair. All HasWords pair.1.items) }
 {
     let mut gate = Gate::new(alloc, shape, limit)?;
-    judge_all(&mut gate, alloc, requests)
+    let replies = judge_all(&mut gate, alloc, requests)?;
+    Ok((gate, replies))
+}
+
+/// A gate that has judged the requests of a trace, which is let go, and its replies.
+pub fn judged<A: Allocator + Copy>(
+    alloc: A,
+    trace: Trace<A>,
+    limit: u32,
+) -> Result<(Gate<A>, Vec<Reply, A>), AllocError>
+    requires limit { limit ≤ most_entries }
+    ensures judges { IfOk result (λ pair. JudgesTrace (contents trace) limit pair.1.items pair.0) }
+    ensures count { IfOk result (λ pair. length pair.1.items ≤ max_requests) }
+    ensures words { IfOk result (λ pair. All HasWords pair.1.items) }
+{
+    let asked = asked(alloc, &trace);
+    drop(trace);
+    let (shape, requests) = asked?;
+    reply_to_all(alloc, &shape, requests.as_slice(), limit)
 }
 
 /// The replies of a gate to the requests of a trace, which is let go.
@@ -166,10 +185,8 @@ fn judge<A: Allocator + Copy>(
     ensures replies { IfOk result (λ replies. AreReplies (contents trace) limit replies.items) }
     ensures words { IfOk result (λ replies. All HasWords replies.items) }
 {
-    let asked = asked(alloc, &trace);
-    drop(trace);
-    let (shape, requests) = asked?;
-    reply_to_all(alloc, &shape, requests.as_slice(), limit)
+    let (_gate, replies) = judged(alloc, trace, limit)?;
+    Ok(replies)
 }
 
 /// The replies of a gate to the requests of the trace that a text means; the text is let go.

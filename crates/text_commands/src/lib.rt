@@ -6,14 +6,20 @@
 //! where the device has failed, and nothing is written then. [`elide_text`] carries that of `elide`: at status 0 the bytes that were read
 //! mean a program, and what was written are the lines of the memory and of the number of requests of its one evaluation, in which each
 //! spawn is a call, and which makes no more requests than the limit. At the fault Limit an evaluation, if there is one, makes more. Of
-//! the other faults the same holds as of a trace. [`read_words`] gives a job with its numbers in their ranges; which words give which job
+//! the other faults the same holds as of a trace. [`replay_text`] carries that of `replay`: at a status the bytes that were read mean a
+//! program and a trace which declare the same, a gate answered each request of the trace, and what was written tells of the gate's
+//! entries that they are a finished run, a run that is not finished, or which of them is the first strange one. [`read_words`] gives a job with its numbers in their ranges; which words give which job
 //! is shown by tests.
 #![tactic(auto)]
 
+mod declarations;
 mod elide;
 mod fault;
 mod files;
 mod judge;
+mod outcome;
+mod replay;
+mod run;
 mod status;
 mod watched;
 mod words;
@@ -22,6 +28,8 @@ pub use elide::elide_text;
 pub use fault::CliFault;
 pub use files::opened;
 pub use judge::{judge_stream, write_text};
+pub use replay::replay_text;
+pub use run::{Door, OpenDoor, run_text};
 pub use status::status_of;
 pub use watched::Watched;
 pub use words::{Job, read_words, usage};

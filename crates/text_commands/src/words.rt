@@ -1,6 +1,6 @@
 //! The words of the command line.
 
-ghost use Rattle.std.specs.Prelude.{◌≡◌, ◌≤◌, IfOk, IfErr};
+ghost use Rattle.std.specs.Prelude.{◌≡◌, ◌<◌, ◌≤◌, IfOk, IfErr};
 ghost use Rattle.race_gate.specs.Shapes.{most_entries};
 ghost use Rattle.text_commands.specs.Jobs.{IsInRange};
 ghost use Rattle.text_commands.specs.Faults.{IsUsageFault};
@@ -12,6 +12,11 @@ use std::alloc::{AllocError, Global};
 
 /// The most entries that a history may have, and the limit where none is given.
 const MOST_ENTRIES: u32 = 1_000_000;
+
+/// The most workers, and how many there are where no number is given.
+const MOST_WORKERS: usize = 64;
+
+const WORKERS: usize = 2;
 
 const ABOUT: &str =
     "Finds determinacy races and view-read races in the traces of spawn-sync programs";
@@ -63,15 +68,59 @@ const ELIDE_EXAMPLE: &str =
 
 Exit status: 0 at the end of the program, 2 for a fault of the input, 3 for want of memory, 4 where the limit was passed.";
 
+const RUN_ABOUT: &str =
+    "Runs a program by workers that steal from each other, and writes the report of the run";
+
+const RUN_EXAMPLE: &str = "Output: one JSON object in a line, with the keys
+  clean      whether nothing was refused
+  entries    the number of requests
+  memory     what each memory holds: a number, or a list of numbers for an array
+  refusals   each access that was refused, in the order of the run: its entry, line, name, strand and rule, and the entry,
+             line and strand of the witness with which it races
+  schedules  of a clean run alone: that each run of the program is clean and leaves the same memory
+
+Exit status: 0 where nothing was refused, 1 where an access was, 2 for a fault of the input, 3 for want of memory,
+4 where the limit was passed.";
+
+const REPLAY_ABOUT: &str =
+    "Judges the requests of a trace, and tells whether they are a run of a program";
+
+const REPLAY_EXAMPLE: &str =
+    "The trace declares what the program does, and `@K` names the program's line of a request, as `write 1 x 7 @9`.
+
+Output: `replayed N` where the N entries are a finished run, `unfinished` where they are a run that is not finished, or
+`strange N` where entry N is the first that is no request of the program's.
+
+Exit status: 0 where nothing was refused, 1 where an access was, 2 for a fault of the input, declarations that differ or an
+illegal request, 3 for want of memory, 4 where the entries are no finished run or the limit was passed.";
+
 /// What the words of the command line ask for.
 #[derive(Debug, Drop)]
 pub enum Job {
     /// To judge a trace, with this limit on the entries of its history.
-    Judge { limit: u32 },
+    Judge {
+        limit: u32,
+    },
     /// To write the elision of the program in this file, with this limit on its requests.
-    Elide { file: String, limit: u32 },
+    Elide {
+        file: String,
+        limit: u32,
+    },
+    /// To run the program in this file by so many workers, with this limit on the entries of its history.
+    Run {
+        file: String,
+        workers: usize,
+        limit: u32,
+    },
+    /// To replay the trace in the second file as a run of the program in the first.
+    Replay {
+        file: String,
+        trace: String,
+    },
     /// To show a text: the help or the version.
-    Show { text: String },
+    Show {
+        text: String,
+    },
 }
 
 /// The argument that gives a limit.
@@ -82,12 +131,28 @@ fn limit<'a>(alloc: Global, help: &'a str) -> Arg<'a> {
         .help(help)
 }
 
+/// The argument that gives the number of workers.
+fn workers<'a>(alloc: Global) -> Arg<'a> {
+    Arg::new(alloc, "workers")
+        .long("workers")
+        .value_name("N")
+        .help("The workers, from 1 to 64 [default: 2]")
+}
+
 /// The argument that names a program's file.
 fn file<'a>(alloc: Global) -> Arg<'a> {
     Arg::new(alloc, "file")
         .value_name("FILE")
         .required(true)
         .help("The program")
+}
+
+/// The argument that names a trace's file.
+fn trace<'a>(alloc: Global) -> Arg<'a> {
+    Arg::new(alloc, "trace")
+        .value_name("TRACE")
+        .required(true)
+        .help("The trace")
 }
 
 /// A command with its texts, and nothing else yet.
@@ -113,6 +178,23 @@ fn elide_command<'a>(alloc: Global) -> Result<Command<'a>, AllocError> {
         .arg(limit)
 }
 
+fn run_command<'a>(alloc: Global) -> Result<Command<'a>, AllocError> {
+    let limit = limit(
+        alloc,
+        "The most entries of the history, from 0 to 1000000 [default: 1000000]",
+    );
+    described(alloc, "run", RUN_ABOUT, RUN_EXAMPLE)
+        .arg(file(alloc))?
+        .arg(workers(alloc))?
+        .arg(limit)
+}
+
+fn replay_command<'a>(alloc: Global) -> Result<Command<'a>, AllocError> {
+    described(alloc, "replay", REPLAY_ABOUT, REPLAY_EXAMPLE)
+        .arg(file(alloc))?
+        .arg(trace(alloc))
+}
+
 /// The program's command without its subcommands.
 fn program<'a>(alloc: Global) -> Result<Command<'a>, AllocError> {
     described(alloc, "cilkcheck", ABOUT, EXAMPLE)
@@ -120,26 +202,23 @@ fn program<'a>(alloc: Global) -> Result<Command<'a>, AllocError> {
         .bin_name("cilkcheck")
 }
 
-fn with_judge<'a>(alloc: Global, program: Command<'a>) -> Result<Command<'a>, AllocError> {
-    match judge_command(alloc) {
-        Ok(judge) => program.subcommand(judge),
-        Err(fault) => Err(fault),
-    }
-}
-
-fn with_elide<'a>(alloc: Global, program: Command<'a>) -> Result<Command<'a>, AllocError> {
-    match elide_command(alloc) {
-        Ok(elide) => program.subcommand(elide),
+/// A program that also has this command.
+fn with<'a>(
+    program: Command<'a>,
+    command: Result<Command<'a>, AllocError>,
+) -> Result<Command<'a>, AllocError> {
+    match command {
+        Ok(command) => program.subcommand(command),
         Err(fault) => Err(fault),
     }
 }
 
 /// The program's commands.
 fn commands<'a>(alloc: Global) -> Result<Command<'a>, AllocError> {
-    match with_judge(alloc, program(alloc)?) {
-        Ok(program) => with_elide(alloc, program),
-        Err(fault) => Err(fault),
-    }
+    let judging = with(program(alloc)?, judge_command(alloc))?;
+    let eliding = with(judging, elide_command(alloc))?;
+    let running = with(eliding, run_command(alloc))?;
+    with(running, replay_command(alloc))
 }
 
 /// A usage fault with this text, which stands in one line; or want of memory.
@@ -178,6 +257,23 @@ fn shown(alloc: Global, error: clap::Error) -> Result<Job, CliFault>
     }
 }
 
+/// How many workers the words of a command want.
+fn workers_of(alloc: Global, matches: &ArgMatches<'_>) -> Result<usize, CliFault>
+    ensures workers { IfOk result (λ workers. (0 < workers) × (workers ≤ 64)) }
+    ensures fault { IfErr result IsUsageFault }
+{
+    let Some(text) = matches.get_str("workers") else {
+        return Ok(WORKERS);
+    };
+    match text.parse::<usize>() {
+        Ok(workers) if 0 < workers && workers <= MOST_WORKERS => Ok(workers),
+        _ => Err(usage(
+            alloc,
+            "invalid value for '--workers <N>': a number from 1 to 64 is wanted",
+        )),
+    }
+}
+
 /// The limit that the words of a command give.
 fn limit_of(alloc: Global, matches: &ArgMatches<'_>) -> Result<u32, CliFault>
     ensures limit { IfOk result (λ limit. limit ≤ most_entries) }
@@ -195,6 +291,19 @@ fn limit_of(alloc: Global, matches: &ArgMatches<'_>) -> Result<u32, CliFault>
     }
 }
 
+/// The name of a file that the words of a command give.
+fn file_of(alloc: Global, matches: &ArgMatches<'_>, argument: &str) -> Result<String, CliFault>
+    ensures fault { IfErr result IsUsageFault }
+{
+    let Some(name) = matches.get_str(argument) else {
+        return Err(no_file(alloc));
+    };
+    match String::from_str(alloc, name) {
+        Ok(name) => Ok(name),
+        Err(_) => Err(CliFault::Memory),
+    }
+}
+
 fn judge_job(alloc: Global, matches: &ArgMatches<'_>) -> Result<Job, CliFault>
     ensures job { IfOk result IsInRange }
     ensures fault { IfErr result IsUsageFault }
@@ -209,14 +318,48 @@ fn elide_job(alloc: Global, matches: &ArgMatches<'_>) -> Result<Job, CliFault>
     ensures job { IfOk result IsInRange }
     ensures fault { IfErr result IsUsageFault }
 {
-    let Some(file) = matches.get_str("file") else {
-        return Err(no_file(alloc));
-    };
-    let Ok(file) = String::from_str(alloc, file) else {
-        return Err(CliFault::Memory);
+    let file = match file_of(alloc, matches, "file") {
+        Ok(file) => file,
+        Err(fault) => return Err(fault),
     };
     match limit_of(alloc, matches) {
         Ok(limit) => Ok(Job::Elide { file, limit }),
+        Err(fault) => Err(fault),
+    }
+}
+
+fn run_job(alloc: Global, matches: &ArgMatches<'_>) -> Result<Job, CliFault>
+    ensures job { IfOk result IsInRange }
+    ensures fault { IfErr result IsUsageFault }
+{
+    let file = match file_of(alloc, matches, "file") {
+        Ok(file) => file,
+        Err(fault) => return Err(fault),
+    };
+    let workers = match workers_of(alloc, matches) {
+        Ok(workers) => workers,
+        Err(fault) => return Err(fault),
+    };
+    match limit_of(alloc, matches) {
+        Ok(limit) => Ok(Job::Run {
+            file,
+            workers,
+            limit,
+        }),
+        Err(fault) => Err(fault),
+    }
+}
+
+fn replay_job(alloc: Global, matches: &ArgMatches<'_>) -> Result<Job, CliFault>
+    ensures job { IfOk result IsInRange }
+    ensures fault { IfErr result IsUsageFault }
+{
+    let file = match file_of(alloc, matches, "file") {
+        Ok(file) => file,
+        Err(fault) => return Err(fault),
+    };
+    match file_of(alloc, matches, "trace") {
+        Ok(trace) => Ok(Job::Replay { file, trace }),
         Err(fault) => Err(fault),
     }
 }
@@ -229,6 +372,8 @@ fn job_of(alloc: Global, matches: &ArgMatches<'_>) -> Result<Job, CliFault>
     match matches.subcommand() {
         Some(("judge", matches)) => judge_job(alloc, matches),
         Some(("elide", matches)) => elide_job(alloc, matches),
+        Some(("run", matches)) => run_job(alloc, matches),
+        Some(("replay", matches)) => replay_job(alloc, matches),
         _ => Err(usage(alloc, "no command is given; see 'cilkcheck --help'")),
     }
 }

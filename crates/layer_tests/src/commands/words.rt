@@ -7,6 +7,8 @@ use text_commands::{CliFault, Job, read_words};
 
 const NO_LIMIT: &str = "invalid value for '--limit <N>': a number from 0 to 1000000 is wanted";
 
+const NO_WORKERS: &str = "invalid value for '--workers <N>': a number from 1 to 64 is wanted";
+
 /// What these words, between spaces, ask for.
 fn job(alloc: Global, line: &str) -> Result<Result<Job, CliFault>, Fail> {
     let words: Vec<&str> = line.split_whitespace().collect(alloc)?;
@@ -20,19 +22,34 @@ enum Wanted<'a> {
     Judges(u32),
     /// The elision of the program in the file `f`, with this limit.
     Elides(u32),
+    /// The run of the program in the file `f` by so many workers, with this limit.
+    Runs(usize, u32),
+    /// The replay of the trace in the file `g` as a run of the program in the file `f`.
+    Replays,
     /// Nothing: they are refused with this text.
     Refused(&'a str),
     /// A text with this part.
     Shows(&'a str),
 }
 
-use Wanted::{Elides, Judges, Refused, Shows};
+use Wanted::{Elides, Judges, Refused, Replays, Runs, Shows};
 
 /// Whether what words ask for is what they are to ask for.
 fn is_wanted(found: &Result<Job, CliFault>, wanted: Wanted<'_>) -> bool {
     match (found, wanted) {
         (Ok(Job::Judge { limit }), Judges(most)) => *limit == most,
         (Ok(Job::Elide { file, limit }), Elides(most)) => file.as_str() == "f" && *limit == most,
+        (
+            Ok(
+                Job::Run {
+                    file,
+                    workers,
+                    limit,
+                },
+            ),
+            Runs(many, most),
+        ) => { file.as_str() == "f" && *workers == many && *limit == most }
+        (Ok(Job::Replay { file, trace }), Replays) => file.as_str() == "f" && trace.as_str() == "g",
         (Err(CliFault::Usage(text)), Refused(whole)) => text.as_str() == whole,
         (Ok(Job::Show { text }), Shows(part)) => text.as_str().contains(part),
         _ => false,
@@ -82,6 +99,24 @@ fn words_of_elide(rt: HostRuntime) -> Result<(), Fail> {
 }
 
 #[test]
+fn words_of_run(rt: HostRuntime) -> Result<(), Fail> {
+    check_all(
+        &rt,
+        rt.alloc(),
+        &[
+            ("run f", Runs(2, 1_000_000)),
+            ("run f --workers 1", Runs(1, 1_000_000)),
+            ("run --workers=64 f --limit 5", Runs(64, 5)),
+        ],
+    )
+}
+
+#[test]
+fn words_of_replay(rt: HostRuntime) -> Result<(), Fail> {
+    check(&rt, rt.alloc(), "replay f g", Replays)
+}
+
+#[test]
 fn words_that_are_refused(rt: HostRuntime) -> Result<(), Fail> {
     check_all(
         &rt,
@@ -92,6 +127,11 @@ fn words_that_are_refused(rt: HostRuntime) -> Result<(), Fail> {
             ("elide f --limit 1000001", Refused(NO_LIMIT)),
             ("elide", Refused("no file is given; see 'cilkcheck --help'")),
             ("elide f g", Refused("unexpected argument 'g' found")),
+            (
+                "replay f",
+                Refused("no file is given; see 'cilkcheck --help'"),
+            ),
+            ("replay f g h", Refused("unexpected argument 'h' found")),
             ("judge x", Refused("unexpected argument 'x' found")),
             ("jugde", Refused("unrecognized subcommand 'jugde'")),
             ("", Refused("no command is given; see 'cilkcheck --help'")),
@@ -110,6 +150,14 @@ fn texts_that_are_shown(rt: HostRuntime) -> Result<(), Fail> {
             (
                 "elide --help",
                 Shows("Usage: cilkcheck elide [OPTIONS] <FILE>\n"),
+            ),
+            (
+                "run --help",
+                Shows("Usage: cilkcheck run [OPTIONS] <FILE>\n"),
+            ),
+            (
+                "replay --help",
+                Shows("Usage: cilkcheck replay <FILE> <TRACE>\n"),
             ),
             ("--version", Shows("cilkcheck 0.1.0\n")),
         ],

@@ -1,0 +1,15 @@
+-- Whether a run came to its end.
+use Rattle.std.specs.Prelude.{Bool, true, false, List}
+use Rattle.std.specs.List.{list_any}
+use Rattle.race_gate.specs.declared.answer.Answer.{Answer}
+use Rattle.race_gate.specs.declared.answer.Answer.TheVariants.{Finished}
+use Rattle.locked_replay.specs.declared.worker.WorkerLog.{WorkerLog}
+
+abbrev pub finishes : Answer → Bool
+finishes Finished = true
+finishes _ = false
+
+module _ {L : Type 0} where
+  -- some receipt of some log is answered Finished
+  abbrev pub some_finished : List (WorkerLog L) → Bool
+  some_finished = list_any (λ log. list_any (λ receipt. finishes receipt.answer) log.receipts.items)

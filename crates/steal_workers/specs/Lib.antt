@@ -1,0 +1,4 @@
+pub mod Faults
+pub mod Finishing
+pub mod Hands
+pub mod Standing

@@ -1,0 +1,124 @@
+//! Where tasks wait for their joins.
+
+ghost use Rattle.std.specs.Prelude.{◌≡◌, IfOk};
+ghost use Rattle.std.specs.Option.{IfSome};
+
+use crate::task::Task;
+use std::alloc::Global;
+use std::collections::BTreeMap;
+use std::sync::{Mutex, Wait};
+use thiserror::Error;
+
+/// Why a call for a join has no answer.
+#[derive(Clone, Copy, PartialEq, Eq, Debug, Error)]
+pub enum LotFault {
+    /// The same call came for this join before, or both calls did.
+    #[error("the same call for a join again")]
+    Torn,
+    /// There is no memory.
+    #[error("out of memory")]
+    Memory,
+}
+
+/// What came for a join.
+#[derive(Drop)]
+enum Place<'p> {
+    /// A task, which waits.
+    Parked(Task<'p>),
+    /// The last child's end. The task is still to come.
+    Woken,
+    /// Both.
+    Met,
+}
+
+/// What lies under the lock.
+#[derive(Drop)]
+struct Places<'p> {
+    by_join: BTreeMap<u32, Place<'p>>,
+    closed: bool,
+}
+
+impl<'p> Places<'p> {
+    fn park(&mut self, join: u32, task: Task<'p>) -> Result<Option<Task<'p>>, LotFault>
+        ensures strand { IfOk result (λ out. IfSome out (λ t. t.strand ≡ join)) }
+        ensures handed_in { IfOk result (λ out. IfSome out (λ t. (t.program ≡ task.entry.program) × (t.frame ≡ task.entry.frame))) }
+    {
+        match self.by_join.get_mut(&join) {
+            Some(place) => match place {
+                Place::Woken => {
+                    *place = Place::Met;
+                    Ok(Some(task.on(join)))
+                }
+                Place::Parked(_) | Place::Met => Err(LotFault::Torn),
+            },
+            None => match self.by_join.insert(join, Place::Parked(task)) {
+                Ok(_) => Ok(None),
+                Err(_) => Err(LotFault::Memory),
+            },
+        }
+    }
+
+    fn wake(&mut self, join: u32) -> Result<Option<Task<'p>>, LotFault>
+        ensures { IfOk result (λ out. IfSome out (λ t. t.strand ≡ join)) }
+    {
+        match self.by_join.get_mut(&join) {
+            Some(place) => match std::mem::replace(place, Place::Met) {
+                Place::Parked(task) => Ok(Some(task.on(join))),
+                Place::Woken | Place::Met => Err(LotFault::Torn),
+            },
+            None => match self.by_join.insert(join, Place::Woken) {
+                Ok(_) => Ok(None),
+                Err(_) => Err(LotFault::Memory),
+            },
+        }
+    }
+}
+
+/// The tasks that wait for their joins, and whether the run is over. Any thread may call it.
+#[derive(Drop)]
+pub struct Lot<'p> {
+    places: Mutex<Places<'p>>,
+}
+
+impl<'p> Lot<'p> {
+    /// An empty lot, which is not closed.
+    pub fn new(alloc: Global) -> Lot<'p> {
+        Lot {
+            places: Mutex::new(Places {
+                by_join: BTreeMap::new(alloc),
+                closed: false,
+            }),
+        }
+    }
+
+    /// A task comes for a join. Where the join was woken before, the task is handed back, with the join as its strand; otherwise it stays.
+    /// An `Err` drops it.
+    pub fn park<R: Wait>(
+        &self,
+        rt: &R,
+        join: u32,
+        task: Task<'p>,
+    ) -> Result<Option<Task<'p>>, LotFault>
+        ensures strand { IfOk result (λ out. IfSome out (λ t. t.strand ≡ join)) }
+        ensures handed_in { IfOk result (λ out. IfSome out (λ t. (t.program ≡ task.entry.program) × (t.frame ≡ task.entry.frame))) }
+    {
+        self.places.lock(rt).park(join, task)
+    }
+
+    /// The last child of a join ends. Where the join's task came before, it is handed out, with the join as its strand.
+    pub fn wake<R: Wait>(&self, rt: &R, join: u32) -> Result<Option<Task<'p>>, LotFault>
+        ensures { IfOk result (λ out. IfSome out (λ t. t.strand ≡ join)) }
+    {
+        self.places.lock(rt).wake(join)
+    }
+
+    /// Closes the lot: the run is over.
+    pub fn close<R: Wait>(&self, rt: &R) {
+        self.places.lock(rt).closed = true;
+    }
+
+    /// Whether the lot is closed.
+    pub fn look<R: Wait>(&self, rt: &R) -> bool {
+        self.places.lock(rt).closed
+    }
+}

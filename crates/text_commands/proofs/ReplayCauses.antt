@@ -1,0 +1,91 @@
+-- What each step of replaying a trace says of the whole.
+use Rattle.std.proofs.Common.{◌≡◌, ◌⊎◌, ℕ, List, Option, inl, inr, sym, subst}
+use Rattle.trace_values.specs.Values.{Contents as TraceContents}
+use Rattle.program_text.specs.Drafts.{Contents}
+use Rattle.race_gate.specs.declared.fault.GateFault.{GateFault}
+use Rattle.race_gate.specs.declared.fault.GateFault.TheVariants.{Stopped as GateStopped, Limit as GateLimit, NotRunning, BadName, Unsynced, Memory as GateMemory}
+use Rattle.text_commands.specs.declared.fault.CliFault.{CliFault}
+use Rattle.text_commands.specs.declared.fault.CliFault.TheVariants.{Usage, Read, Write, TooLong, Trace, Program, Shape, Illegal, Limit, Stopped, Torn, Strange, Memory}
+use Rattle.text_commands.specs.Declarations.{DeclareSame}
+use Rattle.text_commands.specs.Streams.{StopsWriting}
+use Rattle.text_commands.specs.Replays.{Reading, AreRead, StopsGate, fault_of_request, ReplaysContents, StopsReplay, StopsReader, HasReplayCause}
+
+request_cause : (program : Contents) (trace : TraceContents) (number : ℕ) (cause : GateFault) → DeclareSame program.known trace.known →
+    StopsGate trace (fault_of_request number cause) → StopsReplay program trace (fault_of_request number cause)
+request_cause program trace number GateLimit same stops = (same, stops)
+request_cause program trace number GateMemory same stops = tt
+request_cause program trace number GateStopped same stops = (same, stops)
+request_cause program trace number NotRunning same stops = (same, stops)
+request_cause program trace number BadName same stops = (same, stops)
+request_cause program trace number Unsynced same stops = (same, stops)
+
+-- an illegal request stops the replay by its fault
+pub gate_cause : (program : Contents) (trace : TraceContents) (fault : CliFault) → DeclareSame program.known trace.known →
+    (fault ≡ Memory) ⊎ StopsGate trace fault → StopsReplay program trace fault
+gate_cause program trace fault same (inl is) = subst (StopsReplay program trace) (sym is) tt
+gate_cause program trace fault same (inr stops) =
+    subst (StopsReplay program trace) (sym stops.stops.named)
+    (request_cause program trace stops.stops.number stops.stops.cause same (subst (StopsGate trace) stops.stops.named stops))
+
+-- both texts were read, and there is no replay
+pub replay_stops : (program trace : Reading) (wrote writes : Option (List ℕ)) (contents : Contents) (trace_contents : TraceContents) (fault : CliFault) →
+    AreRead program trace contents trace_contents → StopsReplay contents trace_contents fault → HasReplayCause program trace wrote writes fault
+replay_stops program trace wrote writes contents trace_contents Shape read stops = record { contents = contents; trace_contents = trace_contents; read = read; stops = stops }
+replay_stops program trace wrote writes contents trace_contents (Illegal number) read stops =
+    record { contents = contents; trace_contents = trace_contents; read = read; stops = stops }
+replay_stops program trace wrote writes contents trace_contents Limit read stops = record { contents = contents; trace_contents = trace_contents; read = read; stops = stops }
+replay_stops program trace wrote writes contents trace_contents Memory read stops = tt
+replay_stops program trace wrote writes contents trace_contents (Usage words) read stops = absurd stops
+replay_stops program trace wrote writes contents trace_contents Stopped read stops = absurd stops
+replay_stops program trace wrote writes contents trace_contents Torn read stops = absurd stops
+replay_stops program trace wrote writes contents trace_contents Strange read stops = absurd stops
+replay_stops program trace wrote writes contents trace_contents Read read stops = absurd stops
+replay_stops program trace wrote writes contents trace_contents Write read stops = absurd stops
+replay_stops program trace wrote writes contents trace_contents TooLong read stops = absurd stops
+replay_stops program trace wrote writes contents trace_contents (Trace fault) read stops = absurd stops
+replay_stops program trace wrote writes contents trace_contents (Program fault) read stops = absurd stops
+
+-- only a part of its line could be written
+pub replay_cut : (program trace : Reading) (wrote writes : Option (List ℕ)) (contents : Contents) (trace_contents : TraceContents) (line : List ℕ) (status : ℕ) (fault : CliFault) →
+    AreRead program trace contents trace_contents → ReplaysContents contents trace_contents line status → StopsWriting wrote writes line fault →
+    HasReplayCause program trace wrote writes fault
+replay_cut program trace wrote writes contents trace_contents line status Write read replays stops = record {
+  contents = contents;
+  trace_contents = trace_contents;
+  line = line;
+  status = status;
+  part = stops.0;
+  rest = stops.1;
+  read = read;
+  replays = replays;
+  written = stops.2;
+  prefix = stops.3;
+}
+replay_cut program trace wrote writes contents trace_contents line status (Usage words) read replays stops = absurd stops
+replay_cut program trace wrote writes contents trace_contents line status Read read replays stops = absurd stops
+replay_cut program trace wrote writes contents trace_contents line status TooLong read replays stops = absurd stops
+replay_cut program trace wrote writes contents trace_contents line status (Trace fault) read replays stops = absurd stops
+replay_cut program trace wrote writes contents trace_contents line status (Program fault) read replays stops = absurd stops
+replay_cut program trace wrote writes contents trace_contents line status Shape read replays stops = absurd stops
+replay_cut program trace wrote writes contents trace_contents line status (Illegal number) read replays stops = absurd stops
+replay_cut program trace wrote writes contents trace_contents line status Stopped read replays stops = absurd stops
+replay_cut program trace wrote writes contents trace_contents line status Torn read replays stops = absurd stops
+replay_cut program trace wrote writes contents trace_contents line status Strange read replays stops = absurd stops
+replay_cut program trace wrote writes contents trace_contents line status Limit read replays stops = absurd stops
+replay_cut program trace wrote writes contents trace_contents line status Memory read replays stops = absurd stops
+
+-- the trace is not read to its end
+pub trace_unread : (program trace : Reading) (wrote writes : Option (List ℕ)) (fault : CliFault) → StopsReader trace fault → HasReplayCause program trace wrote writes fault
+trace_unread program trace wrote writes Read stops = tt
+trace_unread program trace wrote writes TooLong stops = inr stops
+trace_unread program trace wrote writes Memory stops = tt
+trace_unread program trace wrote writes (Usage words) stops = absurd stops
+trace_unread program trace wrote writes Write stops = absurd stops
+trace_unread program trace wrote writes (Trace fault) stops = absurd stops
+trace_unread program trace wrote writes (Program fault) stops = absurd stops
+trace_unread program trace wrote writes Shape stops = absurd stops
+trace_unread program trace wrote writes (Illegal number) stops = absurd stops
+trace_unread program trace wrote writes Stopped stops = absurd stops
+trace_unread program trace wrote writes Torn stops = absurd stops
+trace_unread program trace wrote writes Strange stops = absurd stops
+trace_unread program trace wrote writes Limit stops = absurd stops

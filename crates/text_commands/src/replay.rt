@@ -1,0 +1,147 @@
+//! Replaying the trace that a reader gives as a run of a program.
+
+ghost use Rattle.std.specs.Prelude.{◌≡◌, ◌↔◌, ◌≤◌, ◌≢◌, ◌+◌, ◌||◌, ◌⊎◌, false, length, IfOk, IfErr, OnOk, IsErrOf, IsTrue, MatchResult};
+ghost use Rattle.std.specs.List.{All};
+ghost use Rattle.trace_values.specs.Limits.{max_requests};
+ghost use Rattle.trace_text.specs.Traces.{contents as trace_contents};
+ghost use Rattle.program_text.specs.Programs.{contents};
+ghost use Rattle.text_commands.specs.Watched.{held, has_failed, calls_of};
+ghost use Rattle.text_commands.specs.Streams.{most_reads};
+ghost use Rattle.text_commands.specs.Replays.{IsDone, fault_of_request as request_fault_spec, StopsReplies, AnswersAll, StopsGate, ReplaysContents, StopsReplay, reading, IsReplayed, HasReplayCause};
+
+use crate::declarations::declare_same;
+use crate::elide::parse as parse_program;
+use crate::fault::CliFault;
+use crate::judge::{judged, parse as parse_trace, read_text, write_text};
+use crate::outcome::{outcome_line, outcome_of, outcome_status};
+use crate::watched::Watched;
+use program_text::Program;
+use race_gate::{Gate, GateFault, Reply};
+use std::alloc::Allocator;
+use std::io::{Read, Write};
+use trace_text::Trace;
+
+/// The most entries of a history.
+const MOST_ENTRIES: u32 = 1_000_000;
+
+/// The fault of a command for an illegal request of this number.
+fn fault_of_request(number: u32, fault: GateFault) -> CliFault
+    ensures { result ≡ request_fault_spec number fault }
+{
+    match fault {
+        GateFault::Limit => CliFault::Limit,
+        GateFault::Memory => CliFault::Memory,
+        _ => CliFault::Illegal(number),
+    }
+}
+
+/// Sees to it that each reply is an answer. The first that is none decides which fault it is.
+fn check_replies(replies: &[Reply]) -> Result<(), CliFault>
+    requires { length replies.now ≤ max_requests }
+    ensures { MatchResult result (λ _. All IsDone replies.now) (StopsReplies replies.now) }
+{
+    let mut number = 0;
+    for reply in replies {
+        number += 1;
+        match reply {
+            Reply::Done(_) => {}
+            Reply::Illegal(fault) => return Err(fault_of_request(number, *fault)),
+        }
+    }
+    Ok(())
+}
+
+/// A gate that has answered all requests of a trace.
+fn answered<A: Allocator + Copy>(alloc: A, trace: Trace<A>) -> Result<Gate<A>, CliFault>
+    ensures ok { IfOk result (AnswersAll (trace_contents trace)) }
+    ensures fault { IfErr result (λ fault. (fault ≡ CliFault.Memory) ⊎ StopsGate (trace_contents trace) fault) }
+{
+    let (gate, replies) = judged(alloc, trace, MOST_ENTRIES)?;
+    check_replies(replies.as_slice())?;
+    Ok(gate)
+}
+
+/// The line that tells what a trace is as a run of a program, and the exit status.
+fn replayed<A: Allocator + Copy>(
+    alloc: A,
+    program: Program<A>,
+    trace: Trace<A>,
+) -> Result<(Vec<u8, A>, u8), CliFault>
+    ensures ok { IfOk result (λ told. ReplaysContents (contents program) (trace_contents trace) told.0.items told.1) }
+    ensures fault { IfErr result (StopsReplay (contents program) (trace_contents trace)) }
+{
+    if !declare_same(&program, &trace) {
+        return Err(CliFault::Shape);
+    }
+    let gate = match answered(alloc, trace) {
+        Ok(gate) => gate,
+        Err(fault) => return Err(fault),
+    };
+    let entries = gate.history();
+    let outcome = match outcome_of(alloc, &program, entries) {
+        Ok(outcome) => outcome,
+        Err(fault) => return Err(fault),
+    };
+    let line = match outcome_line(alloc, outcome) {
+        Ok(line) => line,
+        Err(_) => return Err(CliFault::Memory),
+    };
+    Ok((line, outcome_status(outcome, entries)))
+}
+
+/// Reads a program and then a trace to their ends, has a gate judge the requests of the trace in their order, replays the gate's entries
+/// as a run of the program, and writes a line: `replayed N` where the N entries are a finished run, `unfinished` where they are a run
+/// that is not finished, and else `strange N`, by the first entry that is none of the program's. It answers the exit status: of a
+/// finished run 1 where an entry is refused or unset, else 0; and 4 where the entries are no finished run.
+///
+/// It answers [`CliFault::Read`] or [`CliFault::Write`] exactly where a reader or the writer has failed, [`CliFault::TooLong`] for more
+/// than 67,108,864 bytes or a reader that has been asked 67,108,865 times, [`CliFault::Program`] or [`CliFault::Trace`] with the first
+/// fault of a text that means none, [`CliFault::Shape`] where the two do not declare the same, and by the first request that the gate does
+/// not answer [`CliFault::Limit`] or [`CliFault::Illegal`] with the number of that request. [`CliFault::Memory`] comes where a growth was
+/// refused. Nothing is written then, but for the part that a failed write has taken.
+pub fn replay_text<A: Allocator + Copy, P: Read, T: Read, W: Write>(
+    alloc: A,
+    program: &mut Watched<P>,
+    trace: &mut Watched<T>,
+    output: &mut Watched<W>,
+) -> Result<u8, CliFault>
+    requires program { has_failed program.old ≡ false }
+    requires trace { has_failed trace.old ≡ false }
+    requires writer { has_failed output.old ≡ false }
+    ensures answered { IfOk result (IsReplayed (reading (P.remaining (held program.old)) (P.remaining (held program.new)) (calls_of program.old) (calls_of program.new))
+        (reading (T.remaining (held trace.old)) (T.remaining (held trace.new)) (calls_of trace.old) (calls_of trace.new))
+        (W.contents (held output.old)) (W.contents (held output.new))) }
+    ensures fault { IfErr result (HasReplayCause (reading (P.remaining (held program.old)) (P.remaining (held program.new)) (calls_of program.old) (calls_of program.new))
+        (reading (T.remaining (held trace.old)) (T.remaining (held trace.new)) (calls_of trace.old) (calls_of trace.new))
+        (W.contents (held output.old)) (W.contents (held output.new))) }
+    ensures read_failed { IsErrOf result CliFault.Read ↔ IsTrue (has_failed program.new || has_failed trace.new) }
+    ensures write_failed { IsErrOf result CliFault.Write ↔ IsTrue (has_failed output.new) }
+    ensures program_reads { calls_of program.new ≤ calls_of program.old + most_reads }
+    ensures trace_reads { calls_of trace.new ≤ calls_of trace.old + most_reads }
+    ensures unwritten { IfErr result (λ fault. fault ≢ CliFault.Write → output.new ≡ output.old) }
+{
+    let program_bytes = match read_text(alloc, program) {
+        Ok(text) => text,
+        Err(fault) => return Err(fault),
+    };
+    let program = match parse_program(alloc, program_bytes) {
+        Ok(program) => program,
+        Err(fault) => return Err(fault),
+    };
+    let trace_bytes = match read_text(alloc, trace) {
+        Ok(text) => text,
+        Err(fault) => return Err(fault),
+    };
+    let trace = match parse_trace(alloc, trace_bytes) {
+        Ok(trace) => trace,
+        Err(fault) => return Err(fault),
+    };
+    let (line, status) = match replayed(alloc, program, trace) {
+        Ok(told) => told,
+        Err(fault) => return Err(fault),
+    };
+    match write_text(output, line.as_slice()) {
+        Ok(()) => Ok(status),
+        Err(fault) => Err(fault),
+    }
+}
