@@ -1,7 +1,7 @@
 -- Which events of control the answers are.
-use Rattle.std.proofs.Common.{◌≡◌, inl, ◌<◌, ◌+◌, ℕ, Bool, Some, true, false, ◌∷◌, refl, sym, ◌∙◌, subst, arith}
+use Rattle.std.proofs.Common.{◌≡◌, inl, ◌<◌, ◌+◌, ℕ, Bool, Some, refl, subst, arith}
 use Rattle.trace_values.specs.declared.value.Act.{Act}
-use Rattle.trace_values.specs.declared.value.Act.TheVariants.{Spawn, Sync, Call, Return, Read, Write, Bump, Update, Put, Get}
+use Rattle.trace_values.specs.declared.value.Act.TheVariants.{Spawn, Sync, Call, Return}
 use Rattle.sp_labels.specs.declared.answer.Spawned.{Spawned}
 use Rattle.control_history.specs.History.{Event, split, same, joined, waits, call, resumed, ended, ended_joined, finished, History}
 use Rattle.control_history.specs.Strands.{Running, unused}
@@ -9,10 +9,10 @@ use Rattle.control_history.specs.Legal.{Allowed, open_split, next_split, Legal}
 use Rattle.control_history.proofs.Finish.{running_of}
 use Rattle.control_history.proofs.Range.{ranges}
 use Rattle.control_history.proofs.Law.{begun_below}
-use Rattle.branch_names.specs.Names.{Begins, BeginsNone}
+use Rattle.branch_names.specs.Names.{BeginsNone}
 use Rattle.reducer_views.specs.Held.{IsQuiet, split_of}
 use Rattle.race_gate.specs.declared.answer.Answer.{Answer}
-use Rattle.race_gate.specs.declared.answer.Answer.TheVariants.{Split, Same, Joined, Waits, Resumed, Ended, EndedJoined, Finished, Granted, Value, Refused, Unset}
+use Rattle.race_gate.specs.declared.answer.Answer.TheVariants.{Split, Same, Joined, Waits, Resumed, Ended, EndedJoined, Finished}
 use Rattle.race_gate.specs.Entries.{event_between}
 
 pub split-event : (strand : ℕ) (act : Act) (spawned : Spawned) (event : Event) → event_between strand act (Split spawned) ≡ Some event → split_of strand spawned ≡ event

@@ -1,16 +1,12 @@
 -- The verdicts on puts and gets are those of each finished extension of the whole history.
-use Rattle.std.proofs.Common.{◌≡◌, ◌↔◌, ◌⊎◌, inl, inr, ℕ, List, [], ◌∷◌, ◌++◌, append_assoc, refl, sym, ◌∙◌, ap, subst}
-use Rattle.access_table.specs.declared.kind.Kind.{Kind}
-use Rattle.trace_values.specs.declared.value.Act.{Act}
-use Rattle.trace_values.specs.declared.value.Act.TheVariants.{Put, Get}
+use Rattle.std.proofs.Common.{◌≡◌, inl, inr, [], ◌∷◌, ◌++◌, append_assoc, ◌∙◌, ap, subst}
 use Rattle.control_history.specs.History.{History}
 use Rattle.control_history.specs.Extensions.{Extends}
 use Rattle.race_gate.specs.declared.answer.Entry.{Entry}
 use Rattle.race_gate.specs.Entries.{Entries, control_part}
 use Rattle.race_gate.specs.Shapes.{Shape}
-use Rattle.race_gate.specs.Verdicts.{IsRefused}
 use Rattle.race_gate.specs.Reducers.{steps_of, granted_reads}
-use Rattle.race_gate.specs.ViewReads.{Completes, HasViewRace, IsRightRead}
+use Rattle.race_gate.specs.ViewReads.{Completes}
 use Rattle.race_gate.specs.ReducerVerdicts.{IsRightFor, ReducersAreJudged}
 use Rattle.race_gate.specs.Laws.{ReadLaw}
 use Rattle.race_gate.proofs.Races.{extends-part}

@@ -1,12 +1,11 @@
 -- The view of a strand at a granted get is the value of the definition.
-use Rattle.std.proofs.Common.{◌≡◌, ◌⊎◌, inl, inr, ℕ, suc, ◌≤◌, List, [], ◌∷◌, map, length, Option, Some, None, refl, sym, ◌∙◌, ap, subst, arith}
+use Rattle.std.proofs.Common.{◌≡◌, inl, inr, ℕ, suc, ◌≤◌, List, [], ◌∷◌, map, length, Some, None, refl, sym, ◌∙◌, ap, subst, arith}
 use Rattle.trace_values.specs.declared.value.Monoid.{Monoid}
 use Rattle.trace_values.specs.declared.value.Monoid.TheVariants.{Sum, Min, Max, Last, Digits}
-use Rattle.control_history.specs.History.{History}
 use Rattle.control_history.specs.Strands.{Running}
 use Rattle.control_history.specs.Branches.{branch}
 use Rattle.view_read_rule.specs.Reads.{ReducerRead, IsReadOf}
-use Rattle.reducer_values.specs.Items.{Items, control, update, put, other, control_part, IsLegal}
+use Rattle.reducer_values.specs.Items.{Items, control, update, put, other}
 use Rattle.reducer_values.specs.Entries.{Entry, number_of as entry_number, strand_of, value_of, HasPut}
 use Rattle.reducer_values.specs.Accesses.{Steps, control_steps, AreLegal, items_of}
 use Rattle.reducer_values.specs.Views.{product}

@@ -1,15 +1,13 @@
 -- What is kept of reducers stays kept as the history goes on.
-use Rattle.std.proofs.Common.{◌≡◌, ◌≢◌, ◌⊎◌, inl, inr, ℕ, suc, ◌<◌, ◌^◌, List, [], ◌∷◌, ◌++◌, length, get_or, Contains, cond, eqb, true, IsTrue, refl, sym, ◌∙◌, ap, subst, arith, lit<}
+use Rattle.std.proofs.Common.{◌≡◌, ◌⊎◌, inl, inr, ℕ, suc, ◌<◌, ◌^◌, List, [], ◌∷◌, ◌++◌, length, get_or, Contains, cond, eqb, true, IsTrue, refl, sym, ◌∙◌, ap, subst, arith, lit<}
 use Rattle.std.proofs.lemmas.List.{append-nil}
 use Rattle.std.proofs.lemmas.List.Elements.{Contains-append_left, Contains-append_right, Contains-append_cases}
-use Rattle.access_table.specs.declared.kind.Kind.{Kind}
 use Rattle.access_table.specs.Table.{is_reducer_read}
 use Rattle.control_history.specs.History.{Event, History}
 use Rattle.control_history.specs.Strands.{Running, Begun}
-use Rattle.control_history.specs.Legal.{Allowed, Legal}
+use Rattle.control_history.specs.Legal.{Allowed}
 use Rattle.control_history.specs.Branches.{branch}
-use Rattle.branch_names.specs.Names.{Names, Follows}
-use Rattle.branch_names.proofs.Events.{room-follows}
+use Rattle.branch_names.specs.Names.{Follows}
 use Rattle.view_read_rule.specs.Reads.{ReducerRead, IsReadOf, AreOfOneBranch, Remembers}
 use Rattle.view_read_rule.proofs.Granted.{later}
 use Rattle.reducer_values.specs.Items as one

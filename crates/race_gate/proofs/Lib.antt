@@ -16,3 +16,4 @@ pub mod Controlled
 pub mod Finished
 pub mod Tracked
 pub mod Checking
+pub mod Admitted

@@ -1,6 +1,6 @@
 -- The verdicts on puts and gets are right.
-use Rattle.std.proofs.Common.{◌≡◌, ◌≢◌, ◌↔◌, ◌⊎◌, inl, inr, ℕ, true, false, List, Option, Some, None, IsTrue, refl, sym, ◌∙◌, ap, subst}
-use Rattle.std.specs.Prelude.{MatchOption, IsNone}
+use Rattle.std.proofs.Common.{◌≡◌, ◌≢◌, ◌⊎◌, inl, inr, ℕ, true, false, List, Option, Some, None, IsTrue, refl, sym, ◌∙◌, ap, subst}
+use Rattle.std.specs.Prelude.{MatchOption}
 use Rattle.access_table.specs.declared.kind.Kind.{Kind}
 use Rattle.access_table.specs.declared.kind.Kind.TheVariants as kind
 use Rattle.access_table.specs.declared.kind.Rule.{Rule}
@@ -10,7 +10,6 @@ use Rattle.access_table.proofs.Conflicts.{views_of_reducer_reads}
 use Rattle.control_history.specs.History.{History}
 use Rattle.control_history.specs.Strands.{Begun}
 use Rattle.control_history.specs.Legal.{Legal}
-use Rattle.control_history.specs.Extensions.{Extends}
 use Rattle.control_history.specs.Branches.{branch}
 use Rattle.control_history.specs.Peers.{HaveSamePeers}
 use Rattle.control_history.proofs.Branches.{branch_law}
@@ -18,10 +17,10 @@ use Rattle.shadow_history.specs.declared.witness.Witness.{Witness}
 use Rattle.view_read_rule.specs.Reads.{ReducerRead, first_read, witness_of, IsReadOf, IsOfBranch, AreOfOneBranch}
 use Rattle.view_read_rule.proofs.Firsts.{first-of, none-of}
 use Rattle.race_gate.specs.declared.answer.Answer.{Answer}
-use Rattle.race_gate.specs.declared.answer.Answer.TheVariants.{Granted, Value, Refused, Unset}
+use Rattle.race_gate.specs.declared.answer.Answer.TheVariants.{Refused, Unset}
 use Rattle.race_gate.specs.Accesses.{is_granted}
 use Rattle.race_gate.specs.Verdicts.{IsRefused, IfRefused}
-use Rattle.race_gate.specs.ViewReads.{Completes, HasViewRace, IsTrueReadWitness, IsRightRead}
+use Rattle.race_gate.specs.ViewReads.{Completes, IsTrueReadWitness, IsRightRead}
 use Rattle.race_gate.specs.Books.{MayRead, IsRefusal}
 
 module _ (history : History) (earlier : List ReducerRead) (strand reducer : ℕ) (new : Kind) (legal : Legal history)

@@ -16,5 +16,6 @@ pub mod Kept
 pub mod Steps
 pub mod Faults
 pub mod Replies
+pub mod Admission
 pub mod Examples
 pub mod Laws

@@ -1,6 +1,6 @@
 //! The gate.
 
-ghost use Rattle.std.specs.Prelude.{◌≡◌, ◌≤◌, ◌↔◌, true, length, reverse, IsTrue, IfOk, MatchResult};
+ghost use Rattle.std.specs.Prelude.{◌≡◌, ◌≤◌, ◌↔◌, true, length, reverse, IsTrue, IfOk, IfErr, MatchResult};
 ghost use Rattle.race_gate.specs.Shapes.{shape_of, most_cells, most_reducers, most_entries};
 ghost use Rattle.race_gate.specs.Memory.{IsMemory};
 ghost use Rattle.race_gate.specs.Judged.{IsJudged};
@@ -8,6 +8,7 @@ ghost use Rattle.race_gate.specs.Extensions.{IsFinished};
 ghost use Rattle.race_gate.specs.States.{opening};
 ghost use Rattle.race_gate.specs.Faults.{IsFaultless, IsFirstFault};
 ghost use Rattle.race_gate.specs.Replies.{Judges, reply_of};
+ghost use Rattle.race_gate.specs.Admission.{IsAdmitted, IsOfTheGate};
 
 use crate::answer::{Answer, Entry, Receipt};
 use crate::fault::GateFault;
@@ -101,6 +102,7 @@ impl<A: Allocator + Clone> Gate<A> {
     pub fn history(&self) -> &[Entry]
         ensures entries { reverse result.now ≡ self.now.history }
         ensures judged { IsJudged self.now.shape self.now.history }
+        ensures within { length self.now.history ≤ self.now.limit }
     {
         self.history.as_slice()
     }
@@ -130,9 +132,10 @@ impl<A: Allocator + Clone> Gate<A> {
         self.stopped
     }
 
-    /// How many entries the history may have.
+    /// How many entries the history may have; it never has more.
     pub fn limit(&self) -> u32
-        ensures { result ≡ self.now.limit }
+        ensures is { result ≡ self.now.limit }
+        ensures within { length self.now.history ≤ self.now.limit }
     {
         self.limit
     }
@@ -167,9 +170,11 @@ impl<A: Allocator + Clone> Gate<A> {
     }
 
     /// Answers a request of a strand, does what was granted, and enters both in the history. A fault is the first one, in the order of
-    /// [`GateFault`], that has its cause. It changes nothing, and none but the last depends on memory.
+    /// [`GateFault`], that has its cause. It changes nothing, and none but the last depends on memory. A request that the rules of legal
+    /// histories admit, that is, one that some answer may follow, is entered unless the gate was stopped, is at its limit, or has no memory.
     pub fn judge(&mut self, request: Request) -> Result<Receipt, GateFault>
         ensures replies { Judges self.old request (reply_of result) self.new }
+        ensures admitted { IsAdmitted self.old.shape self.old.history request → IfErr result IsOfTheGate }
         ensures judged { IsJudged self.new.shape self.new.history }
         ensures values { IsMemory self.new.shape.cells self.new.history self.new.memory }
     {

@@ -1,5 +1,6 @@
 //! The laws of judged histories, each as the contract of a function that does nothing.
 
+ghost use Rattle.race_gate.specs.Admission.{AdmissionLaw, EntryLaw};
 ghost use Rattle.race_gate.specs.Examples.{WorkedHistories};
 ghost use Rattle.race_gate.specs.Laws.{RaceLaw, VerdictLaw, ReadLaw, ValueLaw};
 
@@ -21,6 +22,13 @@ pub fn read_law()
 /// A cell holds the value of its last granted write, or 0, and the granted bumps since.
 pub fn value_law()
     ensures { ValueLaw }
+{}
+
+/// A request has no fault exactly where the rules of legal histories admit it, some answer to it may follow, and the gate goes on below its
+/// limit. So what judges an admitted request enters it in the history, unless the gate was stopped, is at its limit, or has no memory.
+pub fn admission_law()
+    ensures faultless { AdmissionLaw }
+    ensures entered { EntryLaw }
 {}
 
 /// The worked histories are judged, and the wrong answers in them are not.

@@ -4,6 +4,7 @@ use Rattle.race_gate.specs.Faults.{IsFaultless}
 use Rattle.race_gate.specs.States.{State, IsRight}
 use Rattle.race_gate.specs.Kept.{IsKept}
 use Rattle.race_gate.proofs.Checking.{only-memory}
+use Rattle.race_gate.proofs.Admitted.{admitted-fault}
 use Rattle.race_gate.proofs.Tracked.{is-ready, kept-answered, same-state, is-entered}
 use Rattle.race_gate.proofs.gate.Gate.judge.Goals as goal
 
@@ -18,10 +19,20 @@ returns-in_err-check-clause-judged g c = (subst IsRight c.self.view_is c.self.in
 pub returns-in_err-check-clause-values : goal.returns-in_err-check-clause-values
 returns-in_err-check-clause-values g c = (subst IsRight c.self.view_is c.self.invariant.right).memory
 
+pub returns-in_err-check-clause-admitted : goal.returns-in_err-check-clause-admitted
+returns-in_err-check-clause-admitted g c admitted =
+    let p = err_from_is_err_and c.from_residual.result c.from_residual.ensures.1 in
+    rw (p.1, p.2) (admitted-fault c.args.self.now c.args.request _ admitted c.in_err-check.ensures.0)
+
 pub returns-in_err-reserve-clause-replies : goal.returns-in_err-reserve-clause-replies
 returns-in_err-reserve-clause-replies g c =
     let p = err_from_is_err_and c.from_residual-in_err-reserve.result c.from_residual-in_err-reserve.ensures.1 in
     rw (p.1, p.2, c.reserve.ensures.items) (c.self.view_is, only-memory _ _ c.in_ok-check.ensures)
+
+pub returns-in_err-reserve-clause-admitted : goal.returns-in_err-reserve-clause-admitted
+returns-in_err-reserve-clause-admitted g c admitted =
+    let p = err_from_is_err_and c.from_residual-in_err-reserve.result c.from_residual-in_err-reserve.ensures.1 in
+    rw (p.1, p.2) tt
 
 pub answer-requires : goal.answer-requires
 answer-requires g c =
@@ -49,6 +60,14 @@ returns-in_err-answer-clause-replies g c =
       same-state _ _ _ _ _ _ _ _ c.self.invariant _ _ _ c.self.inside.memory.ok.0 c.reserve.ensures.items (stays.1 ∙ c.as_mut_slice.ensures.value) ∙ c.self.view_is,
       only-memory _ _ c.in_ok-check.ensures,
     )
+
+pub returns-in_err-answer-clause-admitted : goal.returns-in_err-answer-clause-admitted
+returns-in_err-answer-clause-admitted g c admitted =
+    let numbered : c.len.result + 1 ≡ length c.self.inside.history.items + 1 = omega (arith, c.len.ensures, c.in_ok-reserve.ensures.len, c.self.inside.history.ok) in
+    let stays = c.in_err-answer.ensures _ (is-ready _ _ _ _ _ _ _ _ c.self.invariant c.args.request _ (c.len.result + 1) c.as_mut_slice.ensures.value
+    (subst (λ state. IsFaultless state c.args.request) (sym c.self.view_is) c.in_ok-check.ensures) numbered) in
+    let p = err_from_is_err_and c.from_residual-in_err-answer.result c.from_residual-in_err-answer.ensures.1 in
+    rw (p.1, p.2, stays.0) tt
 
 pub returns-in_err-answer-clause-judged : goal.returns-in_err-answer-clause-judged
 returns-in_err-answer-clause-judged g c = (invariant_of-self-in_err-answer g c).right.judged
