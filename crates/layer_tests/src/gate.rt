@@ -436,6 +436,7 @@ fn laws_hold() {
     laws::verdict_law();
     laws::read_law();
     laws::value_law();
+    laws::admission_law();
     laws::examples_law();
 }
 

@@ -1,5 +1,5 @@
 -- A request without fault is one that the rules of legal histories admit, and the other way round.
-use Rattle.std.proofs.Common.{◌≡◌, ℕ, ◌<◌, false, length, refl, sym, subst}
+use Rattle.std.proofs.Common.{◌≡◌, ℕ, ◌<◌, false, List, [], ◌∷◌, length, refl, sym, subst}
 use Rattle.std.specs.Prelude.{MatchOption}
 use Rattle.trace_values.specs.declared.value.Act.{Act}
 use Rattle.trace_values.specs.declared.value.Act.TheVariants.{Spawn, Sync, Call, Return, Read, Write, Bump, Update, Put, Get}
@@ -12,6 +12,7 @@ use Rattle.control_history.specs.Acts.{Answers, spawns, syncs, calls, returns}
 use Rattle.control_history.proofs.Finish.{answer_law}
 use Rattle.race_gate.specs.declared.answer.Answer.{Answer}
 use Rattle.race_gate.specs.declared.answer.Answer.TheVariants.{Split, Same, Joined, Waits, Resumed, Ended, EndedJoined, Finished, Granted, Value}
+use Rattle.race_gate.specs.declared.answer.Reply.{Reply}
 use Rattle.race_gate.specs.declared.answer.Reply.TheVariants.{Done, Illegal}
 use Rattle.race_gate.specs.declared.fault.GateFault.{GateFault}
 use Rattle.race_gate.specs.declared.fault.GateFault.TheVariants.{Stopped, Limit, NotRunning, BadName, Unsynced, Memory}
@@ -19,7 +20,8 @@ use Rattle.race_gate.specs.Entries.{control_part, event_between}
 use Rattle.race_gate.specs.Legal.{Belongs}
 use Rattle.race_gate.specs.States.{State}
 use Rattle.race_gate.specs.Faults.{IsFaultless, HasCause}
-use Rattle.race_gate.specs.Admission.{IsAdmitted, IsOfTheGate, AdmissionLaw, EntryLaw}
+use Rattle.race_gate.specs.Replies.{JudgesAll}
+use Rattle.race_gate.specs.Admission.{IsAdmitted, IsOfTheGate, AdmissionLaw, EntryLaw, AdmitsAll}
 use Rattle.race_gate.proofs.Races.{legal-part}
 
 -- the answer belongs to the act, and as an event of control it is allowed
@@ -107,3 +109,10 @@ admitted-fault state request Unsynced (answer, (before, may)) has =
 pub entry_law : EntryLaw
 entry_law old new request (Done receipt) judges admitted = tt
 entry_law old new request (Illegal fault) judges admitted = admitted-fault old request fault admitted judges.1.0
+
+pub admits-all : (old new : State) (requests : List Request) (replies : List Reply) → JudgesAll old requests replies new → AdmitsAll old requests replies new
+admits-all old new [] [] is = is
+admits-all old new [] (reply ∷ replies) is = absurd is
+admits-all old new (request ∷ requests) [] is = absurd is
+admits-all old new (request ∷ requests) (reply ∷ replies) (between, judges, rest) =
+    (between, judges, (λ admitted. entry_law old between request reply judges admitted), admits-all between new requests replies rest)

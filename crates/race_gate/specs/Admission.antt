@@ -1,5 +1,5 @@
 -- Which requests the rules of legal histories admit, and that these get an entry.
-use Rattle.std.specs.Prelude.{◌≡◌, ◌↔◌, ◌<◌, false, ◌∷◌, length}
+use Rattle.std.specs.Prelude.{◌≡◌, ◌↔◌, ◌<◌, false, List, [], ◌∷◌, length}
 use Rattle.trace_values.specs.declared.value.Request.{Request}
 use Rattle.race_gate.specs.declared.answer.Answer.{Answer}
 use Rattle.race_gate.specs.declared.answer.Reply.{Reply}
@@ -40,3 +40,11 @@ abbrev pub EntryLaw : Type 0
 EntryLaw =
     (old new : State) (request : Request) (reply : Reply) → Judges old request reply new → IsAdmitted old.shape old.history request →
     IsEnteredOrOfTheGate reply
+
+-- one reply to each request, in their order, and to each that is admitted when it comes an entry, but for a fault of the gate
+abbrev pub AdmitsAll : State → List Request → List Reply → State → Type 0
+AdmitsAll old [] [] new = new ≡ old
+AdmitsAll old (request ∷ requests) (reply ∷ replies) new =
+    (between : State) × Judges old request reply between × (IsAdmitted old.shape old.history request → IsEnteredOrOfTheGate reply) ×
+    AdmitsAll between requests replies new
+AdmitsAll old requests replies new = ⊥

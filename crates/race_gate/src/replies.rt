@@ -4,6 +4,7 @@ ghost use Rattle.std.specs.Prelude.{IfOk, OnErr, ◌≡◌};
 ghost use Rattle.race_gate.specs.Memory.{IsMemory};
 ghost use Rattle.race_gate.specs.Judged.{IsJudged};
 ghost use Rattle.race_gate.specs.Replies.{Judges, JudgesAll};
+ghost use Rattle.race_gate.specs.Admission.{AdmitsAll};
 
 use crate::answer::Reply;
 use crate::gate::Gate;
@@ -23,13 +24,15 @@ fn reply_to<A: Allocator + Clone>(gate: &mut Gate<A>, request: Request) -> Reply
 }
 
 /// Judges the requests in their order, and gives one reply to each. Room for all replies is taken first, and where it is refused the
-/// gate is unchanged. A later want of memory is the reply to its request, and the next one is judged.
+/// gate is unchanged. A later want of memory is the reply to its request, and the next one is judged. Each request that the rules of
+/// legal histories admit when it comes is entered, unless the gate was stopped, is at its limit, or has no memory.
 pub fn judge_all<A: Allocator + Clone, B: Allocator>(
     gate: &mut Gate<A>,
     alloc: B,
     requests: &[Request],
 ) -> Result<Vec<Reply, B>, AllocError>
     ensures replies { IfOk result (λ replies. JudgesAll gate.old requests.now replies.items gate.new) }
+    ensures admitted { IfOk result (λ replies. AdmitsAll gate.old requests.now replies.items gate.new) }
     ensures err { OnErr result (gate.new ≡ gate.old) }
     ensures judged { IsJudged gate.new.shape gate.new.history }
     ensures values { IsMemory gate.new.shape.cells gate.new.history gate.new.memory }

@@ -1,6 +1,7 @@
 use Rattle.std.proofs.Common.{◌∙◌, arith}
-use Rattle.std.proofs.lemmas.List.{take_more}
+use Rattle.std.proofs.lemmas.List.{take_all, take_more}
 use Rattle.race_gate.proofs.Lists.{JudgesAll-more}
+use Rattle.race_gate.proofs.Admitted.{admits-all}
 use Rattle.race_gate.proofs.replies.judge_all.Goals as goal
 
 pub loop-request-preserved : goal.loop-request-preserved
@@ -12,3 +13,11 @@ loop-request-preserved g c = record {
   judged = c.reply_to.ensures.judged;
   values = c.reply_to.ensures.values;
 }
+
+pub returns-clause-replies : goal.returns-clause-replies
+returns-clause-replies g c =
+    let whole = take_all c.loop-request.request-index c.args.requests.now (omega arith) in
+    rw whole at c.loop-request.invariant.replied
+
+pub returns-clause-admitted : goal.returns-clause-admitted
+returns-clause-admitted g c = admits-all _ _ _ _ (returns-clause-replies g c)
