@@ -97,12 +97,12 @@ any_child h r j = go (any_below (λ m. Outstanding h m j) (λ m. outstanding_or_
     go (inl t) = inl t
     go (inr none) = inr (λ m o. none m (omega (arith, r.outstanding_below m j o)) o)
 
-either : {A B : Type 0} → A ⊎ (A → ⊥) → B ⊎ (B → ⊥) → (A ⊎ B) ⊎ (A ⊎ B → ⊥)
+pub either : {A B : Type 0} → A ⊎ (A → ⊥) → B ⊎ (B → ⊥) → (A ⊎ B) ⊎ (A ⊎ B → ⊥)
 either (inl a) b = inl (inl a)
 either (inr na) (inl b) = inl (inr b)
 either (inr na) (inr nb) = inr (λ t. elim t [ inl a ↦ na a | inr b ↦ nb b ])
 
-both : {A B : Type 0} → A ⊎ (A → ⊥) → B ⊎ (B → ⊥) → (A × B) ⊎ (A × B → ⊥)
+pub both : {A B : Type 0} → A ⊎ (A → ⊥) → B ⊎ (B → ⊥) → (A × B) ⊎ (A × B → ⊥)
 both (inl a) (inl b) = inl (a, b)
 both (inl a) (inr nb) = inr (λ t. nb t.1)
 both (inr na) b = inr (λ t. na t.0)

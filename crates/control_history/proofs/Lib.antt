@@ -26,3 +26,4 @@ pub mod Examples
 pub mod Members
 pub mod Sides
 pub mod Gatherings
+pub mod AddressDags

@@ -1,11 +1,12 @@
 -- What holds of all legal control histories.
-use Rattle.std.specs.Prelude.{◌≡◌, ◌≢◌, ◌⊎◌, ◌↔◌, ◌<◌, ℕ, ◌∷◌, IsTrue, false}
-use Rattle.addresses.specs.Address.{reaches, parallel, Reaches as AddressReaches, branch as branch_of_address}
+use Rattle.std.specs.Prelude.{◌≡◌, ◌≢◌, ◌⊎◌, ◌↔◌, ◌<◌, ◌≤◌, ℕ, Bool, ◌∷◌, IsTrue, false}
+use Rattle.addresses.specs.Address.{Address, reaches, parallel, Reaches as AddressReaches, branch as branch_of_address}
+use Rattle.addresses.specs.Dags.{IsStrandDag}
 use Rattle.control_history.specs.History.{Event, History}
-use Rattle.control_history.specs.Strands.{Running, Begun, unused}
+use Rattle.control_history.specs.Strands.{absent, status, Running, Begun, unused}
 use Rattle.control_history.specs.Blocks.{Stack, spawned, block, stack, IsSynced, Outstanding}
 use Rattle.control_history.specs.Legal.{Legal}
-use Rattle.control_history.specs.Dag.{Reaches, IsParallel}
+use Rattle.control_history.specs.Dag.{Edge, Reaches, IsParallel}
 use Rattle.control_history.specs.Peers.{HaveSamePeers}
 use Rattle.control_history.specs.Addresses.{address, IsEnglishBefore, IsHebrewBefore}
 use Rattle.control_history.specs.SerialOrder.{IsSeriallyBefore}
@@ -31,6 +32,26 @@ AddressTestsLaw =
     (history : History) → Legal history → (strand other : ℕ) → Begun history strand → Begun history other →
     (Reaches history strand other ↔ IsTrue (reaches (address history strand) (address history other))) ×
     (IsParallel history strand other ↔ IsTrue (parallel (address history strand) (address history other)))
+
+-- no strand and no reserved join has a number exactly where it is the least unused one or greater
+abbrev pub NumbersLaw : Type 0
+NumbersLaw = (history : History) → Legal history → (number : ℕ) → (status history number ≡ absent) ↔ (unused history ≤ number)
+
+-- a begun strand has this address
+abbrev pub BegunAt : History → Address → Type 0
+BegunAt history a = (strand : ℕ) × Begun history strand × (address history strand ≡ a)
+
+-- an edge leads from the strand at the one address to that at the other
+abbrev pub EdgeAt : History → Address → Address → Type 0
+EdgeAt history a b = (strand : ℕ) × (other : ℕ) × Edge history strand other × (address history strand ≡ a) × (address history other ≡ b)
+
+-- by the addresses of its strands the dag is one of strands that begin by spawns and at the ends of blocks; so addresses::laws::dag_law speaks of it,
+-- by the tests that decide which strands and which edges there are
+abbrev pub DagLaw : Type 0
+DagLaw =
+    (history : History) → Legal history →
+    (begun : Address → Bool) × (edge : Address → Address → Bool) × ((a : Address) → IsTrue (begun a) ↔ BegunAt history a) ×
+    ((a b : Address) → IsTrue (edge a b) ↔ EdgeAt history a b) × IsStrandDag (λ a. IsTrue (begun a)) (λ a b. IsTrue (edge a b))
 
 -- what later events leave of a begun strand
 pub record StaysSame (longer history : History) (strand : ℕ) : Type 0 where

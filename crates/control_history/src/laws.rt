@@ -2,6 +2,7 @@
 
 ghost use Rattle.control_history.specs.Laws.{AddressLaw, AddressTestsLaw, StabilityLaw, SerialLaw, OrdersLaw, ListsLaw};
 ghost use Rattle.control_history.specs.Laws.{AnswerLaw, UnsyncedLaw, FinishLaw, CountLaw, JoinLaw, RunningLaw, RunningAddressLaw};
+ghost use Rattle.control_history.specs.Laws.{NumbersLaw, DagLaw};
 ghost use Rattle.control_history.specs.Laws.{BranchLaw, FinishedBranchLaw, BranchAddressLaw, AcrossLaw};
 ghost use Rattle.control_history.specs.Laws.{ViewLaw, GatheringLaw};
 ghost use Rattle.control_history.specs.Examples.{WorkedHistories};
@@ -10,6 +11,17 @@ ghost use Rattle.control_history.specs.Examples.{WorkedHistories};
 pub fn address_law()
     ensures in_words { AddressLaw }
     ensures tests { AddressTestsLaw }
+{}
+
+/// The numbers that no strand and no reserved join has are those from the least unused one on, from which a split takes its own.
+pub fn numbers_law()
+    ensures { NumbersLaw }
+{}
+
+/// The dag of a legal history, by the addresses of its strands, is one of which `addresses::laws::dag_law` speaks: some tests
+/// decide which strands have begun and which edges there are, and with them it is a strand dag.
+pub fn dag_law()
+    ensures { DagLaw }
 {}
 
 /// Later events change neither address nor branch of a begun strand, and of two neither path nor order.

@@ -116,9 +116,9 @@ fn views_fit_their_monoids(rt: HostRuntime) {
 
 #[test]
 fn products_obey_the_law() {
-    reducer_views::monoid_law();
-    reducer_views::quiet_law();
-    reducer_views::get_law();
+    reducer_views::laws::monoid_law();
+    reducer_views::laws::quiet_law();
+    reducer_views::laws::get_law();
 }
 
 /// The spawn that begins this child and the strand after it: the first of its block where no join is given.

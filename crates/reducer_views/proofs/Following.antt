@@ -432,12 +432,12 @@ put_at_home monoids room new_room pieces new_pieces items now steps s q number p
 
 -- what a strand sees
 pub view_seen : {A : Type 0} (monoids : List Monoid) (room : Bool) (pieces : List (Piece A)) (now : Holding) (steps : Steps) (s q : ℕ) (piece touching : Piece A) →
-    held monoids pieces room ≡ now → AreKept monoids (all_kept pieces) → s < length pieces → piece ≡ get_or pieces s piece → touching ≡ get_or pieces piece.home touching → AreLegal steps → Holds now steps → Running (control_steps steps) s →
+    held monoids pieces room ≡ now → AreKept monoids (all_kept pieces) → s < length pieces → piece ≡ get_or pieces s piece → touching ≡ get_or pieces piece.home touching → AreLegal steps → Holds now steps → IsCurrent (control_steps steps) s →
     gathered monoids (touches_of touching.slots) q ≡ view_of now.monoids q steps s
-view_seen monoids room pieces now steps s q piece touching now_is sound lt e f l k run =
+view_seen monoids room pieces now steps s q piece touching now_is sound lt e f l k current =
     sym (ap (view_or (identity_of (monoid_of monoids q))) (touches_here pieces piece.home touching low q ∙ ap (λ p. touches_of p.slots q) (sym f))) ∙
-    (ap (λ y. view_in monoids (all_kept pieces) y q) (home_is_at pieces s piece lt e ∙ at.homes s (current_known (legal_steps steps l) s (inl run))) ∙
-    (at.views s (inl run) q ∙ ap (λ v. view_of v.monoids q steps s) now_is))
+    (ap (λ y. view_in monoids (all_kept pieces) y q) (home_is_at pieces s piece lt e ∙ at.homes s (current_known (legal_steps steps l) s current)) ∙
+    (at.views s current q ∙ ap (λ v. view_of v.monoids q steps s) now_is))
   where
     low : piece.home < length pieces
     low = home_low monoids pieces s piece sound lt e
@@ -536,7 +536,7 @@ home_lent monoids room pieces lent now s piece now_is sound ps lt e =
 
 pub view_found : {A : Type 0} (monoids : List Monoid) (room : Bool) (pieces : List (Piece A)) (now : Holding) (steps : Steps) (s q : ℕ) (piece touching : Piece A) (found : Option Touch) (touch : Touch) →
     held monoids pieces room ≡ now → AreKept monoids (all_kept pieces) → s < length now.strands → piece ≡ get_or pieces s piece → touching ≡ get_or pieces piece.home touching → found ≡ touches_of touching.slots q → found ≡ Some touch →
-    AreLegal steps → Holds now steps → Running (control_steps steps) s → touch.view ≡ view_of now.monoids q steps s
+    AreLegal steps → Holds now steps → IsCurrent (control_steps steps) s → touch.view ≡ view_of now.monoids q steps s
 view_found monoids room pieces now steps s q piece touching found touch now_is sound lt e f found_is some l k run =
     ap (view_or (identity_of (monoid_of monoids q))) (sym some ∙ found_is) ∙
     view_seen monoids room pieces now steps s q piece touching now_is sound (there_at monoids room pieces now s now_is lt) e f l k run
@@ -544,7 +544,7 @@ view_found monoids room pieces now steps s q piece touching found touch now_is s
 pub view_untouched : {A : Type 0} (monoids : List Monoid) (room : Bool) (pieces : List (Piece A)) (now : Holding) (steps : Steps) (s q : ℕ) (piece touching : Piece A) (found : Option Touch) (monoid : Monoid) (v : View) →
     held monoids pieces room ≡ now → AreKept monoids (all_kept pieces) → s < length now.strands → q < length now.monoids → piece ≡ get_or pieces s piece → touching ≡ get_or pieces piece.home touching →
     found ≡ touches_of touching.slots q → found ≡ None → monoid ≡ get_or monoids q monoid → v ≡ identity_of monoid →
-    AreLegal steps → Holds now steps → Running (control_steps steps) s → v ≡ view_of now.monoids q steps s
+    AreLegal steps → Holds now steps → IsCurrent (control_steps steps) s → v ≡ view_of now.monoids q steps s
 view_untouched monoids room pieces now steps s q piece touching found monoid v now_is sound lt known e f found_is none m_is v_is l k run =
     v_is ∙ (ap identity_of (monoid_read monoids q monoid (subst (λ n. q < n) (ap (λ h. length h.monoids) (sym now_is)) known) m_is) ∙
     (ap (view_or (identity_of (monoid_of monoids q))) (sym none ∙ found_is) ∙

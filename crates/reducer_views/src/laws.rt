@@ -1,4 +1,4 @@
-//! A law about the definitions alone.
+//! The laws of views, each as the contract of a function that does nothing.
 
 ghost use Rattle.reducer_views.specs.Held.{GetLaw, QuietLaw};
 ghost use Rattle.reducer_views.specs.Products.{MonoidLaw};

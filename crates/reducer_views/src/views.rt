@@ -6,6 +6,7 @@ ghost use Rattle.control_history.specs.Strands.{Running};
 ghost use Rattle.control_history.specs.Legal.{Allowed};
 ghost use Rattle.reducer_values.specs.Accesses.{AreLegal, Steps, control, control_steps, put, update};
 ghost use Rattle.reducer_views.specs.Held.{Holds, split_of, view_of};
+ghost use Rattle.reducer_views.specs.Homes.{IsCurrent};
 ghost use Rattle.reducer_views.specs.Products.{number_of};
 
 use crate::pieces::{Piece, first_piece, gather_at, gather_block, grow, set_at};
@@ -67,14 +68,17 @@ impl<A: Allocator + Clone> Views<A> {
         })
     }
 
-    /// Makes room for the next event. A refusal changes nothing.
+    /// Makes room for the next event. A refused growth answers `AllocError` and changes nothing; where there is room, none is asked for.
     pub fn reserve_event(&mut self) -> Result<(), AllocError>
         ensures ok { OnOk result (self.new ≡ record self.old { has_room = true }) }
         ensures err { OnErr result (self.new ≡ self.old) }
+        ensures only_without_room { OnErr result (self.old.has_room ≡ false) }
     {
-        self.pieces.reserve(3)?;
-        fill(&mut self.spare, &self.alloc)?;
-        self.has_room = true;
+        if !self.has_room {
+            self.pieces.reserve(3)?;
+            fill(&mut self.spare, &self.alloc)?;
+            self.has_room = true;
+        }
         Ok(())
     }
 
@@ -158,11 +162,12 @@ impl<A: Allocator + Clone> Views<A> {
         self.has_room = false;
     }
 
-    /// The value that the strand sees in the reducer.
+    /// The value that the strand sees in the reducer. The strand is one whose view is kept: it runs, or it has arrived at a join
+    /// that has not begun.
     pub fn get(&self, strand: u32, reducer: u32) -> Option<u64>
         requires there { strand < length self.now.strands }
         requires known { reducer < length self.now.monoids }
-        ensures { (steps : Steps) → AreLegal steps → Holds self.now steps → Running (control_steps steps) strand →
+        ensures { (steps : Steps) → AreLegal steps → Holds self.now steps → IsCurrent (control_steps steps) strand →
             result ≡ number_of (view_of self.now.monoids reducer steps strand) }
     {
         let home = self.pieces[strand as usize].home;

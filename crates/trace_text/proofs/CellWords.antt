@@ -36,7 +36,7 @@ same_some o x y h k = cc
 
 -- ---- brackets
 
-abbrev HasNoBracket : List ℕ → Type 0
+abbrev pub HasNoBracket : List ℕ → Type 0
 HasNoBracket [] = Unit {0}
 HasNoBracket (byte ∷ bytes) = (byte ≢ 91) × HasNoBracket bytes
 

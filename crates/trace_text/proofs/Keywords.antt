@@ -17,10 +17,10 @@ keyword_by first third =
     (cond (first == 115) (cond (third == 97) Spawn Sync)
     (cond (third == 100) ReducerWord (cond (third == 116) Return (Access kind.Read))))))))))
 
-abbrev keyword_of_word : List ℕ → Keyword
+abbrev pub keyword_of_word : List ℕ → Keyword
 keyword_of_word word = keyword_by (get_or word 0 0) (get_or word 2 0)
 
-keyword_of_spelling : (keyword : Keyword) → keyword_of_word (spelling keyword) ≡ keyword
+pub keyword_of_spelling : (keyword : Keyword) → keyword_of_word (spelling keyword) ≡ keyword
 keyword_of_spelling MemWord = refl
 keyword_of_spelling ReducerWord = refl
 keyword_of_spelling Spawn = refl
@@ -38,11 +38,11 @@ pub keyword_once : (keyword other : Keyword) → spelling keyword ≡ spelling o
 keyword_once keyword other same = sym (keyword_of_spelling keyword) ∙ (ap keyword_of_word same ∙ keyword_of_spelling other)
 
 -- the monoid whose second letter is this
-abbrev monoid_of_word : List ℕ → Monoid
+abbrev pub monoid_of_word : List ℕ → Monoid
 monoid_of_word word =
     cond (get_or word 0 0 == 115) Sum (cond (get_or word 0 0 == 108) Last (cond (get_or word 0 0 == 100) Digits (cond (get_or word 1 0 == 105) Min Max)))
 
-monoid_of_spelling : (monoid : Monoid) → monoid_of_word (monoid_spelling monoid) ≡ monoid
+pub monoid_of_spelling : (monoid : Monoid) → monoid_of_word (monoid_spelling monoid) ≡ monoid
 monoid_of_spelling Sum = refl
 monoid_of_spelling Min = refl
 monoid_of_spelling Max = refl

@@ -15,3 +15,5 @@ pub mod PlainWords
 pub mod PlainPlaces
 pub mod PlainLines
 pub mod Printed
+pub mod Readings
+pub mod Totality

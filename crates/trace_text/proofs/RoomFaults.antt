@@ -138,13 +138,19 @@ version_kept : (at : ℕ) (before : Contents) (ls : List (List ℕ)) (contents :
 version_kept at before [] contents m = ap (λ (c : Contents). c.known.version) m
 version_kept at before (line ∷ ls) contents m = version_kept (at + 1) (extended at before m.0) ls contents m.2 ∙ version_extended at before m.0
 
+-- a header and the lines behind it
+pub lines_of_trace : (version : Version) (first : List ℕ) (rest : List (List ℕ)) (contents : Contents) → IsHeader first version → LinesMean 2 (nothing version) rest contents
+    → LinesOfTrace (first ∷ rest) contents
+lines_of_trace version first rest contents h m =
+    let same : contents.known.version ≡ version = version_kept 2 (nothing version) rest contents m in
+    let header : IsHeader first contents.known.version = subst (λ (v : Version). IsHeader first v) (sym same) h in
+    let behind : LinesMean 2 (nothing contents.known.version) rest contents = subst (λ (v : Version). LinesMean 2 (nothing v) rest contents) (sym same) m in
+    (header, behind)
+
 text_means : (version : Version) (text first rest : List ℕ) (contents : Contents) → lines text ≡ first ∷ lines rest → IsHeader first version
     → LinesMean 2 (nothing version) (lines rest) contents → TextMeans text contents
 text_means version text first rest contents e h m =
-    let same : contents.known.version ≡ version = version_kept 2 (nothing version) (lines rest) contents m in
-    let header : IsHeader first contents.known.version = subst (λ (v : Version). IsHeader first v) (sym same) h in
-    let behind : LinesMean 2 (nothing contents.known.version) (lines rest) contents = subst (λ (v : Version). LinesMean 2 (nothing v) (lines rest) contents) (sym same) m in
-    subst (λ (t : List (List ℕ)). LinesOfTrace t contents) (sym e) (header, behind)
+    subst (λ (t : List (List ℕ)). LinesOfTrace t contents) (sym e) (lines_of_trace version first (lines rest) contents h m)
 
 -- what the lines behind the header come to, the text comes to
 pub whole_read : {D : Type 0} (view : D → Contents) (version : Version) (text first rest : List ℕ) (r : Result D TextFault) → lines text ≡ first ∷ lines rest → IsHeader first version

@@ -1,6 +1,6 @@
 //! Laws of the grammar.
 
-ghost use Rattle.trace_text.specs.Laws.{OneMeaning, MeaningOrFault, OneFault};
+ghost use Rattle.trace_text.specs.Laws.{OneMeaning, MeaningOrFault, MeaningExcludesFault, OneFault};
 ghost use Rattle.trace_text.specs.Printing.{PlainMeaning, NoOtherMeaning};
 
 /// A text means at most one trace.
@@ -8,9 +8,14 @@ pub fn one_meaning()
     ensures { OneMeaning }
 {}
 
-/// No text means a trace and has a fault.
+/// Each list of bytes means a trace or has a fault.
 pub fn meaning_or_fault()
     ensures { MeaningOrFault }
+{}
+
+/// No text means a trace and has a fault.
+pub fn meaning_excludes_fault()
+    ensures { MeaningExcludesFault }
 {}
 
 /// A text has at most one fault.

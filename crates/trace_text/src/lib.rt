@@ -4,8 +4,8 @@
 //! The grammar stands in `specs/` as a relation between the lines of a text and what they mean, with a case for each kind of line, and
 //! beside it, for every other text, the first faulty line and the lowest cause in it. [`Trace::parse`] carries the theorem that the code
 //! meets it: an answer `Ok` is what the text means, and a fault `At` is the first faulty line with the lowest cause in it. `Memory` is
-//! the answer to a refused growth; no clause says when it comes. The laws [`one_meaning`], [`meaning_or_fault`] and [`one_fault`] say that
-//! a text has one meaning or one fault at most. [`Trace::print`] gives the plain text, which means the trace and, by these laws, no other;
+//! the answer to a refused growth; no clause says when it comes. The laws [`one_meaning`], [`one_fault`], [`meaning_or_fault`] and
+//! [`meaning_excludes_fault`] say that each list of bytes has one meaning or one fault, and not both. [`Trace::print`] gives the plain text, which means the trace and, by these laws, no other;
 //! [`plain_meaning`] says the same over the definitions alone. A [`Trace`] keeps that some text means it, that its cells are numbered
 //! without a gap, and that its requests name cells and reducers that there are. [`Trace::shape`] and [`cell_name`] are exact, and
 //! [`memory_at`] finds the memory of a cell by halving.
@@ -21,7 +21,7 @@ mod print;
 mod trace;
 
 pub use cell::{cell_name, memory_at};
-pub use laws::{meaning_or_fault, one_fault, one_meaning, plain_meaning};
+pub use laws::{meaning_excludes_fault, meaning_or_fault, one_fault, one_meaning, plain_meaning};
 pub use place::{CELLS, end, length, monoid, reducer};
 pub use print::{
     put_cell, put_declarations, put_feeds, put_memory, put_number, put_reducer, put_word,

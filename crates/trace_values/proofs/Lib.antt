@@ -1,3 +1,4 @@
 pub mod Pieces
 pub mod WordsOfLine
 pub mod IndexLemmas
+pub mod Decided

@@ -1,5 +1,5 @@
-use Rattle.trace_text.proofs.Unique.{text_exclusive}
+use Rattle.trace_text.proofs.Totality.{text_told}
 use Rattle.trace_text.proofs.laws.meaning_or_fault.Goals as goal
 
 pub returns : goal.returns
-returns c = text_exclusive
+returns c = text_told

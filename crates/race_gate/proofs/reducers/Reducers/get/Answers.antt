@@ -1,4 +1,4 @@
-use Rattle.std.proofs.Common.{◌<◌, ◌∙◌, length, refl, sym, subst}
+use Rattle.std.proofs.Common.{◌<◌, ◌∙◌, length, refl, sym, subst, inl}
 use Rattle.access_table.specs.declared.kind.Kind.TheVariants as kind
 use Rattle.race_gate.specs.Books.{Books}
 use Rattle.race_gate.proofs.Answering.{running-there, answers-get, gets-some, answers-refused_get}
@@ -17,10 +17,10 @@ pub unreachable-requires : goal.unreachable-requires
 unreachable-requires g c =
     gets-some _ _ _ c.args.self.now c.self.view_is c.args.number c.args.strand c.args.reducer kind.Get c.add.new.self c.add.ensures.reducers c.add.ensures.added
     (λ steps earlier kept runs. c.in_default.ensures steps earlier kept runs) refl c.requires.keeps
-    (λ steps legal holds runs. c.in-None.ensures steps legal holds runs)
+    (λ steps legal holds runs. c.in-None.ensures steps legal holds (inl runs))
 
 pub returns : goal.returns
 returns g c =
     answers-get _ _ _ c.args.self.now c.self.view_is c.args.number c.args.strand c.args.reducer kind.Get c.add.new.self c.add.ensures.reducers c.add.ensures.added
     (λ steps earlier kept runs. c.in_default.ensures steps earlier kept runs) c.in-Some-get.value refl
-    (λ steps legal holds runs. c.in-Some-get.ensures steps legal holds runs)
+    (λ steps legal holds runs. c.in-Some-get.ensures steps legal holds (inl runs))

@@ -1,0 +1,5 @@
+use Rattle.trace_text.proofs.Unique.{text_exclusive}
+use Rattle.trace_text.proofs.laws.meaning_excludes_fault.Goals as goal
+
+pub returns : goal.returns
+returns c = text_exclusive
