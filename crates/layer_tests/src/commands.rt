@@ -8,7 +8,9 @@ mod elisions;
 mod failures;
 mod replays;
 mod runs;
+mod schedules;
 mod words;
+mod worked;
 
 use crate::checks::equal;
 use devices::Filling;
@@ -327,6 +329,11 @@ fn reducers(rt: HostRuntime) -> Result<(), Fail> {
                 "1 granted / 2 split 1 2 3 / 3 granted / 4 granted / 5 ended / 6 joined 3 / 7 value 7",
                 0,
             ),
+            (
+                "cilk 1; reducer h last; put 0 h 1; spawn 0; spawn 2; update 1 h 5; update 4 h 7; return 4; return 1; sync 5; get 3 h",
+                "1 granted / 2 split 1 2 3 / 3 split 4 5 3 / 4 granted / 5 granted / 6 ended / 7 ended / 8 joined 3 / 9 value 7",
+                0,
+            ),
             ("cilk 1; reducer h last; get 0 h", "1 refused unset", 1),
             (
                 "cilk 1; reducer h sum; spawn 0; put 1 h 5; get 2 h",
@@ -336,6 +343,47 @@ fn reducers(rt: HostRuntime) -> Result<(), Fail> {
             (
                 "cilk 2; reducer h digits; put 0 h 0; spawn 0; update 2 h 2; update 1 h 1; return 1; sync 2; get 3 h",
                 "1 granted / 2 split 1 2 3 / 3 granted / 4 granted / 5 ended / 6 joined 3 / 7 value 33",
+                0,
+            ),
+        ],
+    )
+}
+
+#[test]
+fn reducers_in_blocks(rt: HostRuntime) -> Result<(), Fail> {
+    check_each(
+        &rt,
+        rt.alloc(),
+        "cilk 1; reducer h ",
+        &[
+            (
+                "sum; spawn 0; put 1 h 5; spawn 1; update 4 h 1; return 4; sync 5; get 6 h; get 2 h",
+                "1 split 1 2 3 / 2 granted / 3 split 4 5 6 / 4 granted / 5 ended / 6 joined 6 / 7 value 6 / 8 refused view-read 2",
+                1,
+            ),
+            (
+                "sum; put 0 h 1; spawn 0; put 1 h 9; return 1; sync 2; get 3 h",
+                "1 granted / 2 split 1 2 3 / 3 refused view-read 1 / 4 ended / 5 joined 3 / 6 value 1",
+                1,
+            ),
+            (
+                "sum; put 0 h 18446744073709551615; update 0 h 2; get 0 h",
+                "1 granted / 2 granted / 3 value 1",
+                0,
+            ),
+            (
+                "min; put 0 h 9; spawn 0; update 1 h 4; update 2 h 6; return 1; sync 2; get 3 h",
+                "1 granted / 2 split 1 2 3 / 3 granted / 4 granted / 5 ended / 6 joined 3 / 7 value 4",
+                0,
+            ),
+            (
+                "max; put 0 h 3; update 0 h 9; update 0 h 4; get 0 h",
+                "1 granted / 2 granted / 3 granted / 4 value 9",
+                0,
+            ),
+            (
+                "sum; spawn 0; put 1 h 5; spawn 2; get 1 h",
+                "1 split 1 2 3 / 2 granted / 3 split 4 5 3 / 4 value 5",
                 0,
             ),
         ],

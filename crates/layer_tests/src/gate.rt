@@ -411,11 +411,11 @@ fn ends(rt: &impl Abort, gate: &Gate<Global>, end: (usize, bool, u64)) {
 fn a_list_has_one_reply_to_each_request(rt: HostRuntime) -> Result<(), Fail> {
     let outcomes = [
         (Write(0, 1), Ok(Granted)),
-        (Write(0, 1), Ok(Granted)),
-        (Write(0, 1), Ok(Granted)),
-        (Write(0, 1), Err(GateFault::Limit)),
+        (Write(0, 2), Ok(Granted)),
+        (Write(0, 3), Ok(Granted)),
+        (Write(0, 4), Err(GateFault::Limit)),
     ];
-    let asks = Asks::Outcomes(&outcomes, (3, false, 1));
+    let asks = Asks::Outcomes(&outcomes, (3, false, 3));
     check_new(&rt, rt.alloc(), &[], 3, asks)
 }
 

@@ -21,6 +21,8 @@ mod frames;
 #[cfg(test)]
 mod gate;
 #[cfg(test)]
+mod gathered;
+#[cfg(test)]
 mod kinds;
 #[cfg(test)]
 mod lines;

@@ -92,6 +92,86 @@ fn orders_many_items_at_one_place(rt: HostRuntime) -> Result<(), Fail> {
     Ok(())
 }
 
+/// Where a spawn places its strands.
+#[derive(Clone, Copy)]
+enum Order {
+    /// A child stands before the strand behind its spawn.
+    English,
+    /// It stands behind that strand.
+    Hebrew,
+}
+
+/// A spawn places its child and the strand behind it, and the join where it is the first of its block.
+fn spawns(rt: &impl Abort, list: &mut OrderList<Global>, order: Order, spawner: u32, child: u32) {
+    let next = child.wrapping_add(1);
+    let (before_next, before_join) = match order {
+        Order::English => (child, next),
+        Order::Hebrew => (spawner, child),
+    };
+    reserves(rt, list, 3, Ok(()));
+    places(rt, list, spawner, child);
+    places(rt, list, before_next, next);
+    if spawner == 0 {
+        places(rt, list, before_join, next.wrapping_add(1));
+    }
+}
+
+/// Ten thousand spawns in one block, each by the strand behind the one before.
+fn spawns_long(rt: &impl Abort, list: &mut OrderList<Global>, order: Order) {
+    let mut newest = 0;
+    for k in 1..10_001u32 {
+        let child = if k == 1 { 1 } else { 2 * k };
+        spawns(rt, list, order, newest, child);
+        newest = child + 1;
+    }
+}
+
+/// The strands of ten thousand spawns are all in the order, which has these pairs among others.
+fn orders_spawns(
+    rt: &impl Abort,
+    alloc: Global,
+    order: Order,
+    pairs: &[(u32, u32)],
+) -> Result<(), Fail> {
+    let mut list = OrderList::new(alloc)?;
+    spawns_long(rt, &mut list, order);
+    has_items(rt, &list, 20_002, 0);
+    stand_before(rt, &list, pairs);
+    Ok(())
+}
+
+#[test]
+fn orders_the_strands_of_many_spawns(rt: HostRuntime) -> Result<(), Fail> {
+    orders_spawns(
+        &rt,
+        rt.alloc(),
+        Order::English,
+        &[
+            (0, 1),
+            (1, 2),
+            (2, 4),
+            (4, 5),
+            (1, 20_001),
+            (20_000, 20_001),
+            (20_001, 3),
+        ],
+    )?;
+    orders_spawns(
+        &rt,
+        rt.alloc(),
+        Order::Hebrew,
+        &[
+            (0, 2),
+            (2, 5),
+            (5, 4),
+            (4, 1),
+            (20_001, 20_000),
+            (20_000, 4),
+            (1, 3),
+        ],
+    )
+}
+
 /// Whether there is room for twenty items more. A refusal changes nothing.
 fn grows<A: Allocator>(rt: &impl Abort, list: &mut OrderList<A>) -> bool {
     let outcome = list.reserve(20);

@@ -218,6 +218,26 @@ fn causes(rt: HostRuntime) {
 }
 
 #[test]
+fn first_faulty_lines(rt: HostRuntime) {
+    check_faults(
+        &rt,
+        rt.alloc(),
+        &[
+            (b"cilk 1\nmem x\nmem x\n", 3, Cause::TwiceNamed),
+            (b"cilk 1\nmem x\n", 3, Cause::NoMain),
+            (b"cilk 1\nfunc main z\nsync\n", 4, Cause::BadNesting),
+            (b"cilk 1\n\xFF\n", 2, Cause::NotText),
+            (b"cilk 1\nfunc main z\nfoo\nend\n", 3, Cause::BadWord),
+            (
+                b"cilk 1\nfunc main z\nspawn g 1\nend\n",
+                3,
+                Cause::UnknownName,
+            ),
+        ],
+    );
+}
+
+#[test]
 fn nesting(rt: HostRuntime) {
     check_faults(
         &rt,

@@ -119,34 +119,8 @@ fn check(
 }
 
 #[test]
-fn a_race(rt: HostRuntime) -> Result<(), Fail> {
-    let text =
-        "cilk 1\nmem x\nmem y\nfunc main z\n  spawn f 7\n  read r x\nend\nfunc f v\n  write x v\nend\n";
-    let requests = [
-        asked(0, Act::Spawn, 5),
-        asked(1, Act::Write(0, 7), 9),
-        asked(2, Act::Read(0), 6),
-        asked(1, Act::Sync, 10),
-        asked(1, Act::Return, 10),
-        asked(2, Act::Sync, 7),
-        asked(3, Act::Return, 7),
-    ];
-    let wanted =
-        "{\"clean\":false,\"entries\":7,\"memory\":{\"x\":7,\"y\":0},\"refusals\":[{\"entry\":3,\"line\":6,\"name\":\"x\",\"rule\":\"write-read\",\"strand\":2,\"witness\":{\"entry\":2,\"line\":9,\"strand\":1}}]}";
-    check(&rt, rt.alloc(), text, &requests, wanted)
-}
-
-#[test]
 fn reducers(rt: HostRuntime) -> Result<(), Fail> {
     let text = "cilk 1\nreducer h sum\nfunc main z\n  get r h\nend\n";
-    let unset = [
-        asked(0, Act::Get(0), 4),
-        asked(0, Act::Sync, 5),
-        asked(0, Act::Return, 5),
-    ];
-    let wanted =
-        "{\"clean\":false,\"entries\":3,\"memory\":{},\"refusals\":[{\"entry\":1,\"line\":4,\"name\":\"h\",\"rule\":\"unset\",\"strand\":0,\"witness\":null}]}";
-    check(&rt, rt.alloc(), text, &unset, wanted)?;
     let other_peers = [
         asked(0, Act::Put(0, 1), 1),
         asked(0, Act::Spawn, 2),

@@ -209,6 +209,8 @@ fn spawns_in_a_long_loop(rt: HostRuntime) -> Result<(), Fail> {
             SpawnsLong,
             Syncs(20_001, Ok(Synced::Joined(3))),
             Returns(3, Ok(Returned::Finished)),
+            Stands(20_001, true, false),
+            Stands(20_002, false, false),
         ],
     )
 }

@@ -105,6 +105,9 @@ fn come_for_joins<R: Wait + Abort>(
     assert!(rt; lot.wake(rt, 3)?.is_none());
     let parked = lot.park(rt, 3, Task::root(alloc, program))?;
     assert!(rt; parked.map(|task| task.strand) == Some(3));
+    assert!(rt; matches!(lot.wake(rt, 3), Err(LotFault::Torn)));
+    assert!(rt; lot.wake(rt, 6)?.is_none());
+    assert!(rt; matches!(lot.wake(rt, 6), Err(LotFault::Torn)));
     assert!(rt; lot.park(rt, 4, Task::root(alloc, program))?.is_none());
     assert!(rt; lot.wake(rt, 4)?.map(|task| task.strand) == Some(4));
     assert!(rt; lot.park(rt, 5, Task::root(alloc, program))?.is_none());

@@ -4,6 +4,7 @@ ghost use Rattle.std.specs.Prelude.{◌≤◌};
 ghost use Rattle.race_gate.specs.Shapes.{most_entries};
 
 use super::devices::{Breaking, Filling};
+use super::worked::{ENDLESS, FIB, LASTS, NO_TURNS, PAIR, SERIES, TURNS};
 use super::{
     MOST, Outcome, check_fault, check_told, check_written, has_filled, is_fault, is_unread, lined,
 };
@@ -12,13 +13,6 @@ use std::io::{Read, Write};
 use std::process::Abort;
 use std::test::Fail;
 use text_commands::{CliFault, Watched, elide_text, opened};
-
-/// The tenth Fibonacci number, summed by a reducer in 713 requests.
-const FIB: &str =
-    "cilk 1; mem x; reducer h sum; func main z; put h 0; call fib 10; get r h; write x r; end; func fib n; let t = n < 2; if t; update h n; else; let a = n - 1; let b = n - 2; spawn fib a; call fib b; sync; end; end";
-
-/// A program that never ends.
-const ENDLESS: &str = "cilk 1; func main z; call main 0; end";
 
 /// A program of 29 bytes whose elision has 15.
 const SHORT: &str = "cilk 1\nmem x\nfunc main z\nend\n";
@@ -111,15 +105,18 @@ fn elisions(rt: HostRuntime) -> Result<(), Fail> {
         &[
             (FIB, MOST, "x 55 / requests 713"),
             (FIB, 713, "x 55 / requests 713"),
+            (PAIR, MOST, "x 7 / y 0 / requests 7"),
+            (SERIES, MOST, "x 7 / y 7 / requests 9"),
+            (LASTS, MOST, "x 3 / requests 11"),
             (
-                "cilk 1; mem x; mem y; func main z; spawn f 7; read r x; end; func f v; write x v; end",
-                MOST,
-                "x 7 / y 0 / requests 7",
-            ),
-            (
-                "cilk 2; mem a 4; func main z; pfor i 4 f; end; func f n; write a[n] n; end",
+                TURNS,
                 MOST,
                 "a[0] 0 / a[1] 1 / a[2] 2 / a[3] 3 / requests 19",
+            ),
+            (
+                NO_TURNS,
+                MOST,
+                "a[0] 0 / a[1] 0 / a[2] 0 / a[3] 0 / requests 3",
             ),
             (
                 "cilk 1; mem x; mem a 2; mem y; func main z; write a[1] 5; write y 6; end",
@@ -137,8 +134,10 @@ fn faults_of_elisions(rt: HostRuntime) -> Result<(), Fail> {
         &rt,
         rt.alloc(),
         &[
-            (FIB, 712, "limit", 4),
             (FIB, 0, "limit", 4),
+            (FIB, 1, "limit", 4),
+            (FIB, 100, "limit", 4),
+            (FIB, 712, "limit", 4),
             (ENDLESS, 5, "limit", 4),
             (ENDLESS, MOST, "limit", 4),
             ("", MOST, "program line 1: BadHeader", 2),

@@ -1,16 +1,13 @@
 //! Replays, from programs and traces that are read to lines that are written.
 
 use super::devices::{Breaking, Filling};
+use super::worked::{ENDLESS, PAIR};
 use super::{Outcome, check_fault, check_told, check_written, has_filled, is_unread, lined};
 use std::alloc::Global;
 use std::io::{Read, Write};
 use std::process::Abort;
 use std::test::Fail;
 use text_commands::{CliFault, Watched, replay_text};
-
-/// A function that spawns another, which writes a cell that it reads.
-const PAIR: &str =
-    "cilk 1; mem x; mem y; func main z; spawn f 7; read r x; end; func f v; write x v; end";
 
 /// Its run in which the write comes first, without the last request.
 const MOST_OF_PAIR: &str =
@@ -132,7 +129,7 @@ fn replays(rt: HostRuntime) -> Result<(), Fail> {
                 4,
             ),
             (
-                "cilk 1; func main z; call main 0; end",
+                ENDLESS,
                 "cilk 1; call 0 @3; call 0 @3; call 0 @3; call 0 @3; call 0 @3",
                 "unfinished\n",
                 4,

@@ -4,33 +4,30 @@ ghost use Rattle.std.specs.Prelude.{◌<◌, ◌≤◌};
 ghost use Rattle.race_gate.specs.Shapes.{most_entries};
 
 use super::devices::{Breaking, Filling};
+use super::worked::{ENDLESS, FIB, LASTS, NO_TURNS, SERIES, TURNS};
 use super::{MOST, Outcome, check_fault, check_told, check_written, has_filled, is_unread, lined};
 use std::alloc::Global;
 use std::io::{Read, Write};
 use std::process::Abort;
 use std::sync::Wait;
-use std::sync::atomic::{AtomicBool, Ordering};
 use std::test::Fail;
-use std::thread;
 use std::thread::Threads;
 use text_commands::{CliFault, Door, OpenDoor, Watched, run_text};
-
-/// The tenth Fibonacci number, summed by a reducer in 713 requests.
-const FIB: &str =
-    "cilk 1; mem x; reducer h sum; func main z; put h 0; call fib 10; get r h; write x r; end; func fib n; let t = n < 2; if t; update h n; else; let a = n - 1; let b = n - 2; spawn fib a; call fib b; sync; end; end";
 
 const FIB_REPORT: &str =
     "{\"clean\":true,\"entries\":713,\"memory\":{\"x\":55},\"refusals\":[],\"schedules\":\"clean for every schedule\"}\n";
 
-/// A function that spawns another, which writes a cell that it reads.
-const PAIR: &str =
-    "cilk 1; mem x; mem y; func main z; spawn f 7; read r x; end; func f v; write x v; end";
+const SERIES_REPORT: &str =
+    "{\"clean\":true,\"entries\":9,\"memory\":{\"x\":7,\"y\":7},\"refusals\":[],\"schedules\":\"clean for every schedule\"}\n";
 
-/// Four numbers, each written by a strand of its own.
-const LOOP: &str = "cilk 2; mem a 4; func main z; pfor i 4 f; end; func f n; write a[n] n; end";
+const LASTS_REPORT: &str =
+    "{\"clean\":true,\"entries\":11,\"memory\":{\"x\":3},\"refusals\":[],\"schedules\":\"clean for every schedule\"}\n";
 
-const LOOP_REPORT: &str =
+const TURNS_REPORT: &str =
     "{\"clean\":true,\"entries\":19,\"memory\":{\"a\":[0,1,2,3]},\"refusals\":[],\"schedules\":\"clean for every schedule\"}\n";
+
+const NO_TURNS_REPORT: &str =
+    "{\"clean\":true,\"entries\":3,\"memory\":{\"a\":[0,0,0,0]},\"refusals\":[],\"schedules\":\"clean for every schedule\"}\n";
 
 /// A get of a reducer that nobody has put.
 const UNSET: &str = "cilk 1; reducer h sum; func main z; get r h; end";
@@ -45,7 +42,7 @@ const TOLD_OF_SHORT: &str =
     "{\"clean\":true,\"entries\":2,\"memory\":{},\"refusals\":[],\"schedules\":\"clean for every schedule\"}\n";
 
 /// Runs the program that a reader gives, through a door.
-fn ran_through<D: Door + Sync, P: Read + Drop, W: Write, R: Threads + Wait + Sync>(
+pub(super) fn ran_through<D: Door + Sync, P: Read + Drop, W: Write, R: Threads + Wait + Sync>(
     rt: &R,
     alloc: Global,
     reader: P,
@@ -85,41 +82,52 @@ fn ran<R: Threads + Wait + Sync>(
     Ok(ran_through(rt, alloc, bytes, workers, &OpenDoor, output, limit))
 }
 
-/// By each number of workers the run of the program is reported so.
+/// By each number of workers the run of the program within the limit is reported so.
 fn check_run<R: Abort + Threads + Wait + Sync>(
     rt: &R,
     alloc: Global,
     program: &str,
+    limit: u32,
     wanted: &str,
     status: u8,
-) -> Result<(), Fail> {
-    for workers in [1usize, 2, 8] {
-        let outcome = ran(rt, alloc, program, workers, MOST)?;
+) -> Result<(), Fail>
+    requires { limit ≤ most_entries }
+{
+    for workers in [1usize, 2, 8, 64] {
+        let outcome = ran(rt, alloc, program, workers, limit)?;
         check_written(rt, &outcome, status, wanted, program);
     }
     Ok(())
 }
 
-#[test]
-fn many_workers_finish_one_run(rt: HostRuntime) -> Result<(), Fail> {
-    check_run(&rt, rt.alloc(), FIB, FIB_REPORT, 0)
-}
-
-#[test]
-fn a_loop_of_spawns_is_run(rt: HostRuntime) -> Result<(), Fail> {
-    check_run(&rt, rt.alloc(), LOOP, LOOP_REPORT, 0)
-}
-
-#[test]
-fn a_reducer_that_was_not_put_is_reported(rt: HostRuntime) -> Result<(), Fail> {
-    check_run(&rt, rt.alloc(), UNSET, UNSET_REPORT, 1)
-}
-
-#[test]
-fn a_run_within_the_limit(rt: HostRuntime) -> Result<(), Fail> {
-    let outcome = ran(&rt, rt.alloc(), FIB, 64, 713)?;
-    check_written(&rt, &outcome, 0, FIB_REPORT, "64 workers");
+/// Each program's run within the limit is reported so.
+fn check_runs<R: Abort + Threads + Wait + Sync>(
+    rt: &R,
+    alloc: Global,
+    cases: &[(&str, u32, &str, u8)],
+) -> Result<(), Fail> {
+    for (program, limit, wanted, status) in cases {
+        assert!(rt; *limit <= MOST);
+        check_run(rt, alloc, program, *limit, wanted, *status)?;
+    }
     Ok(())
+}
+
+#[test]
+fn any_number_of_workers_leaves_one_report(rt: HostRuntime) -> Result<(), Fail> {
+    check_runs(
+        &rt,
+        rt.alloc(),
+        &[
+            (FIB, MOST, FIB_REPORT, 0),
+            (FIB, 713, FIB_REPORT, 0),
+            (SERIES, MOST, SERIES_REPORT, 0),
+            (LASTS, MOST, LASTS_REPORT, 0),
+            (TURNS, MOST, TURNS_REPORT, 0),
+            (NO_TURNS, MOST, NO_TURNS_REPORT, 0),
+            (UNSET, MOST, UNSET_REPORT, 1),
+        ],
+    )
 }
 
 /// The program has no run that is told, for a fault with this text and status.
@@ -133,77 +141,40 @@ fn check_no_run<R: Abort + Threads + Wait + Sync>(
 ) -> Result<(), Fail>
     requires { limit ≤ most_entries }
 {
-    let outcome = ran(rt, alloc, program, 2, limit)?;
-    check_fault(rt, alloc, &outcome, status, wanted)
+    for workers in [1usize, 2] {
+        let outcome = ran(rt, alloc, program, workers, limit)?;
+        check_fault(rt, alloc, &outcome, status, wanted)?;
+    }
+    Ok(())
 }
 
-#[test]
-fn a_limit_ends_a_run(rt: HostRuntime) -> Result<(), Fail> {
-    for limit in [0u32, 1, 100, 712] {
-        check_no_run(&rt, rt.alloc(), FIB, limit, "limit", 4)?;
+/// Each program has no run that is told, for the fault beside it.
+fn check_no_runs<R: Abort + Threads + Wait + Sync>(
+    rt: &R,
+    alloc: Global,
+    cases: &[(&str, u32, &str, u8)],
+) -> Result<(), Fail> {
+    for (program, limit, wanted, status) in cases {
+        assert!(rt; *limit <= MOST);
+        check_no_run(rt, alloc, program, *limit, wanted, *status)?;
     }
     Ok(())
 }
 
 #[test]
-fn a_text_that_is_no_program(rt: HostRuntime) -> Result<(), Fail> {
-    check_no_run(&rt, rt.alloc(), "cilk 1", 5, "program line 2: NoMain", 2)
-}
-
-/// Holds whichever of strands 1 and 2 comes first until the other has come too.
-#[derive(Drop)]
-struct Meeting {
-    first: AtomicBool,
-    second: AtomicBool,
-    /// Who came first has gone on alone, so that who comes later meets nobody.
-    given_up: AtomicBool,
-    met: AtomicBool,
-}
-
-const TURNS: u32 = 1_000_000;
-
-impl Meeting {
-    fn wait_for(&self, other: &AtomicBool) {
-        for _ in 0..TURNS {
-            if other.load(Ordering::SeqCst) {
-                if !self.given_up.load(Ordering::SeqCst) {
-                    self.met.store(true, Ordering::SeqCst);
-                }
-                return;
-            }
-            thread::yield_now();
-        }
-        self.given_up.store(true, Ordering::SeqCst);
-    }
-}
-
-impl Door for Meeting {
-    fn before<R: Wait>(&self, _rt: &R, strand: u32) {
-        let (mine, other) = match strand {
-            1 => (&self.first, &self.second),
-            2 => (&self.second, &self.first),
-            _ => return,
-        };
-        if !mine.swap(true, Ordering::SeqCst) {
-            self.wait_for(other);
-        }
-    }
-}
-
-#[test]
-fn two_at_once(rt: HostRuntime) -> Result<(), Fail> {
-    let meeting = Meeting {
-        first: AtomicBool::new(false),
-        second: AtomicBool::new(false),
-        given_up: AtomicBool::new(false),
-        met: AtomicBool::new(false),
-    };
-    let text = lined(rt.alloc(), PAIR, "; ")?;
-    let output = Vec::new(rt.alloc());
-    let outcome = ran_through(&rt, rt.alloc(), text.as_bytes(), 2, &meeting, output, MOST);
-    assert!(rt; matches!(outcome.answer, Ok(1)));
-    assert!(rt; meeting.met.load(Ordering::SeqCst));
-    Ok(())
+fn faults_of_runs(rt: HostRuntime) -> Result<(), Fail> {
+    check_no_runs(
+        &rt,
+        rt.alloc(),
+        &[
+            (FIB, 0, "limit", 4),
+            (FIB, 1, "limit", 4),
+            (FIB, 100, "limit", 4),
+            (FIB, 712, "limit", 4),
+            (ENDLESS, 5, "limit", 4),
+            ("cilk 1", 5, "program line 2: NoMain", 2),
+        ],
+    )
 }
 
 fn ran_breaking<R: Threads + Wait + Sync>(rt: &R, alloc: Global, left: u32) -> Outcome<Vec<u8>> {

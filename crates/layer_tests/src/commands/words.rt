@@ -26,13 +26,21 @@ enum Wanted<'a> {
     Runs(usize, u32),
     /// The replay of the trace in the file `g` as a run of the program in the file `f`.
     Replays,
-    /// Nothing: they are refused with this text.
+    /// Nothing: they are refused with this text and status 2.
     Refused(&'a str),
     /// A text with this part.
     Shows(&'a str),
 }
 
 use Wanted::{Elides, Judges, Refused, Replays, Runs, Shows};
+
+/// Whether the fault is that words are not understood, with this text.
+fn is_usage(fault: &CliFault, whole: &str) -> bool {
+    match fault {
+        CliFault::Usage(text) => text.as_str() == whole,
+        _ => false,
+    }
+}
 
 /// Whether what words ask for is what they are to ask for.
 fn is_wanted(found: &Result<Job, CliFault>, wanted: Wanted<'_>) -> bool {
@@ -50,7 +58,7 @@ fn is_wanted(found: &Result<Job, CliFault>, wanted: Wanted<'_>) -> bool {
             Runs(many, most),
         ) => { file.as_str() == "f" && *workers == many && *limit == most }
         (Ok(Job::Replay { file, trace }), Replays) => file.as_str() == "f" && trace.as_str() == "g",
-        (Err(CliFault::Usage(text)), Refused(whole)) => text.as_str() == whole,
+        (Err(fault), Refused(whole)) => fault.status() == 2 && is_usage(fault, whole),
         (Ok(Job::Show { text }), Shows(part)) => text.as_str().contains(part),
         _ => false,
     }
@@ -125,6 +133,8 @@ fn words_that_are_refused(rt: HostRuntime) -> Result<(), Fail> {
             ("judge --limit 1000001", Refused(NO_LIMIT)),
             ("judge --limit many", Refused(NO_LIMIT)),
             ("elide f --limit 1000001", Refused(NO_LIMIT)),
+            ("run f --workers 0", Refused(NO_WORKERS)),
+            ("run f --workers 65", Refused(NO_WORKERS)),
             ("elide", Refused("no file is given; see 'cilkcheck --help'")),
             ("elide f g", Refused("unexpected argument 'g' found")),
             (
