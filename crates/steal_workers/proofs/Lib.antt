@@ -1,3 +1,4 @@
+pub mod Asking
 pub mod Balances
 pub mod FirstFaults
 pub mod Joins

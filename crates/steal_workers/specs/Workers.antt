@@ -7,6 +7,8 @@ use Rattle.race_gate.specs.declared.fault.GateFault.{GateFault}
 use Rattle.race_gate.specs.declared.answer.Answer.{Answer}
 use Rattle.race_gate.specs.declared.answer.Answer.TheVariants.{Split, Joined, Waits, Ended, EndedJoined, Finished}
 use Rattle.race_gate.specs.declared.answer.Receipt.{Receipt}
+use Rattle.program_steps.specs.Exchanges.{Exchange}
+use Rattle.frame_steps.specs.Frames.{IsAfter, CanFollow}
 use Rattle.locked_replay.specs.declared.fault.RunFault.{RunFault}
 use Rattle.locked_replay.specs.declared.fault.RunFault.TheVariants.{Strange}
 use Rattle.steal_workers.specs.declared.task.Task.{Task}
@@ -80,6 +82,18 @@ KeepsReceipt request before after (Ok answer) = (number : ℕ) × (after ≡ bef
 KeepsReceipt request before after (Err fault) =
     ((after ≡ before) × ((cause : GateFault) × (fault ≡ fault_of cause)))
     ⊎ ((fault ≡ Strange) × ((receipt : Receipt) × (after ≡ before ++ receipt ∷ []) × (receipt.request ≢ request)))
+
+-- the only request that the function of a task can go on with
+abbrev pub IsWanted : Task → Request → Type 0
+IsWanted task request =
+    (function argument : ℕ) (history : List Exchange) (x : Exchange)
+    → IsAfter task.program.now.functions function argument history task.frame
+    → CanFollow task.program.now.functions function argument history x
+    → (x.act ≡ request.act) × (x.line ≡ request.line)
+
+-- a receipt was kept of what the task asks next, on its strand
+abbrev pub AsksFor : Task → List Receipt → List Receipt → Type 0
+AsksFor task before after = (receipt : Receipt) × (after ≡ before ++ receipt ∷ []) × (receipt.request.strand ≡ task.strand) × IsWanted task receipt.request
 
 -- the strand of a child that a spawn has begun
 abbrev pub child_of : Answer → List ℕ

@@ -40,7 +40,7 @@ pub(crate) struct Worker<'p, L: Ledger> {
 
 impl<'p, L: Ledger> Worker<'p, L> {
     ghost use Rattle.steal_workers.specs.Reaches.{own_view};
-    ghost use Rattle.steal_workers.specs.Workers.{station_of, KeepsReceipt, GoesOn, child_of};
+    ghost use Rattle.steal_workers.specs.Workers.{station_of, AsksFor, KeepsReceipt, GoesOn, child_of};
 
     pub(crate) fn new(alloc: Global, seat: Seat<L>, ends: Ends<'p>) -> Worker<'p, L>
         ensures before { result.before ≡ seat.asked }
@@ -98,7 +98,8 @@ impl<'p, L: Ledger> Worker<'p, L> {
         lot: &Lot<'p>,
         task: Task<'p>,
     ) -> Result<Option<Task<'p>>, RunFault>
-        ensures { station_of self.new ≡ station_of self.old }
+        ensures station { station_of self.new ≡ station_of self.old }
+        ensures asks { OnOk result (AsksFor task.entry self.old.receipts.items self.new.receipts.items) }
     {
         let Task {
             strand,
