@@ -1,3 +1,8 @@
+pub mod Asking
 pub mod Balances
+pub mod FirstFaults
+pub mod Joins
+pub mod Ready
 pub mod Sharing
 pub mod Sums
+pub mod Thefts

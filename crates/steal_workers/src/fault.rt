@@ -1,7 +1,7 @@
 //! Which fault a run answers.
 
 ghost use Rattle.std.specs.Prelude.{◌≡◌};
-ghost use Rattle.steal_workers.specs.Faults.{rank, fault_of, IsFirst};
+ghost use Rattle.steal_workers.specs.Faults.{rank, fault_of, refusal_of, meeting_of, refused_thread, IsFirst};
 
 use crate::lot::LotFault;
 use frame_steps::FrameFault;
@@ -21,7 +21,9 @@ pub(crate) fn fault_of(fault: GateFault) -> RunFault
 }
 
 /// What a refused answer means for the run.
-pub(crate) fn refusal_of(fault: FrameFault) -> RunFault {
+pub(crate) fn refusal_of(fault: FrameFault) -> RunFault
+    ensures { result ≡ refusal_of fault }
+{
     match fault {
         FrameFault::Strange => RunFault::Strange,
         FrameFault::Memory => RunFault::Memory,
@@ -29,11 +31,20 @@ pub(crate) fn refusal_of(fault: FrameFault) -> RunFault {
 }
 
 /// What a fault of the lot means for the run.
-pub(crate) fn meeting_of(fault: LotFault) -> RunFault {
+pub(crate) fn meeting_of(fault: LotFault) -> RunFault
+    ensures { result ≡ meeting_of fault }
+{
     match fault {
         LotFault::Torn => RunFault::Torn,
         LotFault::Memory => RunFault::Memory,
     }
+}
+
+/// The fault of threads that could not all be started.
+pub(crate) fn of_threads(all: bool) -> Option<RunFault>
+    ensures { result ≡ refused_thread all }
+{
+    if all { None } else { Some(RunFault::Memory) }
 }
 
 fn rank(fault: RunFault) -> u8

@@ -9,8 +9,10 @@
 //! shown by tests and not proved.
 #![tactic(auto)]
 
+mod ends;
 mod fault;
 mod hand;
+mod joining;
 mod lot;
 mod pool;
 mod reach;

@@ -1,7 +1,10 @@
 //! Where tasks wait for their joins.
 
-ghost use Rattle.std.specs.Prelude.{◌≡◌, IfOk};
-ghost use Rattle.std.specs.Option.{IfSome};
+ghost use Rattle.std.specs.Prelude.{◌≡◌, ◌≢◌, ℕ, IfOk, IfSome};
+ghost use Rattle.std.specs.Ordering.{nat_cmp};
+ghost use Rattle.std.specs.BTreeMap.{get};
+ghost use Rattle.steal_workers.specs.Places.{Parks, Wakes};
+ghost use Rattle.steal_workers.specs.Tasks.{IsOn};
 
 use crate::task::Task;
 use std::alloc::Global;
@@ -40,8 +43,9 @@ struct Places<'p> {
 
 impl<'p> Places<'p> {
     fn park(&mut self, join: u32, task: Task<'p>) -> Result<Option<Task<'p>>, LotFault>
-        ensures strand { IfOk result (λ out. IfSome out (λ t. t.strand ≡ join)) }
-        ensures handed_in { IfOk result (λ out. IfSome out (λ t. (t.program ≡ task.entry.program) × (t.frame ≡ task.entry.frame))) }
+        ensures parks { Parks join task.entry (get nat_cmp self.old.by_join join) result (get nat_cmp self.new.by_join join) }
+        ensures others { (other : ℕ) → other ≢ join → get nat_cmp self.new.by_join other ≡ get nat_cmp self.old.by_join other }
+        ensures closed { self.new.closed ≡ self.old.closed }
     {
         match self.by_join.get_mut(&join) {
             Some(place) => match place {
@@ -59,12 +63,17 @@ impl<'p> Places<'p> {
     }
 
     fn wake(&mut self, join: u32) -> Result<Option<Task<'p>>, LotFault>
-        ensures { IfOk result (λ out. IfSome out (λ t. t.strand ≡ join)) }
+        ensures wakes { Wakes join (get nat_cmp self.old.by_join join) result (get nat_cmp self.new.by_join join) }
+        ensures others { (other : ℕ) → other ≢ join → get nat_cmp self.new.by_join other ≡ get nat_cmp self.old.by_join other }
+        ensures closed { self.new.closed ≡ self.old.closed }
     {
         match self.by_join.get_mut(&join) {
             Some(place) => match std::mem::replace(place, Place::Met) {
                 Place::Parked(task) => Ok(Some(task.on(join))),
-                Place::Woken | Place::Met => Err(LotFault::Torn),
+                again => {
+                    *place = again;
+                    Err(LotFault::Torn)
+                }
             },
             None => match self.by_join.insert(join, Place::Woken) {
                 Ok(_) => Ok(None),
@@ -99,8 +108,7 @@ impl<'p> Lot<'p> {
         join: u32,
         task: Task<'p>,
     ) -> Result<Option<Task<'p>>, LotFault>
-        ensures strand { IfOk result (λ out. IfSome out (λ t. t.strand ≡ join)) }
-        ensures handed_in { IfOk result (λ out. IfSome out (λ t. (t.program ≡ task.entry.program) × (t.frame ≡ task.entry.frame))) }
+        ensures { IfOk result (λ out. IfSome out (IsOn join task.entry)) }
     {
         self.places.lock(rt).park(join, task)
     }

@@ -1,82 +1,39 @@
 //! Runs of a program by many workers.
 
-ghost use Rattle.std.specs.Prelude.{◌≡◌, ◌+◌, ◌<◌, ◌≤◌, true, length, IfOk, vec_len};
+ghost use Rattle.std.specs.Prelude.{◌≡◌, ◌+◌, ◌<◌, ◌≤◌, [], ◌∷◌, true, length, map, All, IfOk, OnOk, vec_len, vec_capacity};
 ghost use Rattle.std.specs.List.{list_any, sum_by};
 ghost use Rattle.locked_replay.specs.Logs.{all_receipts, all_asked};
+ghost use Rattle.steal_workers.specs.Faults.{IsFirstOf};
 ghost use Rattle.steal_workers.specs.Finishing.{finishes, some_finished};
+ghost use Rattle.steal_workers.specs.Reaches.{own_deque, own_view, deques_of, AllLeadTo, HaveRoot};
+ghost use Rattle.steal_workers.specs.Hands.{hand};
+ghost use Rattle.steal_workers.specs.Workers.{station_of, stations_of, owns_of, others_of, faults_of, own_hands, HasRoom, IsReady, IsTold};
 
-use crate::fault::first_of;
-use crate::hand::Owner;
+use crate::ends::{Ends, make_ends};
+use crate::fault::{first_of, of_threads};
+use crate::joining::{Room, settle};
 use crate::lot::Lot;
-use crate::reach::Reach;
-use crate::task::Task;
 use crate::worker::Worker;
 use locked_replay::{Ask, RunFault, Seat, WorkerLog};
 use program_text::Program;
 use race_gate::{Answer, Receipt};
 use std::alloc::{AllocError, Global};
+use std::snapshot::Snapshot;
 use std::sync::Wait;
 use std::sync::ledger::Ledger;
 use std::thread;
 use std::thread::{Promise, PromisedHandle, Scope, Threads};
 
-/// How many tasks a deque holds before it grows.
-const ROOM: usize = 64;
-
-/// What was asked on a worker's seat before it began.
-#[derive(Clone, Copy)]
-struct Before(u64);
-
-impl<'p, L: Ledger> Promise<Worker<'p, L>> for Before {
-    ghost kept_by = { λ p r. r.before ≡ p.0 };
-}
-
-fn owners<'p>(alloc: Global, workers: usize) -> Result<Vec<Owner<'p>>, AllocError>
-    ensures { IfOk result (λ owners. vec_len owners ≡ workers) }
-{
-    let mut owners = Vec::new(alloc);
-    for _ in 0..workers {
-        owners.push(Owner::lifo_as(alloc, ROOM)?)?;
-    }
-    Ok(owners)
-}
-
-/// A reach into each deque.
-fn reaches<'p>(alloc: Global, owners: &mut Vec<Owner<'p>>) -> Result<Vec<Reach<'p>>, AllocError>
-    ensures { vec_len owners.new ≡ vec_len owners.old }
-{
-    let mut reaches = Vec::new(alloc);
-    for owner in owners.iter_mut() {
-        reaches.push(Reach::new(owner)?)?;
-    }
-    Ok(reaches)
-}
-
-/// What each worker needs of the deques.
+/// A worker as it was before its thread began.
 #[derive(Drop)]
-struct Ends<'p> {
-    owner: Owner<'p>,
-    reaches: Vec<Reach<'p>>,
+struct Hired<'p, L: Ledger>(Snapshot<Worker<'p, L>>);
+
+impl<'p, L: Ledger> Promise<Worker<'p, L>> for Hired<'p, L> {
+    ghost kept_by = { λ hired worker. station_of worker ≡ station_of hired.0.value };
 }
 
-/// A deque for each worker, and a reach into all of them.
-fn make_ends<'p>(alloc: Global, workers: usize) -> Result<Vec<Ends<'p>>, AllocError>
-    ensures { IfOk result (λ ends. vec_len ends ≡ workers) }
-{
-    let mut owners = owners(alloc, workers)?;
-    let mut all_reaches = Vec::new(alloc);
-    for _ in 0..workers {
-        all_reaches.push(reaches(alloc, &mut owners)?)?;
-    }
-    let mut ends = Vec::new(alloc);
-    for owner in owners {
-        let Some(reaches) = all_reaches.pop() else {
-            return Err(AllocError);
-        };
-        ends.push(Ends { owner, reaches })?;
-    }
-    Ok(ends)
-}
+/// A worker that runs.
+type Running<'p, L> = PromisedHandle<Worker<'p, L>, Hired<'p, L>>;
 
 /// The workers. The last of them has the given seat, and each other one a part of it.
 fn hire<'p, L: Ledger>(
@@ -86,20 +43,36 @@ fn hire<'p, L: Ledger>(
 ) -> Result<Vec<Worker<'p, L>>, AllocError>
     requires workers { 0 < vec_len ends }
     requires parts { vec_len ends ≤ seat.parts }
+    requires lead { AllLeadTo (map own_deque ends.items) (map deques_of ends.items) }
+    requires views { All (λ v. v ≡ hand [] []) (map own_view ends.items) }
     ensures workers { IfOk result (λ hired. vec_len hired ≡ vec_len ends.entry) }
+    ensures ready { IfOk result (λ hired. IsReady hired.items) }
     ensures before { IfOk result (λ hired. sum_by (λ w. w.before) hired.items ≡ seat.asked) }
 {
     let mut ends = ends;
-    let mut hired = Vec::new(alloc);
     let Some(last) = ends.pop() else {
-        return Ok(hired);
+        unreachable!()
     };
-    for others in ends {
-        let Ends { owner, reaches } = others;
-        hired.push(Worker::new(alloc, seat.split(), owner, reaches))?;
+    let mut hired = hire_each(alloc, ends, &mut seat)?;
+    hired.push(Worker::new(alloc, seat, last))?;
+    Ok(hired)
+}
+
+/// A worker for each of these ends, on a part of the seat.
+fn hire_each<'p, L: Ledger>(
+    alloc: Global,
+    ends: Vec<Ends<'p>>,
+    seat: &mut Seat<L>,
+) -> Result<Vec<Worker<'p, L>>, AllocError>
+    requires { vec_len ends < seat.old.parts }
+    ensures ends { IfOk result (λ hired. map (λ w. w.ends) hired.items ≡ ends.entry.items) }
+    ensures before { IfOk result (λ hired. sum_by (λ w. w.before) hired.items ≡ 0) }
+    ensures asked { seat.new.asked ≡ seat.old.asked }
+{
+    let mut hired = Vec::new(alloc);
+    for it in ends {
+        hired.push(Worker::new(alloc, seat.split(), it))?;
     }
-    let Ends { owner, reaches } = last;
-    hired.push(Worker::new(alloc, seat, owner, reaches))?;
     Ok(hired)
 }
 
@@ -133,21 +106,19 @@ fn start<
     rt: &'s R,
     alloc: Global,
     scope: &Scope<'s, E>,
-    program: &'p Program<Global>,
     hired: Vec<Worker<'p, L>>,
     gate: &'s G,
     lot: &'s Lot<'p>,
-) -> Result<(Vec<PromisedHandle<Worker<'p, L>, Before>>, bool), AllocError>
-    ensures workers { IfOk result (λ r. r.1 ≡ true → vec_len r.0 ≡ vec_len hired.entry) }
-    ensures before { IfOk result (λ r. r.1 ≡ true → sum_by (λ h. h.promise.0) r.0.items ≡ sum_by (λ w. w.before) hired.entry.items) }
+) -> Result<(Vec<Running<'p, L>>, bool), AllocError>
+    requires { HaveRoot (own_hands hired.items) }
+    ensures hired { IfOk result (λ r. r.1 ≡ true → map (λ h. h.promise.0.value) r.0.items ≡ hired.entry.items) }
+    ensures at_most { IfOk result (λ r. vec_len r.0 ≤ vec_len hired.entry) }
 {
     let mut running = Vec::with_capacity(alloc, hired.len())?;
     let mut all = true;
-    let mut first = Some(Task::root(alloc, program));
     for worker in hired {
-        let before = Before(worker.before);
-        let task = first.take();
-        match scope.spawn_with(before, move || worker.run(rt, alloc, gate, lot, task)) {
+        let before = Hired(Snapshot::of(&worker));
+        match scope.spawn_with(before, move || worker.run(rt, alloc, gate, lot)) {
             Ok(thread) => running.push_reserved(thread),
             Err(_refused) => {
                 gate.stop(rt);
@@ -159,26 +130,7 @@ fn start<
     Ok((running, all))
 }
 
-/// Takes the logs of the workers, and the first of their faults.
-fn finish<'p, L: Ledger, R: Threads>(
-    rt: &R,
-    alloc: Global,
-    running: Vec<PromisedHandle<Worker<'p, L>, Before>>,
-) -> Result<(Vec<WorkerLog<L>>, Option<RunFault>), AllocError>
-    ensures workers { IfOk result (λ r. vec_len r.0 ≡ vec_len running.entry) }
-    ensures asked { IfOk result (λ r. all_asked r.0.items ≡ sum_by (λ h. h.promise.0) running.entry.items + length (all_receipts r.0.items)) }
-{
-    let mut logs = Vec::with_capacity(alloc, running.len())?;
-    let mut fault = None;
-    for thread in running {
-        let (log, found) = thread.join(rt).ended();
-        logs.push_reserved(log);
-        fault = first_of(fault, found);
-    }
-    Ok((logs, fault))
-}
-
-/// The logs of all workers, which are started and joined here.
+/// What a run answers whose workers are started and joined here. Room for what they bring back is made before the first of them begins.
 fn all_work<
     's,
     'p: 's,
@@ -191,20 +143,74 @@ fn all_work<
     alloc: Global,
     scope: &Scope<'s, E>,
     program: &'p Program<Global>,
-    hired: Vec<Worker<'p, L>>,
+    mut hired: Vec<Worker<'p, L>>,
     gate: &'s G,
     lot: &'s Lot<'p>,
 ) -> Result<Vec<WorkerLog<L>>, RunFault>
-    ensures workers { IfOk result (λ logs. vec_len logs ≡ vec_len hired.entry) }
-    ensures asked { IfOk result (λ logs. all_asked logs.items ≡ sum_by (λ w. w.before) hired.entry.items + length (all_receipts logs.items)) }
+    requires { IsReady hired.items }
+    ensures one_each { IfOk result (λ logs. vec_len logs ≡ vec_len hired.entry) }
+    ensures counted { IfOk result (λ logs. all_asked logs.items ≡ sum_by (λ w. w.before) hired.entry.items + length (all_receipts logs.items)) }
+    ensures finished { IfOk result (λ logs. some_finished logs.items ≡ true) }
 {
-    let (running, all) = start(rt, alloc, scope, program, hired, gate, lot)?;
-    let (logs, found) = finish(rt, alloc, running)?;
-    let refused = if all { None } else { Some(RunFault::Memory) };
-    match first_of(refused, found) {
-        Some(fault) => Err(fault),
-        None if all => Ok(logs),
-        None => Err(RunFault::Memory),
+    let back = Vec::with_capacity(alloc, hired.len())?;
+    let room = Room::new(alloc, hired.len())?;
+    hired[0].begin(alloc, program)?;
+    let (running, all) = start(rt, alloc, scope, hired, gate, lot)?;
+    told(finish(rt, running, back), all, room)
+}
+
+/// Waits for the workers, which come back in their order.
+fn finish<'p, L: Ledger, R: Threads>(
+    rt: &R,
+    running: Vec<Running<'p, L>>,
+    mut back: Vec<Worker<'p, L>>,
+) -> Vec<Worker<'p, L>>
+    requires room { vec_len back + vec_len running ≤ vec_capacity back }
+    requires empty { vec_len back ≡ 0 }
+    ensures { stations_of result.items ≡ stations_of (map (λ h. h.promise.0.value) running.entry.items) }
+{
+    for thread in running {
+        back.push_reserved(thread.join(rt));
+    }
+    back
+}
+
+/// The first of the workers' faults, or of this one.
+fn first_fault<'p, L: Ledger>(
+    refused: Option<RunFault>,
+    workers: &[Worker<'p, L>],
+) -> Option<RunFault>
+    ensures { IsFirstOf (refused ∷ faults_of workers.now) result }
+{
+    let mut first = refused;
+    for worker in workers {
+        first = first_of(first, worker.fault);
+    }
+    first
+}
+
+/// What a run answers whose workers came back so: the first of their faults, where one met any or a thread could not be started, and
+/// otherwise their logs, where one of them saw the run's end.
+fn told<'p, L: Ledger>(
+    workers: Vec<Worker<'p, L>>,
+    all: bool,
+    room: Room<'p, L>,
+) -> Result<Vec<WorkerLog<L>>, RunFault>
+    requires ready { all ≡ true → HasRoom (vec_len workers) room × AllLeadTo (owns_of (stations_of workers.items)) (others_of (stations_of workers.items)) }
+    ensures told { IsTold all workers.entry.items result }
+    ensures all { OnOk result (all ≡ true) }
+    ensures one_each { IfOk result (λ logs. vec_len logs ≡ vec_len workers.entry) }
+    ensures counted { IfOk result (λ logs. all_asked logs.items ≡ sum_by (λ w. w.before) workers.entry.items + length (all_receipts logs.items)) }
+    ensures finished { IfOk result (λ logs. some_finished logs.items ≡ true) }
+{
+    if let Some(fault) = first_fault(of_threads(all), workers.as_slice()) {
+        return Err(fault);
+    }
+    let logs = settle(workers, room);
+    if some_log_finished(logs.as_slice()) {
+        Ok(logs)
+    } else {
+        Err(RunFault::Strange)
     }
 }
 
@@ -228,16 +234,12 @@ pub fn run<L: Ledger + Send + Sync, G: Ask<L> + Sync, R: Threads + Wait + Sync>(
     let hired = hire(alloc, make_ends(alloc, workers)?, seat)?;
     let lot = Lot::new(alloc);
     let shared = &lot;
-    let logs = thread::scope(
+    thread::scope(
         thread::scope_env(),
         rt,
         move |scope| -> Result<Vec<WorkerLog<L>>, RunFault>
-            ensures { IfOk result (λ logs. (vec_len logs ≡ vec_len hired.entry) × (all_asked logs.items ≡ sum_by (λ w. w.before) hired.entry.items + length (all_receipts logs.items))) }
+            requires { IsReady hired.items }
+            ensures { IfOk result (λ logs. (vec_len logs ≡ vec_len hired.entry) × (all_asked logs.items ≡ sum_by (λ w. w.before) hired.entry.items + length (all_receipts logs.items)) × (some_finished logs.items ≡ true)) }
         { all_work(rt, alloc, scope, program, hired, gate, shared) },
-    )?;
-    if some_log_finished(logs.as_slice()) {
-        Ok(logs)
-    } else {
-        Err(RunFault::Strange)
-    }
+    )
 }

@@ -1,11 +1,12 @@
 //! Tasks.
 
-ghost use Rattle.std.specs.Prelude.{◌≡◌};
+ghost use Rattle.std.specs.Prelude.{◌≡◌, ◌<◌, length};
 ghost use Rattle.std.proofs.Props.{props};
 ghost use Rattle.frame_steps.specs.Frames.{Stands};
 ghost use Rattle.steal_workers.specs.Standing.{stands_once};
 
 use frame_steps::Frame;
+use program_steps::Target;
 use program_text::Program;
 use std::alloc::Global;
 
@@ -22,22 +23,48 @@ pub struct Task<'p> {
 }
 
 impl<'p> Task<'p> {
+    ghost use Rattle.steal_workers.specs.Tasks.{IsBegun, IsOn};
+
     /// The function `main` with argument 0, on the first strand.
     pub(crate) fn root(alloc: Global, program: &'p Program<Global>) -> Task<'p>
-        ensures { result.strand ≡ 0 }
+        ensures strand { result.strand ≡ 0 }
+        ensures program { result.program ≡ program.entry }
+        ensures begun { IsBegun program.now.main 0 result }
     {
-        let main = program.main();
-        Task {
-            strand: 0,
+        let function = program.main();
+        Task::spawned(
+            alloc,
             program,
-            frame: Frame::new(alloc, program, main, 0),
+            0,
+            Target {
+                function,
+                argument: 0,
+            },
+        )
+    }
+
+    /// A function at its begin, on this strand.
+    pub(crate) fn spawned(
+        alloc: Global,
+        program: &'p Program<Global>,
+        strand: u32,
+        target: Target,
+    ) -> Task<'p>
+        requires { target.function < length program.now.functions }
+        ensures strand { result.strand ≡ strand }
+        ensures program { result.program ≡ program.entry }
+        ensures begun { IsBegun target.function target.argument result }
+    {
+        Task {
+            strand,
+            program,
+            frame: Frame::new(alloc, program, target.function, target.argument),
         }
     }
 
     /// The frame goes on on this strand.
     pub(crate) fn on(self, strand: u32) -> Task<'p>
-        ensures strand { result.strand ≡ strand }
-        ensures rest { (result.program ≡ self.entry.program) × (result.frame ≡ self.entry.frame) }
+        ensures { IsOn strand self.entry result }
     {
         let Task {
             strand: _,

@@ -1,20 +1,19 @@
 //! A worker.
 
-ghost use Rattle.std.specs.Prelude.{◌≡◌, ◌+◌, ◌<◌, length, vec_len};
-ghost use Rattle.std.specs.Option.{IfSome};
+ghost use Rattle.std.specs.Prelude.{◌≡◌, ◌+◌, ◌<◌, [], ◌∷◌, ◌++◌, Err, IfErr, IfSome, MatchOption, OnOk, length, vec_len};
+ghost use Rattle.locked_replay.specs.declared.fault.RunFault.{RunFault};
+ghost use Rattle.steal_workers.specs.Hands.{pushing};
 
+use crate::ends::Ends;
 use crate::fault::{fault_of, meeting_of, refusal_of};
-use crate::hand::{Owner, Pushed, Taken};
 use crate::lot::Lot;
-use crate::reach::Reach;
 use crate::task::Task;
 use crossbeam_utils::Backoff;
-use frame_steps::Frame;
 use locked_replay::{Ask, RunFault, Seat, WorkerLog};
 use program_steps::Target;
 use program_text::Program;
 use race_gate::{Answer, Receipt};
-use std::alloc::Global;
+use std::alloc::{AllocError, Global};
 use std::sync::Wait;
 use std::sync::ledger::Ledger;
 use trace_values::Request;
@@ -34,29 +33,38 @@ pub(crate) struct Worker<'p, L: Ledger> {
     pub before: u64,
     pub seat: Seat<L>,
     pub receipts: Vec<Receipt>,
-    pub owner: Owner<'p>,
-    pub reaches: Vec<Reach<'p>>,
+    pub ends: Ends<'p>,
     pub fault: Option<RunFault>,
     ghost counted: { seat.asked ≡ before + vec_len receipts },
 }
 
 impl<'p, L: Ledger> Worker<'p, L> {
-    pub(crate) fn new(
-        alloc: Global,
-        seat: Seat<L>,
-        owner: Owner<'p>,
-        reaches: Vec<Reach<'p>>,
-    ) -> Worker<'p, L>
-        ensures { result.before ≡ seat.asked }
+    ghost use Rattle.steal_workers.specs.Reaches.{own_view};
+    ghost use Rattle.steal_workers.specs.Workers.{station_of, AsksFor, KeepsReceipt, GoesOn, child_of};
+
+    pub(crate) fn new(alloc: Global, seat: Seat<L>, ends: Ends<'p>) -> Worker<'p, L>
+        ensures before { result.before ≡ seat.asked }
+        ensures ends { result.ends ≡ ends.entry }
     {
         Worker {
             before: seat.asked(),
             seat,
             receipts: Vec::new(alloc),
-            owner,
-            reaches,
+            ends,
             fault: None,
         }
+    }
+
+    /// The task of the program's begin becomes one of this worker's deque.
+    pub(crate) fn begin(
+        &mut self,
+        alloc: Global,
+        program: &'p Program<Global>,
+    ) -> Result<(), AllocError>
+        ensures station { station_of self.new ≡ station_of self.old }
+        ensures ok { OnOk result (own_view self.new.ends ≡ pushing 0 (own_view self.old.ends)) }
+    {
+        self.ends.push(Task::root(alloc, program))
     }
 
     /// Asks, and keeps the receipt, which has to be of that request.
@@ -66,7 +74,9 @@ impl<'p, L: Ledger> Worker<'p, L> {
         gate: &G,
         request: Request,
     ) -> Result<Answer, RunFault>
-        ensures { self.new.before ≡ self.old.before }
+        ensures station { station_of self.new ≡ station_of self.old }
+        ensures ends { self.new.ends ≡ self.old.ends }
+        ensures kept { KeepsReceipt request self.old.receipts.items self.new.receipts.items result }
     {
         let Worker { seat, receipts, .. } = self;
         receipts.reserve(1)?;
@@ -88,7 +98,8 @@ impl<'p, L: Ledger> Worker<'p, L> {
         lot: &Lot<'p>,
         task: Task<'p>,
     ) -> Result<Option<Task<'p>>, RunFault>
-        ensures { self.new.before ≡ self.old.before }
+        ensures station { station_of self.new ≡ station_of self.old }
+        ensures asks { OnOk result (AsksFor task.entry self.old.receipts.items self.new.receipts.items) }
     {
         let Task {
             strand,
@@ -130,7 +141,10 @@ impl<'p, L: Ledger> Worker<'p, L> {
         asked: Asked,
     ) -> Result<Option<Task<'p>>, RunFault>
         requires { IfSome asked.target (λ t. t.function < length task.program.now.functions) }
-        ensures { self.new.before ≡ self.old.before }
+        ensures station { station_of self.new ≡ station_of self.old }
+        ensures pushed { OnOk result ((own_view self.new.ends).pushed ≡ (own_view self.old.ends).pushed ++ child_of answer) }
+        ensures receipts { self.new.receipts ≡ self.old.receipts }
+        ensures goes_on { GoesOn answer asked.join task.entry result }
     {
         match answer {
             Answer::Split(strands) => {
@@ -166,35 +180,19 @@ impl<'p, L: Ledger> Worker<'p, L> {
         target: Option<Target>,
     ) -> Result<(), RunFault>
         requires { IfSome target (λ t. t.function < length program.now.functions) }
-        ensures { self.new.before ≡ self.old.before }
+        ensures station { station_of self.new ≡ station_of self.old }
+        ensures receipts { self.new.receipts ≡ self.old.receipts }
+        ensures ok { OnOk result ((own_view self.new.ends).pushed ≡ (own_view self.old.ends).pushed ++ child ∷ []) }
+        ensures err { MatchOption target (result ≡ Err RunFault.Strange) (λ _. IfErr result (λ fault. fault ≡ RunFault.Memory)) }
     {
-        let Some(Target { function, argument }) = target else {
-            return Err(RunFault::Strange);
-        };
-        let task = Task {
-            strand: child,
-            program,
-            frame: Frame::new(alloc, program, function, argument),
-        };
-        match self.owner.push_as::<Pushed>(task) {
-            Ok(()) => Ok(()),
-            Err(_refused) => Err(RunFault::Memory),
-        }
-    }
-
-    /// A task of its own deque, or one of another's.
-    fn find(&mut self) -> Option<Task<'p>>
-        ensures { self.new.before ≡ self.old.before }
-    {
-        if let Some(task) = self.owner.pop_as::<Taken>() {
-            return Some(task);
-        }
-        for reach in self.reaches.iter_mut() {
-            if let Some(task) = reach.steal() {
-                return Some(task);
+        match target {
+            Some(target) => {
+                let task = Task::spawned(alloc, program, child, target);
+                self.ends.push(task)?;
+                Ok(())
             }
+            None => Err(RunFault::Strange),
         }
-        None
     }
 
     fn work<G: Ask<L>, R: Wait>(
@@ -203,16 +201,15 @@ impl<'p, L: Ledger> Worker<'p, L> {
         alloc: Global,
         gate: &G,
         lot: &Lot<'p>,
-        first: Option<Task<'p>>,
     ) -> Result<(), RunFault>
-        ensures { self.new.before ≡ self.old.before }
+        ensures { station_of self.new ≡ station_of self.old }
     {
         let backoff = Backoff::new();
-        let mut next = first;
+        let mut next = None;
         for _ in rt.forever() {
             let found = match next.take() {
                 Some(task) => Some(task),
-                None => self.find(),
+                None => self.ends.find(),
             };
             match found {
                 Some(task) => {
@@ -237,11 +234,10 @@ impl<'p, L: Ledger> Worker<'p, L> {
         alloc: Global,
         gate: &G,
         lot: &Lot<'p>,
-        first: Option<Task<'p>>,
     ) -> Worker<'p, L>
-        ensures { result.before ≡ self.entry.before }
+        ensures { station_of result ≡ station_of self.entry }
     {
-        if let Err(fault) = self.work(rt, alloc, gate, lot, first) {
+        if let Err(fault) = self.work(rt, alloc, gate, lot) {
             gate.stop(rt);
             lot.close(rt);
             self.fault = Some(fault);
@@ -249,18 +245,18 @@ impl<'p, L: Ledger> Worker<'p, L> {
         self
     }
 
-    /// What the worker brings back, and the fault that it met.
-    pub(crate) fn ended(self) -> (WorkerLog<L>, Option<RunFault>)
-        ensures { result.0.seat.asked ≡ self.entry.before + vec_len result.0.receipts }
+    /// What the worker brings back, and its ends of the deques.
+    pub(crate) fn ended(self) -> (WorkerLog<L>, Ends<'p>)
+        ensures log { (result.0.seat.asked ≡ self.entry.before + vec_len result.0.receipts) × (result.0.receipts ≡ self.entry.receipts) }
+        ensures ends { result.1 ≡ self.entry.ends }
     {
         let Worker {
             before: _,
             seat,
             receipts,
-            owner: _,
-            reaches: _,
-            fault,
+            ends,
+            fault: _,
         } = self;
-        (WorkerLog { seat, receipts }, fault)
+        (WorkerLog { seat, receipts }, ends)
     }
 }

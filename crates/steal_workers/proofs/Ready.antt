@@ -1,0 +1,58 @@
+-- Workers that begin, and that have come back.
+use Rattle.std.proofs.Common.{◌≡◌, ◌<◌, ◌+◌, ℕ, Bool, true, List, Result, Ok, Err, [], ◌∷◌, length, get_or, map, set, refl, sym, subst, ap, arith, ◌∙◌}
+use Rattle.std.specs.Prelude.{All, OnOk, IfOk}
+use Rattle.locked_replay.specs.declared.fault.RunFault.{RunFault}
+use Rattle.locked_replay.specs.Logs.{all_receipts, all_asked}
+use Rattle.std.specs.List.{sum_by}
+use Rattle.std.proofs.lemmas.List.{length-map, map-set}
+use Rattle.std.proofs.lemmas.List.Elements.{All-head, All-tail}
+use Rattle.std.proofs.lemmas.Simd.{map-map}
+use Rattle.locked_replay.specs.declared.worker.WorkerLog.{WorkerLog}
+use Rattle.race_gate.specs.declared.answer.Receipt.{Receipt}
+use Rattle.std.specs.Global.{Vec}
+use Rattle.std.specs.List.{list_any}
+use Rattle.steal_workers.specs.declared.hand.Hand.{Hand}
+use Rattle.steal_workers.specs.declared.ends.Ends.{Ends}
+use Rattle.steal_workers.specs.declared.worker.Worker.{Worker}
+use Rattle.steal_workers.specs.Finishing.{finishes, some_finished}
+use Rattle.steal_workers.specs.Hands.{hand, pushing}
+use Rattle.steal_workers.specs.Reaches.{own_deque, own_view, deques_of, AllLeadTo, HaveRoot}
+use Rattle.steal_workers.specs.Workers.{Station, station_of, stations_of, owns_of, others_of, own_hands, saw_end, IsReady}
+use Rattle.steal_workers.proofs.Sums.{sum_by-map, list_any-map}
+
+-- the first of some idle owners pushes the first strand
+pub root_lies : (views : List Hand) (d : Hand) → 0 < length views → All (λ v. v ≡ hand [] []) views → HaveRoot (set views 0 (pushing 0 (get_or views 0 d)))
+root_lies [] d some idle = absurd (omega (arith, some))
+root_lies (v ∷ vs) d some idle = (vs, ap (λ u. pushing 0 u ∷ vs) (All-head (λ v. v ≡ hand [] []) v vs idle), All-tail (λ v. v ≡ hand [] []) v vs idle)
+
+module _ {L : Type 0} where
+  -- workers that were given the ends of all deques are ready
+  pub ready : (workers : List (Worker L)) (all : List Ends) → map (λ w. w.ends) workers ≡ all → 0 < length all → AllLeadTo (map own_deque all) (map deques_of all) → All (λ v. v ≡ hand [] []) (map own_view all) → IsReady workers
+  ready workers all given some lead idle =
+      let owns : map own_deque all ≡ owns_of (stations_of workers) = ap (map own_deque) (sym given) ∙ map-map own_deque (λ w. w.ends) workers ∙ sym (map-map (λ s. s.own) station_of workers) in
+      let others : map deques_of all ≡ others_of (stations_of workers) = ap (map deques_of) (sym given) ∙ map-map deques_of (λ w. w.ends) workers ∙ sym (map-map (λ s. s.others) station_of workers) in
+      let hands : map own_view all ≡ own_hands workers = ap (map own_view) (sym given) ∙ map-map own_view (λ w. w.ends) workers in (
+        omega (arith, ap length given, length-map workers (λ w. w.ends), some),
+        subst (λ ds. All (λ deques. deques ≡ ds) (others_of (stations_of workers))) owns (subst (AllLeadTo (map own_deque all)) others lead),
+        subst (All (λ v. v ≡ hand [] [])) hands idle,
+      )
+
+  -- as many come back, and they had asked as much before
+  pub same_many : (workers back : List (Worker L)) → stations_of back ≡ stations_of workers → length back ≡ length workers
+  same_many workers back same = omega (arith, ap length same, length-map workers station_of, length-map back station_of)
+
+  pub same_before : (workers back : List (Worker L)) → stations_of back ≡ stations_of workers → sum_by (λ w. w.before) back ≡ sum_by (λ w. w.before) workers
+  same_before workers back same = sym (sum_by-map (λ s. s.before) station_of back) ∙ ap (sum_by (λ s. s.before)) same ∙ sum_by-map (λ s. s.before) station_of workers
+
+  -- what was asked is counted from what the workers had asked before
+  pub counted_as : (result : Result (Vec (WorkerLog L)) RunFault) (all : Bool) (back workers : List (Worker L)) → OnOk result (all ≡ true) → (all ≡ true → stations_of back ≡ stations_of workers)
+      → IfOk result (λ logs. all_asked logs.items ≡ sum_by (λ w. w.before) back + length (all_receipts logs.items))
+      → IfOk result (λ logs. all_asked logs.items ≡ sum_by (λ w. w.before) workers + length (all_receipts logs.items))
+  counted_as (Ok logs) all back workers is same counted = counted ∙ ap (λ before. before + length (all_receipts logs.items)) (same_before workers back (same is))
+  counted_as (Err fault) all back workers is same counted = tt
+
+  -- the run's end is seen in the logs as in the workers
+  pub same_end : (workers : List (Worker L)) (logs : List (WorkerLog L)) → map (λ log. log.receipts) logs ≡ map (λ worker. worker.receipts) workers → some_finished logs ≡ saw_end workers
+  same_end workers logs same =
+      let ended : Vec Receipt → Bool = λ receipts. list_any (λ receipt. finishes receipt.answer) receipts.items in
+      sym (list_any-map ended (λ log. log.receipts) logs) ∙ ap (list_any ended) same ∙ list_any-map ended (λ worker. worker.receipts) workers

@@ -1,0 +1,11 @@
+use Rattle.std.proofs.Common.{rules, ◌≡◌, ◌∷◌, ◌++◌, [], map, sym, ap, arith, ◌∙◌}
+use Rattle.std.proofs.lemmas.List.{map-append}
+use Rattle.steal_workers.proofs.Ready.{ready}
+use Rattle.steal_workers.proofs.pool.hire.Goals as goal
+
+pub returns-clause-ready : goal.returns-clause-ready
+returns-clause-ready g c =
+    let whole : c.args.ends.items ≡ c.pop.new.self.items ++ c.in-Some.last ∷ [] = search rules in
+    let given : map (λ w. w.ends) c.push.new.self.items ≡ c.args.ends.items =
+    ap (map (λ w. w.ends)) c.in_ok-push.ensures.items ∙ map-append (λ w. w.ends) c.in_ok-hired.hired.items _ ∙ ap (λ ends. ends ++ c.new.result.ends ∷ []) c.in_ok-hired.ensures.ends ∙ ap (λ last. c.pop.new.self.items ++ last ∷ []) c.new.ensures.ends ∙ sym whole in
+    ready c.push.new.self.items c.args.ends.items given (omega (arith, c.requires.workers, c.args.ends.ok.0)) c.requires.lead c.requires.views

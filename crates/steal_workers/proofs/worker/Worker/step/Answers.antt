@@ -1,0 +1,19 @@
+use Rattle.std.proofs.Common.{◌≡◌, true, refl, sym, subst, ap, ◌∙◌}
+use Rattle.trace_values.specs.declared.value.Request.{Request}
+use Rattle.race_gate.specs.declared.answer.Receipt.{Receipt}
+use Rattle.frame_steps.specs.Frames.{IsAfter}
+use Rattle.steal_workers.specs.Workers.{AsksFor, IsWanted}
+use Rattle.steal_workers.proofs.Asking.{on_ok, roomy}
+use Rattle.steal_workers.proofs.worker.Worker.step.Goals as goal
+
+pub returns-clause-asks : goal.returns-clause-asks
+returns-clause-asks g c =
+    let task = c.args.task in
+    let functions = task.program.now.functions in
+    let kept = c.in_ok-answer.ensures.kept in
+    let request : Request = record { strand = task.strand; act = c.next-want.result.act; line = c.next-want.result.line } in
+    let receipt : Receipt = record { number = kept.0; request = request; answer = c.in_ok-answer.answer } in
+    let wanted : IsWanted task request = λ function argument history x after can.
+    let roomed = subst (IsAfter functions function argument history) (sym c.in_ok-reserve_call.ensures.ok) (roomy functions function argument history task.frame true after) in
+    c.next-want.ensures.asks x ((c.next-want.ensures.only function argument history x roomed).0 can) in
+    on_ok c.follow.result (AsksFor task c.args.self.now.receipts.items c.follow.new.self.receipts.items) (receipt, ap (λ receipts. receipts.items) c.follow.ensures.receipts ∙ kept.1, refl, wanted)
