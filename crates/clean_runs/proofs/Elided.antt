@@ -1,7 +1,7 @@
 -- A clean finished run is the serial elision.
-use Rattle.std.proofs.Common.{◌≡◌, ◌↔◌, inl, inr, ℕ, ◌<◌, List, [], ◌∷◌, length, map, AllPairs, refl, sym, ap, ◌∙◌, subst}
+use Rattle.std.proofs.Common.{◌≡◌, ◌↔◌, inl, inr, ℕ, ◌<◌, List, [], ◌∷◌, length, map, AllPairs, refl, sym, ap, ◌∙◌, subst, arith}
 use Rattle.std.specs.Prelude.{slice_get, slice_index_or, Some}
-use Rattle.std.proofs.lemmas.List.{length-replicate, length-map, get_or-replicate, get_or-map}
+use Rattle.std.proofs.lemmas.List.{length-append, length-replicate, length-map, get_or-replicate, get_or-map}
 use Rattle.trace_values.specs.declared.value.Monoid.{Monoid}
 use Rattle.trace_values.specs.declared.value.Monoid.TheVariants.{Sum}
 use Rattle.control_history.proofs.Members.{Present}
@@ -23,7 +23,9 @@ use Rattle.program_runs.specs.Laws.{IsElided}
 use Rattle.clean_runs.specs.Expansions.{after_all, AreRight}
 use Rattle.program_runs.specs.Numbers.{AreNumbered}
 use Rattle.program_runs.specs.Laws.{ElisionLaw}
-use Rattle.clean_runs.specs.Placed.{Placed, IsPlaced, own, numbered}
+use Rattle.program_runs.proofs.Numbering.{numbers_law}
+use Rattle.clean_runs.proofs.Insertions.{by_insertions}
+use Rattle.clean_runs.specs.Placed.{Placed, placed_at, IsPlaced, own, numbered}
 use Rattle.clean_runs.proofs.Trees.{IsEarlier, framed_own, expanded, Expanded, expanded_below, expanded_sorted, all_there}
 use Rattle.clean_runs.proofs.Runs.{placed_effects, placed_effects_of, serial_list, run_done}
 use Rattle.clean_runs.proofs.Cells.{held_after, AreReadsRight, IsCellRight, cell_right}
@@ -52,6 +54,14 @@ GetsAreRight shape all =
     (reducer : ℕ) → reducer < length shape.monoids →
     AreGetsRight (monoid_of shape.monoids reducer) reducer (identity_of (monoid_of shape.monoids reducer)) (placed_effects all)
 
+-- the list has as many entries as there are
+all_counted : (shape : Shape) (entries : Entries) → IsLegal shape entries → (list : List Placed) → AllPairs (IsEarlier entries) list →
+    ((y : Placed) → Present y list ↔ IsPlaced entries y) → length list ≡ length entries
+all_counted shape =
+    by_insertions shape (λ entries list. length list ≡ length entries) refl
+    (λ entry entries front back inserted before.
+    let l = length-append front (placed_at entries entry ∷ back) in let k = length-append front back in omega (arith, l, k, before))
+
 main_there : (functions : List Code) (main : ℕ) → IsMain functions main → (code : Code) × (slice_get functions main ≡ Some code)
 main_there functions main is = found functions main (main_below functions main is)
 
@@ -63,6 +73,7 @@ elided functions shape sound entries run finish clean numbers gets = record {
   is_main = (run.main, run.is_main, code.1);
   listed = map numbered tree.all;
   serial = serial_list shape entries legal tree.all tree.expands;
+  count = length-map tree.all numbered ∙ all_counted shape entries legal tree.all sorted members;
   memory = last.memory;
   views = last.views;
   evaluates = subst (λ l. EvaluatesProgram functions shape.monoids shape.cells code.0 l last) (placed_effects_of tree.all)
@@ -113,7 +124,8 @@ elided functions shape sound entries run finish clean numbers gets = record {
         (gets tree.all sorted members reducer lt))
 
 pub elision_law : ElisionLaw
-elision_law functions shape sound entries run clean numbers =
+elision_law functions shape sound entries run clean =
+    let numbers = numbers_law functions shape sound entries run.0 in
     elided functions shape sound entries run.0 run.1 clean numbers
     (λ list sorted members reducer lt.
     gets_right shape reducer entries run.0.run.judged.legal list sorted members run.0.run.judged.reducers clean numbers)

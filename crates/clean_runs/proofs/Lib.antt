@@ -15,3 +15,4 @@ pub mod Elided
 pub mod Roles
 pub mod Views
 pub mod Gets
+pub mod Meeting

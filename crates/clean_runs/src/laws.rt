@@ -1,7 +1,7 @@
 //! The laws of clean runs, each as the contract of a function that does nothing.
 
 ghost use Rattle.clean_runs.specs.Laws.{ExpansionLaw, SerialListLaw};
-ghost use Rattle.program_runs.specs.Laws.{ElisionLaw};
+ghost use Rattle.program_runs.specs.Laws.{ElisionLaw, ElidedRunLaw};
 
 /// A whole dialogue, with what the spawned functions did behind each spawn, is an evaluation where each value is the serial one.
 pub fn expansion_law()
@@ -13,8 +13,14 @@ pub fn serial_list_law()
     ensures { SerialListLaw }
 {}
 
-/// A finished run in which nothing was refused is the serial elision: its entries in serial order do and are given what the elision's requests do and are
-/// given, and the memory that it leaves is the elision's.
+/// A finished run of a sound program in which nothing was refused is the serial elision: its entries in serial order do and are given what the elision's
+/// requests do and are given, and the memory that it leaves is the elision's.
 pub fn elision_law()
     ensures { ElisionLaw }
+{}
+
+/// What is told of the serial elision of a sound program is so of each finished run of it in which nothing was refused: the elision leaves the memory of
+/// that run, makes one request for each of its entries, and needs no more.
+pub fn elided_run_law()
+    ensures { ElidedRunLaw }
 {}

@@ -1,3 +1,5 @@
 pub mod Receipts
 pub mod Logs
 pub mod Strange
+pub mod Faults
+pub mod Laws

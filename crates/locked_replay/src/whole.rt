@@ -1,9 +1,12 @@
 //! Whole runs.
 
-ghost use Rattle.std.specs.Prelude.{◌≡◌, ◌↔◌, reverse, IsTrue, IfOk, OnOk, Err};
+ghost use Rattle.std.specs.Prelude.{◌≡◌, ◌↔◌, true, reverse, IsTrue, IfOk, IfErr, OnOk, Err};
 ghost use Rattle.race_gate.specs.Memory.{IsMemory};
 ghost use Rattle.race_gate.specs.Extensions.{IsCleanAnswer, IsClean};
+ghost use Rattle.race_gate.specs.States.{State, IsRight};
 ghost use Rattle.program_runs.specs.Runs.{shape_in, IsFinishedRun};
+ghost use Rattle.program_runs.specs.Laws.{IsElided, AllAgree};
+ghost use Rattle.locked_replay.specs.Faults.{HasFault};
 ghost use Rattle.locked_replay.specs.Logs.{AreWhole};
 ghost use Rattle.locked_replay.specs.Strange.{run_fault_of, IsStrangeGate};
 
@@ -81,18 +84,22 @@ pub fn check_run<B: Allocator>(
     }
 }
 
-/// What [`gather`] answers of the gate that it took out of its lock.
+/// What [`gather`] answers of the gate that it took out of its lock. Stopped where the gate is stopped, else Torn where the logs are not whole,
+/// else Strange where the gate is not that of a finished run of the program; Memory at a refused growth.
 fn whole_of<L: Ledger, B: Allocator>(
     alloc: Global,
     program: &Program<B>,
     gate: &Gate<Global>,
     logs: &[WorkerLog<L>],
 ) -> Result<Whole, RunFault>
-    ensures run { IfOk result (λ whole. IsFinishedRun program.now.functions (shape_in program.now) (reverse whole.entries.items)) }
-    ensures logs { IfOk result (λ whole. AreWhole whole.entries.items logs.now) }
-    ensures memory { IfOk result (λ whole. IsMemory (shape_in program.now).cells (reverse whole.entries.items) whole.memory.items) }
-    ensures clean { IfOk result (λ whole. IsTrue whole.clean ↔ IsClean (reverse whole.entries.items)) }
-    ensures limit { ¬ (result ≡ Err RunFault.Limit) }
+    ensures shape { OnOk result (gate.now.shape ≡ shape_in program.now) }
+    ensures entries { IfOk result (λ whole. whole.entries.items ≡ reverse gate.now.history) }
+    ensures memory { IfOk result (λ whole. whole.memory.items ≡ gate.now.memory) }
+    ensures clean { IfOk result (λ whole. IsTrue whole.clean ↔ IsClean gate.now.history) }
+    ensures logs { OnOk result (AreWhole (reverse gate.now.history) logs.now) }
+    ensures run { OnOk result (IsFinishedRun program.now.functions (shape_in program.now) gate.now.history) }
+    ensures stopped { gate.now.stopped ≡ true → result ≡ Err RunFault.Stopped }
+    ensures faults { IfErr result (HasFault program.now.functions (shape_in program.now) gate.now logs.now) }
 {
     check_logs(alloc, gate, logs)?;
     check_run(alloc, program, gate)?;
@@ -106,8 +113,9 @@ fn whole_of<L: Ledger, B: Allocator>(
     })
 }
 
-/// Takes the gate out of its lock. Ok where the logs are whole and the history is a finished run of the program. Otherwise it answers
-/// what [`check_logs`] says of the gate and the logs, and then what [`check_run`] says of the gate, and drops both.
+/// Takes the gate out of its lock. Ok where the logs are whole and the history is a finished run of the program; where nothing was refused in it,
+/// it is the program's serial elision, and every run of the program agrees with it. Otherwise it answers what [`check_logs`] says of the gate
+/// and the logs, and then what [`check_run`] says of the gate, and drops both.
 pub fn gather<L: Ledger, B: Allocator>(
     alloc: Global,
     program: &Program<B>,
@@ -118,6 +126,9 @@ pub fn gather<L: Ledger, B: Allocator>(
     ensures logs { IfOk result (λ whole. AreWhole whole.entries.items logs.items) }
     ensures memory { IfOk result (λ whole. IsMemory (shape_in program.now).cells (reverse whole.entries.items) whole.memory.items) }
     ensures clean { IfOk result (λ whole. IsTrue whole.clean ↔ IsClean (reverse whole.entries.items)) }
+    ensures elided { IfOk result (λ whole. IsTrue whole.clean → IsElided program.now.functions (shape_in program.now) (reverse whole.entries.items)) }
+    ensures agree { IfOk result (λ whole. IsTrue whole.clean → AllAgree program.now.functions (shape_in program.now) (reverse whole.entries.items)) }
+    ensures faults { IfErr result (λ fault. (gate : State) × IsRight gate × HasFault program.now.functions (shape_in program.now) gate logs.items fault) }
     ensures limit { ¬ (result ≡ Err RunFault.Limit) }
 {
     let gate = locked.into_gate();

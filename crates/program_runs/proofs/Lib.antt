@@ -1,3 +1,5 @@
 pub mod Shorter
 pub mod Strands
 pub mod Histories
+pub mod Numbered
+pub mod Numbering

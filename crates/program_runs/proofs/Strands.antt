@@ -10,7 +10,8 @@ use Rattle.control_history.proofs.Updates.{updated_at, updated_off, updated_case
 use Rattle.race_gate.specs.Entries.{with_event}
 use Rattle.program_runs.specs.Frames.{frame_of}
 
-caller_frame : (below : Stack) → frame_of (caller below) ≡ frame_of below
+-- a caller stands in the frame of what it called
+pub caller_frame : (below : Stack) → frame_of (caller below) ≡ frame_of below
 caller_frame root = refl
 caller_frame (spawned number join) = refl
 caller_frame (called number below) = refl

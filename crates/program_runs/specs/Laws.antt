@@ -8,20 +8,20 @@ use Rattle.race_gate.specs.Extensions.{IsFinished, IsClean}
 use Rattle.reducer_views.specs.declared.view.View.{View}
 use Rattle.program_text.specs.Codes.{Code}
 use Rattle.program_text.specs.Sound.{IsSound}
-use Rattle.serial_elision.specs.Evaluation.{Effect}
-use Rattle.serial_elision.specs.Elisions.{HasMain, EvaluatesProgram}
+use Rattle.serial_elision.specs.Elisions.{HasMain, EvaluatesProgram, Elides, NeedsMore}
 use Rattle.program_runs.specs.Runs.{IsRun, IsFinishedRun}
 use Rattle.program_runs.specs.Serial.{Numbered, IsSerialList, effects_of}
 use Rattle.program_runs.specs.Numbers.{AreNumbered}
 use Rattle.program_runs.specs.Coordinates.{effects_at, IsPrefixOf}
 
 -- The entries in serial order are, one by one, the requests of the program's serial elision, with the values that they were given there, and the
--- memory that the history leaves is the elision's.
+-- memory that the history leaves is the elision's. So the elision makes as many requests as there are entries.
 pub record IsElided (functions : List Code) (shape : Shape) (entries : Entries) : Type 0 where
   pub main : Code
   pub is_main : HasMain functions main
   pub listed : List Numbered
   pub serial : IsSerialList entries listed
+  pub count : length listed ≡ length entries
   pub memory : List ℕ
   pub views : List View
   pub evaluates : EvaluatesProgram functions shape.monoids shape.cells main (effects_of listed) (record { memory = memory; views = views })
@@ -31,11 +31,17 @@ pub record IsElided (functions : List Code) (shape : Shape) (entries : Entries) 
 abbrev pub PrefixLaw : Type 0
 PrefixLaw = (functions : List Code) (shape : Shape) (later entries : Entries) → IsRun functions shape (later ++ entries) → IsRun functions shape entries
 
--- a finished run in which nothing was refused, of requests whose values are numbers, is the serial elision
+-- the values that a run of a sound program asks with are numbers of 64 bits
+abbrev pub NumbersLaw : Type 0
+NumbersLaw =
+    (functions : List Code) (shape : Shape) → IsSound shape.cells (length shape.monoids) functions → (entries : Entries) →
+    IsRun functions shape entries → AreNumbered entries
+
+-- a finished run in which nothing was refused is the serial elision
 abbrev pub ElisionLaw : Type 0
 ElisionLaw =
     (functions : List Code) (shape : Shape) → IsSound shape.cells (length shape.monoids) functions → (entries : Entries) →
-    IsFinishedRun functions shape entries → IsClean entries → AreNumbered entries → IsElided functions shape entries
+    IsFinishedRun functions shape entries → IsClean entries → IsElided functions shape entries
 
 -- Another run of the program agrees with a clean and finished one: nothing is refused in it, at each address it did what the clean one did there, as
 -- far as it went, and where it is finished it did all of that and left the same memory.
@@ -45,8 +51,27 @@ pub record Agrees (shape : Shape) (clean entries : Entries) : Type 0 where
   pub equal : IsFinished entries → (place : Address) → effects_at entries place ≡ effects_at clean place
   pub memory : IsFinished entries → (cell : ℕ) → cell < shape.cells → value_of entries cell ≡ value_of clean cell
 
+-- and so does every run of the program
+abbrev pub AllAgree : List Code → Shape → Entries → Type 0
+AllAgree functions shape clean = (entries : Entries) → IsRun functions shape entries → Agrees shape clean entries
+
 -- one clean and finished run speaks for all runs of the program
 abbrev pub CleanLaw : Type 0
 CleanLaw =
     (functions : List Code) (shape : Shape) → IsSound shape.cells (length shape.monoids) functions → (clean : Entries) →
-    IsFinishedRun functions shape clean → IsClean clean → (entries : Entries) → IsRun functions shape entries → Agrees shape clean entries
+    IsFinishedRun functions shape clean → IsClean clean → AllAgree functions shape clean
+
+-- What is told of the program's serial elision is so of the history: it leaves the memory that the history leaves, and makes one request for each
+-- entry; so it does not need more than that.
+pub record IsToldByElision (functions : List Code) (shape : Shape) (entries : Entries) : Type 0 where
+  pub leaves : (memory : List ℕ) (requests : ℕ) → Elides functions shape.monoids shape.cells memory requests → IsMemory shape.cells entries memory
+  pub same : (memory : List ℕ) (requests : ℕ) → Elides functions shape.monoids shape.cells memory requests → (held : List ℕ) →
+      IsMemory shape.cells entries held → memory ≡ held
+  pub makes : (memory : List ℕ) (requests : ℕ) → Elides functions shape.monoids shape.cells memory requests → requests ≡ length entries
+  pub within : (limit : ℕ) → NeedsMore functions shape.monoids shape.cells limit → limit < length entries
+
+-- that is so of each finished run in which nothing was refused
+abbrev pub ElidedRunLaw : Type 0
+ElidedRunLaw =
+    (functions : List Code) (shape : Shape) → IsSound shape.cells (length shape.monoids) functions → (entries : Entries) →
+    IsFinishedRun functions shape entries → IsClean entries → IsToldByElision functions shape entries

@@ -7,7 +7,7 @@ use Rattle.race_gate.specs.Judged.{IsJudged}
 use Rattle.race_gate.specs.Extensions.{IsFinished}
 use Rattle.program_text.specs.declared.program.Program.{Program}
 use Rattle.program_text.specs.Codes.{Code}
-use Rattle.program_text.specs.Sound.{IsMain, IsSound}
+use Rattle.program_text.specs.Sound.{IsMain}
 use Rattle.program_steps.specs.Dialogue.{Part}
 use Rattle.frame_steps.specs.Frames.{DialogueOf}
 use Rattle.program_runs.specs.Frames.{Targets, HasFrame, said_by}

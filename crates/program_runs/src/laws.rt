@@ -1,8 +1,13 @@
 //! The laws of runs, each as the contract of a function that does nothing.
 
-ghost use Rattle.program_runs.specs.Laws.{PrefixLaw};
+ghost use Rattle.program_runs.specs.Laws.{PrefixLaw, NumbersLaw};
 
 /// What a run begins with is a run.
 pub fn prefix_law()
     ensures { PrefixLaw }
+{}
+
+/// The values that a run of a sound program asks with are numbers of 64 bits.
+pub fn numbers_law()
+    ensures { NumbersLaw }
 {}

@@ -23,11 +23,12 @@ use Rattle.program_lines.specs.Scopes.{Scope}
 use Rattle.program_lines.specs.Grammar.{Item, Blank, Declared, Reduces, Begins, Does, Decides, Otherwise, Ends, ItemMeans}
 use Rattle.program_text.specs.declared.open_function.Part.{Part}
 use Rattle.program_text.specs.Codes.{Code}
-use Rattle.program_text.specs.Sound.{max_functions, max_statements, is_located, is_within, IsSoundBody}
+use Rattle.program_text.specs.Sound.{max_functions, max_statements, is_located, is_within, has_numbers, IsSoundBody}
 use Rattle.program_text.specs.Bodies.{part_end}
 use Rattle.program_text.specs.Drafts.{Open, Draft, Contents, begun, begun_by, scope_of, with_register, with_statement, with_choice, with_else, divided_by, with_part_ended, with_end, ending, code_of, held}
 use Rattle.program_text.specs.Grammar.{IsFirst, LineMeans, LinesMean, extended, ended, ended_by, with_open, nothing}
 use Rattle.program_lines.proofs.Within.{IsLocated, IsWithinScope, does_within}
+use Rattle.program_text.proofs.Numbers.{does_numbered}
 use Rattle.program_text.proofs.Said.{length_said}
 use Rattle.program_text.proofs.Linked.{IsBuilt, shape, Plain as PlainShape, built_nothing, built_plain, built_choice, built_else, built_end, map_ended, ended_size, linked_whole, divided_whole, balanced_whole}
 
@@ -40,8 +41,12 @@ part_none statement = part_end (Some statement) ≡ None
 abbrev pub AreWithin : (cells reducers functions : ℕ) → List Statement → Type 0
 AreWithin cells reducers functions body = All (λ statement. IsTrue (is_within cells reducers functions statement)) body
 
+abbrev pub AreNumbered : List Statement → Type 0
+AreNumbered body = All (λ statement. IsTrue (has_numbers statement)) body
+
 abbrev pub OpenKept : (cells reducers functions lines : ℕ) → Open → Type 0
-OpenKept cells reducers functions lines current = IsBuilt current.body current.parts × (length current.body < lines) × AreWithin cells reducers functions current.body
+OpenKept cells reducers functions lines current =
+    IsBuilt current.body current.parts × (length current.body < lines) × AreWithin cells reducers functions current.body × AreNumbered current.body
 
 abbrev pub CurrentKept : (cells reducers functions lines : ℕ) → Option Open → Type 0
 CurrentKept cells reducers functions lines None = Unit {0}
@@ -50,48 +55,68 @@ CurrentKept cells reducers functions lines (Some current) = OpenKept cells reduc
 abbrev pub AreSound : (cells reducers functions : ℕ) → List Code → Type 0
 AreSound cells reducers functions codes = All (λ code. IsSoundBody cells reducers functions code.body) codes
 
-module _ (cells reducers functions : ℕ) where
-  within_push : (body : List Statement) (statement : Statement) → AreWithin cells reducers functions body → IsTrue (is_within cells reducers functions statement)
-      → AreWithin cells reducers functions (body ++ statement ∷ [])
-  within_push body statement h k =
-      All-append (λ (s : Statement). IsTrue (is_within cells reducers functions s)) body (statement ∷ []) h
-      (All-from_recursion (λ (s : Statement). IsTrue (is_within cells reducers functions s)) (statement ∷ []) (k, tt))
+-- what a test says of each statement, where it does not look at the places that an `if` and an `else` name
+module _ (test : Statement → Bool) (same : (to : ℕ) (statement : Statement) → test (ending to statement) ≡ test statement) where
+  all_push : (body : List Statement) (statement : Statement) → All (λ s. IsTrue (test s)) body → IsTrue (test statement)
+      → All (λ s. IsTrue (test s)) (body ++ statement ∷ [])
+  all_push body statement h k =
+      All-append (λ (s : Statement). IsTrue (test s)) body (statement ∷ []) h (All-from_recursion (λ (s : Statement). IsTrue (test s)) (statement ∷ []) (k, tt))
 
+  all_ended : (place to : ℕ) (body : List Statement) → All (λ s. IsTrue (test s)) body → All (λ s. IsTrue (test s)) (with_end place to body)
+  all_ended place to body h =
+      let before : list_all test body ≡ true = list_all-from_AllPass test body h in
+      let kept : list_all test (with_end place to body) ≡ list_all test body =
+      sym (list_all-map (λ (b : Bool). b) test (with_end place to body))
+      ∙ (ap (list_all (λ (b : Bool). b)) (map_ended test same place to body) ∙ list_all-map (λ (b : Bool). b) test body) in
+      AllPass-from_list_all test (with_end place to body) (kept ∙ before)
+
+numbers_ending : (to : ℕ) (statement : Statement) → has_numbers (ending to statement) ≡ has_numbers statement
+numbers_ending to (If line register otherwise) = refl
+numbers_ending to (Else line after) = refl
+numbers_ending to statement = refl
+
+numbers_push : (body : List Statement) (statement : Statement) → AreNumbered body → IsTrue (has_numbers statement) → AreNumbered (body ++ statement ∷ [])
+numbers_push body statement h k = all_push has_numbers numbers_ending body statement h k
+
+numbers_ended : (place to : ℕ) (body : List Statement) → AreNumbered body → AreNumbered (with_end place to body)
+numbers_ended place to body h = all_ended has_numbers numbers_ending place to body h
+
+module _ (cells reducers functions : ℕ) where
   within_ending : (to : ℕ) (statement : Statement) → is_within cells reducers functions (ending to statement) ≡ is_within cells reducers functions statement
   within_ending to (If line register otherwise) = refl
   within_ending to (Else line after) = refl
   within_ending to statement = refl
 
+  within_push : (body : List Statement) (statement : Statement) → AreWithin cells reducers functions body → IsTrue (is_within cells reducers functions statement)
+      → AreWithin cells reducers functions (body ++ statement ∷ [])
+  within_push body statement h k = all_push (is_within cells reducers functions) within_ending body statement h k
+
   within_ended : (place to : ℕ) (body : List Statement) → AreWithin cells reducers functions body → AreWithin cells reducers functions (with_end place to body)
-  within_ended place to body h =
-      let test = is_within cells reducers functions in
-      let before : list_all test body ≡ true = list_all-from_AllPass test body h in
-      let same : list_all test (with_end place to body) ≡ list_all test body =
-      sym (list_all-map (λ (b : Bool). b) test (with_end place to body))
-      ∙ (ap (list_all (λ (b : Bool). b)) (map_ended test within_ending place to body) ∙ list_all-map (λ (b : Bool). b) test body) in
-      AllPass-from_list_all test (with_end place to body) (same ∙ before)
+  within_ended place to body h = all_ended (is_within cells reducers functions) within_ending place to body h
 
   -- ---- one more line of the open function
 
   module _ (n at : ℕ) where
-    kept_plain : (current : Open) (statement : Statement) → shape statement ≡ PlainShape → part_none statement → IsTrue (is_within cells reducers functions statement)
+    kept_plain : (current : Open) (statement : Statement) → shape statement ≡ PlainShape → part_none statement → IsTrue (is_within cells reducers functions statement) → IsTrue (has_numbers statement)
         → OpenKept cells reducers functions n current → OpenKept cells reducers functions (n + 1) (with_statement current statement)
-    kept_plain current statement plain none within h = (
+    kept_plain current statement plain none within numbers h = (
       built_plain current.body current.parts statement plain none h.0,
       (let l = length_push current.body statement in omega (arith, l, h.1)),
       within_push current.body statement h.2 within,
+      numbers_push current.body statement h.3 numbers,
     )
 
-    kept_statement : (current : Open) (named : Option (List ℕ)) (statement : Statement) → shape statement ≡ PlainShape → part_none statement → IsTrue (is_within cells reducers functions statement)
+    kept_statement : (current : Open) (named : Option (List ℕ)) (statement : Statement) → shape statement ≡ PlainShape → part_none statement → IsTrue (is_within cells reducers functions statement) → IsTrue (has_numbers statement)
         → OpenKept cells reducers functions n current → OpenKept cells reducers functions (n + 1) (with_statement (with_register current named) statement)
-    kept_statement current None statement plain none within h = kept_plain current statement plain none within h
-    kept_statement current (Some name) statement plain none within h = kept_plain current statement plain none within h
+    kept_statement current None statement plain none within numbers h = kept_plain current statement plain none within numbers h
+    kept_statement current (Some name) statement plain none within numbers h = kept_plain current statement plain none within numbers h
 
     kept_choice : (current : Open) (register : Register) → OpenKept cells reducers functions n current → OpenKept cells reducers functions (n + 1) (with_choice at current register)
     kept_choice current register h = (
       built_choice current.body current.parts at register h.0,
       (let l = length_push current.body (If at register 0) in omega (arith, l, h.1)),
       within_push current.body (If at register 0) h.2 refl,
+      numbers_push current.body (If at register 0) h.3 refl,
     )
 
     kept_else : (current : Open) (parts : List Part) → current.parts ≡ parts → IsFirst parts → OpenKept cells reducers functions n current → OpenKept cells reducers functions (n + 1) (divided_by at current parts)
@@ -101,6 +126,7 @@ module _ (cells reducers functions : ℕ) where
           built_else current.body part parts at (subst (λ (ps : List Part). IsBuilt current.body ps) e h.0) first,
           (let l = length_push body (Else at 0) in let s = ended_size part.place (length current.body + 1) current.body in omega (arith, l, s, h.1)),
           within_push body (Else at 0) (within_ended part.place (length current.body + 1) current.body h.2) refl,
+          numbers_push body (Else at 0) (numbers_ended part.place (length current.body + 1) current.body h.3) refl,
         )
 
     kept_end : (current : Open) (part : Part) (parts : List Part) → current.parts ≡ part ∷ parts → OpenKept cells reducers functions n current
@@ -110,6 +136,7 @@ module _ (cells reducers functions : ℕ) where
           built_end current.body part parts at (subst (λ (ps : List Part). IsBuilt current.body ps) e h.0),
           (let l = length_push body (End at) in let s = ended_size part.place (length current.body + 1) current.body in omega (arith, l, s, h.1)),
           within_push body (End at) (within_ended part.place (length current.body + 1) current.body h.2) refl,
+          numbers_push body (End at) (numbers_ended part.place (length current.body + 1) current.body h.3) refl,
         )
 
     current_map : (f : Open → Open) (current : Option Open) → ((o : Open) → current ≡ Some o → OpenKept cells reducers functions n o → OpenKept cells reducers functions (n + 1) (f o))
@@ -207,7 +234,7 @@ module _ (names : List (List ℕ)) (at : ℕ) (before : Draft) (line : List ℕ)
         few_lines = omega (arith, room);
         sound = All-append (λ (code : Code). IsSoundBody (cells_of before.known.mems) (len before.known.reducers) (len names) code.body) before.functions (code_of at current ∷ []) kept.sound
             (All-from_recursion (λ (code : Code). IsSoundBody (cells_of before.known.mems) (len before.known.reducers) (len names) code.body) (code_of at current ∷ [])
-            (record { few = omega (arith, h.1, room); within = h.2; linked = linked_whole current.body built; divided = divided_whole current.body built; balanced = balanced_whole current.body built }, tt));
+            (record { few = omega (arith, h.1, room); within = h.2; numbers = h.3; linked = linked_whole current.body built; divided = divided_whole current.body built; balanced = balanced_whole current.body built }, tt));
         current = tt;
       }
   ended_kept_by current (part ∷ parts) room e some h = record {
@@ -262,14 +289,20 @@ module _ (names : List (List ℕ)) (at : ℕ) (before : Draft) (line : List ℕ)
     few_functions = let e : begun before ≡ len before.functions = ap (begun_by before.functions) m.3 in omega (arith, e, m.4.1);
     few_lines = omega (arith, m.4.0);
     sound = kept.sound;
-    current = (built_nothing, omega arith, All-from_recursion (λ (s : Statement). IsTrue (is_within (cells_of before.known.mems) (len before.known.reducers) (len names) s)) [] tt);
+    current = (
+      built_nothing,
+      omega arith,
+      All-from_recursion (λ (s : Statement). IsTrue (is_within (cells_of before.known.mems) (len before.known.reducers) (len names) s)) [] tt,
+      All-from_recursion (λ (s : Statement). IsTrue (has_numbers s)) [] tt,
+    );
   }
   kept_extended (Does statement named) m =
       let plain = plain_shape at (scope_of names before) (words line) statement named m.2 in
       let within = within_scope (scope_of names before) statement
       (does_within (scope_of names before) kept.numbered kept.not_empty at (words line) statement named m.2) in
       kept_open (λ current. with_statement (with_register current named) statement) m.4
-      (λ o is. kept_statement (cells_of before.known.mems) (len before.known.reducers) (len names) before.lines at o named statement plain.0 plain.1 within)
+      (λ o is. kept_statement (cells_of before.known.mems) (len before.known.reducers) (len names) before.lines at o named statement plain.0 plain.1 within
+      (does_numbered (scope_of names before) at (words line) statement named m.2))
   kept_extended (Decides register) m =
       kept_open (λ current. with_choice at current register) m.4.0
       (λ o is. kept_choice (cells_of before.known.mems) (len before.known.reducers) (len names) before.lines at o register)

@@ -3,6 +3,7 @@ pub mod Knowing
 pub mod Linked
 pub mod Ends
 pub mod Said
+pub mod Numbers
 pub mod Taken
 pub mod Kept
 pub mod Listed

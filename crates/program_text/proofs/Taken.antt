@@ -1,5 +1,5 @@
 -- One line that is read, and the lines behind the header.
-use Rattle.std.proofs.Common.{◌≡◌, ◌≢◌, ℕ, ◌<◌, ◌+◌, ◌∷◌, [], List, Bool, true, false, cond, length, suc, arith, refl, sym, ◌∙◌, subst, ap, inl, inr}
+use Rattle.std.proofs.Common.{◌≡◌, ◌≢◌, ℕ, ◌<◌, ◌+◌, ◌∷◌, [], List, Bool, true, false, cond, length, arith, refl, sym, ◌∙◌, subst, ap, inl, inr}
 use Rattle.std.specs.Prelude.{◌⊎◌, IsTrue, codes, Option, Some, None, Result, Ok, Err, MatchResult, IfOk}
 use Rattle.trace_values.specs.declared.fault.Cause.{Cause}
 use Rattle.trace_values.specs.declared.fault.Cause.TheVariants.{NotText, BadHeader, BadWord, BadNumber, UnknownName, TwiceNamed, BadNesting, NoMain, TooMany}
@@ -16,7 +16,6 @@ use Rattle.program_lines.specs.Grammar.{Item, Blank, Declared, Reduces, Begins, 
 use Rattle.program_lines.specs.Faults.{WordsFault}
 use Rattle.std.specs.List.{position_from}
 use Rattle.std.specs.Str.{bytes_eq}
-use Rattle.std.proofs.lemmas.Slice.Eq.{bytes_eq-Decides}
 use Rattle.program_text.specs.Codes.{Code, main_of}
 use Rattle.program_text.specs.Functions.{functions_of}
 use Rattle.program_text.specs.Drafts.{Draft, Contents, Open, begun, registers_of, scope_of, held}

@@ -8,7 +8,7 @@ use Rattle.program_lines.specs.Scopes.{max_registers}
 use Rattle.trace_values.specs.Declarations.{cells_of, with_memory, with_reducer}
 use Rattle.trace_text.specs.Grammar.{IsHeader}
 use Rattle.program_lines.specs.Grammar.{Item, Blank, Declared, Reduces, Begins, Does, Decides, Otherwise, Ends, ItemMeans}
-use Rattle.program_text.specs.Codes.{Code, main_of}
+use Rattle.program_text.specs.Codes.{main_of}
 use Rattle.program_text.specs.Sound.{max_functions, max_statements}
 use Rattle.program_text.specs.Functions.{functions_of}
 use Rattle.program_text.specs.declared.open_function.Part.{Part}

@@ -1,6 +1,8 @@
 -- Laws of the grammar.
-use Rattle.std.specs.Prelude.{◌≡◌, ℕ, List}
+use Rattle.std.specs.Prelude.{◌≡◌, ℕ, List, length}
 use Rattle.trace_values.specs.declared.fault.Cause.{Cause}
+use Rattle.trace_values.specs.Declarations.{cells_of}
+use Rattle.program_text.specs.Sound.{IsSound}
 use Rattle.program_text.specs.Drafts.{Contents}
 use Rattle.program_text.specs.Grammar.{TextMeans}
 use Rattle.program_text.specs.Faults.{TextFaults}
@@ -16,3 +18,9 @@ MeaningOrFault = (text : List ℕ) (contents : Contents) (line : ℕ) (why : Cau
 -- A text has at most one fault.
 abbrev pub OneFault : Type 0
 OneFault = (text : List ℕ) (line other : ℕ) (why cause : Cause) → TextFaults text line why → TextFaults text other cause → (line ≡ other) × (why ≡ cause)
+
+-- What a text means is sound.
+abbrev pub SoundLaw : Type 0
+SoundLaw =
+    (text : List ℕ) (contents : Contents) → TextMeans text contents →
+    IsSound (cells_of contents.known.mems) (length contents.known.reducers) contents.functions

@@ -1,6 +1,6 @@
 //! Laws of the grammar.
 
-ghost use Rattle.program_text.specs.Laws.{OneMeaning, MeaningOrFault, OneFault};
+ghost use Rattle.program_text.specs.Laws.{OneMeaning, MeaningOrFault, OneFault, SoundLaw};
 
 /// A text means at most one program.
 pub fn one_meaning()
@@ -15,4 +15,10 @@ pub fn meaning_or_fault()
 /// A text has at most one fault.
 pub fn one_fault()
     ensures { OneFault }
+{}
+
+/// What a text means is sound: what its statements name is there, their numbers are of 64 bits, and each part of an `if` has its end. So it
+/// is with each [`Program`](crate::Program), whose type keeps that some text means it.
+pub fn sound_law()
+    ensures { SoundLaw }
 {}

@@ -14,8 +14,8 @@ use std::alloc::{AllocError, Allocator};
 use trace_values::{Mems, Monoids, Reducers, Shape, TextFault, Version};
 
 /// The meaning of a text, made by [`Program::parse`] alone. Some text means it, its cells are numbered without a gap, and it is sound: its
-/// statements name cells, reducers and functions that there are, each `if` has its `end` and one `else` at most, and each `if` and `else`
-/// knows where its part ends.
+/// statements name cells, reducers and functions that there are, their numbers are of 64 bits, each `if` has its `end` and one `else` at
+/// most, and each `if` and `else` knows where its part ends.
 pub struct Program<A: Allocator> {
     /// The version that the first line names.
     pub version: Version,

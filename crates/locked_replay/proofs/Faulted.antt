@@ -1,0 +1,26 @@
+-- Why there is no whole run, from what the logs and the gate show.
+use Rattle.std.proofs.Common.{◌≡◌, Bool, true, false, List, reverse, refl, Result, Err}
+use Rattle.race_gate.specs.Shapes.{Shape}
+use Rattle.race_gate.specs.States.{State}
+use Rattle.program_text.specs.Codes.{Code}
+use Rattle.locked_replay.specs.declared.fault.RunFault.{RunFault}
+use Rattle.locked_replay.specs.declared.fault.RunFault.TheVariants.{Limit, Stopped, Torn, Strange, Memory}
+use Rattle.locked_replay.specs.declared.worker.WorkerLog.{WorkerLog}
+use Rattle.locked_replay.specs.Logs.{AreWhole}
+use Rattle.locked_replay.specs.Strange.{IsStrangeGate}
+use Rattle.locked_replay.specs.Faults.{HasFault}
+
+not_stopped : (stopped : Bool) → (stopped ≡ true → ⊥) → stopped ≡ false
+not_stopped true not = absurd (not refl)
+not_stopped false not = refl
+
+module _ {L T : Type 0} (functions : List Code) (shape : Shape) (gate : State) (logs : List (WorkerLog L)) where
+  -- the logs are whole, and the gate is not that of a finished run
+  pub run_faulted : (checked : Result T RunFault) (fault : RunFault) → (checked ≡ Err Stopped → ⊥) → (gate.stopped ≡ true → checked ≡ Err Stopped) →
+      AreWhole (reverse gate.history) logs → (fault ≡ Strange → IsStrangeGate functions shape gate) → (fault ≡ Limit → ⊥) → (fault ≡ Stopped → ⊥) →
+      (fault ≡ Torn → ⊥) → HasFault functions shape gate logs fault
+  run_faulted checked Limit going stops whole strange limit stopped torn = absurd (limit refl)
+  run_faulted checked Stopped going stops whole strange limit stopped torn = absurd (stopped refl)
+  run_faulted checked Torn going stops whole strange limit stopped torn = absurd (torn refl)
+  run_faulted checked Strange going stops whole strange limit stopped torn = (not_stopped gate.stopped (λ is. going (stops is)), whole, strange refl)
+  run_faulted checked Memory going stops whole strange limit stopped torn = not_stopped gate.stopped (λ is. going (stops is))

@@ -1,0 +1,86 @@
+-- What is gathered of a gate that was behind its lock.
+use Rattle.std.proofs.Common.{◌≡◌, ◌↔◌, ℕ, List, reverse, Result, Ok, Err, IsTrue, IfOk, OnOk, IfErr, sym, ap, ◌∙◌, subst}
+use Rattle.std.proofs.lemmas.List.{reverse-reverse}
+use Rattle.race_gate.specs.declared.answer.Entry.{Entry}
+use Rattle.race_gate.specs.Entries.{Entries}
+use Rattle.race_gate.specs.Shapes.{Shape}
+use Rattle.race_gate.specs.Judged.{IsJudged}
+use Rattle.race_gate.specs.Memory.{IsMemory}
+use Rattle.race_gate.specs.Extensions.{IsClean}
+use Rattle.race_gate.specs.States.{State, IsRight}
+use Rattle.program_text.specs.declared.program.Program.{Program}
+use Rattle.program_runs.specs.Runs.{shape_in, IsFinishedRun}
+use Rattle.program_runs.specs.Laws.{IsElided, AllAgree}
+use Rattle.locked_replay.specs.declared.fault.RunFault.{RunFault}
+use Rattle.locked_replay.specs.declared.worker.WorkerLog.{WorkerLog}
+use Rattle.locked_replay.specs.declared.whole.Whole.{Whole}
+use Rattle.locked_replay.specs.Logs.{AreWhole}
+use Rattle.locked_replay.specs.Faults.{HasFault}
+use Rattle.locked_replay.specs.Laws.{SpeaksForAll}
+use Rattle.locked_replay.proofs.Wholes.{program_law}
+
+pub if_ok : {A E : Type 0} {P Q : A → Type 0} (result : Result A E) → IfOk result P → ((a : A) → P a → Q a) → IfOk result Q
+if_ok (Ok a) p f = f a p
+if_ok (Err e) p f = tt
+
+pub if_err : {A E : Type 0} {P Q : E → Type 0} (result : Result A E) → IfErr result P → ((e : E) → P e → Q e) → IfErr result Q
+if_err (Ok a) p f = tt
+if_err (Err e) p f = f e p
+
+module _ {L B : Type 0} (program : Program B) (gate : State) (logs : List (WorkerLog L)) where
+  -- a whole run is that of the gate
+  pub record IsGathered (whole : Whole) : Type 0 where
+    pub shape : gate.shape ≡ shape_in program
+    pub entries : whole.entries.items ≡ reverse gate.history
+    pub memory : whole.memory.items ≡ gate.memory
+    pub clean : IsTrue whole.clean ↔ IsClean gate.history
+    pub whole_logs : AreWhole (reverse gate.history) logs
+    pub run : IsFinishedRun program.functions (shape_in program) gate.history
+
+  pub gathered : (result : Result Whole RunFault) → OnOk result (gate.shape ≡ shape_in program) → IfOk result (λ whole. whole.entries.items ≡ reverse gate.history) →
+      IfOk result (λ whole. whole.memory.items ≡ gate.memory) → IfOk result (λ whole. IsTrue whole.clean ↔ IsClean gate.history) →
+      OnOk result (AreWhole (reverse gate.history) logs) → OnOk result (IsFinishedRun program.functions (shape_in program) gate.history) → IfOk result IsGathered
+  gathered (Ok whole) shape entries memory clean whole_logs run =
+      record { shape = shape; entries = entries; memory = memory; clean = clean; whole_logs = whole_logs; run = run }
+  gathered (Err fault) shape entries memory clean whole_logs run = tt
+
+  module _ (whole : Whole) (g : IsGathered whole) where
+    -- the history, from the entries of the whole run
+    history_is : gate.history ≡ reverse whole.entries.items
+    history_is = sym (ap reverse g.entries ∙ reverse-reverse gate.history)
+
+    pub its_run : IsFinishedRun program.functions (shape_in program) (reverse whole.entries.items)
+    its_run = subst (IsFinishedRun program.functions (shape_in program)) history_is g.run
+
+    pub its_logs : AreWhole whole.entries.items logs
+    its_logs = subst (λ (l : List Entry). AreWhole l logs) (sym g.entries) g.whole_logs
+
+    pub its_memory : IsMemory gate.shape.cells gate.history gate.memory → IsMemory (shape_in program).cells (reverse whole.entries.items) whole.memory.items
+    its_memory is =
+        subst (λ (h : Entries). IsMemory (shape_in program).cells h whole.memory.items) history_is
+        (subst (λ (m : List ℕ). IsMemory (shape_in program).cells gate.history m) (sym g.memory)
+        (subst (λ (s : Shape). IsMemory s.cells gate.history gate.memory) g.shape is))
+
+    pub its_clean : IsTrue whole.clean ↔ IsClean (reverse whole.entries.items)
+    its_clean = subst (λ (h : Entries). IsTrue whole.clean ↔ IsClean h) history_is g.clean
+
+    speaks : IsTrue whole.clean → SpeaksForAll program.functions (shape_in program) (reverse whole.entries.items)
+    speaks clean = program_law program (reverse whole.entries.items) its_run (its_clean.0 clean)
+
+    pub its_elision : IsTrue whole.clean → IsElided program.functions (shape_in program) (reverse whole.entries.items)
+    its_elision clean = (speaks clean).elided
+
+    pub its_schedules : IsTrue whole.clean → AllAgree program.functions (shape_in program) (reverse whole.entries.items)
+    its_schedules clean = (speaks clean).agree
+
+  -- why there is none
+  pub faulted : IsJudged gate.shape gate.history → IsMemory gate.shape.cells gate.history gate.memory → (fault : RunFault) →
+      HasFault program.functions (shape_in program) gate logs fault →
+      (behind : State) × IsRight behind × HasFault program.functions (shape_in program) behind logs fault
+  faulted judged memory fault has = (gate, record { judged = judged; memory = memory }, has)
+
+  pub never_limit : (result : Result Whole RunFault) → IfErr result (HasFault program.functions (shape_in program) gate logs) →
+      result ≡ Err RunFault.Limit → ⊥
+  never_limit (Ok whole) has e = cc
+  never_limit (Err fault) has e =
+      let same : fault ≡ RunFault.Limit = cc in subst (HasFault program.functions (shape_in program) gate logs) same has
