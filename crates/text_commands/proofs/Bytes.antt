@@ -1,13 +1,13 @@
 -- Bytes that are read or written in pieces, and calls that are counted.
-use Rattle.std.proofs.Common.{◌≡◌, ◌≤◌, ◌<◌, ℕ, ◌+◌, List, [], ◌++◌, Option, Some, None, take, drop, refl, ap, sym, subst, ◌∙◌, inl, append_assoc, arith}
-use Rattle.std.specs.Prelude.{Bool, false, ◌==◌, ◌&&◌, ◌||◌, not}
+use Rattle.std.proofs.Common.{◌≡◌, ◌≤◌, ◌<◌, ℕ, ◌+◌, List, [], ◌++◌, Option, Some, None, take, drop, length, refl, ap, sym, subst, ◌∙◌, append_assoc, length-append, arith}
+use Rattle.std.specs.Prelude.{Bool, true, false, ◌==◌, ◌&&◌, ◌||◌, not}
 use Rattle.std.proofs.lemmas.List.{take-append-drop}
 use Rattle.std.proofs.lemmas.Bool.{ne_eqb}
 use Rattle.std.specs.Io.KnownBytes.{Consumes, Appends}
 use Rattle.text_commands.specs.declared.fault.CliFault.{CliFault}
 use Rattle.text_commands.specs.declared.fault.CliFault.TheVariants.{Usage, Read, Write, TooLong, Trace, Program, Shape, Illegal, Limit, Stopped, Torn, Strange, Memory}
 use Rattle.text_commands.specs.Watched.{one_more}
-use Rattle.text_commands.specs.Streams.{with_calls, TakesPiece, StopsPiece, StopsReading}
+use Rattle.text_commands.specs.Streams.{TakesPiece, StopsPiece, StopsReading}
 
 -- nothing was read
 pub consumes-none : (known : Option (List ℕ)) → Consumes known known []
@@ -39,31 +39,34 @@ write-fresh failed now count bytes some fresh is =
     is ∙ ap (λ (b : Bool). b || ((count == 0) && not (bytes == 0))) fresh ∙ ap (λ (b : Bool). b && not (bytes == 0)) (ne_eqb count 0 (λ none. omega arith))
 
 -- so many calls, and one more
-pub calls-asked : (calls more now : ℕ) → with_calls calls more ≤ now → with_calls calls (more + 1) ≤ one_more now
-calls-asked calls more now asked = omega arith
-
 pub calls-bound : (calls more now next : ℕ) → now ≤ calls + more → next ≡ one_more now → next ≤ calls + (more + 1)
 calls-bound calls more now next bound is = omega arith
 
 -- why reading a piece stops is why reading stops
-pub piece_cause : (first between last : Option (List ℕ)) (old_calls new_calls : ℕ) (text : List ℕ) (fault : CliFault) →
-    Consumes first between text → StopsPiece between last text fault → StopsReading first last old_calls new_calls fault
-piece_cause first between last old_calls new_calls text Read taken stops = tt
-piece_cause first between last old_calls new_calls text Memory taken stops = tt
-piece_cause first between last old_calls new_calls text TooLong taken stops =
-    inl (record { text = text ++ stops.0; taken = consumes-more first between last text stops.0 taken stops.1; long = stops.2 })
-piece_cause first between last old_calls new_calls text (Usage words) taken stops = absurd stops
-piece_cause first between last old_calls new_calls text Write taken stops = absurd stops
-piece_cause first between last old_calls new_calls text (Trace fault) taken stops = absurd stops
-piece_cause first between last old_calls new_calls text (Program fault) taken stops = absurd stops
-piece_cause first between last old_calls new_calls text Shape taken stops = absurd stops
-piece_cause first between last old_calls new_calls text (Illegal number) taken stops = absurd stops
-piece_cause first between last old_calls new_calls text Stopped taken stops = absurd stops
-piece_cause first between last old_calls new_calls text Torn taken stops = absurd stops
-piece_cause first between last old_calls new_calls text Strange taken stops = absurd stops
-piece_cause first between last old_calls new_calls text Limit taken stops = absurd stops
+pub piece_cause : (first between last : Option (List ℕ)) (text : List ℕ) (fault : CliFault) →
+    Consumes first between text → StopsPiece between last text fault → StopsReading first last fault
+piece_cause first between last text Read taken stops = tt
+piece_cause first between last text Memory taken stops = tt
+piece_cause first between last text TooLong taken stops =
+    record { text = text ++ stops.0; taken = consumes-more first between last text stops.0 taken stops.1; long = stops.2 }
+piece_cause first between last text (Usage words) taken stops = absurd stops
+piece_cause first between last text Write taken stops = absurd stops
+piece_cause first between last text (Trace fault) taken stops = absurd stops
+piece_cause first between last text (Program fault) taken stops = absurd stops
+piece_cause first between last text Shape taken stops = absurd stops
+piece_cause first between last text (Illegal number) taken stops = absurd stops
+piece_cause first between last text Stopped taken stops = absurd stops
+piece_cause first between last text Torn taken stops = absurd stops
+piece_cause first between last text Strange taken stops = absurd stops
+piece_cause first between last text Limit taken stops = absurd stops
 
 -- a text and one more piece
 pub text-more : (first between last : Option (List ℕ)) (old new : List ℕ) (more : Bool) → Consumes first between old → TakesPiece between last old new more → Consumes first last new
 text-more first between last old new more taken piece =
     subst (λ (bytes : List ℕ). Consumes first last bytes) (sym piece.added) (consumes-more first between last old piece.piece taken piece.taken)
+
+-- a piece with a byte makes the text longer
+pub pieces-counted : (counter : ℕ) (old new : List ℕ) (before behind : Option (List ℕ)) (more : Bool) → counter ≤ length old → TakesPiece before behind old new more → more ≡ true →
+    counter + 1 ≤ length new
+pieces-counted counter old new before behind more counted piece is =
+    let some = piece.some is in let whole = ap length piece.added ∙ length-append old piece.piece in omega arith

@@ -7,10 +7,10 @@ use Rattle.race_report.specs.VerdictText.{verdict_text}
 use Rattle.text_commands.specs.Streams.{AnswersText, IsRead, HasCause, StopsWriting}
 
 -- only a part could be written
-pub writing_cause : (before behind wrote writes : Option (List ℕ)) (old_calls new_calls limit : ℕ) (text lines : List ℕ) (replies : List Reply) (fault : CliFault) →
+pub writing_cause : (before behind wrote writes : Option (List ℕ)) (limit : ℕ) (text lines : List ℕ) (replies : List Reply) (fault : CliFault) →
     IsRead before behind text → AnswersText text limit replies → lines ≡ verdict_text replies → StopsWriting wrote writes lines fault →
-    HasCause before behind wrote writes old_calls new_calls limit fault
-writing_cause before behind wrote writes old_calls new_calls limit text lines replies Write read answers are stops = record {
+    HasCause before behind wrote writes limit fault
+writing_cause before behind wrote writes limit text lines replies Write read answers are stops = record {
   text = text;
   replies = replies;
   part = stops.0;
@@ -20,15 +20,15 @@ writing_cause before behind wrote writes old_calls new_calls limit text lines re
   written = stops.2;
   prefix = stops.3 ∙ are;
 }
-writing_cause before behind wrote writes old_calls new_calls limit text lines replies (Usage words) read answers are stops = absurd stops
-writing_cause before behind wrote writes old_calls new_calls limit text lines replies Read read answers are stops = absurd stops
-writing_cause before behind wrote writes old_calls new_calls limit text lines replies TooLong read answers are stops = absurd stops
-writing_cause before behind wrote writes old_calls new_calls limit text lines replies (Trace fault) read answers are stops = absurd stops
-writing_cause before behind wrote writes old_calls new_calls limit text lines replies (Program fault) read answers are stops = absurd stops
-writing_cause before behind wrote writes old_calls new_calls limit text lines replies Shape read answers are stops = absurd stops
-writing_cause before behind wrote writes old_calls new_calls limit text lines replies (Illegal number) read answers are stops = absurd stops
-writing_cause before behind wrote writes old_calls new_calls limit text lines replies Stopped read answers are stops = absurd stops
-writing_cause before behind wrote writes old_calls new_calls limit text lines replies Torn read answers are stops = absurd stops
-writing_cause before behind wrote writes old_calls new_calls limit text lines replies Strange read answers are stops = absurd stops
-writing_cause before behind wrote writes old_calls new_calls limit text lines replies Limit read answers are stops = absurd stops
-writing_cause before behind wrote writes old_calls new_calls limit text lines replies Memory read answers are stops = absurd stops
+writing_cause before behind wrote writes limit text lines replies (Usage words) read answers are stops = absurd stops
+writing_cause before behind wrote writes limit text lines replies Read read answers are stops = absurd stops
+writing_cause before behind wrote writes limit text lines replies TooLong read answers are stops = absurd stops
+writing_cause before behind wrote writes limit text lines replies (Trace fault) read answers are stops = absurd stops
+writing_cause before behind wrote writes limit text lines replies (Program fault) read answers are stops = absurd stops
+writing_cause before behind wrote writes limit text lines replies Shape read answers are stops = absurd stops
+writing_cause before behind wrote writes limit text lines replies (Illegal number) read answers are stops = absurd stops
+writing_cause before behind wrote writes limit text lines replies Stopped read answers are stops = absurd stops
+writing_cause before behind wrote writes limit text lines replies Torn read answers are stops = absurd stops
+writing_cause before behind wrote writes limit text lines replies Strange read answers are stops = absurd stops
+writing_cause before behind wrote writes limit text lines replies Limit read answers are stops = absurd stops
+writing_cause before behind wrote writes limit text lines replies Memory read answers are stops = absurd stops

@@ -8,34 +8,34 @@ use Rattle.text_commands.specs.Streams.{IsRead, StopsWriting}
 use Rattle.text_commands.specs.Elided.{ElidesText, StopsElision, HasElisionCause}
 
 -- the elision is not had
-pub stopping_cause : (before behind wrote writes : Option (List ℕ)) (old_calls new_calls limit : ℕ) (text : List ℕ) (contents : Contents) (fault : CliFault) →
+pub stopping_cause : (before behind wrote writes : Option (List ℕ)) (limit : ℕ) (text : List ℕ) (contents : Contents) (fault : CliFault) →
     IsRead before behind text → TextMeans text contents → StopsElision contents limit fault →
-    HasElisionCause before behind wrote writes old_calls new_calls limit fault
-stopping_cause before behind wrote writes old_calls new_calls limit text contents Limit read means stops = record {
+    HasElisionCause before behind wrote writes limit fault
+stopping_cause before behind wrote writes limit text contents Limit read means stops = record {
   text = text;
   read = read;
   contents = contents;
   means = means;
   more = stops;
 }
-stopping_cause before behind wrote writes old_calls new_calls limit text contents Memory read means stops = tt
-stopping_cause before behind wrote writes old_calls new_calls limit text contents (Usage words) read means stops = absurd stops
-stopping_cause before behind wrote writes old_calls new_calls limit text contents Read read means stops = absurd stops
-stopping_cause before behind wrote writes old_calls new_calls limit text contents Write read means stops = absurd stops
-stopping_cause before behind wrote writes old_calls new_calls limit text contents TooLong read means stops = absurd stops
-stopping_cause before behind wrote writes old_calls new_calls limit text contents (Trace fault) read means stops = absurd stops
-stopping_cause before behind wrote writes old_calls new_calls limit text contents (Program fault) read means stops = absurd stops
-stopping_cause before behind wrote writes old_calls new_calls limit text contents Shape read means stops = absurd stops
-stopping_cause before behind wrote writes old_calls new_calls limit text contents (Illegal number) read means stops = absurd stops
-stopping_cause before behind wrote writes old_calls new_calls limit text contents Stopped read means stops = absurd stops
-stopping_cause before behind wrote writes old_calls new_calls limit text contents Torn read means stops = absurd stops
-stopping_cause before behind wrote writes old_calls new_calls limit text contents Strange read means stops = absurd stops
+stopping_cause before behind wrote writes limit text contents Memory read means stops = tt
+stopping_cause before behind wrote writes limit text contents (Usage words) read means stops = absurd stops
+stopping_cause before behind wrote writes limit text contents Read read means stops = absurd stops
+stopping_cause before behind wrote writes limit text contents Write read means stops = absurd stops
+stopping_cause before behind wrote writes limit text contents TooLong read means stops = absurd stops
+stopping_cause before behind wrote writes limit text contents (Trace fault) read means stops = absurd stops
+stopping_cause before behind wrote writes limit text contents (Program fault) read means stops = absurd stops
+stopping_cause before behind wrote writes limit text contents Shape read means stops = absurd stops
+stopping_cause before behind wrote writes limit text contents (Illegal number) read means stops = absurd stops
+stopping_cause before behind wrote writes limit text contents Stopped read means stops = absurd stops
+stopping_cause before behind wrote writes limit text contents Torn read means stops = absurd stops
+stopping_cause before behind wrote writes limit text contents Strange read means stops = absurd stops
 
 -- only a part of its lines could be written
-pub cutting_cause : (before behind wrote writes : Option (List ℕ)) (old_calls new_calls limit : ℕ) (text lines : List ℕ) (fault : CliFault) →
+pub cutting_cause : (before behind wrote writes : Option (List ℕ)) (limit : ℕ) (text lines : List ℕ) (fault : CliFault) →
     IsRead before behind text → ElidesText text limit lines → StopsWriting wrote writes lines fault →
-    HasElisionCause before behind wrote writes old_calls new_calls limit fault
-cutting_cause before behind wrote writes old_calls new_calls limit text lines Write read elides stops = record {
+    HasElisionCause before behind wrote writes limit fault
+cutting_cause before behind wrote writes limit text lines Write read elides stops = record {
   text = text;
   lines = lines;
   part = stops.0;
@@ -45,15 +45,15 @@ cutting_cause before behind wrote writes old_calls new_calls limit text lines Wr
   written = stops.2;
   prefix = stops.3;
 }
-cutting_cause before behind wrote writes old_calls new_calls limit text lines (Usage words) read elides stops = absurd stops
-cutting_cause before behind wrote writes old_calls new_calls limit text lines Read read elides stops = absurd stops
-cutting_cause before behind wrote writes old_calls new_calls limit text lines TooLong read elides stops = absurd stops
-cutting_cause before behind wrote writes old_calls new_calls limit text lines (Trace fault) read elides stops = absurd stops
-cutting_cause before behind wrote writes old_calls new_calls limit text lines (Program fault) read elides stops = absurd stops
-cutting_cause before behind wrote writes old_calls new_calls limit text lines Shape read elides stops = absurd stops
-cutting_cause before behind wrote writes old_calls new_calls limit text lines (Illegal number) read elides stops = absurd stops
-cutting_cause before behind wrote writes old_calls new_calls limit text lines Stopped read elides stops = absurd stops
-cutting_cause before behind wrote writes old_calls new_calls limit text lines Torn read elides stops = absurd stops
-cutting_cause before behind wrote writes old_calls new_calls limit text lines Strange read elides stops = absurd stops
-cutting_cause before behind wrote writes old_calls new_calls limit text lines Limit read elides stops = absurd stops
-cutting_cause before behind wrote writes old_calls new_calls limit text lines Memory read elides stops = absurd stops
+cutting_cause before behind wrote writes limit text lines (Usage words) read elides stops = absurd stops
+cutting_cause before behind wrote writes limit text lines Read read elides stops = absurd stops
+cutting_cause before behind wrote writes limit text lines TooLong read elides stops = absurd stops
+cutting_cause before behind wrote writes limit text lines (Trace fault) read elides stops = absurd stops
+cutting_cause before behind wrote writes limit text lines (Program fault) read elides stops = absurd stops
+cutting_cause before behind wrote writes limit text lines Shape read elides stops = absurd stops
+cutting_cause before behind wrote writes limit text lines (Illegal number) read elides stops = absurd stops
+cutting_cause before behind wrote writes limit text lines Stopped read elides stops = absurd stops
+cutting_cause before behind wrote writes limit text lines Torn read elides stops = absurd stops
+cutting_cause before behind wrote writes limit text lines Strange read elides stops = absurd stops
+cutting_cause before behind wrote writes limit text lines Limit read elides stops = absurd stops
+cutting_cause before behind wrote writes limit text lines Memory read elides stops = absurd stops

@@ -1,5 +1,5 @@
 -- What is read of a program, and what is written of its elision.
-use Rattle.std.specs.Prelude.{ℕ, ◌≡◌, ◌≤◌, ◌⊎◌, Option, List, ◌++◌, map}
+use Rattle.std.specs.Prelude.{ℕ, ◌≡◌, ◌≤◌, Option, List, ◌++◌, map}
 use Rattle.std.specs.Io.KnownBytes.{Appends}
 use Rattle.trace_values.specs.declared.value.Monoid.{Monoid}
 use Rattle.trace_values.specs.declared.fault.TextFault.TheVariants.{At}
@@ -10,7 +10,7 @@ use Rattle.program_text.specs.Faults.{TextFaults}
 use Rattle.serial_elision.specs.Elisions.{Elides, NeedsMore}
 use Rattle.text_commands.specs.declared.fault.CliFault.{CliFault}
 use Rattle.text_commands.specs.declared.fault.CliFault.TheVariants.{Usage, Read, Write, TooLong, Program, Limit, Memory}
-use Rattle.text_commands.specs.Streams.{IsRead, IsReadTooLong, most_reads, with_calls}
+use Rattle.text_commands.specs.Streams.{IsRead, IsReadTooLong}
 use Rattle.text_commands.specs.ElisionText.{elision_text}
 
 abbrev pub monoids_of : Contents → List Monoid
@@ -76,11 +76,11 @@ pub record IsFaultyProgram (before behind : Option (List ℕ)) (fault : CliFault
   pub faulty : IsProgramFault text fault
 
 -- Why an elision is not written, or not wholly: each fault has its cause.
-abbrev pub HasElisionCause : Option (List ℕ) → Option (List ℕ) → Option (List ℕ) → Option (List ℕ) → ℕ → ℕ → ℕ → CliFault → Type 0
-HasElisionCause before behind wrote writes old_calls new_calls limit (Usage text) = ⊥
-HasElisionCause before behind wrote writes old_calls new_calls limit Read = Unit {0}
-HasElisionCause before behind wrote writes old_calls new_calls limit Write = IsElisionCut before behind wrote writes limit
-HasElisionCause before behind wrote writes old_calls new_calls limit TooLong = IsReadTooLong before behind ⊎ (with_calls old_calls most_reads ≤ new_calls)
-HasElisionCause before behind wrote writes old_calls new_calls limit Memory = Unit {0}
-HasElisionCause before behind wrote writes old_calls new_calls limit Limit = IsBeyondLimit before behind limit
-HasElisionCause before behind wrote writes old_calls new_calls limit fault = IsFaultyProgram before behind fault
+abbrev pub HasElisionCause : (before behind wrote writes : Option (List ℕ)) → (limit : ℕ) → CliFault → Type 0
+HasElisionCause before behind wrote writes limit (Usage text) = ⊥
+HasElisionCause before behind wrote writes limit Read = Unit {0}
+HasElisionCause before behind wrote writes limit Write = IsElisionCut before behind wrote writes limit
+HasElisionCause before behind wrote writes limit TooLong = IsReadTooLong before behind
+HasElisionCause before behind wrote writes limit Memory = Unit {0}
+HasElisionCause before behind wrote writes limit Limit = IsBeyondLimit before behind limit
+HasElisionCause before behind wrote writes limit fault = IsFaultyProgram before behind fault

@@ -9,3 +9,5 @@ pub mod Declarations
 pub mod Outcomes
 pub mod Replays
 pub mod Runs
+pub mod Sources
+pub mod Performed

@@ -89,15 +89,13 @@ StopsReplay program trace fault = ⊥
 
 -- ---- reading and writing
 
--- what a reader held before and behind a command, and how often it had been called by then
+-- what a reader held before and behind a command
 pub record Reading : Type 0 where
   pub before : Option (List ℕ)
   pub behind : Option (List ℕ)
-  pub old_calls : ℕ
-  pub new_calls : ℕ
 
-abbrev pub reading : (before behind : Option (List ℕ)) → (old_calls new_calls : ℕ) → Reading
-reading before behind old_calls new_calls = record { before = before; behind = behind; old_calls = old_calls; new_calls = new_calls }
+abbrev pub reading : (before behind : Option (List ℕ)) → Reading
+reading before behind = record { before = before; behind = behind }
 
 -- Both texts were read, and mean a program and a trace.
 pub record AreRead (program trace : Reading) (contents : Contents) (trace_contents : TraceContents) : Type 0 where
@@ -138,7 +136,7 @@ pub record IsReplayStopped (program trace : Reading) (fault : CliFault) : Type 0
   pub stops : StopsReplay contents trace_contents fault
 
 abbrev pub StopsReader : Reading → CliFault → Type 0
-StopsReader reader fault = StopsReading reader.before reader.behind reader.old_calls reader.new_calls fault
+StopsReader reader fault = StopsReading reader.before reader.behind fault
 
 -- Why a replay is not written, or not wholly: each fault has its cause.
 abbrev pub HasReplayCause : (program trace : Reading) → (wrote writes : Option (List ℕ)) → CliFault → Type 0

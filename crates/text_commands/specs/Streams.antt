@@ -1,5 +1,5 @@
 -- What is read, and what is written for it.
-use Rattle.std.specs.Prelude.{ℕ, ◌≡◌, ◌+◌, ◌-◌, ◌^◌, ◌<◌, ◌≤◌, ◌⊎◌, Bool, false, Option, List, ◌++◌, length, map, min}
+use Rattle.std.specs.Prelude.{ℕ, ◌≡◌, ◌<◌, ◌≤◌, Bool, true, false, Option, List, ◌++◌, length, map}
 use Rattle.std.specs.Io.KnownBytes.{Consumes, Appends, IsAtEnd}
 use Rattle.trace_values.specs.declared.value.Request.{Request}
 use Rattle.trace_values.specs.declared.fault.TextFault.TheVariants.{At}
@@ -66,10 +66,6 @@ pub record IsReadTooLong (old new : Option (List ℕ)) : Type 0 where
   pub taken : Consumes old new text
   pub long : most_bytes < length text
 
--- So many calls and no more, up to 2^64 - 1.
-abbrev pub with_calls : ℕ → ℕ → ℕ
-with_calls calls more = min (calls + more) (2 ^ 64 - 1)
-
 -- A text was read and the verdict lines of the replies to it were written.
 pub record IsAnswered (before behind wrote writes : Option (List ℕ)) (limit : ℕ) (replies : List Reply) : Type 0 where
   pub text : List ℕ
@@ -101,13 +97,13 @@ pub record IsFaulty (before behind : Option (List ℕ)) (fault : CliFault) : Typ
   pub faulty : IsFaultOf text fault
 
 -- Why a stream is not answered, or not wholly: each fault has its cause.
-abbrev pub HasCause : Option (List ℕ) → Option (List ℕ) → Option (List ℕ) → Option (List ℕ) → ℕ → ℕ → ℕ → CliFault → Type 0
-HasCause before behind wrote writes old_calls new_calls limit (Usage text) = ⊥
-HasCause before behind wrote writes old_calls new_calls limit Read = Unit {0}
-HasCause before behind wrote writes old_calls new_calls limit Write = IsCutShort before behind wrote writes limit
-HasCause before behind wrote writes old_calls new_calls limit TooLong = IsReadTooLong before behind ⊎ (with_calls old_calls most_reads ≤ new_calls)
-HasCause before behind wrote writes old_calls new_calls limit Memory = Unit {0}
-HasCause before behind wrote writes old_calls new_calls limit fault = IsFaulty before behind fault
+abbrev pub HasCause : (before behind wrote writes : Option (List ℕ)) → (limit : ℕ) → CliFault → Type 0
+HasCause before behind wrote writes limit (Usage text) = ⊥
+HasCause before behind wrote writes limit Read = Unit {0}
+HasCause before behind wrote writes limit Write = IsCutShort before behind wrote writes limit
+HasCause before behind wrote writes limit TooLong = IsReadTooLong before behind
+HasCause before behind wrote writes limit Memory = Unit {0}
+HasCause before behind wrote writes limit fault = IsFaulty before behind fault
 
 -- One more piece was read and stands behind the text, where there was one; else the end was reached.
 pub record TakesPiece (before behind : Option (List ℕ)) (old new : List ℕ) (more : Bool) : Type 0 where
@@ -115,6 +111,7 @@ pub record TakesPiece (before behind : Option (List ℕ)) (old new : List ℕ) (
   pub taken : Consumes before behind piece
   pub added : new ≡ old ++ piece
   pub short : length new ≤ most_bytes
+  pub some : more ≡ true → 0 < length piece
   pub end : more ≡ false → IsAtEnd behind
 
 -- Why a piece is not added: with it the text would be too long, or a device or memory failed.
@@ -125,11 +122,11 @@ StopsPiece before behind old Memory = Unit {0}
 StopsPiece before behind old fault = ⊥
 
 -- Why reading stops before the end.
-abbrev pub StopsReading : Option (List ℕ) → Option (List ℕ) → ℕ → ℕ → CliFault → Type 0
-StopsReading before behind old_calls new_calls Read = Unit {0}
-StopsReading before behind old_calls new_calls TooLong = IsReadTooLong before behind ⊎ (with_calls old_calls most_reads ≤ new_calls)
-StopsReading before behind old_calls new_calls Memory = Unit {0}
-StopsReading before behind old_calls new_calls fault = ⊥
+abbrev pub StopsReading : (before behind : Option (List ℕ)) → CliFault → Type 0
+StopsReading before behind Read = Unit {0}
+StopsReading before behind TooLong = IsReadTooLong before behind
+StopsReading before behind Memory = Unit {0}
+StopsReading before behind fault = ⊥
 
 -- A part of the text was written, and a call failed.
 abbrev pub StopsWriting : Option (List ℕ) → Option (List ℕ) → List ℕ → CliFault → Type 0

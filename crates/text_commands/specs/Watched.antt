@@ -10,6 +10,10 @@ held watched = watched.inner
 abbrev pub has_failed : {T : Type 0} → Watched T → Bool
 has_failed watched = watched.failed
 
+-- all that was written has been delivered: a flush has gone well since the last write, or there was none
+abbrev pub is_delivered : {T : Type 0} → Watched T → Bool
+is_delivered watched = watched.delivered
+
 -- how often it was called, up to 2^64 - 1
 abbrev pub calls_of : {T : Type 0} → Watched T → ℕ
 calls_of watched = watched.calls

@@ -1,19 +1,19 @@
 //! Writing the elision of the program that a reader gives.
 
-ghost use Rattle.std.specs.Prelude.{◌≡◌, ◌↔◌, ◌≤◌, ◌≢◌, ◌++◌, ◌+◌, ℕ, List, [], false, drop, IfOk, IfErr, OnOk, IsErrOf, IsTrue};
+ghost use Rattle.std.specs.Prelude.{◌≡◌, ◌↔◌, ◌≤◌, ◌≢◌, ◌++◌, ◌+◌, ℕ, List, [], true, false, IfOk, IfErr, OnOk, IsErrOf, IsTrue};
 ghost use Rattle.trace_values.specs.declared.fault.TextFault.{TextFault as SpecFault};
 ghost use Rattle.trace_text.specs.Shapes.{name_in};
 ghost use Rattle.program_text.specs.Grammar.{TextMeans};
 ghost use Rattle.program_text.specs.Programs.{contents};
 ghost use Rattle.race_gate.specs.Shapes.{most_entries};
-ghost use Rattle.text_commands.specs.Watched.{held, has_failed, calls_of};
+ghost use Rattle.text_commands.specs.Watched.{held, has_failed, is_delivered, calls_of};
 ghost use Rattle.text_commands.specs.Faults.{fault_of_program};
 ghost use Rattle.text_commands.specs.Streams.{most_reads};
 ghost use Rattle.text_commands.specs.ElisionText.{cell_line, cell_lines, memory_text, elision_text};
 ghost use Rattle.text_commands.specs.Elided.{ElidesContents, StopsElision, IsElided, IsProgramFault, HasElisionCause};
 
 use crate::fault::CliFault;
-use crate::judge::{read_text, write_text};
+use crate::streams::{parse_program, read_text, write_text};
 use crate::watched::Watched;
 use program_text::Program;
 use race_report::{push_number, push_words};
@@ -21,27 +21,6 @@ use serial_elision::{ElideFault, elide};
 use std::alloc::{AllocError, Allocator};
 use std::io::{Read, Write};
 use trace_values::{Mem, TextFault};
-
-/// The fault of a program's text as one of the command. Want of memory is want of memory wherever it comes.
-fn program_fault(fault: TextFault) -> CliFault
-    ensures { result ≡ fault_of_program fault }
-{
-    match fault {
-        TextFault::Memory => CliFault::Memory,
-        fault => CliFault::Program(fault),
-    }
-}
-
-/// The program that a text means, which is let go.
-pub fn parse<A: Allocator + Copy>(alloc: A, text: Vec<u8, A>) -> Result<Program<A>, CliFault>
-    ensures ok { IfOk result (λ program. TextMeans text.items (contents program)) }
-    ensures fault { IfErr result (IsProgramFault text.items) }
-{
-    match Program::parse(alloc, text.as_slice()) {
-        Ok(program) => Ok(program),
-        Err(fault) => Err(program_fault(fault)),
-    }
-}
 
 /// Adds the name of a memory's cell with this index.
 fn push_name<A: Allocator>(text: &mut Vec<u8, A>, mem: &Mem, index: usize) -> Result<(), AllocError>
@@ -146,7 +125,7 @@ fn elided<A: Allocator + Copy>(
 /// then the number of requests. The status is 0.
 ///
 /// It answers [`CliFault::Read`] or [`CliFault::Write`] exactly where the reader or the writer has failed, [`CliFault::TooLong`] for
-/// more than 67,108,864 bytes or a reader that has been asked 67,108,865 times, [`CliFault::Program`] with the first fault of a text
+/// more than 67,108,864 bytes, [`CliFault::Program`] with the first fault of a text
 /// that means no program, [`CliFault::Limit`] only where the elision makes more requests than the limit, and [`CliFault::Memory`] where a
 /// growth was refused. Nothing is written then, but for the part that a failed write has taken.
 pub fn elide_text<A: Allocator + Copy, R: Read, W: Write>(
@@ -159,8 +138,9 @@ pub fn elide_text<A: Allocator + Copy, R: Read, W: Write>(
     requires writer { has_failed output.old ≡ false }
     requires limit { limit ≤ most_entries }
     ensures answered { IfOk result (λ status. (status ≡ 0) × IsElided (R.remaining (held program.old)) (R.remaining (held program.new)) (W.contents (held output.old)) (W.contents (held output.new)) limit) }
-    ensures fault { IfErr result (HasElisionCause (R.remaining (held program.old)) (R.remaining (held program.new)) (W.contents (held output.old)) (W.contents (held output.new)) (calls_of program.old) (calls_of program.new) limit) }
+    ensures fault { IfErr result (HasElisionCause (R.remaining (held program.old)) (R.remaining (held program.new)) (W.contents (held output.old)) (W.contents (held output.new)) limit) }
     ensures read_failed { IsErrOf result CliFault.Read ↔ IsTrue (has_failed program.new) }
+    ensures delivered { OnOk result (is_delivered output.new ≡ true) }
     ensures write_failed { IsErrOf result CliFault.Write ↔ IsTrue (has_failed output.new) }
     ensures reads { calls_of program.new ≤ calls_of program.old + most_reads }
     ensures unwritten { IfErr result (λ fault. fault ≢ CliFault.Write → output.new ≡ output.old) }
@@ -169,7 +149,7 @@ pub fn elide_text<A: Allocator + Copy, R: Read, W: Write>(
         Ok(text) => text,
         Err(fault) => return Err(fault),
     };
-    let program = match parse(alloc, text) {
+    let program = match parse_program(alloc, text) {
         Ok(program) => program,
         Err(fault) => return Err(fault),
     };

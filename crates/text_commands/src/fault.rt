@@ -20,7 +20,7 @@ pub enum CliFault {
     /// The output can't be written.
     #[error("write")]
     Write,
-    /// The input has more than 67,108,864 bytes, or comes in too many pieces.
+    /// The input has more than 67,108,864 bytes.
     #[error("too long")]
     TooLong,
     /// The input means no trace.

@@ -1,6 +1,6 @@
 //! Judging the trace that a reader gives.
 
-ghost use Rattle.std.specs.Prelude.{◌≡◌, ◌↔◌, ◌≤◌, ◌≢◌, ◌++◌, ◌+◌, ◌<◌, ℕ, List, [], false, length, map, IfOk, IfErr, OnOk, IsErrOf, IsTrue, MatchResult};
+ghost use Rattle.std.specs.Prelude.{◌≡◌, ◌↔◌, ◌≤◌, ◌≢◌, ◌++◌, ◌+◌, ◌<◌, ℕ, List, [], true, false, length, map, IfOk, IfErr, OnOk, IsErrOf, IsTrue, MatchResult};
 ghost use Rattle.std.specs.List.{All};
 ghost use Rattle.std.specs.Io.KnownBytes.{Appends};
 ghost use Rattle.trace_text.specs.Grammar.{TextMeans};
@@ -8,13 +8,14 @@ ghost use Rattle.trace_values.specs.Limits.{max_requests};
 ghost use Rattle.trace_text.specs.Traces.{contents};
 ghost use Rattle.race_gate.specs.Shapes.{most_entries, most_cells, most_reducers, shape_of};
 ghost use Rattle.race_gate.specs.declared.answer.Reply.{Reply as SpecReply};
-ghost use Rattle.text_commands.specs.Watched.{held, has_failed, calls_of, one_more};
+ghost use Rattle.text_commands.specs.Watched.{held, has_failed, is_delivered, calls_of};
 ghost use Rattle.race_report.specs.VerdictText.{HasWords};
 ghost use Rattle.text_commands.specs.Statuses.{status_of_replies};
-ghost use Rattle.text_commands.specs.Streams.{most_reads, declared_shape, requests_of, IsJudgedBy, JudgesTrace, AreReplies, AnswersText, IsRead, IsReadTooLong, IsAnswered, IsFaultOf, HasCause, TakesPiece, StopsPiece, StopsReading, StopsWriting};
+ghost use Rattle.text_commands.specs.Streams.{most_reads, declared_shape, requests_of, IsJudgedBy, JudgesTrace, AreReplies, AnswersText, IsAnswered, IsFaultOf, HasCause};
 
 use crate::fault::CliFault;
 use crate::status::status_of;
+use crate::streams::{parse_trace, read_text, write_text};
 use crate::watched::Watched;
 use race_gate::{Gate, Reply, judge_all};
 use race_report::verdict_lines;
@@ -22,97 +23,6 @@ use std::alloc::{AllocError, Allocator};
 use std::io::{Read, Write};
 use trace_text::Trace;
 use trace_values::{Request, Shape};
-
-/// The most bytes that are read.
-const MOST_BYTES: usize = 67_108_864;
-/// How often a reader is asked at most.
-const MOST_READS: u32 = 67_108_865;
-/// How many bytes are asked for at once.
-const PIECE: usize = 131_072;
-
-/// Reads a piece and adds it to the text. It says whether there was one: there is none at the end.
-fn read_piece<A: Allocator, R: Read>(
-    input: &mut Watched<R>,
-    piece: &mut [u8],
-    text: &mut Vec<u8, A>,
-) -> Result<bool, CliFault>
-    requires fresh { has_failed input.old ≡ false }
-    requires room { 0 < length piece.old }
-    ensures taken { IfOk result (λ more. TakesPiece (R.remaining (held input.old)) (R.remaining (held input.new)) text.old.items text.new.items more) }
-    ensures fault { IfErr result (StopsPiece (R.remaining (held input.old)) (R.remaining (held input.new)) text.old.items) }
-    ensures fresh { OnOk result (has_failed input.new ≡ false) }
-    ensures failed { IsErrOf result CliFault.Read ↔ IsTrue (has_failed input.new) }
-    ensures calls { calls_of input.new ≡ one_more (calls_of input.old) }
-{
-    let count = match input.read(piece) {
-        Ok(count) => count,
-        Err(_) => return Err(CliFault::Read),
-    };
-    if text.extend_from_slice(&piece[..count]).is_err() {
-        return Err(CliFault::Memory);
-    }
-    if text.len() > MOST_BYTES {
-        return Err(CliFault::TooLong);
-    }
-    Ok(count > 0)
-}
-
-/// Reads all that is left. A reader that has more than the most bytes, or gives them in too many pieces, is too long.
-pub fn read_text<A: Allocator + Copy, R: Read>(
-    alloc: A,
-    input: &mut Watched<R>,
-) -> Result<Vec<u8, A>, CliFault>
-    requires { has_failed input.old ≡ false }
-    ensures ok { IfOk result (λ text. IsRead (R.remaining (held input.old)) (R.remaining (held input.new)) text.items) }
-    ensures fault { IfErr result (StopsReading (R.remaining (held input.old)) (R.remaining (held input.new)) (calls_of input.old) (calls_of input.new)) }
-    ensures failed { IsErrOf result CliFault.Read ↔ IsTrue (has_failed input.new) }
-    ensures calls { calls_of input.new ≤ calls_of input.old + most_reads }
-{
-    let Ok(mut buffer) = vec![in alloc; 0u8; PIECE] else {
-        return Err(CliFault::Memory);
-    };
-    let piece = buffer.as_mut_slice();
-    let mut text = Vec::new(alloc);
-    for _ in 0..MOST_READS {
-        match read_piece(input, piece, &mut text) {
-            Ok(true) => {}
-            Ok(false) => return Ok(text),
-            Err(fault) => return Err(fault),
-        }
-    }
-    Err(CliFault::TooLong)
-}
-
-/// Writes a text and sees to it that it is delivered.
-pub fn write_text<W: Write>(output: &mut Watched<W>, text: &[u8]) -> Result<(), CliFault>
-    requires { has_failed output.old ≡ false }
-    ensures ok { OnOk result (Appends (W.contents (held output.old)) (W.contents (held output.new)) text.now) }
-    ensures fault { IfErr result (StopsWriting (W.contents (held output.old)) (W.contents (held output.new)) text.now) }
-    ensures failed { IsErrOf result CliFault.Write ↔ IsTrue (has_failed output.new) }
-{
-    let mut rest = text;
-    while !rest.is_empty() {
-        match output.write(rest) {
-            Ok(0) | Err(_) => return Err(CliFault::Write),
-            Ok(count) => rest = rest.split_at(count).1,
-        }
-    }
-    match output.flush() {
-        Ok(()) => Ok(()),
-        Err(_) => Err(CliFault::Write),
-    }
-}
-
-/// The trace that a text means, which is let go.
-pub fn parse<A: Allocator + Copy>(alloc: A, text: Vec<u8, A>) -> Result<Trace<A>, CliFault>
-    ensures ok { IfOk result (λ trace. TextMeans text.items (contents trace)) }
-    ensures fault { IfErr result (IsFaultOf text.items) }
-{
-    match Trace::parse(alloc, text.as_slice()) {
-        Ok(trace) => Ok(trace),
-        Err(fault) => Err(CliFault::from(fault)),
-    }
-}
 
 /// The requests of a trace.
 fn requests<A: Allocator + Copy>(alloc: A, trace: &Trace<A>) -> Result<Vec<Request, A>, AllocError>
@@ -200,7 +110,7 @@ fn answer_text<A: Allocator + Copy>(
     ensures words { IfOk result (λ replies. All HasWords replies.items) }
     ensures fault { IfErr result (IsFaultOf text.items) }
 {
-    match parse(alloc, text) {
+    match parse_trace(alloc, text) {
         Ok(trace) => Ok(judge(alloc, trace, limit)?),
         Err(fault) => Err(fault),
     }
@@ -211,9 +121,9 @@ fn answer_text<A: Allocator + Copy>(
 /// beyond the limit, else 2 where one is illegal, else 1 where one is refused, else 0.
 ///
 /// It answers [`CliFault::Read`] or [`CliFault::Write`] exactly where the reader or the writer has failed, [`CliFault::TooLong`] for
-/// more than 67,108,864 bytes or a reader that has been asked 67,108,865 times, [`CliFault::Trace`] with the first fault of a text
-/// that means no trace, and [`CliFault::Memory`] where a growth was refused. Nothing is written then, but for the part that a failed
-/// write has taken.
+/// more than 67,108,864 bytes, [`CliFault::Trace`] with the first fault of a text that means no trace, and [`CliFault::Memory`] where
+/// a growth was refused. Nothing is written then, but for the part that a failed write has taken. The reader is asked at most
+/// 67,108,865 times, since each piece but the last has a byte.
 pub fn judge_stream<A: Allocator + Copy, R: Read, W: Write>(
     alloc: A,
     input: &mut Watched<R>,
@@ -225,8 +135,9 @@ pub fn judge_stream<A: Allocator + Copy, R: Read, W: Write>(
     requires limit { limit ≤ most_entries }
     ensures answered { IfOk result (λ status. (replies : List SpecReply) × (status ≡ status_of_replies replies)
         × IsAnswered (R.remaining (held input.old)) (R.remaining (held input.new)) (W.contents (held output.old)) (W.contents (held output.new)) limit replies) }
-    ensures fault { IfErr result (HasCause (R.remaining (held input.old)) (R.remaining (held input.new)) (W.contents (held output.old)) (W.contents (held output.new)) (calls_of input.old) (calls_of input.new) limit) }
+    ensures fault { IfErr result (HasCause (R.remaining (held input.old)) (R.remaining (held input.new)) (W.contents (held output.old)) (W.contents (held output.new)) limit) }
     ensures read_failed { IsErrOf result CliFault.Read ↔ IsTrue (has_failed input.new) }
+    ensures delivered { OnOk result (is_delivered output.new ≡ true) }
     ensures write_failed { IsErrOf result CliFault.Write ↔ IsTrue (has_failed output.new) }
     ensures reads { calls_of input.new ≤ calls_of input.old + most_reads }
     ensures unwritten { IfErr result (λ fault. fault ≢ CliFault.Write → output.new ≡ output.old) }

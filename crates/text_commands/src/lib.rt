@@ -1,35 +1,47 @@
 //! What the commands of the program do with their texts: words of the command line to a job, a text that is read to a text that is written.
 //!
+//! [`perform`] does a job over any [`Host`], whose contract names what standard input and each file hold, and says which of these bytes
+//! were read, what was written for them and delivered, and the exit status; [`perform_alone`] is the same for jobs that start no thread.
+//! [`exit_of`] gives the status of the process. What they say of each job is what its own call says, over any reader and writer:
+//!
 //! [`judge_stream`] carries the theorem of `judge` in its contract: at a status the bytes that were read mean a trace, what was written
 //! are the verdict lines of the replies of a gate to its requests, in their order, the history of that gate is judged, and the status
 //! follows from the replies. A fault in the text is the first one of the bytes that were read, a fault of a device is answered exactly
 //! where the device has failed, and nothing is written then. [`elide_text`] carries that of `elide`: at status 0 the bytes that were read
 //! mean a program, and what was written are the lines of the memory and of the number of requests of its one evaluation, in which each
 //! spawn is a call, and which makes no more requests than the limit. At the fault Limit an evaluation, if there is one, makes more. Of
-//! the other faults the same holds as of a trace. [`replay_text`] carries that of `replay`: at a status the bytes that were read mean a
-//! program and a trace which declare the same, a gate answered each request of the trace, and what was written tells of the gate's
-//! entries that they are a finished run, a run that is not finished, or which of them is the first strange one. [`read_words`] gives a job with its numbers in their ranges; which words give which job
-//! is shown by tests.
+//! the other faults the same holds as of a trace. [`run_text`] carries that of `run`: at a status the bytes that were read mean a program,
+//! and what was written is the report of some finished run of it. [`replay_text`] carries that of `replay`: at a status the bytes that were
+//! read mean a program and a trace which declare the same, a gate answered each request of the trace, and what was written tells of the
+//! gate's entries that they are a finished run, a run that is not finished, or which of them is the first strange one. [`read_words`] gives
+//! a job with its numbers in their ranges; which words give which job is shown by tests.
 #![tactic(auto)]
 
 mod declarations;
 mod elide;
 mod fault;
 mod files;
+mod help;
+mod host;
 mod judge;
 mod outcome;
+mod performing;
 mod replay;
 mod run;
 mod status;
+mod streams;
 mod watched;
 mod words;
 
 pub use elide::elide_text;
 pub use fault::CliFault;
 pub use files::opened;
-pub use judge::{judge_stream, write_text};
+pub use host::Host;
+pub use judge::judge_stream;
+pub use performing::{exit_of, perform, perform_alone};
 pub use replay::replay_text;
 pub use run::{Door, OpenDoor, run_text};
 pub use status::status_of;
+pub use streams::write_text;
 pub use watched::Watched;
-pub use words::{Job, read_words, usage};
+pub use words::{Job, read_args, read_words, usage};

@@ -1,19 +1,19 @@
 //! Replaying the trace that a reader gives as a run of a program.
 
-ghost use Rattle.std.specs.Prelude.{◌≡◌, ◌↔◌, ◌≤◌, ◌≢◌, ◌+◌, ◌||◌, ◌⊎◌, false, length, IfOk, IfErr, OnOk, IsErrOf, IsTrue, MatchResult};
+ghost use Rattle.std.specs.Prelude.{◌≡◌, ◌↔◌, ◌≤◌, ◌≢◌, ◌+◌, ◌||◌, ◌⊎◌, true, false, length, IfOk, IfErr, OnOk, IsErrOf, IsTrue, MatchResult};
 ghost use Rattle.std.specs.List.{All};
 ghost use Rattle.trace_values.specs.Limits.{max_requests};
 ghost use Rattle.trace_text.specs.Traces.{contents as trace_contents};
 ghost use Rattle.program_text.specs.Programs.{contents};
-ghost use Rattle.text_commands.specs.Watched.{held, has_failed, calls_of};
+ghost use Rattle.text_commands.specs.Watched.{held, has_failed, is_delivered, calls_of};
 ghost use Rattle.text_commands.specs.Streams.{most_reads};
 ghost use Rattle.text_commands.specs.Replays.{IsDone, fault_of_request as request_fault_spec, StopsReplies, AnswersAll, StopsGate, ReplaysContents, StopsReplay, reading, IsReplayed, HasReplayCause};
 
 use crate::declarations::declare_same;
-use crate::elide::parse as parse_program;
 use crate::fault::CliFault;
-use crate::judge::{judged, parse as parse_trace, read_text, write_text};
+use crate::judge::judged;
 use crate::outcome::{outcome_line, outcome_of, outcome_status};
+use crate::streams::{parse_program, parse_trace, read_text, write_text};
 use crate::watched::Watched;
 use program_text::Program;
 use race_gate::{Gate, GateFault, Reply};
@@ -95,7 +95,7 @@ fn replayed<A: Allocator + Copy>(
 /// finished run 1 where an entry is refused or unset, else 0; and 4 where the entries are no finished run.
 ///
 /// It answers [`CliFault::Read`] or [`CliFault::Write`] exactly where a reader or the writer has failed, [`CliFault::TooLong`] for more
-/// than 67,108,864 bytes or a reader that has been asked 67,108,865 times, [`CliFault::Program`] or [`CliFault::Trace`] with the first
+/// than 67,108,864 bytes, [`CliFault::Program`] or [`CliFault::Trace`] with the first
 /// fault of a text that means none, [`CliFault::Shape`] where the two do not declare the same, and by the first request that the gate does
 /// not answer [`CliFault::Limit`] or [`CliFault::Illegal`] with the number of that request. [`CliFault::Memory`] comes where a growth was
 /// refused. Nothing is written then, but for the part that a failed write has taken.
@@ -108,13 +108,14 @@ pub fn replay_text<A: Allocator + Copy, P: Read, T: Read, W: Write>(
     requires program { has_failed program.old ≡ false }
     requires trace { has_failed trace.old ≡ false }
     requires writer { has_failed output.old ≡ false }
-    ensures answered { IfOk result (IsReplayed (reading (P.remaining (held program.old)) (P.remaining (held program.new)) (calls_of program.old) (calls_of program.new))
-        (reading (T.remaining (held trace.old)) (T.remaining (held trace.new)) (calls_of trace.old) (calls_of trace.new))
+    ensures answered { IfOk result (IsReplayed (reading (P.remaining (held program.old)) (P.remaining (held program.new)))
+        (reading (T.remaining (held trace.old)) (T.remaining (held trace.new)))
         (W.contents (held output.old)) (W.contents (held output.new))) }
-    ensures fault { IfErr result (HasReplayCause (reading (P.remaining (held program.old)) (P.remaining (held program.new)) (calls_of program.old) (calls_of program.new))
-        (reading (T.remaining (held trace.old)) (T.remaining (held trace.new)) (calls_of trace.old) (calls_of trace.new))
+    ensures fault { IfErr result (HasReplayCause (reading (P.remaining (held program.old)) (P.remaining (held program.new)))
+        (reading (T.remaining (held trace.old)) (T.remaining (held trace.new)))
         (W.contents (held output.old)) (W.contents (held output.new))) }
     ensures read_failed { IsErrOf result CliFault.Read ↔ IsTrue (has_failed program.new || has_failed trace.new) }
+    ensures delivered { OnOk result (is_delivered output.new ≡ true) }
     ensures write_failed { IsErrOf result CliFault.Write ↔ IsTrue (has_failed output.new) }
     ensures program_reads { calls_of program.new ≤ calls_of program.old + most_reads }
     ensures trace_reads { calls_of trace.new ≤ calls_of trace.old + most_reads }

@@ -1,20 +1,19 @@
 //! Running the program that a reader gives by many workers.
 
-ghost use Rattle.std.specs.Prelude.{◌≡◌, ◌↔◌, ◌<◌, ◌≤◌, ◌≢◌, ◌+◌, [], false, reverse, IfOk, IfErr, IsErrOf, IsTrue};
+ghost use Rattle.std.specs.Prelude.{◌≡◌, ◌↔◌, ◌<◌, ◌≤◌, ◌≢◌, ◌+◌, [], true, false, reverse, IfOk, IfErr, OnOk, IsErrOf, IsTrue};
 ghost use Rattle.program_text.specs.Programs.{contents};
 ghost use Rattle.race_gate.specs.Shapes.{most_entries};
 ghost use Rattle.race_gate.specs.Memory.{IsMemory};
 ghost use Rattle.race_gate.specs.Extensions.{IsClean};
 ghost use Rattle.program_runs.specs.Runs.{shape_in, IsFinishedRun};
-ghost use Rattle.text_commands.specs.Watched.{held, has_failed, calls_of};
+ghost use Rattle.text_commands.specs.Watched.{held, has_failed, is_delivered, calls_of};
 ghost use Rattle.text_commands.specs.Streams.{most_reads};
 ghost use Rattle.text_commands.specs.Replays.{reading};
 ghost use Rattle.text_commands.specs.Runs.{fault_of_run, run_line, IsRunFault, TellsRun, IsRan, HasRunCause};
 
-use crate::elide::parse;
 use crate::fault::CliFault;
-use crate::judge::{read_text, write_text};
 use crate::outcome::refusal_status;
+use crate::streams::{parse_program, read_text, write_text};
 use crate::watched::Watched;
 use locked_replay::{Ask, LockedGate, RunFault, Seat, Whole, WorkerLog, gather};
 use program_text::Program;
@@ -191,10 +190,10 @@ fn ran<D: Door + Sync, R: Threads + Wait + Sync>(
 /// refused or unset, else 0.
 ///
 /// It answers [`CliFault::Read`] or [`CliFault::Write`] exactly where the reader or the writer has failed, [`CliFault::TooLong`] for more
-/// than 67,108,864 bytes or a reader that has been asked 67,108,865 times, [`CliFault::Program`] with the first fault of a text that means
+/// than 67,108,864 bytes, [`CliFault::Program`] with the first fault of a text that means
 /// no program, [`CliFault::Limit`], [`CliFault::Stopped`], [`CliFault::Torn`] or [`CliFault::Strange`] where the workers brought no finished
 /// run, and [`CliFault::Memory`] where a growth was refused or a thread could not be started. Nothing is written then, but for the part
-/// that a failed write has taken.
+/// that a failed write has taken. The reader is asked at most 67,108,865 times.
 pub fn run_text<D: Door + Sync, P: Read, W: Write, R: Threads + Wait + Sync>(
     rt: &R,
     alloc: Global,
@@ -208,11 +207,12 @@ pub fn run_text<D: Door + Sync, P: Read, W: Write, R: Threads + Wait + Sync>(
     requires writer { has_failed output.old ≡ false }
     requires workers { (0 < workers) × (workers ≤ 64) }
     requires limit { limit ≤ most_entries }
-    ensures answered { IfOk result (IsRan (reading (P.remaining (held program.old)) (P.remaining (held program.new)) (calls_of program.old) (calls_of program.new))
+    ensures answered { IfOk result (IsRan (reading (P.remaining (held program.old)) (P.remaining (held program.new)))
         (W.contents (held output.old)) (W.contents (held output.new))) }
-    ensures fault { IfErr result (HasRunCause (reading (P.remaining (held program.old)) (P.remaining (held program.new)) (calls_of program.old) (calls_of program.new))
+    ensures fault { IfErr result (HasRunCause (reading (P.remaining (held program.old)) (P.remaining (held program.new)))
         (W.contents (held output.old)) (W.contents (held output.new))) }
     ensures read_failed { IsErrOf result CliFault.Read ↔ IsTrue (has_failed program.new) }
+    ensures delivered { OnOk result (is_delivered output.new ≡ true) }
     ensures write_failed { IsErrOf result CliFault.Write ↔ IsTrue (has_failed output.new) }
     ensures reads { calls_of program.new ≤ calls_of program.old + most_reads }
     ensures unwritten { IfErr result (λ fault. fault ≢ CliFault.Write → output.new ≡ output.old) }
@@ -221,7 +221,7 @@ pub fn run_text<D: Door + Sync, P: Read, W: Write, R: Threads + Wait + Sync>(
         Ok(text) => text,
         Err(fault) => return Err(fault),
     };
-    let program = match parse(alloc, text) {
+    let program = match parse_program(alloc, text) {
         Ok(program) => program,
         Err(fault) => return Err(fault),
     };

@@ -1,18 +1,22 @@
 //! Readers and writers that are watched for failures.
 
-ghost use Rattle.std.specs.Prelude.{◌≡◌, ◌||◌, ◌+◌, ◌^◌, ◌-◌, ◌<◌, Ok, false, length, min, nat_lt, is_err};
+ghost use Rattle.std.specs.Prelude.{◌≡◌, ◌||◌, ◌+◌, ◌^◌, ◌-◌, ◌<◌, Ok, true, false, length, min, nat_lt, is_ok, is_err, IfOk, IfErr, IsErr};
 ghost use Rattle.std.specs.Io.{ReadsAtMost, WritesAtMost};
 ghost use Rattle.std.specs.Io.KnownBytes.{Keeps, ReadConsumes, WriteAppends};
-ghost use Rattle.text_commands.specs.Watched.{held, has_failed, calls_of, one_more, took_none};
+ghost use Rattle.text_commands.specs.Watched.{held, has_failed, is_delivered, calls_of, one_more, took_none};
 
+use crate::fault::CliFault;
+use crate::host::Host;
 use std::io;
 use std::io::{Read, Write};
 
-/// A reader or a writer of std, and whether it has failed.
+/// A reader or a writer of std, whether it has failed, and whether what was written is delivered. A host may be watched too: it has
+/// failed where it could not open a file, or where one of its readers that it was shown has failed.
 #[derive(Debug, Drop)]
 pub struct Watched<T> {
     inner: T,
     failed: bool,
+    delivered: bool,
     calls: u64,
 }
 
@@ -21,11 +25,13 @@ impl<T> Watched<T> {
     pub fn new(inner: T) -> Watched<T>
         ensures inner { held result ≡ inner }
         ensures failed { has_failed result ≡ false }
+        ensures delivered { is_delivered result ≡ true }
         ensures calls { calls_of result ≡ 0 }
     {
         Watched {
             inner,
             failed: false,
+            delivered: true,
             calls: 0,
         }
     }
@@ -35,6 +41,13 @@ impl<T> Watched<T> {
         ensures { result ≡ has_failed self.now }
     {
         self.failed
+    }
+
+    /// Whether all that was written is delivered: a flush has gone well since the last write, or nothing was written.
+    pub fn delivered(&self) -> bool
+        ensures { result ≡ is_delivered self.now }
+    {
+        self.delivered
     }
 
     /// The reader or the writer.
@@ -49,6 +62,43 @@ impl<T> Watched<T> {
         ensures { result ≡ calls_of self.now }
     {
         self.calls
+    }
+}
+
+impl<H: Host> Watched<H> {
+    /// Standard input.
+    pub fn input(&mut self) -> Watched<H::Input>
+        ensures bytes { H.Input.remaining (held result) ≡ (H.sources (held self.old)).input }
+        ensures fresh { has_failed result ≡ false }
+        ensures failed { has_failed self.new ≡ has_failed self.old }
+    {
+        Watched::new(self.inner.input())
+    }
+
+    /// The file with this name, to be read. It answers [`CliFault::Read`] where it can't be opened, and has failed then.
+    pub fn open(&mut self, name: &str) -> Result<Watched<H::File>, CliFault>
+        ensures bytes { IfOk result (λ file. H.File.remaining (held file) ≡ (H.sources (held self.old)).file name.now) }
+        ensures fresh { IfOk result (λ file. has_failed file ≡ false) }
+        ensures fault { IfErr result (λ fault. fault ≡ CliFault.Read) }
+        ensures failed { has_failed self.new ≡ (has_failed self.old || is_err result) }
+        ensures same { held self.new ≡ held self.old }
+        ensures lacking { H.lacks (held self.old) name.now → IsErr result }
+    {
+        match self.inner.open(name) {
+            Ok(file) => Ok(Watched::new(file)),
+            Err(_) => {
+                self.failed = true;
+                Err(CliFault::Read)
+            }
+        }
+    }
+
+    /// Is shown a reader. Where that has failed, it has failed too.
+    pub fn note<R>(&mut self, reader: &Watched<R>)
+        ensures failed { has_failed self.new ≡ (has_failed self.old || has_failed reader.now) }
+        ensures same { held self.new ≡ held self.old }
+    {
+        self.failed |= reader.failed;
     }
 }
 
@@ -75,9 +125,11 @@ impl<W: Write> Write for Watched<W> {
         ensures bound { WritesAtMost result buf.now }
         ensures bytes { WriteAppends (W.contents (held self.old)) (W.contents (held self.new)) result buf.now }
         ensures failed { has_failed self.new ≡ (has_failed self.old || took_none result (length buf.now)) }
+        ensures delivered { is_delivered self.new ≡ false }
         ensures calls { calls_of self.new ≡ one_more (calls_of self.old) }
     {
         self.calls = self.calls.saturating_add(1);
+        self.delivered = false;
         let written = self.inner.write(buf);
         self.failed |= match &written {
             Ok(count) => *count == 0 && !buf.is_empty(),
@@ -89,11 +141,13 @@ impl<W: Write> Write for Watched<W> {
     fn flush(&mut self) -> io::Result<()>
         ensures bytes { Keeps (W.contents (held self.old)) (W.contents (held self.new)) }
         ensures failed { has_failed self.new ≡ (has_failed self.old || is_err result) }
+        ensures delivered { is_delivered self.new ≡ (is_delivered self.old || is_ok result) }
         ensures calls { calls_of self.new ≡ one_more (calls_of self.old) }
     {
         self.calls = self.calls.saturating_add(1);
         let flushed = self.inner.flush();
         self.failed |= flushed.is_err();
+        self.delivered |= flushed.is_ok();
         flushed
     }
 }

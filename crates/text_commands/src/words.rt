@@ -6,9 +6,12 @@ ghost use Rattle.text_commands.specs.Jobs.{IsInRange};
 ghost use Rattle.text_commands.specs.Faults.{IsUsageFault};
 
 use crate::fault::CliFault;
+use crate::help;
 use clap::error::ErrorKind;
 use clap::{Arg, ArgMatches, Command};
 use std::alloc::{AllocError, Global};
+use std::env::{self, Env};
+use std::io;
 
 /// The most entries that a history may have, and the limit where none is given.
 const MOST_ENTRIES: u32 = 1_000_000;
@@ -17,82 +20,6 @@ const MOST_ENTRIES: u32 = 1_000_000;
 const MOST_WORKERS: usize = 64;
 
 const WORKERS: usize = 2;
-
-const ABOUT: &str =
-    "Finds determinacy races and view-read races in the traces of spawn-sync programs";
-
-const EXAMPLE: &str = "For example, a function spawns a child, and both write the cell x:
-
-    printf 'cilk 1\\nmem x\\nspawn 0\\nwrite 1 x 5\\nwrite 2 x 6\\n' | cilkcheck judge
-
-    1 split 1 2 3
-    2 granted
-    3 refused write-write 2
-
-The spawn by strand 0 begins the child 1 and the continuation 2, and reserves the join 3.
-The third request is refused: it races with the write of entry 2.
-
-Exit status:
-  0  no access was refused
-  1  an access was refused
-  2  wrong words, input that can't be read or has a fault, output that failed, or an illegal request
-  3  no memory
-  4  the limit was passed";
-
-const JUDGE_ABOUT: &str =
-    "Judges the requests of a trace on standard input, and writes a verdict line for each";
-
-const JUDGE_EXAMPLE: &str =
-    "Input: a line `cilk 1` or `cilk 2`, declarations, and a request on each line. `#` begins a comment.
-  mem NAME, mem NAME LENGTH          a cell NAME; an array of cells NAME[0], NAME[1] and so on
-  reducer NAME MONOID                MONOID is sum, min, max or last; in `cilk 2` also digits
-  spawn S, call S, sync S, return S  S is the number of a strand; the root function begins as strand 0
-  read S CELL, write S CELL VALUE    in `cilk 2` also bump S CELL VALUE, which adds
-  update S REDUCER VALUE             combines a value into the strand's view
-  put S REDUCER VALUE, get S REDUCER
-
-Output: for each request the number of its entry and what was answered, as `1 split 1 2 3`, `2 value 0`, `3 granted`,
-`4 refused write-write 2` where it races with entry 2, `5 refused view-read 1` where the put or get of entry 1 has other
-peers, or `6 refused unset` for a get with no put or get before it; or `illegal` and the reason.
-
-Exit status: 0 where nothing was refused, 1 where an access was, 2 for a fault of the input or an illegal request,
-3 for want of memory, 4 where the limit was passed.";
-
-const ELIDE_ABOUT: &str =
-    "Runs a program serially, where each spawn is a call, and writes the memory that it leaves";
-
-const ELIDE_EXAMPLE: &str =
-    "Output: for each cell a line with its name and its value, in order, and then the number of requests, as
-  x 55
-  requests 713
-
-Exit status: 0 at the end of the program, 2 for a fault of the input, 3 for want of memory, 4 where the limit was passed.";
-
-const RUN_ABOUT: &str =
-    "Runs a program by workers that steal from each other, and writes the report of the run";
-
-const RUN_EXAMPLE: &str = "Output: one JSON object in a line, with the keys
-  clean      whether nothing was refused
-  entries    the number of requests
-  memory     what each memory holds: a number, or a list of numbers for an array
-  refusals   each access that was refused, in the order of the run: its entry, line, name, strand and rule, and the entry,
-             line and strand of the witness with which it races
-  schedules  of a clean run alone: that each run of the program is clean and leaves the same memory
-
-Exit status: 0 where nothing was refused, 1 where an access was, 2 for a fault of the input, 3 for want of memory,
-4 where the limit was passed.";
-
-const REPLAY_ABOUT: &str =
-    "Judges the requests of a trace, and tells whether they are a run of a program";
-
-const REPLAY_EXAMPLE: &str =
-    "The trace declares what the program does, and `@K` names the program's line of a request, as `write 1 x 7 @9`.
-
-Output: `replayed N` where the N entries are a finished run, `unfinished` where they are a run that is not finished, or
-`strange N` where entry N is the first that is no request of the program's.
-
-Exit status: 0 where nothing was refused, 1 where an access was, 2 for a fault of the input, declarations that differ or an
-illegal request, 3 for want of memory, 4 where the entries are no finished run or the limit was passed.";
 
 /// What the words of the command line ask for.
 #[derive(Debug, Drop)]
@@ -156,8 +83,8 @@ fn trace<'a>(alloc: Global) -> Arg<'a> {
 }
 
 /// A command with its texts, and nothing else yet.
-fn described<'a>(alloc: Global, name: &'a str, about: &'a str, example: &'a str) -> Command<'a> {
-    Command::new(alloc, name).about(about).after_help(example)
+fn described<'a>(alloc: Global, name: &'a str, about: &'a str, behind: &'a str) -> Command<'a> {
+    Command::new(alloc, name).about(about).after_help(behind)
 }
 
 fn judge_command<'a>(alloc: Global) -> Result<Command<'a>, AllocError> {
@@ -165,7 +92,7 @@ fn judge_command<'a>(alloc: Global) -> Result<Command<'a>, AllocError> {
         alloc,
         "The most entries of the history, from 0 to 1000000 [default: 1000000]",
     );
-    described(alloc, "judge", JUDGE_ABOUT, JUDGE_EXAMPLE).arg(limit)
+    described(alloc, "judge", help::JUDGE, help::TRACE).arg(limit)
 }
 
 fn elide_command<'a>(alloc: Global) -> Result<Command<'a>, AllocError> {
@@ -173,7 +100,8 @@ fn elide_command<'a>(alloc: Global) -> Result<Command<'a>, AllocError> {
         alloc,
         "The most requests, from 0 to 1000000 [default: 1000000]",
     );
-    described(alloc, "elide", ELIDE_ABOUT, ELIDE_EXAMPLE)
+    described(alloc, "elide", help::ELIDE, help::LANGUAGE)
+        .long_about(help::ELISION)
         .arg(file(alloc))?
         .arg(limit)
 }
@@ -183,22 +111,23 @@ fn run_command<'a>(alloc: Global) -> Result<Command<'a>, AllocError> {
         alloc,
         "The most entries of the history, from 0 to 1000000 [default: 1000000]",
     );
-    described(alloc, "run", RUN_ABOUT, RUN_EXAMPLE)
+    described(alloc, "run", help::RUN, help::LANGUAGE)
+        .long_about(help::REPORT)
         .arg(file(alloc))?
         .arg(workers(alloc))?
         .arg(limit)
 }
 
 fn replay_command<'a>(alloc: Global) -> Result<Command<'a>, AllocError> {
-    described(alloc, "replay", REPLAY_ABOUT, REPLAY_EXAMPLE)
+    described(alloc, "replay", help::REPLAY, help::OUTCOME)
         .arg(file(alloc))?
         .arg(trace(alloc))
 }
 
 /// The program's command without its subcommands.
 fn program<'a>(alloc: Global) -> Result<Command<'a>, AllocError> {
-    described(alloc, "cilkcheck", ABOUT, EXAMPLE)
-        .version("0.1.0")
+    described(alloc, "cilkcheck", help::ABOUT, help::PROGRAM)
+        .version(help::VERSION)
         .bin_name("cilkcheck")
 }
 
@@ -207,10 +136,7 @@ fn with<'a>(
     program: Command<'a>,
     command: Result<Command<'a>, AllocError>,
 ) -> Result<Command<'a>, AllocError> {
-    match command {
-        Ok(command) => program.subcommand(command),
-        Err(fault) => Err(fault),
-    }
+    program.subcommand(command?)
 }
 
 /// The program's commands.
@@ -298,70 +224,47 @@ fn file_of(alloc: Global, matches: &ArgMatches<'_>, argument: &str) -> Result<St
     let Some(name) = matches.get_str(argument) else {
         return Err(no_file(alloc));
     };
-    match String::from_str(alloc, name) {
-        Ok(name) => Ok(name),
-        Err(_) => Err(CliFault::Memory),
-    }
+    Ok(String::from_str(alloc, name)?)
 }
 
 fn judge_job(alloc: Global, matches: &ArgMatches<'_>) -> Result<Job, CliFault>
     ensures job { IfOk result IsInRange }
     ensures fault { IfErr result IsUsageFault }
 {
-    match limit_of(alloc, matches) {
-        Ok(limit) => Ok(Job::Judge { limit }),
-        Err(fault) => Err(fault),
-    }
+    let limit = limit_of(alloc, matches)?;
+    Ok(Job::Judge { limit })
 }
 
 fn elide_job(alloc: Global, matches: &ArgMatches<'_>) -> Result<Job, CliFault>
     ensures job { IfOk result IsInRange }
     ensures fault { IfErr result IsUsageFault }
 {
-    let file = match file_of(alloc, matches, "file") {
-        Ok(file) => file,
-        Err(fault) => return Err(fault),
-    };
-    match limit_of(alloc, matches) {
-        Ok(limit) => Ok(Job::Elide { file, limit }),
-        Err(fault) => Err(fault),
-    }
+    let file = file_of(alloc, matches, "file")?;
+    let limit = limit_of(alloc, matches)?;
+    Ok(Job::Elide { file, limit })
 }
 
 fn run_job(alloc: Global, matches: &ArgMatches<'_>) -> Result<Job, CliFault>
     ensures job { IfOk result IsInRange }
     ensures fault { IfErr result IsUsageFault }
 {
-    let file = match file_of(alloc, matches, "file") {
-        Ok(file) => file,
-        Err(fault) => return Err(fault),
-    };
-    let workers = match workers_of(alloc, matches) {
-        Ok(workers) => workers,
-        Err(fault) => return Err(fault),
-    };
-    match limit_of(alloc, matches) {
-        Ok(limit) => Ok(Job::Run {
-            file,
-            workers,
-            limit,
-        }),
-        Err(fault) => Err(fault),
-    }
+    let file = file_of(alloc, matches, "file")?;
+    let workers = workers_of(alloc, matches)?;
+    let limit = limit_of(alloc, matches)?;
+    Ok(Job::Run {
+        file,
+        workers,
+        limit,
+    })
 }
 
 fn replay_job(alloc: Global, matches: &ArgMatches<'_>) -> Result<Job, CliFault>
     ensures job { IfOk result IsInRange }
     ensures fault { IfErr result IsUsageFault }
 {
-    let file = match file_of(alloc, matches, "file") {
-        Ok(file) => file,
-        Err(fault) => return Err(fault),
-    };
-    match file_of(alloc, matches, "trace") {
-        Ok(trace) => Ok(Job::Replay { file, trace }),
-        Err(fault) => Err(fault),
-    }
+    let file = file_of(alloc, matches, "file")?;
+    let trace = file_of(alloc, matches, "trace")?;
+    Ok(Job::Replay { file, trace })
 }
 
 /// What the words that were matched ask for.
@@ -383,12 +286,25 @@ pub fn read_words(alloc: Global, words: &[&str]) -> Result<Job, CliFault>
     ensures job { IfOk result IsInRange }
     ensures fault { IfErr result IsUsageFault }
 {
-    let command = match commands(alloc) {
-        Ok(command) => command.no_binary_name(true),
-        Err(_) => return Err(CliFault::Memory),
-    };
+    let command = commands(alloc)?.no_binary_name(true);
     match command.try_get_matches_from(words) {
         Ok(matches) => job_of(alloc, &matches),
         Err(error) => shown(alloc, error),
     }
+}
+
+/// Reads the words that the program was called with, behind its name. A fault is [`CliFault::Usage`] or [`CliFault::Memory`].
+pub fn read_args<R: Env + Alloc<A = Global>>(rt: &R) -> Result<Job, CliFault>
+    ensures job { IfOk result IsInRange }
+    ensures fault { IfErr result IsUsageFault }
+{
+    let alloc = rt.alloc();
+    let words = match env::args(rt) {
+        Ok(words) => words,
+        Err(error) if error.kind() == io::ErrorKind::OutOfMemory => return Err(CliFault::Memory),
+        Err(_) => return Err(usage(alloc, "a word of the command line is no UTF-8")),
+    };
+    let words: Vec<String> = words.skip(1).collect(alloc)?;
+    let words: Vec<&str> = words.iter().map(|word| word.as_str()).collect(alloc)?;
+    read_words(alloc, words.as_slice())
 }

@@ -1,6 +1,6 @@
 use Rattle.std.proofs.Common.{ℕ, List, ap, ◌∙◌, subst}
 use Rattle.std.specs.Io.KnownBytes.{Appends}
-use Rattle.text_commands.specs.Watched.{held, calls_of}
+use Rattle.text_commands.specs.Watched.{held}
 use Rattle.race_report.specs.VerdictText.{verdict_text}
 use Rattle.text_commands.specs.Statuses.{status_of_replies}
 use Rattle.text_commands.proofs.Causes.{writing_cause}
@@ -10,7 +10,7 @@ pub returns-clause-fault : goal.returns-clause-fault
 returns-clause-fault g c =
     writing_cause (g.R.Read.remaining (held c.args.input.now)) (g.R.Read.remaining (held c.read_text.new.input))
     (g.W.Write.contents (held c.args.output.now)) (g.W.Write.contents (held c.write_text.new.output))
-    (calls_of c.args.input.now) (calls_of c.read_text.new.input) c.args.limit c.in-Ok.text.items c.as_slice-3.result.now c.in-Ok-answer_text.replies.items
+    c.args.limit c.in-Ok.text.items c.as_slice-3.result.now c.in-Ok-answer_text.replies.items
     c.in-Err-write_text.fault c.in-Ok.ensures.ok
     c.in-Ok-answer_text.ensures.answers
     (c.as_slice-3.ensures.value ∙ c.in_ok-lines.ensures ∙ ap verdict_text c.as_slice.ensures.value)

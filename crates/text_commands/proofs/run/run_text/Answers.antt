@@ -6,7 +6,7 @@ use Rattle.text_commands.proofs.RunCauses.{run_stops, run_cut}
 use Rattle.text_commands.proofs.run.run_text.Goals as goal
 
 pub returns-in-Err-ran-clause-fault : goal.returns-in-Err-ran-clause-fault
-returns-in-Err-ran-clause-fault g c = run_stops _ _ _ (contents c.in-Ok-parse.program) c.in-Err-ran.fault (search rules) c.in-Err-ran.ensures.fault
+returns-in-Err-ran-clause-fault g c = run_stops _ _ _ (contents c.in-Ok-parse_program.program) c.in-Err-ran.fault (search rules) c.in-Err-ran.ensures.fault
 
 pub returns-clause-fault : goal.returns-clause-fault
 returns-clause-fault g c =

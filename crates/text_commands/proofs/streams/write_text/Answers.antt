@@ -2,7 +2,7 @@ use Rattle.std.proofs.Common.{rules, ◌<◌, ◌++◌, take, arith}
 use Rattle.std.proofs.lemmas.Grind.{common_steps}
 use Rattle.text_commands.specs.Watched.{held}
 use Rattle.text_commands.proofs.Bytes.{appends-more, rest-left, write-fresh}
-use Rattle.text_commands.proofs.judge.write_text.Goals as goal
+use Rattle.text_commands.proofs.streams.write_text.Goals as goal
 
 pub loop-rest-preserved : goal.loop-rest-preserved
 loop-rest-preserved g c =

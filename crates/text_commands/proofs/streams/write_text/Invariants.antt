@@ -1,7 +1,7 @@
 use Rattle.std.proofs.Common.{◌≡◌, ◌++◌, ℕ, List, false, length}
 use Rattle.std.specs.Io.KnownBytes.{Appends}
 use Rattle.text_commands.specs.Watched.{held, has_failed}
-use Rattle.text_commands.proofs.judge.write_text.Given as goal
+use Rattle.text_commands.proofs.streams.write_text.Given as goal
 
 -- what is written so far and what is left are the text
 abbrev pub invariant-loop-rest : goal.invariant-loop-rest

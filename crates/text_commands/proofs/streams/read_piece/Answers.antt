@@ -1,6 +1,6 @@
 use Rattle.std.proofs.Common.{arith, rules}
 use Rattle.std.proofs.lemmas.Grind.{common_steps}
-use Rattle.text_commands.proofs.judge.read_piece.Goals as goal
+use Rattle.text_commands.proofs.streams.read_piece.Goals as goal
 
 pub returns-in-Err-clause-calls : goal.returns-in-Err-clause-calls
 returns-in-Err-clause-calls g c = c.read.ensures.calls

@@ -1,15 +1,15 @@
 use Rattle.std.proofs.Common.{◌≡◌, ◌≤◌, ◌+◌, false, length}
 use Rattle.std.specs.Io.KnownBytes.{Consumes}
 use Rattle.text_commands.specs.Watched.{held, has_failed, calls_of}
-use Rattle.text_commands.specs.Streams.{most_bytes, with_calls}
-use Rattle.text_commands.proofs.judge.read_text.Given as goal
+use Rattle.text_commands.specs.Streams.{most_bytes}
+use Rattle.text_commands.proofs.streams.read_text.Given as goal
 
--- the text is what was taken so far, in so many calls
+-- the text is what was taken so far, in so many calls, each of which gave a byte at least
 abbrev pub invariant-loop : goal.invariant-loop
 invariant-loop g l = record {
   taken : Consumes (g.R.Read.remaining (held l.initial.input)) (g.R.Read.remaining (held l.input)) l.text.items;
   short : length l.text.items ≤ most_bytes;
   fresh : has_failed l.input ≡ false;
   bound : calls_of l.input ≤ calls_of l.initial.input + l.counter;
-  asked : with_calls (calls_of l.initial.input) l.counter ≤ calls_of l.input;
+  counted : l.counter ≤ length l.text.items;
 }

@@ -1,5 +1,5 @@
 use Rattle.std.proofs.Common.{rules}
-use Rattle.text_commands.proofs.elide.program_fault.Goals as goal
+use Rattle.text_commands.proofs.streams.program_fault.Goals as goal
 
 pub returns-in_default : goal.returns-in_default
 returns-in_default c = search rules
