@@ -20,7 +20,7 @@ pub fn elision_law()
 {}
 
 /// What is told of the serial elision of a sound program is so of each finished run of it in which nothing was refused: the elision leaves the memory of
-/// that run, makes one request for each of its entries, and needs no more.
+/// that run, makes as many requests as it has entries, and needs no more.
 pub fn elided_run_law()
     ensures { ElidedRunLaw }
 {}
