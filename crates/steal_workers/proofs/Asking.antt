@@ -1,5 +1,5 @@
 -- What a task asks next.
-use Rattle.std.proofs.Common.{◌≡◌, ℕ, Bool, List, Result, Ok, Err}
+use Rattle.std.proofs.Common.{ℕ, Bool, List, Result, Ok, Err}
 use Rattle.std.specs.Prelude.{OnOk}
 use Rattle.program_text.specs.Codes.{Code}
 use Rattle.program_steps.specs.Exchanges.{Exchange}

@@ -1,6 +1,6 @@
 -- The first of some faults, and of one more.
-use Rattle.std.proofs.Common.{◌≡◌, ◌≤◌, ◌⊎◌, inl, inr, List, [], ◌∷◌, ◌++◌, Option, None, Some, sym, subst, ⊎_elim, arith, ◌∙◌}
-use Rattle.std.specs.Prelude.{All, Contains}
+use Rattle.std.proofs.Common.{◌≡◌, ◌≤◌, ◌⊎◌, inl, inr, List, [], ◌∷◌, ◌++◌, Option, None, sym, subst, ⊎_elim, arith, ◌∙◌}
+use Rattle.std.specs.Prelude.{Contains}
 use Rattle.std.proofs.lemmas.List.Elements.{All-weaker, All-push, Contains-append_left, Contains-push}
 use Rattle.locked_replay.specs.declared.fault.RunFault.{RunFault}
 use Rattle.steal_workers.specs.Faults.{rank_or_last, IsFirst, IsFirstOf}

@@ -1,10 +1,10 @@
 -- Workers that begin, and that have come back.
-use Rattle.std.proofs.Common.{◌≡◌, ◌<◌, ◌+◌, ℕ, Bool, true, List, Result, Ok, Err, [], ◌∷◌, length, get_or, map, set, refl, sym, subst, ap, arith, ◌∙◌}
+use Rattle.std.proofs.Common.{◌≡◌, ◌<◌, ◌+◌, Bool, true, List, Result, Ok, Err, [], ◌∷◌, length, get_or, map, set, sym, subst, ap, arith, ◌∙◌}
 use Rattle.std.specs.Prelude.{All, OnOk, IfOk}
 use Rattle.locked_replay.specs.declared.fault.RunFault.{RunFault}
 use Rattle.locked_replay.specs.Logs.{all_receipts, all_asked}
 use Rattle.std.specs.List.{sum_by}
-use Rattle.std.proofs.lemmas.List.{length-map, map-set}
+use Rattle.std.proofs.lemmas.List.{length-map}
 use Rattle.std.proofs.lemmas.List.Elements.{All-head, All-tail}
 use Rattle.std.proofs.lemmas.Simd.{map-map}
 use Rattle.locked_replay.specs.declared.worker.WorkerLog.{WorkerLog}
@@ -17,7 +17,7 @@ use Rattle.steal_workers.specs.declared.worker.Worker.{Worker}
 use Rattle.steal_workers.specs.Finishing.{finishes, some_finished}
 use Rattle.steal_workers.specs.Hands.{hand, pushing}
 use Rattle.steal_workers.specs.Reaches.{own_deque, own_view, deques_of, AllLeadTo, HaveRoot}
-use Rattle.steal_workers.specs.Workers.{Station, station_of, stations_of, owns_of, others_of, own_hands, saw_end, IsReady}
+use Rattle.steal_workers.specs.Workers.{station_of, stations_of, owns_of, others_of, own_hands, saw_end, IsReady}
 use Rattle.steal_workers.proofs.Sums.{sum_by-map, list_any-map}
 
 -- the first of some idle owners pushes the first strand

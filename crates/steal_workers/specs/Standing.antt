@@ -1,7 +1,7 @@
 -- A frame stands in a program in one way at most. It is said here since the field of a task that keeps the fact cites it.
 use Rattle.std.specs.Prelude.{◌≡◌, ℕ, List, length, Option, Some, slice_get}
 use Rattle.std.proofs.lemmas.Option.{same_Some}
-use mathlib.Core.Path.{sym, ap, ◌∙◌}
+use mathlib.Core.Path.{sym, ◌∙◌}
 use mathlib.Core.HLevel.{Σ_prop_path, ×_prop, ×₃_prop, Π_prop, →_prop, Unit-prop}
 use native.Mathlib.Bridge.{le_prop}
 use Rattle.trace_values.specs.declared.value.Act.{Act}

@@ -1,8 +1,8 @@
-use Rattle.std.proofs.Common.{rules, ◌≡◌, ◌<◌, ◌+◌, ◌∷◌, [], length, map, set, take, sym, subst, ap, arith, ◌∙◌}
+use Rattle.std.proofs.Common.{rules, ◌≡◌, ◌<◌, length, map, sym, ap, arith, ◌∙◌}
 use Rattle.std.proofs.Math.Seq.{map-set_same}
 use Rattle.std.proofs.lemmas.List.{map-set, take_all, length-map}
 use Rattle.std.proofs.lemmas.List.Elements.{All-same}
-use Rattle.steal_workers.specs.Reaches.{own_deque, own_view, deques_of, AllLeadTo}
+use Rattle.steal_workers.specs.Reaches.{own_deque, own_view, deques_of}
 use Rattle.steal_workers.proofs.Joins.{lead_more}
 use Rattle.steal_workers.proofs.ends.make_ends.Goals as goal
 

@@ -1,5 +1,4 @@
-use Rattle.std.specs.Prelude.{◌≡◌, ◌<◌, ℕ, [], All, map, slice_index, take, vec_len}
-use Rattle.steal_workers.specs.Hands.{hand}
+use Rattle.std.specs.Prelude.{◌≡◌, map, take, vec_len}
 use Rattle.steal_workers.specs.Reaches.{own_deque, own_view, deques_of, places_of, AllLeadTo}
 use Rattle.steal_workers.proofs.ends.make_ends.Given as goal
 

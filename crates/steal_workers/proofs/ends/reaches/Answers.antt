@@ -1,7 +1,7 @@
-use Rattle.std.proofs.Common.{rules, ◌≡◌, ◌<◌, ◌+◌, [], ◌∷◌, ◌++◌, length, get_or, map, take, refl, sym, ap, arith, ◌∙◌}
+use Rattle.std.proofs.Common.{rules, ◌≡◌, ◌<◌, ◌+◌, length, get_or, map, take, sym, ap, ◌∙◌}
 use Rattle.std.proofs.Math.Seq.{map-set_same}
-use Rattle.std.proofs.lemmas.List.{map-append, take_more, get_or-map, length-map}
-use Rattle.steal_workers.specs.Reaches.{own_deque, own_view, deque_of, deques_of, Deque}
+use Rattle.std.proofs.lemmas.List.{map-append}
+use Rattle.steal_workers.specs.Reaches.{own_deque, own_view, deque_of, deques_of}
 use Rattle.steal_workers.proofs.Joins.{one_more}
 use Rattle.steal_workers.proofs.ends.reaches.Goals as goal
 

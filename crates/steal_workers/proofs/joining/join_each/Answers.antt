@@ -1,11 +1,8 @@
-use Rattle.std.proofs.Common.{rules, ◌≡◌, ◌<◌, ◌+◌, suc, [], ◌∷◌, ◌++◌, drop, length, get_or, map, set, refl, sym, ap, arith, ◌∙◌}
+use Rattle.std.proofs.Common.{rules, ◌≡◌, ◌<◌, ◌+◌, suc, drop, length, map, set, refl, sym, ap, arith, ◌∙◌}
 use Rattle.std.proofs.Math.Seq.{map-set_same}
 use Rattle.std.proofs.lemmas.List.{map-append, map-set, get_or-map, length-map, length_push}
-use Rattle.std.specs.Vec.Iter.{into_iter_items}
 use Rattle.crossbeam_deque.specs.Handles.{worker_deque, worker_view}
-use Rattle.steal_workers.specs.Reaches.{Deque, Owner, deque_of, view_of, joined_each}
-use Rattle.steal_workers.specs.declared.hand.Hand.{Hand}
-use Rattle.steal_workers.specs.Hands.{joined}
+use Rattle.steal_workers.specs.Reaches.{Owner, deque_of, view_of, joined_each}
 use Rattle.steal_workers.proofs.Joins.{drop_head, joined_each-nil, joined_more}
 use Rattle.steal_workers.proofs.joining.join_each.Goals as goal
 

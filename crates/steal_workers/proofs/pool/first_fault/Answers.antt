@@ -1,4 +1,4 @@
-use Rattle.std.proofs.Common.{rules, ◌≡◌, ◌<◌, ◌+◌, ◌∷◌, ◌++◌, [], length, get_or, map, take, sym, subst, ap, arith, ◌∙◌}
+use Rattle.std.proofs.Common.{rules, ◌≡◌, ◌<◌, ◌∷◌, ◌++◌, [], length, get_or, take, sym, subst, ap, arith, ◌∙◌}
 use Rattle.std.proofs.lemmas.List.{take_more, take_all, get_or-map, length-map}
 use Rattle.steal_workers.specs.Faults.{IsFirstOf}
 use Rattle.steal_workers.specs.Workers.{faults_of}

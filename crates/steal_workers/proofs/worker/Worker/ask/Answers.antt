@@ -1,6 +1,5 @@
 use Rattle.std.proofs.Common.{rules, ◌≡◌, ◌∷◌, ◌++◌, [], ap, ◌∙◌}
 use Rattle.trace_values.specs.declared.value.Request.{Request}
-use Rattle.race_gate.specs.declared.answer.Receipt.{Receipt}
 use Rattle.steal_workers.proofs.worker.Worker.ask.Goals as goal
 
 pub returns-then-eq-clause-kept : goal.returns-then-eq-clause-kept

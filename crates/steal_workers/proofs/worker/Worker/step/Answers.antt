@@ -1,4 +1,4 @@
-use Rattle.std.proofs.Common.{◌≡◌, true, refl, sym, subst, ap, ◌∙◌}
+use Rattle.std.proofs.Common.{true, refl, sym, subst, ap, ◌∙◌}
 use Rattle.trace_values.specs.declared.value.Request.{Request}
 use Rattle.race_gate.specs.declared.answer.Receipt.{Receipt}
 use Rattle.frame_steps.specs.Frames.{IsAfter}
