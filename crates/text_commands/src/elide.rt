@@ -145,20 +145,9 @@ pub fn elide_text<A: Allocator + Copy, R: Read, W: Write>(
     ensures reads { calls_of program.new ≤ calls_of program.old + most_reads }
     ensures unwritten { IfErr result (λ fault. fault ≢ CliFault.Write → output.new ≡ output.old) }
 {
-    let text = match read_text(alloc, program) {
-        Ok(text) => text,
-        Err(fault) => return Err(fault),
-    };
-    let program = match parse_program(alloc, text) {
-        Ok(program) => program,
-        Err(fault) => return Err(fault),
-    };
-    let lines = match elided(alloc, &program, limit) {
-        Ok(lines) => lines,
-        Err(fault) => return Err(fault),
-    };
-    match write_text(output, lines.as_slice()) {
-        Ok(()) => Ok(0),
-        Err(fault) => Err(fault),
-    }
+    let text = read_text(alloc, program)?;
+    let program = parse_program(alloc, text)?;
+    let lines = elided(alloc, &program, limit)?;
+    write_text(output, lines.as_slice())?;
+    Ok(0)
 }

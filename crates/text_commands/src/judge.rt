@@ -110,10 +110,8 @@ fn answer_text<A: Allocator + Copy>(
     ensures words { IfOk result (λ replies. All HasWords replies.items) }
     ensures fault { IfErr result (IsFaultOf text.items) }
 {
-    match parse_trace(alloc, text) {
-        Ok(trace) => Ok(judge(alloc, trace, limit)?),
-        Err(fault) => Err(fault),
-    }
+    let trace = parse_trace(alloc, text)?;
+    Ok(judge(alloc, trace, limit)?)
 }
 
 /// Reads a trace to its end, judges its requests in their order by a gate with this limit on the entries of its history, and writes
@@ -142,18 +140,10 @@ pub fn judge_stream<A: Allocator + Copy, R: Read, W: Write>(
     ensures reads { calls_of input.new ≤ calls_of input.old + most_reads }
     ensures unwritten { IfErr result (λ fault. fault ≢ CliFault.Write → output.new ≡ output.old) }
 {
-    let text = match read_text(alloc, input) {
-        Ok(text) => text,
-        Err(fault) => return Err(fault),
-    };
-    let replies = match answer_text(alloc, text, limit) {
-        Ok(replies) => replies,
-        Err(fault) => return Err(fault),
-    };
+    let text = read_text(alloc, input)?;
+    let replies = answer_text(alloc, text, limit)?;
     let lines = verdict_lines(alloc, replies.as_slice())?;
     let status = status_of(replies.as_slice());
-    match write_text(output, lines.as_slice()) {
-        Ok(()) => Ok(status),
-        Err(fault) => Err(fault),
-    }
+    write_text(output, lines.as_slice())?;
+    Ok(status)
 }

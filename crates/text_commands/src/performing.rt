@@ -174,7 +174,13 @@ pub fn perform_alone<H: Host, W: Write>(
     }
 }
 
-/// Does a job, and answers its exit status.
+/// Does a job, and answers its exit status, which is 0 to 4: what [`judge_stream`], [`elide_text`], [`run_text`] or [`replay_text`] does
+/// with standard input or the files of its names, or writes the text that is to be shown. What is written is delivered then. All files
+/// of a job are opened before one is read.
+///
+/// It answers [`CliFault::Read`] exactly where the host has failed, by a file that can't be opened or a reader that fails, and
+/// [`CliFault::Write`] exactly where the writer has; each other fault where that call does. Nothing is written then, but for the part that
+/// a failed write has taken.
 pub fn perform<H: Host, W: Write, R: Threads + Wait + Sync>(
     threads: &R,
     alloc: Global,
@@ -204,7 +210,7 @@ pub fn perform<H: Host, W: Write, R: Threads + Wait + Sync>(
     }
 }
 
-/// The exit status of the process: that of the job, or that of the fault.
+/// The exit status of the process, which is 0 to 4: that of the job, or that of the fault.
 pub fn exit_of(answer: &Result<u8, CliFault>) -> u8
     requires { IfOk answer.now (λ status. status ≤ 4) }
     ensures status { result ≡ status_of_answer answer.now }

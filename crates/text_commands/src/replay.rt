@@ -73,19 +73,10 @@ fn replayed<A: Allocator + Copy>(
     if !declare_same(&program, &trace) {
         return Err(CliFault::Shape);
     }
-    let gate = match answered(alloc, trace) {
-        Ok(gate) => gate,
-        Err(fault) => return Err(fault),
-    };
+    let gate = answered(alloc, trace)?;
     let entries = gate.history();
-    let outcome = match outcome_of(alloc, &program, entries) {
-        Ok(outcome) => outcome,
-        Err(fault) => return Err(fault),
-    };
-    let line = match outcome_line(alloc, outcome) {
-        Ok(line) => line,
-        Err(_) => return Err(CliFault::Memory),
-    };
+    let outcome = outcome_of(alloc, &program, entries)?;
+    let line = outcome_line(alloc, outcome)?;
     Ok((line, outcome_status(outcome, entries)))
 }
 

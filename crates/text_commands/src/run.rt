@@ -178,10 +178,7 @@ fn ran<D: Door + Sync, R: Threads + Wait + Sync>(
         Ok(whole) => whole,
         Err(fault) => return Err(fault_of(fault)),
     };
-    let line = match report_line(alloc, program, &whole) {
-        Ok(line) => line,
-        Err(_) => return Err(CliFault::Memory),
-    };
+    let line = report_line(alloc, program, &whole)?;
     Ok((line, refusal_status(whole.entries.as_slice())))
 }
 
@@ -217,20 +214,9 @@ pub fn run_text<D: Door + Sync, P: Read, W: Write, R: Threads + Wait + Sync>(
     ensures reads { calls_of program.new ≤ calls_of program.old + most_reads }
     ensures unwritten { IfErr result (λ fault. fault ≢ CliFault.Write → output.new ≡ output.old) }
 {
-    let text = match read_text(alloc, program) {
-        Ok(text) => text,
-        Err(fault) => return Err(fault),
-    };
-    let program = match parse_program(alloc, text) {
-        Ok(program) => program,
-        Err(fault) => return Err(fault),
-    };
-    let (line, status) = match ran(rt, alloc, &program, workers, door, limit) {
-        Ok(told) => told,
-        Err(fault) => return Err(fault),
-    };
-    match write_text(output, line.as_slice()) {
-        Ok(()) => Ok(status),
-        Err(fault) => Err(fault),
-    }
+    let text = read_text(alloc, program)?;
+    let program = parse_program(alloc, text)?;
+    let (line, status) = ran(rt, alloc, &program, workers, door, limit)?;
+    write_text(output, line.as_slice())?;
+    Ok(status)
 }

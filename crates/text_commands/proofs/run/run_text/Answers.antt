@@ -1,15 +1,19 @@
 use Rattle.std.proofs.Common.{rules, ℕ, List, subst}
+use Rattle.std.proofs.lemmas.Result.{err_from_is_err_and}
 use Rattle.program_text.specs.Programs.{contents}
 use Rattle.text_commands.specs.Watched.{held}
 use Rattle.text_commands.specs.Streams.{StopsWriting}
 use Rattle.text_commands.proofs.RunCauses.{run_stops, run_cut}
 use Rattle.text_commands.proofs.run.run_text.Goals as goal
 
-pub returns-in-Err-ran-clause-fault : goal.returns-in-Err-ran-clause-fault
-returns-in-Err-ran-clause-fault g c = run_stops _ _ _ (contents c.in-Ok-parse_program.program) c.in-Err-ran.fault (search rules) c.in-Err-ran.ensures.fault
+pub returns-in_err-line-clause-fault : goal.returns-in_err-line-clause-fault
+returns-in_err-line-clause-fault g c =
+    let gone = err_from_is_err_and c.from_residual-in_err-line.result c.from_residual-in_err-line.ensures.1 in
+    rw (gone.1, gone.2) (run_stops _ _ _ (contents c.in_ok-program.program) c.in_err-line.field-0.0 (search rules) c.in_err-line.ensures.fault)
 
-pub returns-clause-fault : goal.returns-clause-fault
-returns-clause-fault g c =
-    run_cut _ _ _ _ _ _ c.in-Err-write_text.fault (search rules) c.in-Ok-ran.ensures.ok
-    (subst (λ (lines : List ℕ). StopsWriting (g.W.Write.contents (held c.args.output.now)) (g.W.Write.contents (held c.write_text.new.output)) lines c.in-Err-write_text.fault)
-    c.as_slice.ensures.value c.in-Err-write_text.ensures.fault)
+pub returns-in_err-write_text-clause-fault : goal.returns-in_err-write_text-clause-fault
+returns-in_err-write_text-clause-fault g c =
+    let gone = err_from_is_err_and c.from_residual-in_err-write_text.result c.from_residual-in_err-write_text.ensures.1 in
+    rw (gone.1, gone.2) (run_cut _ _ _ _ _ _ c.in_err-write_text.field-0.0 (search rules) c.in_ok-line.ensures.ok
+    (subst (λ (lines : List ℕ). StopsWriting (g.W.Write.contents (held c.args.output.now)) (g.W.Write.contents (held c.write_text.new.output)) lines c.in_err-write_text.field-0.0)
+    c.as_slice.ensures.value c.in_err-write_text.ensures.fault))
