@@ -3,3 +3,4 @@ pub mod Strands
 pub mod Histories
 pub mod Numbered
 pub mod Numbering
+pub mod Examples
