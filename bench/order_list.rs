@@ -1,4 +1,4 @@
-//! The order list of crates/order_list in plain Rust: the same labels, the same ring, the same relabelling.
+//! The order list of crates/order_list in plain Rust: the same groups with labels, the same places in groups, the same relabelling.
 #[path = "peak.rs"]
 mod peak;
 
@@ -138,14 +138,14 @@ fn label_behind(labels: &mut [u64], ring: &Ring, item: u32) -> u64 {
     labels[item as usize] + gap_behind(labels, ring, item) / 2
 }
 
-pub struct OrderList {
+struct Groups {
     labels: Vec<u64>,
     ring: Ring,
 }
 
-impl OrderList {
-    pub fn new() -> OrderList {
-        OrderList { labels: vec![0], ring: Ring::new() }
+impl Groups {
+    fn new() -> Groups {
+        Groups { labels: vec![0], ring: Ring::new() }
     }
 
     fn len(&self) -> usize {
@@ -156,26 +156,186 @@ impl OrderList {
         self.ring.reserved
     }
 
+    fn reserve(&mut self, count: u32) {
+        self.labels.reserve(count as usize);
+        self.ring.reserve(count);
+    }
+
+    fn insert_reserved(&mut self, after: u32) -> u32 {
+        let label = label_behind(&mut self.labels, &self.ring, after);
+        self.labels.push(label);
+        self.ring.insert_reserved(after)
+    }
+
+    fn is_before(&self, a: u32, b: u32) -> bool {
+        self.labels[a as usize] < self.labels[b as usize]
+    }
+}
+
+#[derive(Clone, Copy)]
+struct Spot {
+    local: u64,
+    group: u32,
+    next: u32,
+}
+
+fn count_from(spots: &[Spot], first: u32) -> u32 {
+    let here = spots[first as usize];
+    let mut end = here.next;
+    let mut count = 1;
+    while end != 0 {
+        let following = spots[end as usize];
+        if following.group != here.group {
+            break;
+        }
+        end = following.next;
+        count += 1;
+    }
+    count
+}
+
+fn item_ahead(spots: &[Spot], first: u32, count: u32) -> u32 {
+    let mut item = first;
+    for _ in 0..count {
+        item = spots[item as usize].next;
+    }
+    item
+}
+
+fn spread_items(spots: &mut [Spot], first: u32, count: u32, group: u32) -> u64 {
+    let distance = u64::MAX / count as u64;
+    let mut item = first;
+    let mut local = 0;
+    for _ in 0..count {
+        let next = spots[item as usize].next;
+        spots[item as usize] = Spot { local, group, next };
+        local += distance;
+        item = next;
+    }
+    distance
+}
+
+const MANY: u32 = 64;
+
+pub struct OrderList {
+    spots: Vec<Spot>,
+    firsts: Vec<u32>,
+    groups: Groups,
+    reserved: u32,
+}
+
+impl OrderList {
+    pub fn new() -> OrderList {
+        OrderList { spots: vec![Spot { local: 0, group: 0, next: 0 }], firsts: vec![0], groups: Groups::new(), reserved: 0 }
+    }
+
+    fn len(&self) -> usize {
+        self.spots.len()
+    }
+
+    fn reserved(&self) -> u32 {
+        self.reserved
+    }
+
     pub fn reserve(&mut self, count: u32) -> bool {
-        if count <= self.ring.reserved {
+        if count <= self.reserved {
             return true;
         }
         if count > MOST_ITEMS - self.len() as u32 {
             return false;
         }
-        self.labels.reserve(count as usize);
-        self.ring.reserve(count);
+        let most = (self.len() as u32 + count) / (MANY / 2) + 1;
+        let groups = self.groups.len() as u32;
+        if most > groups && most - groups > self.groups.reserved() {
+            self.firsts.reserve((most - groups) as usize);
+            self.groups.reserve(most - groups);
+        }
+        self.spots.reserve(count as usize);
+        self.reserved = count;
         true
     }
 
+    fn gap_behind(&self, item: u32) -> u64 {
+        let here = self.spots[item as usize];
+        if here.next != 0 {
+            let following = self.spots[here.next as usize];
+            if following.group == here.group {
+                return following.local - here.local;
+            }
+        }
+        u64::MAX - here.local
+    }
+
+    fn halve(&mut self, item: u32) {
+        let group = self.spots[item as usize].group;
+        let first = self.firsts[group as usize];
+        let count = count_from(&self.spots, first);
+        if count < MANY || self.groups.reserved() == 0 {
+            return;
+        }
+        let half = count / 2;
+        let middle = item_ahead(&self.spots, first, half);
+        let behind = self.groups.insert_reserved(group);
+        self.firsts.push(middle);
+        spread_items(&mut self.spots, middle, count - half, behind);
+    }
+
+    fn even_out(&mut self, item: u32) -> u64 {
+        let group = self.spots[item as usize].group;
+        let first = self.firsts[group as usize];
+        let count = count_from(&self.spots, first);
+        spread_items(&mut self.spots, first, count, group)
+    }
+
+    #[cold]
+    #[inline(never)]
+    fn make_room(&mut self, item: u32) -> u64 {
+        self.halve(item);
+        let gap = self.gap_behind(item);
+        if gap >= 4 {
+            return gap;
+        }
+        self.even_out(item)
+    }
+
+    #[inline]
+    fn room_behind(&mut self, item: u32) -> u64 {
+        let gap = self.gap_behind(item);
+        if gap >= 4 {
+            return gap;
+        }
+        self.make_room(item)
+    }
+
+    #[inline]
+    fn place_behind(&mut self, after: u32, ahead: u64) -> u32 {
+        self.reserved -= 1;
+        let item = self.spots.len() as u32;
+        let here = self.spots[after as usize];
+        self.spots.push(Spot { local: here.local + ahead, ..here });
+        self.spots[after as usize].next = item;
+        item
+    }
+
     pub fn is_before(&self, a: u32, b: u32) -> bool {
-        self.labels[a as usize] < self.labels[b as usize]
+        let place = self.spots[a as usize];
+        let other = self.spots[b as usize];
+        if place.group == other.group {
+            return place.local < other.local;
+        }
+        self.groups.is_before(place.group, other.group)
     }
 
     pub fn insert_reserved(&mut self, after: u32) -> u32 {
-        let label = label_behind(&mut self.labels, &self.ring, after);
-        self.labels.push(label);
-        self.ring.insert_reserved(after)
+        let gap = self.room_behind(after);
+        self.place_behind(after, gap / 2)
+    }
+
+    pub fn insert_two(&mut self, after: u32) -> u32 {
+        let gap = self.room_behind(after);
+        let first = self.place_behind(after, 1);
+        self.place_behind(first, gap / 2);
+        first
     }
 }
 
@@ -183,6 +343,7 @@ impl OrderList {
 enum Place {
     First,
     Newest,
+    Pairs,
     Random,
 }
 
@@ -199,13 +360,16 @@ fn fill(list: &mut OrderList, place: Place, count: u32) -> u32 {
     for _ in 0..count {
         let after = match place {
             Place::First => 0,
-            Place::Newest => newest,
+            Place::Newest | Place::Pairs => newest,
             Place::Random => {
                 random = next_random(random);
                 (random % list.len() as u64) as u32
             }
         };
-        if list.reserved() > 0 && (after as usize) < list.len() {
+        if matches!(place, Place::Pairs) && list.reserved() > 1 && (after as usize) < list.len() {
+            newest = list.insert_two(after).wrapping_add(1);
+            placed = placed.wrapping_add(2);
+        } else if list.reserved() > 0 && (after as usize) < list.len() {
             newest = list.insert_reserved(after);
             placed = placed.wrapping_add(1);
         }
@@ -217,6 +381,7 @@ fn main() {
     let mut words = env::args().skip(1);
     let place = match words.next().as_deref() {
         Some("newest") => Place::Newest,
+        Some("pairs") => Place::Pairs,
         Some("random") => Place::Random,
         _ => Place::First,
     };

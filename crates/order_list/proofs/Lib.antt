@@ -4,3 +4,6 @@ pub mod Rings
 pub mod Rises
 pub mod Spreads
 pub mod Stretches
+pub mod Groupings
+pub mod Halves
+pub mod Tied

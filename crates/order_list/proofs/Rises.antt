@@ -41,7 +41,7 @@ module _ (labels items : List ℕ) where
       grind (arith, far place_a place_b 0, far place_b place_a 0, listing a, listing b, length-labels_along, label_of a, label_of b)
 
 -- a new item is put in at a position
-labels_along-insert : (labels items : List ℕ) (at_place label : ℕ) → at_place ≤ length items → length labels ≡ length items → IsNumbered items → labels_along (labels ++ label ∷ []) (insert items at_place (length items)) ≡ insert (labels_along labels items) at_place label
+pub labels_along-insert : (labels items : List ℕ) (at_place label : ℕ) → at_place ≤ length items → length labels ≡ length items → IsNumbered items → labels_along (labels ++ label ∷ []) (insert items at_place (length items)) ≡ insert (labels_along labels items) at_place label
 labels_along-insert labels items at_place label within len numbered =
     let new = length items in
     let after = insert items at_place new in

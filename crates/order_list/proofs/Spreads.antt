@@ -13,7 +13,7 @@ pub record IsSpread (old labels : List ℕ) (start count low bound : ℕ) : Type
   behind : (place : ℕ) → start + count ≤ place → get_or labels place 0 ≡ get_or old place 0
   above : (place : ℕ) → start ≤ place → place < start + count → low ≤ get_or labels place 0
   steps : (place : ℕ) → start ≤ place → place + 1 < start + count → get_or labels place 0 + 2 ≤ get_or labels (place + 1) 0
-  below : (place : ℕ) → start ≤ place → place < start + count → get_or labels place 0 + 2 ≤ bound
+  pub below : (place : ℕ) → start ≤ place → place < start + count → get_or labels place 0 + 2 ≤ bound
 
 pub spread-none : (old : List ℕ) (start low : ℕ) → IsSpread old old start 0 low low
 spread-none old start low = record {

@@ -3,14 +3,14 @@ use Rattle.std.proofs.Common.{◌≡◌, ℕ, ◌+◌, ◌<◌, ◌≤◌, List,
 use Rattle.std.proofs.lemmas.Bool.{cases_lt}
 use Rattle.std.proofs.lemmas.List.{get_or_past}
 use Rattle.order_list.specs.Order.{place_of, most_items}
-use Rattle.order_list.specs.Ring.{IsRing}
+use Rattle.order_list.specs.Ring.{IsChain}
 use Rattle.order_list.specs.Labels.{labels_along, last_label, IsStretch, IsRoom}
 use Rattle.order_list.proofs.Places.{place_of-le}
 use Rattle.order_list.proofs.Rings.{apart, past_end}
 use Rattle.order_list.proofs.Rises.{label_at, label_past, labels_along-set, length-labels_along}
 use Rattle.order_list.proofs.Spreads.{IsSpread, spread-more}
 
-module _ {next previous items : List ℕ} (ring : IsRing next previous items) where
+module _ {next items : List ℕ} (ring : IsChain next items) where
   -- the label at a position that item 0 follows, or another item
   pub label-end : (labels : List ℕ) (place : ℕ) → 0 < place → place ≤ length items → get_or items place 0 ≡ 0 → get_or (labels_along labels items) place 0 ≡ last_label
   label-end labels place positive within none = rw (past_end ring place positive within none) (label_past labels items)
@@ -31,7 +31,7 @@ module _ {next previous items : List ℕ} (ring : IsRing next previous items) wh
       }
 
   -- and all labels
-  pub room-whole : (labels : List ℕ) (item : ℕ) → length items ≤ most_items → IsRoom labels items (record { item = item; first = 0; end = 0; count = length items }) (record { low = 0; high = last_label; free = 0 })
+  pub room-whole : (labels : List ℕ) (item : ℕ) → length items ≤ most_items → IsRoom labels items (record { item = item; first = 0; end = 0; count = length items }) (record { low = 0; high = 18446744073709551615; free = 0 })
   room-whole labels item few =
       let first : place_of 0 items ≡ 0 = omega (arith, place_of-le 0 items 0 ring.begins) in
       let end : place_of 0 items + length items ≡ length items = omega (arith, first) in

@@ -1,15 +1,19 @@
 -- Labels that rise along a list of items.
-use Rattle.std.specs.Prelude.{◌≡◌, ℕ, ◌+◌, ◌*◌, ◌<◌, ◌≤◌, List, [], ◌∷◌, ◌++◌, map, length, slice_index}
+use Rattle.std.specs.Prelude.{◌≡◌, ℕ, ◌+◌, ◌*◌, ◌<◌, ◌≤◌, List, [], ◌∷◌, ◌++◌, map, length, min, slice_index}
 use Rattle.std.specs.List.Sorted.{IsStrictlyIncreasing}
 use Rattle.order_list.specs.Order.{place_of}
 use Rattle.order_list.specs.declared.relabel.Stretch.{Stretch}
 use Rattle.order_list.specs.declared.relabel.Room.{Room}
 
--- the greatest label, which no item has
-abbrev pub last_label : ℕ
-last_label = 18446744073709551615
+-- the greatest number of 64 bits, which is no label
+abbrev pub top_label : ℕ
+top_label = 18446744073709551615
 
--- the labels of the items in their order, and behind them the greatest label
+-- above all labels, and above the keys of items in groups, which have 86 bits
+abbrev pub last_label : ℕ
+last_label = 79228162514264337593543950336
+
+-- the labels of the items in their order, and behind them the last label
 unfoldable pub labels_along : List ℕ → List ℕ → List ℕ
 labels_along labels items = map (slice_index labels) items ++ last_label ∷ []
 
@@ -18,9 +22,13 @@ pub record IsRising (labels items : List ℕ) : Type 0 where
   pub labels_len : length labels ≡ length items
   pub rises : IsStrictlyIncreasing (labels_along labels items)
 
+-- the label behind that of `item`, or the greatest number that a label can have behind the last one
+abbrev pub label_after : List ℕ → List ℕ → ℕ → ℕ
+label_after labels items item = min (slice_index (labels_along labels items) (place_of item items + 1)) top_label
+
 -- there is a label between that of `item` and the next one
 abbrev pub HasGap : List ℕ → List ℕ → ℕ → Type 0
-HasGap labels items item = slice_index labels item + 2 ≤ slice_index (labels_along labels items) (place_of item items + 1)
+HasGap labels items item = slice_index labels item + 2 ≤ label_after labels items item
 
 -- the items of a stretch stand in a row, and its own item is one of them
 pub record IsStretch (items : List ℕ) (stretch : Stretch) : Type 0 where

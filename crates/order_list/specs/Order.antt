@@ -1,5 +1,5 @@
 -- What a contract sees of an order list.
-use Rattle.std.specs.Prelude.{ℕ, ◌<◌, List, ◌==◌, length, slice_index}
+use Rattle.std.specs.Prelude.{ℕ, ◌+◌, ◌<◌, List, ◌==◌, length, insert, slice_index}
 use Rattle.std.specs.List.{position_or_len}
 
 -- The items, first to last, and for how many more there is room.
@@ -14,6 +14,10 @@ most_items = 3000001
 -- the position of an item, or the length of the list where it is absent
 unfoldable pub place_of : ℕ → List ℕ → ℕ
 place_of item items = position_or_len (λ other. other == item) items
+
+-- the list once an item was put directly behind another
+abbrev pub insert_behind : ℕ → ℕ → List ℕ → List ℕ
+insert_behind after item items = insert items (place_of after items + 1) item
 
 -- only numbers below the length stand in the list
 abbrev pub IsNumbered : List ℕ → Type 0

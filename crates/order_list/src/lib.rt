@@ -1,24 +1,27 @@
-//! An order list: items in one order, any two of which are compared by one comparison of numbers.
+//! An order list: items in one order, any two of which are compared by one or two comparisons of numbers.
 //!
 //! A contract sees an `OrderList` as the list of all its items. `insert_reserved` puts a new item directly behind another
 //! and moves no other, and `is_before` is the order of positions, whatever was relabelled in between: each contract says
 //! so. `reserve` answers `Full` only where there would be more than `MOST_ITEMS` items.
 //!
-//! Each item has a label of 64 bits, and the labels rise along the list (Dietz and Sleator 1987). Where an insertion finds
-//! no label between two, the smallest sparse enough stretch of items around is given new ones (Bender, Cole, Demaine,
-//! Farach-Colton and Zito 2002), in place. The items are numbered as they were made, and tied to their neighbours in a ring.
+//! Items lie in groups, and each has a place of 64 bits in its group. The groups have labels of 64 bits, which rise along
+//! their order (Dietz and Sleator 1987). Where an insertion finds no place between two items, those of the group are given
+//! new ones at equal distances, and half of many go to a new group. Where there is no label for it, the smallest sparse
+//! enough stretch of groups around is given new ones (Bender, Cole, Demaine, Farach-Colton and Zito 2002). All of this is
+//! done in place. The items are numbered as they were made, and each knows the one that follows it.
 #![tactic(auto)]
 
-ghost use Rattle.std.specs.Prelude.{◌≡◌, [], ◌∷◌, ◌+◌, ◌<◌, ◌≤◌, ◌↔◌, length, max, insert, vec_len, vec_capacity, IsTrue, IfOk, IsErrOf, OnOk, OnErr};
-ghost use Rattle.order_list.specs.Order.{Order, most_items, place_of, IsNumbered, IsListing};
-ghost use Rattle.order_list.specs.Ring.{order_of};
-ghost use Rattle.order_list.specs.Labels.{IsRising};
+ghost use Rattle.std.specs.Prelude.{◌≡◌, [], ◌∷◌, ◌+◌, ◌<◌, ◌≤◌, ◌↔◌, length, max, insert, IsTrue, IfOk, IsErrOf, OnOk, OnErr};
+ghost use Rattle.order_list.specs.Order.{Order, most_items, place_of, insert_behind, IsNumbered, IsListing};
+ghost use Rattle.order_list.specs.Places.{items_along};
 
+mod grouping;
+mod groups;
+mod place;
 mod relabel;
 mod ring;
 
-use relabel::label_behind;
-use ring::Ring;
+use grouping::Grouping;
 use std::alloc::{AllocError, Allocator};
 use std::marker::Model;
 use thiserror::Error;
@@ -50,23 +53,20 @@ impl From<AllocError> for OrderFault {
 
 /// Items in one order, numbered as they were made.
 pub struct OrderList<A: Allocator> {
-    labels: Vec<u64, A>,
-    ring: Ring<A>,
+    list: Grouping<A>,
 }
 
 /// Written out, so that what lets a list go calls one function.
 impl<A: Allocator> Drop for OrderList<A> {
     fn drop(self) {
-        let OrderList { labels: _, ring: _ } = self;
+        let OrderList { list: _ } = self;
     }
 }
 
 impl<A: Allocator> Model for OrderList<A> {
     ghost Value = { Order };
 
-    ghost view = { λ list. record { items = order_of list.ring.next.items; reserved = list.ring.reserved } };
-
-    ghost invariant = { λ list. IsRising list.labels.items (order_of list.ring.next.items) × (vec_len list.labels + list.ring.reserved ≤ vec_capacity list.labels) };
+    ghost view = { λ order. record { items = items_along order.list.places.items; reserved = order.list.reserved } };
 }
 
 impl<A: Allocator> OrderList<A> {
@@ -77,10 +77,8 @@ impl<A: Allocator> OrderList<A> {
         ensures items { IfOk result (λ list. list.items ≡ 0 ∷ []) }
         ensures reserved { IfOk result (λ list. list.reserved ≡ 0) }
     {
-        let mut labels = Vec::new(alloc.clone()?);
-        labels.push(0)?;
-        let ring = Ring::new(alloc)?;
-        Ok(OrderList { labels, ring })
+        let list = Grouping::new(alloc)?;
+        Ok(OrderList { list })
     }
 
     /// How many items there are.
@@ -91,14 +89,14 @@ impl<A: Allocator> OrderList<A> {
         ensures numbered { IsNumbered self.now.items }
         ensures listing { IsListing self.now.items }
     {
-        self.ring.len()
+        self.list.len()
     }
 
     /// How many more can be inserted before `reserve` is called again.
     pub fn reserved(&self) -> u32
         ensures { result ≡ self.now.reserved }
     {
-        self.ring.reserved()
+        self.list.reserved()
     }
 
     /// Makes room for `count` more items at least. A refusal changes nothing: `Full` where there would be more than
@@ -110,14 +108,13 @@ impl<A: Allocator> OrderList<A> {
         ensures full { IsErrOf result OrderFault.Full ↔ (most_items < length self.old.items + count) }
         ensures memory { IsErrOf result OrderFault.Memory → self.old.reserved < count }
     {
-        if count <= self.ring.reserved() {
+        if count <= self.list.reserved() {
             return Ok(());
         }
-        if count > MOST_ITEMS - self.ring.len() as u32 {
+        if count > MOST_ITEMS - self.list.len() as u32 {
             return Err(OrderFault::Full);
         }
-        self.labels.reserve(count as usize)?;
-        self.ring.reserve(count)?;
+        self.list.reserve(count)?;
         Ok(())
     }
 
@@ -131,9 +128,61 @@ impl<A: Allocator> OrderList<A> {
         ensures len { length self.new.items ≡ length self.old.items + 1 }
         ensures reserved { self.new.reserved + 1 ≡ self.old.reserved }
     {
-        let label = label_behind(&mut self.labels, &self.ring, after);
-        self.labels.push_reserved(label);
-        self.ring.insert_reserved(after)
+        self.list.insert_reserved(after)
+    }
+
+    /// Puts two new items behind `after`: the first directly behind it, and the second behind the first. It gives the number
+    /// of the first, and does what two calls of `insert_reserved` do, sooner.
+    pub fn insert_two(&mut self, after: u32) -> u32
+        requires room { 1 < self.old.reserved }
+        requires known { after < length self.old.items }
+        ensures item { result ≡ length self.old.items }
+        ensures items { self.new.items ≡ insert_behind result (result + 1) (insert_behind after result self.old.items) }
+        ensures len { length self.new.items ≡ length self.old.items + 2 }
+        ensures reserved { self.new.reserved + 2 ≡ self.old.reserved }
+    {
+        self.list.insert_two(after)
+    }
+
+    /// The same in the other order: both are put directly behind `after`, the first and then the second.
+    pub fn insert_two_swapped(&mut self, after: u32) -> u32
+        requires room { 1 < self.old.reserved }
+        requires known { after < length self.old.items }
+        ensures item { result ≡ length self.old.items }
+        ensures items { self.new.items ≡ insert_behind after (result + 1) (insert_behind after result self.old.items) }
+        ensures len { length self.new.items ≡ length self.old.items + 2 }
+        ensures reserved { self.new.reserved + 2 ≡ self.old.reserved }
+    {
+        self.list.insert_two_swapped(after)
+    }
+
+    /// Puts three new items behind `after`, each behind the one before it, and gives the number of the first.
+    pub fn insert_three(&mut self, after: u32) -> u32
+        requires room { 2 < self.old.reserved }
+        requires known { after < length self.old.items }
+        ensures item { result ≡ length self.old.items }
+        ensures items { self.new.items ≡ insert_behind (result + 1) (result + 2) (insert_behind result (result + 1) (insert_behind after result self.old.items)) }
+        ensures len { length self.new.items ≡ length self.old.items + 3 }
+        ensures reserved { self.new.reserved + 3 ≡ self.old.reserved }
+    {
+        let first = self.list.insert_two(after);
+        self.list.insert_reserved(first + 1);
+        first
+    }
+
+    /// Puts three new items behind `after`: the first and the second directly behind it, as `insert_two_swapped` does, and
+    /// the third behind the first. It gives the number of the first.
+    pub fn insert_three_swapped(&mut self, after: u32) -> u32
+        requires room { 2 < self.old.reserved }
+        requires known { after < length self.old.items }
+        ensures item { result ≡ length self.old.items }
+        ensures items { self.new.items ≡ insert_behind result (result + 2) (insert_behind after (result + 1) (insert_behind after result self.old.items)) }
+        ensures len { length self.new.items ≡ length self.old.items + 3 }
+        ensures reserved { self.new.reserved + 3 ≡ self.old.reserved }
+    {
+        let first = self.list.insert_two_swapped(after);
+        self.list.insert_reserved(first);
+        first
     }
 
     /// Whether `a` stands before `b` in the list. No item stands before itself.
@@ -142,6 +191,6 @@ impl<A: Allocator> OrderList<A> {
         requires b_known { b < length self.now.items }
         ensures { IsTrue result ↔ (place_of a self.now.items < place_of b self.now.items) }
     {
-        self.labels[a as usize] < self.labels[b as usize]
+        self.list.is_before(a, b)
     }
 }

@@ -2,7 +2,7 @@
 ghost use Rattle.std.specs.Prelude.{◌≡◌, ◌+◌, ◌<◌, ◌≤◌, length, slice_index};
 ghost use Rattle.order_list.specs.Order.{place_of};
 ghost use Rattle.order_list.specs.Items.{items_of};
-ghost use Rattle.order_list.specs.Labels.{last_label, labels_along, IsRising, HasGap, IsStretch, IsAllBefore, IsAllBehind, IsRoom};
+ghost use Rattle.order_list.specs.Labels.{labels_along, label_after, IsRising, HasGap, IsStretch, IsAllBefore, IsAllBehind, IsRoom};
 
 use crate::ring::Ring;
 use std::alloc::Allocator;
@@ -24,12 +24,11 @@ struct Room {
     free: u64,
 }
 
-/// How far the label that follows that of `item` is above it. Behind the last item that is the greatest label.
+/// How far the label that follows that of `item` is above it. Behind the last item that is the greatest one.
 fn gap_behind<A: Allocator>(labels: &[u64], ring: &Ring<A>, item: u32) -> u64
     requires was_rising { IsRising labels.now (items_of ring.now) }
     requires known { item < length (items_of ring.now) }
-    ensures fits { slice_index labels.now item + result ≤ last_label }
-    ensures value { let items = items_of ring.now in slice_index labels.now item + result ≡ slice_index (labels_along labels.now items) (place_of item items + 1) }
+    ensures { slice_index labels.now item + result ≡ label_after labels.now (items_of ring.now) item }
 {
     match ring.next(item) {
         0 => u64::MAX - labels[item as usize],

@@ -3,10 +3,10 @@ use Rattle.order_list.proofs.Stretches.{stretch-whole, room-whole}
 use Rattle.order_list.proofs.relabel.sparse_room.Goals as goal
 
 pub returns-clause-stretch : goal.returns-clause-stretch
-returns-clause-stretch g c = rw c.len.ensures (stretch-whole c.args.ring.now.tied c.args.item c.requires.known)
+returns-clause-stretch g c = rw c.len.ensures (stretch-whole c.args.ring.now.tied.chain c.args.item c.requires.known)
 
 pub returns-clause-room : goal.returns-clause-room
-returns-clause-room g c = rw c.len.ensures (room-whole c.args.ring.now.tied c.args.labels.now c.args.item (omega (arith, c.args.ring.now.few, c.args.ring.now.next.ok, c.args.ring.now.tied.next_len)))
+returns-clause-room g c = rw c.len.ensures (room-whole c.args.ring.now.tied.chain c.args.labels.now c.args.item (omega (arith, c.args.ring.now.few, c.args.ring.now.next.ok, c.args.ring.now.tied.chain.next_len)))
 
 pub returns-then-count-high-clause-room : goal.returns-then-count-high-clause-room
 returns-then-count-high-clause-room g c = record {

@@ -18,13 +18,13 @@ loop-placed-init g c =
     let all : c.args.stretch.count - 0 ≡ c.args.stretch.count = omega arith in
     record {
       spread = spread-none _ start room.low;
-      item = rw none (sym (item_at c.args.ring.now.tied c.args.stretch.first c.requires.stretch.first_known));
+      item = rw none (sym (item_at c.args.ring.now.tied.chain c.args.stretch.first c.requires.stretch.first_known));
       fits = rw all (omega (arith, mul-div-le (room.high - room.low - room.free) c.args.stretch.count, c.requires.room.fits));
     }
 
 pub loop-placed-preserved : goal.loop-placed-preserved
 loop-placed-preserved g c =
-    let ring = c.args.ring.now.tied in
+    let ring = c.args.ring.now.tied.chain in
     let stretch = c.args.stretch in
     let start = place_of stretch.first (items_of c.args.ring.now) in
     let placed = c.loop-placed.placed in
@@ -57,4 +57,4 @@ returns-clause-gap g c =
     let item = c.args.stretch.item in
     let all : c.loop-placed.placed ≡ c.args.stretch.count = omega arith in
     let spread = rw all at c.loop-placed.invariant.spread in
-    omega (arith, spread-gap _ _ _ _ _ _ spread (omega (arith, c.loop-placed.invariant.fits, c.requires.room.behind)) (place_of item (items_of c.args.ring.now)) stretch.from stretch.to, label_of c.loop-placed.labels (items_of c.args.ring.now) item (omega (arith, stretch.to, stretch.within)))
+    omega (arith, spread-gap _ _ _ _ _ _ spread (omega (arith, c.loop-placed.invariant.fits, c.requires.room.behind)) (place_of item (items_of c.args.ring.now)) stretch.from stretch.to, spread.below (place_of item (items_of c.args.ring.now)) stretch.from stretch.to, c.loop-placed.invariant.fits, label_of c.loop-placed.labels (items_of c.args.ring.now) item (omega (arith, stretch.to, stretch.within)))

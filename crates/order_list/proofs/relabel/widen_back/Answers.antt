@@ -7,5 +7,5 @@ use Rattle.order_list.proofs.relabel.widen_back.Goals as goal
 pub returns-then-labels-before-clause-before : goal.returns-then-labels-before-clause-before
 returns-then-labels-before-clause-before g c = λ place e.
     let same : place_of c.previous-before.result (items_of c.args.ring.now) ≡ place = omega (arith, c.previous-before.ensures.place) in
-    let label = label_of c.args.labels.now (items_of c.args.ring.now) c.previous-before.result (c.args.ring.now.tied.listing _ c.previous-before.ensures.known) in
+    let label = label_of c.args.labels.now (items_of c.args.ring.now) c.previous-before.result (c.args.ring.now.tied.chain.listing _ c.previous-before.ensures.known) in
     omega (arith, rw same at label)

@@ -7,7 +7,7 @@ use Rattle.order_list.proofs.ring.Ring.next.Goals as goal
 
 pub returns : goal.returns
 returns g c =
-    let ring = c.args.self.now.tied in
+    let ring = c.args.self.now.tied.chain in
     let place = place_of c.args.item (items_of c.args.self.now) in
     let value = get_or_read c.args.self.now.next.items c.args.item _ (omega (arith, ring.next_len)) c.index.ensures 0 ∙ next_is ring c.args.item c.requires in
     record { value = value; known = omega (arith, value, known_at ring (place + 1) (omega (arith, ring.listing c.args.item c.requires))) }

@@ -1,4 +1,4 @@
-use Rattle.order_list.proofs.OrderList.len.Goals as goal
+use Rattle.order_list.proofs.groups.Groups.len.Goals as goal
 
 pub returns-clause-value : goal.returns-clause-value
 returns-clause-value g c = rw (← c.self.view_is) c.len.ensures

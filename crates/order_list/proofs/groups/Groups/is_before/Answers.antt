@@ -3,11 +3,11 @@ use Rattle.std.proofs.lemmas.Bool.{ltb-true, lt-ltb}
 use Rattle.std.proofs.lemmas.List.{get_or_read}
 use Rattle.order_list.specs.Items.{items_of}
 use Rattle.order_list.proofs.Rises.{label-lt}
-use Rattle.order_list.proofs.OrderList.is_before.Goals as goal
+use Rattle.order_list.proofs.groups.Groups.is_before.Goals as goal
 
 pub returns : goal.returns
 returns g c =
-    let ring = c.self.inside.ring.tied in
+    let ring = c.self.inside.ring.tied.chain in
     let rising = c.self.invariant.0 in
     let a_known : c.args.a < length (items_of c.self.inside.ring) = rw (← c.self.view_is) at c.requires.a_known in
     let b_known : c.args.b < length (items_of c.self.inside.ring) = rw (← c.self.view_is) at c.requires.b_known in

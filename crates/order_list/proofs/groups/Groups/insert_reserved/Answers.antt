@@ -2,11 +2,11 @@ use Rattle.std.proofs.Common.{◌≡◌, ◌<◌, [], ◌∷◌, ◌++◌, lengt
 use Rattle.std.proofs.lemmas.List.{with_items_is}
 use Rattle.order_list.specs.Items.{items_of}
 use Rattle.order_list.proofs.Rises.{insert-rising}
-use Rattle.order_list.proofs.OrderList.insert_reserved.Goals as goal
+use Rattle.order_list.proofs.groups.Groups.insert_reserved.Goals as goal
 
 pub invariant_of-self : goal.invariant_of-self
 invariant_of-self g c =
-    let ring = c.self.inside.ring.tied in
+    let ring = c.self.inside.ring.tied.chain in
     let labels = c.label_behind-label.new.labels in
     let found = c.label_behind-label.ensures in
     let known : c.args.after < length (items_of c.self.inside.ring) = rw (← c.self.view_is) at c.requires.known in

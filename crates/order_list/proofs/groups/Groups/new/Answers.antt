@@ -1,6 +1,6 @@
 use Rattle.std.proofs.Common.{◌≡◌, [], ◌∷◌, arith}
 use Rattle.order_list.proofs.Rises.{rising-one}
-use Rattle.order_list.proofs.OrderList.new.Goals as goal
+use Rattle.order_list.proofs.groups.Groups.new.Goals as goal
 
 pub invariant_of-result : goal.invariant_of-result
 invariant_of-result g c =
