@@ -1,17 +1,13 @@
 -- Items in groups: their keys, and what stays so once items are moved to other places or groups.
-use Rattle.std.proofs.Common.{◌≡◌, ◌≢◌, ℕ, ◌+◌, ◌-◌, ◌*◌, ◌<◌, ◌≤◌, refl, inl, inr, List, [], ◌∷◌, ◌++◌, map, length, get_or, set, insert, ap, sym, ◌∙◌, arith}
-use Rattle.std.specs.List.Sorted.{IsStrictlyIncreasing}
+use Rattle.std.proofs.Common.{◌≡◌, ◌≢◌, ℕ, ◌+◌, ◌-◌, ◌*◌, ◌<◌, ◌≤◌, refl, inl, inr, List, [], ◌∷◌, ◌++◌, length, get_or, set, ap, sym, ◌∙◌, arith}
 use Rattle.std.proofs.lemmas.Bool.{cases_lt, cases_eq}
-use Rattle.std.proofs.lemmas.List.{get_or-map, map-set, map-append, set-get_or, get_or_append_left, get_or_push, get_or-set_same, get_or-set_other, length-map, length-set, length_push}
-use Rattle.std.proofs.lemmas.Grind.{get_or-set_at, same_number_lists}
-use Rattle.std.proofs.lemmas.List.Edits.{length-insert}
-use Rattle.order_list.specs.Order.{place_of, most_items, IsNumbered, IsListing}
-use Rattle.order_list.specs.Labels.{labels_along, last_label, IsRising}
+use Rattle.std.proofs.lemmas.List.{get_or-map, map-set, map-append, set-get_or, get_or_append_left, get_or-set_same, get_or-set_other, length-map}
+use Rattle.order_list.specs.Order.{place_of, IsNumbered, IsListing}
+use Rattle.order_list.specs.Labels.{labels_along, IsRising}
 use Rattle.order_list.specs.Ring.{IsChain}
 use Rattle.order_list.specs.Places.{group_width, groups_of, locals_of, nexts_of, keys_of, IsGrouped, IsGroupRow, IsEvened}
 use Rattle.order_list.specs.declared.place.Place.{Place}
-use Rattle.order_list.proofs.Places.{get_or-place_of, place_of-le, place-below, place-above, place-new}
-use Rattle.order_list.proofs.Insertions.{insert-numbered, insert-listing}
+use Rattle.order_list.proofs.Places.{get_or-place_of, place_of-le}
 use Rattle.order_list.proofs.Rings.{item_at, apart, chain-one}
 use Rattle.order_list.proofs.Rises.{length-labels_along, label_at, label_past, rising-one}
 

@@ -1,19 +1,19 @@
 -- Items in groups: a group's items at other places, and half of them in a new group.
-use Rattle.std.proofs.Common.{◌≡◌, ◌≢◌, ℕ, ◌+◌, ◌-◌, ◌*◌, ◌<◌, ◌≤◌, ◌⊎◌, inl, inr, List, [], ◌∷◌, ◌++◌, length, get_or, insert, ap, sym, ◌∙◌, arith}
+use Rattle.std.proofs.Common.{◌≡◌, ℕ, ◌+◌, ◌-◌, ◌*◌, ◌<◌, ◌≤◌, ◌⊎◌, inl, inr, List, [], ◌∷◌, ◌++◌, length, get_or, insert, ap, sym, ◌∙◌, arith}
 use Rattle.std.proofs.lemmas.Bool.{cases_lt}
 use Rattle.std.proofs.lemmas.List.{get_or_append_left, get_or_push, length_push}
 use Rattle.std.proofs.lemmas.List.Edits.{length-insert}
 use Rattle.std.proofs.lemmas.List.Kept.{AllPairs-from_increasing}
 use Rattle.order_list.specs.Order.{place_of, most_items}
 use Rattle.order_list.specs.Ring.{IsChain}
-use Rattle.order_list.specs.Labels.{labels_along, last_label, IsRising}
+use Rattle.order_list.specs.Labels.{labels_along, IsRising}
 use Rattle.order_list.specs.Places.{group_width, groups_of, locals_of, nexts_of, keys_of, IsGrouped, IsGroupRow, IsEvened}
 use Rattle.order_list.specs.declared.place.Place.{Place}
 use Rattle.order_list.proofs.Places.{place-below, place-above}
 use Rattle.order_list.proofs.Insertions.{new-behind, insert-numbered, insert-listing}
 use Rattle.order_list.proofs.Rings.{item_at}
 use Rattle.order_list.proofs.Rises.{length-labels_along, label_of, label_past}
-use Rattle.order_list.proofs.Groupings.{IsBetween, evened-room, length-keys, label_is, evened-rising, group_inside, group_before, group_behind, moved-small, group_known, key_is, ranks-rise, first_at, between-same}
+use Rattle.order_list.proofs.Groupings.{IsBetween, evened-room, length-keys, label_is, evened-rising, group_inside, group_before, group_behind, moved-small, group_known, key_is, ranks-rise, between-same}
 
 -- each item of a row is in the group now, and each other one where it was
 moved : (next items : List ℕ) → IsChain next items → (old new : List Place) (start count group gap bound : ℕ) → IsEvened old new items start count group gap bound → (item : ℕ) → item < length items → ((start ≤ place_of item items) × (place_of item items < start + count) × (get_or (groups_of new) item 0 ≡ group)) ⊎ (get_or (groups_of new) item 0 ≡ get_or (groups_of old) item 0)

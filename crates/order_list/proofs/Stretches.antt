@@ -1,6 +1,5 @@
 -- Stretches of a ring as they grow, and as they are given new labels.
-use Rattle.std.proofs.Common.{◌≡◌, ℕ, ◌+◌, ◌<◌, ◌≤◌, List, length, get_or, set, ap, sym, ◌∙◌, arith, ⊎_elim}
-use Rattle.std.proofs.lemmas.Bool.{cases_lt}
+use Rattle.std.proofs.Common.{◌≡◌, ℕ, ◌+◌, ◌<◌, ◌≤◌, List, length, get_or, set, sym, arith}
 use Rattle.std.proofs.lemmas.List.{get_or_past}
 use Rattle.order_list.specs.Order.{place_of, most_items}
 use Rattle.order_list.specs.Ring.{IsChain}

@@ -1,19 +1,18 @@
 -- Items in groups: one more item, the room behind an item, and two items compared.
-use Rattle.std.proofs.Common.{◌≡◌, ◌≢◌, ◌↔◌, ℕ, ◌+◌, ◌-◌, ◌*◌, ◌<◌, ◌≤◌, inl, inr, List, [], ◌∷◌, ◌++◌, length, get_or, set, insert, ap, sym, ◌∙◌, arith}
+use Rattle.std.proofs.Common.{◌≡◌, ◌≢◌, ◌↔◌, ℕ, ◌+◌, ◌-◌, ◌*◌, ◌<◌, ◌≤◌, inl, inr, List, [], ◌∷◌, ◌++◌, length, get_or, set, insert, sym, ◌∙◌, arith}
 use Rattle.std.proofs.lemmas.Bool.{cases_lt, cases_eq}
 use Rattle.std.proofs.lemmas.List.{get_or_past, get_or_append_left, get_or_push, length_push}
 use Rattle.std.proofs.lemmas.Grind.{same_number_lists}
 use Rattle.std.proofs.lemmas.List.Edits.{length-insert}
-use Rattle.order_list.specs.Order.{place_of, most_items}
-use Rattle.order_list.specs.Ring.{IsChain}
-use Rattle.order_list.specs.Labels.{labels_along, last_label, IsRising}
-use Rattle.order_list.specs.Places.{group_width, groups_of, locals_of, nexts_of, keys_of, items_along, IsGrouped, HasRoom}
+use Rattle.order_list.specs.Order.{place_of}
+use Rattle.order_list.specs.Labels.{labels_along}
+use Rattle.order_list.specs.Places.{group_width, groups_of, locals_of, nexts_of, keys_of, IsGrouped}
 use Rattle.order_list.specs.declared.place.Place.{Place}
 use Rattle.order_list.proofs.Places.{inserted-read}
 use Rattle.order_list.proofs.Insertions.{item-stays, new-behind, order-kept}
-use Rattle.order_list.proofs.Rings.{item_at, known_at, next_is, order_of-items, insert-chain, past_end}
+use Rattle.order_list.proofs.Rings.{item_at, known_at, next_is, insert-chain, past_end}
 use Rattle.order_list.proofs.Rises.{label_of, label_past, label-lt, labels_along-insert, length-labels_along, insert-rising}
-use Rattle.order_list.proofs.Groupings.{key_at, length-groups, length-locals, length-keys, group_known, key_is, ranks-rise, one-group}
+use Rattle.order_list.proofs.Groupings.{key_at, length-groups, length-locals, length-keys, key_is, ranks-rise, one-group}
 
 -- a new item's key
 keys-tied : (order : List ℕ) (old new : List Place) (group local : ℕ) → length new ≡ length old + 1 → groups_of new ≡ groups_of old ++ group ∷ [] → locals_of new ≡ locals_of old ++ local ∷ [] → keys_of order new ≡ keys_of order old ++ (place_of group order * group_width + local) ∷ []

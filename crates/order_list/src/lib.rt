@@ -138,6 +138,7 @@ impl<A: Allocator> OrderList<A> {
         requires known { after < length self.old.items }
         ensures item { result ≡ length self.old.items }
         ensures items { self.new.items ≡ insert_behind result (result + 1) (insert_behind after result self.old.items) }
+        ensures few { result + 2 ≤ most_items }
         ensures len { length self.new.items ≡ length self.old.items + 2 }
         ensures reserved { self.new.reserved + 2 ≡ self.old.reserved }
     {
@@ -162,6 +163,7 @@ impl<A: Allocator> OrderList<A> {
         requires known { after < length self.old.items }
         ensures item { result ≡ length self.old.items }
         ensures items { self.new.items ≡ insert_behind (result + 1) (result + 2) (insert_behind result (result + 1) (insert_behind after result self.old.items)) }
+        ensures few { result + 3 ≤ most_items }
         ensures len { length self.new.items ≡ length self.old.items + 3 }
         ensures reserved { self.new.reserved + 3 ≡ self.old.reserved }
     {

@@ -168,12 +168,10 @@ impl<A: Allocator> Strands<A> {
         ensures room { self.new.has_room ≡ false }
     {
         self.has_room = false;
-        let child = self.english.insert_reserved(strand);
-        let next = self.english.insert_reserved(child);
-        let join = self.english.insert_reserved(next);
-        self.hebrew.insert_reserved(strand);
-        self.hebrew.insert_reserved(strand);
-        self.hebrew.insert_reserved(child);
+        let child = self.english.insert_three(strand);
+        let next = child + 1;
+        let join = child + 2;
+        self.hebrew.insert_three_swapped(strand);
 
         let scope = record_of(&self.records, strand).scope;
         set_standing(&mut self.records, strand, Standing::Over);
@@ -203,10 +201,9 @@ impl<A: Allocator> Strands<A> {
         ensures room { self.new.has_room ≡ false }
     {
         self.has_room = false;
-        let child = self.english.insert_reserved(strand);
-        let next = self.english.insert_reserved(child);
-        self.hebrew.insert_reserved(strand);
-        self.hebrew.insert_reserved(strand);
+        let child = self.english.insert_two(strand);
+        let next = child + 1;
+        self.hebrew.insert_two_swapped(strand);
 
         set_standing(&mut self.records, strand, Standing::Over);
         let joining = record_of(&self.records, join);

@@ -1,4 +1,4 @@
-use Rattle.std.proofs.Common.{◌≡◌, ◌+◌, ◌<◌, length, get_or, ap, sym, ◌∙◌, arith}
+use Rattle.std.proofs.Common.{◌≡◌, ◌+◌, get_or, ap, sym, ◌∙◌, arith}
 use Rattle.order_list.specs.Order.{place_of}
 use Rattle.order_list.specs.Places.{nexts_of, items_along}
 use Rattle.order_list.proofs.Rings.{item_at}

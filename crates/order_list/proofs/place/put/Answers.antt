@@ -1,7 +1,4 @@
-use Rattle.std.proofs.Common.{get_or, sym, ◌∙◌, ap, arith}
-use Rattle.std.proofs.lemmas.List.{set-get_or}
-use Rattle.order_list.specs.Places.{nexts_of}
-use Rattle.order_list.proofs.Groupings.{set_locals, set_groups, set_nexts, next_kept}
+use Rattle.order_list.proofs.Groupings.{set_locals, set_groups, next_kept}
 use Rattle.order_list.proofs.place.put.Goals as goal
 
 pub returns-clause-locals : goal.returns-clause-locals

@@ -1,10 +1,9 @@
-use Rattle.std.proofs.Common.{◌≡◌, ◌<◌, ◌≤◌, ◌+◌, ◌-◌, ◌*◌, ◌/◌, suc, length, get_or, ap, sym, ◌∙◌, arith}
+use Rattle.std.proofs.Common.{◌≡◌, ◌<◌, ◌+◌, ◌-◌, ◌*◌, ◌/◌, suc, length, get_or, ap, sym, ◌∙◌, arith}
 use Rattle.std.proofs.Math.Nat.{mul-div-le}
-use Rattle.std.proofs.lemmas.Nat.{le-div}
 use Rattle.order_list.specs.Order.{place_of}
 use Rattle.order_list.specs.Places.{nexts_of, items_along}
 use Rattle.order_list.proofs.Rings.{item_at}
-use Rattle.order_list.proofs.Groupings.{chain_len, evened-none, evened-more, evened-wider}
+use Rattle.order_list.proofs.Groupings.{chain_len, evened-none, evened-more}
 use Rattle.order_list.proofs.place.spread.Goals as goal
 
 pub loop-placed-init : goal.loop-placed-init

@@ -1,6 +1,5 @@
-use Rattle.std.proofs.Common.{◌≡◌, get_or, set, ap, ◌∙◌, arith}
+use Rattle.std.proofs.Common.{ap, arith}
 use Rattle.std.proofs.lemmas.List.{get_or_read}
-use Rattle.order_list.specs.Places.{locals_of, groups_of, nexts_of}
 use Rattle.order_list.proofs.Groupings.{no_place, local_read_at, tied-locals, tied-groups, tied-nexts}
 use Rattle.order_list.proofs.place.tie.Goals as goal
 

@@ -1,6 +1,5 @@
-use Rattle.std.proofs.Common.{◌≡◌, ◌≢◌, ◌<◌, ◌+◌, ◌-◌, length, get_or, ap, sym, ◌∙◌, arith}
-use Rattle.order_list.specs.Places.{groups_of, locals_of, nexts_of, items_along}
-use Rattle.order_list.proofs.Groupings.{chain_len}
+use Rattle.std.proofs.Common.{◌≡◌, ◌≢◌, ◌<◌, get_or, arith}
+use Rattle.order_list.specs.Places.{groups_of, nexts_of}
 use Rattle.order_list.proofs.Tied.{next_known, room-inner, room-last}
 use Rattle.order_list.proofs.grouping.Grouping.gap_behind.Goals as goal
 use Rattle.order_list.proofs.grouping.Grouping.gap_behind.Goals.{then-here-ne0+else-following-here, else-here-ne0}

@@ -1,4 +1,4 @@
-use Rattle.std.proofs.Common.{◌≡◌, arith}
+use Rattle.std.proofs.Common.{arith}
 use Rattle.std.proofs.lemmas.Bool.{ltb-true, lt-ltb}
 use Rattle.order_list.proofs.Tied.{before-inner, before-outer}
 use Rattle.order_list.proofs.grouping.Grouping.is_before.Goals as goal

@@ -1,5 +1,4 @@
-use Rattle.std.proofs.Common.{◌≡◌, [], ◌∷◌, ◌∙◌, ap}
-use Rattle.order_list.specs.Ring.{order_of}
+use Rattle.std.proofs.Common.{◌≡◌, [], ◌∷◌}
 use Rattle.order_list.proofs.Rings.{order_of-one}
 use Rattle.order_list.proofs.Groupings.{nexts-one, grouped-one}
 use Rattle.order_list.proofs.grouping.Grouping.new.Goals as goal

@@ -1,6 +1,4 @@
-use Rattle.std.proofs.Common.{◌≡◌, ◌+◌, insert, arith}
-use Rattle.order_list.specs.Order.{place_of}
-use Rattle.order_list.specs.Places.{items_along, IsGrouped}
+use Rattle.std.proofs.Common.{arith}
 use Rattle.order_list.proofs.Rings.{order_of-items}
 use Rattle.order_list.proofs.Tied.{tied, room-before, room-behind}
 use Rattle.order_list.proofs.grouping.Grouping.place_behind.Goals as goal

@@ -3,6 +3,7 @@ use Rattle.control_history.specs.History.{split}
 use Rattle.control_history.specs.Blocks.{enclosing}
 use Rattle.control_history.specs.Strands.{unused}
 use Rattle.control_history.specs.Counts.{children_left}
+use Rattle.order_list.specs.Order.{insert_behind}
 use Rattle.sp_labels.specs.declared.record.Standing.TheVariants.{Over}
 use Rattle.sp_labels.specs.declared.record.Record.{Record}
 use Rattle.sp_labels.specs.Roster.{Follows, record_at, IsPut}
@@ -13,20 +14,18 @@ use Rattle.sp_labels.proofs.Acting.{join-known}
 use Rattle.sp_labels.proofs.Counts.{join-apart, few-left}
 use Rattle.sp_labels.proofs.roster.Strands.spawn_in_block.Goals as goal
 
-pub insert_reserved-child-requires-clause-known : goal.insert_reserved-child-requires-clause-known
-insert_reserved-child-requires-clause-known g c =
+pub insert_two-child-requires-clause-known : goal.insert_two-child-requires-clause-known
+insert_two-child-requires-clause-known g c =
     let (history, f) = c.self.invariant.0 in
     omega (arith, f.english.len, (running-known _ history f c.args.strand (c.requires.running history (subst (λ r. Follows r history) c.self.view_is f))).0)
 
-pub insert_reserved-requires-clause-known : goal.insert_reserved-requires-clause-known
-insert_reserved-requires-clause-known g c =
+pub insert_two_swapped-requires-clause-known : goal.insert_two_swapped-requires-clause-known
+insert_two_swapped-requires-clause-known g c =
     let (history, f) = c.self.invariant.0 in
     omega (arith, f.hebrew.len, (running-known _ history f c.args.strand (c.requires.running history (subst (λ r. Follows r history) c.self.view_is f))).0)
 
-pub insert_reserved-requires-2-clause-known : goal.insert_reserved-requires-2-clause-known
-insert_reserved-requires-2-clause-known g c =
-    let (history, f) = c.self.invariant.0 in
-    omega (arith, f.hebrew.len, (running-known _ history f c.args.strand (c.requires.running history (subst (λ r. Follows r history) c.self.view_is f))).0)
+pub overflow_add-next : goal.overflow_add-next
+overflow_add-next g c = omega (arith, c.insert_two-child.ensures.few)
 
 pub set_standing-requires : goal.set_standing-requires
 set_standing-requires g c =
@@ -50,9 +49,9 @@ overflow_add-joining g c =
     let join_lt = join-known _ history f c.args.strand c.args.join (ap enclosing at.1) in
     let its : c.record_of-joining.result.children_left ≡ children_left history c.args.join =
     ap (λ (k : Record). k.children_left) (c.record_of-joining.ensures ∙ put.others c.args.join (λ e. apart (sym e))) ∙ (f.each c.args.join join_lt).children in
-    let child_is : c.insert_reserved-child.result ≡ unused history = c.insert_reserved-child.ensures.item ∙ f.english.len ∙ f.count in
+    let child_is : c.insert_two-child.result ≡ unused history = c.insert_two-child.ensures.item ∙ f.english.len ∙ f.count in
     let few : children_left history c.args.join < unused history = few-left history c.args.join in
-    let fits : c.insert_reserved-child.result < 4294967296 = c.insert_reserved-child.type_inv in
+    let fits : c.insert_two-child.result < 4294967296 = c.insert_two-child.type_inv in
     omega arith
 
 pub put-requires : goal.put-requires
@@ -65,8 +64,7 @@ pub returns-clause-spawned : goal.returns-clause-spawned
 returns-clause-spawned g c history now =
     let f = subst (λ r. Follows r history) (sym c.self.view_is) now in
     let strand : ℕ = c.args.strand in
-    let child : ℕ = c.insert_reserved-child.result in
-    let next : ℕ = c.insert_reserved-next.result in
+    let child : ℕ = c.insert_two-child.result in
     let join : ℕ = c.args.join in
     let count : ℕ = length c.self.inside.records.items in
     let run = c.requires.running history now in
@@ -74,17 +72,21 @@ returns-clause-spawned g c history now =
     let lt : strand < count = (running-known _ history f c.args.strand run).0 in
     let kept : Record = record_at c.self.inside.records.items c.args.strand in
     let put : IsPut c.self.inside.records.items c.args.strand (record kept { standing = Over }) c.set_standing.new.records.items = c.set_standing.ensures.put in
-    let child_is : child ≡ count = c.insert_reserved-child.ensures.item ∙ f.english.len in
-    let english_1 = order-grows _ _ _ count strand child _ f.english lt child_is c.insert_reserved-child.ensures.item c.insert_reserved-child.ensures.items in
-    let next_is : next ≡ count + 1 = c.insert_reserved-next.ensures.item ∙ english_1.len in
-    let english_2 = order-grows _ _ _ (count + 1) child next _ english_1 (omega arith) next_is c.insert_reserved-next.ensures.item c.insert_reserved-next.ensures.items in
-    let hebrew_1 = order-grows _ _ _ count strand child _ f.hebrew lt child_is c.insert_reserved.ensures.item c.insert_reserved.ensures.items in
-    let hebrew_2 = order-grows _ _ _ (count + 1) strand next _ hebrew_1 (omega arith) next_is c.insert_reserved-2.ensures.item c.insert_reserved-2.ensures.items in
+    let english = c.self.inside.english.items in
+    let hebrew = c.self.inside.hebrew.items in
+    let child_is : child ≡ count = c.insert_two-child.ensures.item ∙ f.english.len in
+    let next_is : child + 1 ≡ count + 1 = omega (arith, child_is) in
+    let english_1 = order-grows english _ (insert_behind strand child english) count strand child child f.english lt child_is c.insert_two-child.ensures.item refl in
+    let english_2 = order-grows _ _ _ (count + 1) child (child + 1) (child + 1) english_1 (omega (arith, child_is)) next_is (next_is ∙ sym english_1.len) c.insert_two-child.ensures.items in
+    let swapped_is : c.insert_two_swapped.result ≡ child = c.insert_two_swapped.ensures.item ∙ f.hebrew.len ∙ sym child_is in
+    let larger = rw swapped_is at c.insert_two_swapped.ensures.items in
+    let hebrew_1 = order-grows hebrew _ (insert_behind strand child hebrew) count strand child child f.hebrew lt child_is (child_is ∙ sym f.hebrew.len) refl in
+    let hebrew_2 = order-grows _ _ _ (count + 1) strand (child + 1) (child + 1) hebrew_1 (omega (arith, lt)) next_is (next_is ∙ sym hebrew_1.len) larger in
     let all : count + 1 + 1 ≡ count + 2 = omega arith in
-    follows-later _ history strand child next join at.0 _ _ _ _ _ _ _ _ f run at.1 child_is next_is refl put c.record_of-joining.ensures c.put.ensures.put
+    follows-later _ history strand child (child + 1) join at.0 _ _ _ _ _ _ _ _ f run at.1 child_is next_is refl put c.record_of-joining.ensures c.put.ensures.put
     (rw c.running.ensures at c.push_reserved.ensures.items) (rw c.running-2.ensures at c.push_reserved-2.ensures.items) (rw all at english_2) (rw all at hebrew_2)
 
 pub invariant_of-self : goal.invariant_of-self
 invariant_of-self g c =
     let (history, f) = c.self.invariant.0 in
-    ((split c.args.strand c.insert_reserved-child.result c.insert_reserved-next.result c.args.join false ∷ history, returns-clause-spawned g c history (subst (λ r. Follows r history) c.self.view_is f)), (λ e. absurd (cc)))
+    ((split c.args.strand c.insert_two-child.result (c.insert_two-child.result + 1) c.args.join false ∷ history, returns-clause-spawned g c history (subst (λ r. Follows r history) c.self.view_is f)), (λ e. absurd (cc)))
