@@ -32,10 +32,10 @@ pub enum Scope {
 /// A strand, and the block of which it is the join.
 #[derive(Debug, Clone, Copy, PartialEq, Eq)]
 pub struct Record {
-    pub standing: Standing,
     pub scope: Scope,
     /// How many children of its block have not returned.
     pub children_left: u32,
+    pub standing: Standing,
 }
 
 impl Record {

@@ -1,7 +1,7 @@
 -- The words of a line, one at a time.
 use Rattle.std.proofs.Common.{◌≡◌, ◌≢◌, ℕ, ◌<◌, ◌≤◌, ◌∷◌, ◌++◌, [], List, length, true, false, arith, refl, ap, sym, ◌∙◌, get_or, lit<}
 use Rattle.std.specs.Prelude.{◌==◌, filter, IsTrue, Option, None, Some, MatchOption}
-use Rattle.std.specs.List.{All, AllByRecursion, AllPass, slice_split}
+use Rattle.std.specs.List.{All, AllByRecursion, AllPass, list_all, slice_split}
 use Rattle.std.specs.Char.{is_ascii_whitespace}
 use Rattle.std.specs.Str.{IsUtf8, NoCharPasses, NonePass}
 use Rattle.std.specs.Str.Iter.{IsAsciiSeparator, split_ascii_whitespace_text, split_ascii_whitespace_steps}
@@ -10,6 +10,7 @@ use denote.Ref.{Bor}
 use Rattle.std.proofs.lemmas.Bool.Decides.{nat_tests}
 use Rattle.std.proofs.lemmas.List.{get_or_default, append-nil}
 use Rattle.std.proofs.lemmas.List.Elements.{recursion_from_All, All-from_recursion}
+use Rattle.std.proofs.lemmas.List.Sums.{AllPass-from_list_all, list_all-from_AllPass}
 use Rattle.std.proofs.lemmas.List.Splits.{slice_split_at, slice_split_none}
 use Rattle.std.proofs.lemmas.Str.{IsUtf8-from_ascii}
 use Rattle.std.proofs.lemmas.Str.Ascii.{IsAscii-from_all}
@@ -23,6 +24,12 @@ text_is_ascii byte h = grind (arith, nat_tests)
 
 pub text_is_utf8 : (line : List ℕ) → IsTextLine line → IsUtf8 line
 text_is_utf8 line h = IsUtf8-from_ascii line (IsAscii-from_all line (λ i d l. text_is_ascii _ (h i d l)))
+
+pub is_text_line : (line : List ℕ) → list_all is_text_byte line ≡ true → IsTextLine line
+is_text_line line all = AllPass-from_list_all is_text_byte line all
+
+pub is_no_text_line : (line : List ℕ) → list_all is_text_byte line ≡ false → IsTextLine line → ⊥
+is_no_text_line line some text = let all : list_all is_text_byte line ≡ true = list_all-from_AllPass is_text_byte line text in absurd (cc)
 
 -- ---- the tests of bytes agree in it
 

@@ -60,10 +60,10 @@ pub enum Act {
 pub struct Request {
     /// The strand's number.
     pub strand: u32,
-    /// What it asks for.
-    pub act: Act,
     /// The line of the program, from 1 on.
     pub line: u32,
+    /// What it asks for.
+    pub act: Act,
 }
 
 /// A declared memory, whose cells are numbered from `first` on.

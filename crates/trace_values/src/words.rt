@@ -1,7 +1,7 @@
 //! Lines of a text, and words of a line.
 
 ghost use Rattle.std.specs.Prelude.{◌≡◌, ◌==◌, ◌<◌, [], ◌∷◌, length, position, MatchOption};
-ghost use Rattle.std.specs.List.{before_first};
+ghost use Rattle.std.specs.List.{before_first, list_all};
 ghost use Rattle.std.specs.Str.Lines.{strip_carriage_return};
 ghost use Rattle.trace_values.specs.Text.{pieces, IsTextLine, is_hash, is_text_byte as text_byte};
 ghost use Rattle.trace_values.specs.Text as spec;
@@ -43,19 +43,29 @@ fn is_text_byte(byte: u8) -> bool
     byte == b'\t' || (b' ' <= byte && byte <= b'~')
 }
 
-#[tactic(auto, using(crate::proofs::WordsOfLine::text_is_utf8))]
+/// Whether a line holds such bytes only. Each is tested, so that several are at once.
+fn is_text(line: &[u8]) -> bool
+    ensures { result ≡ list_all text_byte line.now }
+{
+    let mut all = true;
+    for byte in line {
+        all &= is_text_byte(*byte);
+    }
+    all
+}
+
+#[tactic(auto, using(crate::proofs::WordsOfLine::text_is_utf8, crate::proofs::WordsOfLine::is_text_line, crate::proofs::WordsOfLine::is_no_text_line))]
 /// The line as text, unless it has a byte that no line may hold.
 pub fn as_text(line: &[u8]) -> Option<&str>
     ensures { MatchOption result (IsTextLine line.now → ⊥) (λ text. (text.now ≡ line.now) × IsTextLine line.now) }
 {
+    if !is_text(line) {
+        return None;
+    }
     let Ok(text) = str::from_utf8(line) else {
         return None;
     };
-    if line.iter().all(|b| is_text_byte(*b)) {
-        Some(text)
-    } else {
-        None
-    }
+    Some(text)
 }
 
 fn before_comment(line: &str) -> &str
