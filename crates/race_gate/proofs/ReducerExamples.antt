@@ -3,9 +3,9 @@ use Rattle.std.proofs.Common.{◌≡◌, inl, inr, ℕ, true, false, [], ◌∷�
 use Rattle.access_table.specs.declared.kind.Kind.TheVariants as kind
 use Rattle.access_table.specs.declared.kind.Rule.{Rule}
 use Rattle.access_table.specs.declared.kind.Rule.TheVariants.{View}
+use Rattle.access_table.specs.Table.{is_reducer_read}
 use Rattle.trace_values.specs.declared.value.Monoid.TheVariants.{Sum}
 use Rattle.trace_values.specs.declared.value.Act.TheVariants.{Sync, Return, Get}
-use Rattle.access_table.specs.Table.{is_reducer_read}
 use Rattle.addresses.proofs.Extremes.{contains-head, contains-cases}
 use Rattle.control_history.specs.Updated.{updated}
 use Rattle.control_history.specs.History.{History, split, joined, ended}
