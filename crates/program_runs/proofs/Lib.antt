@@ -3,3 +3,10 @@ pub mod Strands
 pub mod Histories
 pub mod Numbered
 pub mod Numbering
+pub mod ExampleHistories
+pub mod ExampleDialogues
+pub mod ExampleRuns
+pub mod ExampleNoRuns
+pub mod ExampleTexts
+pub mod ExamplePrograms
+pub mod Examples

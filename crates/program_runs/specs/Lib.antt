@@ -4,3 +4,4 @@ pub mod Serial
 pub mod Numbers
 pub mod Coordinates
 pub mod Laws
+pub mod Examples

@@ -10,6 +10,7 @@ pub mod Examples
 pub mod Keeping
 pub mod Reading
 pub mod Getting
+pub mod ReducerExamples
 pub mod Answered
 pub mod Answering
 pub mod Controlled

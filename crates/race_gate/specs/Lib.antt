@@ -18,4 +18,5 @@ pub mod Faults
 pub mod Replies
 pub mod Admission
 pub mod Examples
+pub mod ReducerExamples
 pub mod Laws

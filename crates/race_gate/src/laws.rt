@@ -2,6 +2,7 @@
 
 ghost use Rattle.race_gate.specs.Admission.{AdmissionLaw, EntryLaw};
 ghost use Rattle.race_gate.specs.Examples.{WorkedHistories};
+ghost use Rattle.race_gate.specs.ReducerExamples.{WorkedReducers};
 ghost use Rattle.race_gate.specs.Laws.{RaceLaw, VerdictLaw, ReadLaw, ValueLaw};
 
 /// Later entries change no race.
@@ -33,5 +34,6 @@ pub fn admission_law()
 
 /// The worked histories are judged, and the wrong answers in them are not.
 pub fn examples_law()
-    ensures { WorkedHistories }
+    ensures cells { WorkedHistories }
+    ensures reducers { WorkedReducers }
 {}

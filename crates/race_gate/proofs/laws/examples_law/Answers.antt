@@ -1,5 +1,6 @@
 use Rattle.race_gate.proofs.Examples.{worked_histories}
+use Rattle.race_gate.proofs.ReducerExamples.{worked_reducers}
 use Rattle.race_gate.proofs.laws.examples_law.Goals as goal
 
 pub returns : goal.returns
-returns c = worked_histories
+returns c = record { cells = worked_histories; reducers = worked_reducers }

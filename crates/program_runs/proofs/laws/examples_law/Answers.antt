@@ -1,0 +1,5 @@
+use Rattle.program_runs.proofs.Examples.{examples_law}
+use Rattle.program_runs.proofs.laws.examples_law.Goals as goal
+
+pub returns : goal.returns
+returns c = examples_law
