@@ -34,7 +34,7 @@ module _ (scope : Scope) where
   no_room AssignedRegister word f = (refl, f.1)
   no_room place word f = absurd f
 
-  split_option : (place : Place) (word : List ℕ) (o : Option (List Placed)) (pairs : List Placed) → option_map (λ ps. (place, word) ∷ ps) o ≡ Some pairs
+  pub split_option : (place : Place) (word : List ℕ) (o : Option (List Placed)) (pairs : List Placed) → option_map (λ ps. (place, word) ∷ ps) o ≡ Some pairs
       → (rest : List Placed) × (o ≡ Some rest) × (pairs ≡ (place, word) ∷ rest)
   split_option place word None pairs e = cc
   split_option place word (Some rest) pairs e = (rest, refl, cc)

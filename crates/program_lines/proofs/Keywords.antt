@@ -18,10 +18,10 @@ keyword_by first second third =
     (cond (first == 114) (cond (third == 100) Reducer (Access kind.Read)) (cond (first == 112) (cond (second == 102) ParallelFor (Access kind.Put))
     (cond (second == 108) Else End))))))))))))
 
-abbrev keyword_of_word : List ℕ → Keyword
+abbrev pub keyword_of_word : List ℕ → Keyword
 keyword_of_word word = keyword_by (get_or word 0 0) (get_or word 1 0) (get_or word 2 0)
 
-keyword_of_spelling : (keyword : Keyword) → keyword_of_word (spelling keyword) ≡ keyword
+pub keyword_of_spelling : (keyword : Keyword) → keyword_of_word (spelling keyword) ≡ keyword
 keyword_of_spelling Mem = refl
 keyword_of_spelling Reducer = refl
 keyword_of_spelling Func = refl
@@ -43,10 +43,10 @@ keyword_of_spelling End = refl
 pub keyword_once : (keyword other : Keyword) → spelling keyword ≡ spelling other → keyword ≡ other
 keyword_once keyword other same = sym (keyword_of_spelling keyword) ∙ (ap keyword_of_word same ∙ keyword_of_spelling other)
 
-abbrev sign_of_word : List ℕ → Operator
+abbrev pub sign_of_word : List ℕ → Operator
 sign_of_word word = cond (get_or word 0 0 == 43) Plus (cond (get_or word 0 0 == 45) Minus (cond (get_or word 0 0 == 42) Times Below))
 
-sign_of_spelling : (operator : Operator) → sign_of_word (sign_spelling operator) ≡ operator
+pub sign_of_spelling : (operator : Operator) → sign_of_word (sign_spelling operator) ≡ operator
 sign_of_spelling Plus = refl
 sign_of_spelling Minus = refl
 sign_of_spelling Times = refl

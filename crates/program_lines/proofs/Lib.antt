@@ -7,3 +7,5 @@ pub mod Once
 pub mod Crowded
 pub mod PlainItems
 pub mod Within
+pub mod Readings
+pub mod Totality

@@ -88,7 +88,7 @@ module _ (scope : Scope) where
     words_not_below ws,
   )
 
-  lowest_by : (ws arguments : List (List ℕ)) (keyword : Keyword) (rest : Option (List Placed)) (cause : Cause) → ws ≡ spelling keyword ∷ arguments → HasKeyword scope.known.version keyword
+  pub lowest_by : (ws arguments : List (List ℕ)) (keyword : Keyword) (rest : Option (List Placed)) (cause : Cause) → ws ≡ spelling keyword ∷ arguments → HasKeyword scope.known.version keyword
       → placed (wanted keyword) (optional keyword) arguments ≡ rest → IsPlacedFault scope rest cause → IsLowest (WordsFault scope ws) cause
   lowest_by ws arguments keyword None cause e has fits f =
       subst (λ (t : Cause). IsLowest (WordsFault scope ws) t) (sym f) (lowest_of_count ws arguments keyword e fits)

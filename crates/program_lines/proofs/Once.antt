@@ -142,52 +142,52 @@ module _ (scope : Scope) where
 abbrev first_register : Register
 first_register = register_at 0 (lit< tt)
 
-abbrev register_in : Value → Register
+abbrev pub register_in : Value → Register
 register_in (OfAssigned register named) = register
 register_in (OfRegister register) = register
 register_in value = first_register
 
-abbrev named_in : Value → Option (List ℕ)
+abbrev pub named_in : Value → Option (List ℕ)
 named_in (OfAssigned register named) = named
 named_in value = None
 
-abbrev operand_in : Value → Operand
+abbrev pub operand_in : Value → Operand
 operand_in (OfOperand operand) = operand
 operand_in value = Number 0
 
-abbrev location_in : Value → Location
+abbrev pub location_in : Value → Location
 location_in (OfLocation location) = location
 location_in value = Cell 0
 
-abbrev number_in : Value → ℕ
+abbrev pub number_in : Value → ℕ
 number_in (Plain (trace.OfNumber number)) = number
 number_in value = 0
 
-abbrev name_in : Value → List ℕ
+abbrev pub name_in : Value → List ℕ
 name_in (Plain (trace.OfName name)) = name
 name_in value = []
 
-abbrev monoid_in : Value → Monoid
+abbrev pub monoid_in : Value → Monoid
 monoid_in (Plain (trace.OfMonoid monoid)) = monoid
 monoid_in value = SumMonoid
 
-abbrev count_in : List Value → Option ℕ
+abbrev pub count_in : List Value → Option ℕ
 count_in [] = None
 count_in (value ∷ values) = Some (number_in value)
 
-abbrev joined_by : Value → Operand → Operand → Expression
+abbrev pub joined_by : Value → Operand → Operand → Expression
 joined_by (OfSign Plus) left right = Sum left right
 joined_by (OfSign Minus) left right = Difference left right
 joined_by (OfSign Times) left right = Product left right
 joined_by (OfSign Below) left right = Less left right
 joined_by value left right = PlainOperand left
 
-abbrev expression_in : List Value → Expression
+abbrev pub expression_in : List Value → Expression
 expression_in (left ∷ sign ∷ right ∷ values) = joined_by sign (operand_in left) (operand_in right)
 expression_in (left ∷ values) = PlainOperand (operand_in left)
 expression_in values = PlainOperand (Number 0)
 
-abbrev access_by : ℕ → Keyword → Value → Value → Item
+abbrev pub access_by : ℕ → Keyword → Value → Value → Item
 access_by at (begin.Access kind.Read) a b = Does (Read at (register_in a) (location_in b)) (named_in a)
 access_by at (begin.Access kind.Write) a b = Does (Write at (location_in a) (operand_in b)) None
 access_by at (begin.Access kind.Bump) a b = Does (Bump at (location_in a) (operand_in b)) None
@@ -200,15 +200,15 @@ access_by at begin.Reducer a b = Reduces (name_in a) (monoid_in b)
 access_by at begin.Func a b = Begins (name_in a) (name_in b)
 access_by at keyword a b = Blank
 
-abbrev first_of_values : List Value → Value
+abbrev pub first_of_values : List Value → Value
 first_of_values [] = Nothing
 first_of_values (value ∷ values) = value
 
-abbrev behind_first : List Value → List Value
+abbrev pub behind_first : List Value → List Value
 behind_first [] = []
 behind_first (value ∷ values) = values
 
-abbrev item_by : ℕ → Keyword → List Value → Item
+abbrev pub item_by : ℕ → Keyword → List Value → Item
 item_by at begin.Mem values = Declared (name_in (first_of_values values)) (count_in (behind_first values))
 item_by at begin.Let values = Does (Let at (register_in (first_of_values values)) (expression_in (behind_first (behind_first values)))) (named_in (first_of_values values))
 item_by at begin.Sync values = Does (Sync at) None

@@ -36,11 +36,11 @@ IsWithinScope scope (Call line function argument) = function < length scope.func
 IsWithinScope scope (ParallelFor line register count function) = function < length scope.functions
 IsWithinScope scope statement = Unit {0}
 
-below_by : (here : Bool) (from number bound : ℕ) (rest : Option ℕ) → from < bound → (rest ≡ Some number → number < bound) → cond here (Some from) rest ≡ Some number → number < bound
+pub below_by : (here : Bool) (from number bound : ℕ) (rest : Option ℕ) → from < bound → (rest ≡ Some number → number < bound) → cond here (Some from) rest ≡ Some number → number < bound
 below_by true from number bound rest l h e = let same : from ≡ number = cc in omega arith
 below_by false from number bound rest l h e = h e
 
-position_below : {X : Type 0} (test : X → Bool) (from number : ℕ) (xs : List X) → position_from test from xs ≡ Some number → number < from + length xs
+pub position_below : {X : Type 0} (test : X → Bool) (from number : ℕ) (xs : List X) → position_from test from xs ≡ Some number → number < from + length xs
 position_below test from number [] e = cc
 position_below test from number (x ∷ xs) e =
     below_by (test x) from number (from + length (x ∷ xs)) (position_from test (from + 1) xs) (omega arith)

@@ -1,11 +1,12 @@
 -- Laws of the grammar.
-use Rattle.std.specs.Prelude.{◌≡◌, ◌≤◌, ℕ, IsTrue, List, length}
+use Rattle.std.specs.Prelude.{◌≡◌, ◌≤◌, ◌⊎◌, ℕ, IsTrue, List, length}
 use Rattle.std.specs.List.{All}
 use Rattle.trace_values.specs.declared.fault.Cause.{Cause}
 use Rattle.trace_values.specs.declared.fault.Cause.TheVariants.{TooMany}
 use Rattle.program_lines.specs.Scopes.{Scope, max_registers}
 use Rattle.program_lines.specs.Grammar.{Item, ItemMeans}
 use Rattle.trace_values.specs.Text.{words, IsTextLine}
+use Rattle.trace_values.specs.Causes.{IsLowest}
 use Rattle.trace_text.specs.Shapes.{is_numbered}
 use Rattle.trace_text.specs.Printing.{spaced}
 use Rattle.program_lines.specs.Faults.{WordsFault}
@@ -15,9 +16,15 @@ use Rattle.program_lines.specs.Printing.{item_words, scope_behind}
 abbrev pub OneMeaning : Type 0
 OneMeaning = (at : ℕ) (scope : Scope) (ws : List (List ℕ)) (item other : Item) → ItemMeans at scope ws item → ItemMeans at scope ws other → item ≡ other
 
--- Words that say something have no fault.
+-- The words of a line say something, or have a lowest cause why not. A function has no more registers than it may.
 abbrev pub MeaningOrFault : Type 0
-MeaningOrFault = (at : ℕ) (scope : Scope) (ws : List (List ℕ)) (item : Item) (why : Cause) → ItemMeans at scope ws item → WordsFault scope ws why → ⊥
+MeaningOrFault =
+    (at : ℕ) (scope : Scope) (ws : List (List ℕ)) → length scope.registers ≤ max_registers
+    → ((item : Item) × ItemMeans at scope ws item) ⊎ ((why : Cause) × IsLowest (WordsFault scope ws) why)
+
+-- Words that say something have no fault.
+abbrev pub MeaningExcludesFault : Type 0
+MeaningExcludesFault = (at : ℕ) (scope : Scope) (ws : List (List ℕ)) (item : Item) (why : Cause) → ItemMeans at scope ws item → WordsFault scope ws why → ⊥
 
 -- There is no room for a register only where all are known.
 abbrev pub RoomForRegisters : Type 0

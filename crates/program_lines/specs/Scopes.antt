@@ -9,6 +9,10 @@ use Rattle.trace_values.specs.Names.{IsFresh as IsUndeclaredName}
 abbrev pub max_registers : ℕ
 max_registers = 16
 
+-- How many names of functions are kept at most: each has a number of 32 bits.
+abbrev pub max_functions_named : ℕ
+max_functions_named = 4294967295
+
 -- The functions are those of the whole text, in the order of their lines. So many of them have begun on earlier lines. The registers are
 -- those of the open function other than `ok`; outside a function there are none.
 pub record Scope : Type 0 where

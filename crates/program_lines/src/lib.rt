@@ -4,8 +4,9 @@
 //! The grammar stands in `specs/` as a relation between the words of a line and what they say in their scope: the declarations, the
 //! functions of the text and the registers of the open function. A table says what each keyword wants behind it, and beside it stands,
 //! for each cause, what is wrong with words that say nothing. [`read_line`] carries the theorem that the code meets it: an answer `Ok` is
-//! what the words say, and `Err` is the lowest cause in them. The laws [`one_meaning`] and [`meaning_or_fault`] say that words have one
-//! meaning or a fault. [`put_statement`] appends the plain words of a statement, which say it again by [`plain_meaning`].
+//! what the words say, and `Err` is the lowest cause in them. The laws [`one_meaning`], [`meaning_or_fault`] and
+//! [`meaning_excludes_fault`] say that words have one meaning or a fault, and not both. [`put_statement`] appends the plain words of a
+//! statement, which say it again by [`plain_meaning`].
 #![tactic(auto)]
 
 mod item;
@@ -19,7 +20,9 @@ mod scope;
 mod statement;
 
 pub use item::Item;
-pub use laws::{meaning_or_fault, one_meaning, plain_meaning, room_for_registers};
+pub use laws::{
+    meaning_excludes_fault, meaning_or_fault, one_meaning, plain_meaning, room_for_registers,
+};
 pub use line::read_line;
 pub use print::put_statement;
 pub use scope::{FUNCTION_NAMES, FunctionNames, Scope};

@@ -1,9 +1,8 @@
 //! What a line is read behind.
 
-ghost use Rattle.std.specs.Prelude.{◌≡◌, ◌≤◌, ◌<◌, [], OnOk, OnErr, length, option_map, position};
+ghost use Rattle.std.specs.Prelude.{◌≡◌, ◌≤◌, [], OnOk, OnErr, length, option_map, position};
 ghost use Rattle.std.specs.Str.{bytes_eq};
-ghost use Rattle.trace_values.specs.Limits.{max_lines};
-ghost use Rattle.program_lines.specs.Scopes.{max_registers, register_named, function_named, with_name};
+ghost use Rattle.program_lines.specs.Scopes.{max_functions_named, max_registers, register_named, function_named, with_name};
 
 use crate::statement::Register;
 use indexmap::IndexSet;
@@ -12,8 +11,8 @@ use std::hash::{BuildHasherDefault, FoldHasher};
 use std::marker::Model;
 use trace_values::{Name, Names};
 
-/// The most names of functions that are kept, which is the most lines of a text.
-pub const FUNCTION_NAMES: usize = 4_000_000;
+/// The most names of functions that are kept, since they are numbered by 32 bits.
+pub const FUNCTION_NAMES: usize = 4_294_967_295;
 
 /// The names of a text's functions, each once, in the order of the lines that make them known. They are found in constant time. Contracts
 /// see the list of the names.
@@ -24,14 +23,14 @@ pub struct FunctionNames<'a, A: Allocator> {
 
 impl<'a, A: Allocator> Model for FunctionNames<'a, A> {
     ghost use Rattle.std.specs.Prelude.{ℕ, ◌≤◌, List, map, length};
-    ghost use Rattle.trace_values.specs.Limits.{max_lines};
+    ghost use Rattle.program_lines.specs.Scopes.{max_functions_named};
     ghost use denote.Ref.{Bor};
 
     ghost Value = { List (List ℕ) };
 
     ghost view = { λ functions. map (λ (name : Bor (List ℕ)). name.now) functions.names.keys };
 
-    ghost invariant = { λ functions. length functions.names.keys ≤ max_lines };
+    ghost invariant = { λ functions. length functions.names.keys ≤ max_functions_named };
 }
 
 impl<'a, A: Allocator + Copy> FunctionNames<'a, A> {
@@ -47,17 +46,19 @@ impl<'a, A: Allocator + Copy> FunctionNames<'a, A> {
     /// How many names there are.
     pub fn len(&self) -> usize
         ensures count { result ≡ length self.now }
-        ensures few { result ≤ max_lines }
+        ensures few { result ≤ max_functions_named }
     {
         self.names.len()
     }
 
-    /// Adds a name, unless it is there.
+    /// Adds a name, unless it is there. Where all numbers are taken there is no room for another.
     pub fn add(&mut self, name: &'a str) -> Result<(), AllocError>
-        requires { length self.old < max_lines }
         ensures ok { OnOk result (self.new ≡ with_name self.old name.now) }
         ensures err { OnErr result (self.new ≡ self.old) }
     {
+        if self.names.len() >= FUNCTION_NAMES {
+            return Err(AllocError);
+        }
         self.names.insert(name)?;
         Ok(())
     }

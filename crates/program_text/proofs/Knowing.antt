@@ -1,11 +1,9 @@
 -- Words that make a function known.
-use Rattle.std.proofs.Common.{◌≡◌, ℕ, zero, suc, ◌+◌, ◌-◌, ◌<◌, ◌≤◌, ◌∷◌, ◌++◌, [], List, Bool, true, false, not, cond, length, take, arith, refl, sym, ap, ◌∙◌, subst}
+use Rattle.std.proofs.Common.{◌≡◌, ℕ, zero, suc, ◌+◌, ◌-◌, ◌<◌, ◌≤◌, ◌∷◌, [], List, Bool, true, false, not, cond, length, take, arith, refl, sym, ap, ◌∙◌, subst}
 use Rattle.std.specs.Prelude.{◌↔◌, ◌&&◌, IsTrue, nat_lt, Option, Some, None, position}
-use Rattle.std.specs.List.{All, list_all, list_any, position_or_len, before_first}
-use Rattle.std.specs.Str.{bytes_eq}
+use Rattle.std.specs.List.{All, list_all, position_or_len, before_first}
 use Rattle.std.specs.Char.{is_ascii_lowercase}
 use Rattle.std.proofs.lemmas.Bool.Decides.{nat_tests}
-use Rattle.std.proofs.lemmas.List.{length_push}
 use Rattle.std.proofs.lemmas.List.Sums.{AllPass-from_list_all, list_all-from_AllPass}
 use Rattle.std.proofs.lemmas.Option.{cond_some}
 use Rattle.trace_values.specs.Text.{IsName, IsTextLine, is_name_byte, is_text_byte, is_hash, words, split_words, lines}
@@ -118,35 +116,13 @@ unknown_by line front e out = by (list_all is_text_byte (before_first is_hash li
 
 -- ---- the functions of a text
 
-length_with : (names : List (List ℕ)) (name : Option (List ℕ)) → length (with_function names name) ≤ length names + 1
-length_with names None = omega arith
-length_with names (Some name) = by (list_any (bytes_eq name) names)
-  where
-    by : (b : Bool) → length (cond b names (names ++ name ∷ [])) ≤ length names + 1
-    by true = omega arith
-    by false = let l = length_push names name in omega (arith, l)
-
-take_none : (n : ℕ) (ls : List (List ℕ)) → ls ≡ [] → take n ls ≡ []
-take_none zero ls e = refl
-take_none (suc n) [] e = refl
-take_none (suc n) (line ∷ ls) e = cc
-
 -- one line is read
-pub names_step : (at : ℕ) (names : List (List ℕ)) (ls : List (List ℕ)) (line : List ℕ) (after : List (List ℕ)) → ls ≡ line ∷ after → at < 4000000
-    → functions_from names (take (4000000 - at) ls) ≡ functions_from (with_function names (function_named line)) (take (4000000 - (at + 1)) after)
-names_step at names ls line after e l =
-    let n : 4000000 - at ≡ suc (4000000 - (at + 1)) = omega arith in
-    ap (λ (t : List (List ℕ)). functions_from names (take (4000000 - at) t)) e
-    ∙ ap (λ (m : ℕ). functions_from names (take m (line ∷ after))) n
+pub names_step : (names : List (List ℕ)) (ls : List (List ℕ)) (line : List ℕ) (after : List (List ℕ)) → ls ≡ line ∷ after
+    → functions_from names ls ≡ functions_from (with_function names (function_named line)) after
+names_step names ls line after e = ap (functions_from names) e
 
-pub names_shorter : (at : ℕ) (names : List (List ℕ)) (name : Option (List ℕ)) → length names < at → length (with_function names name) < at + 1
-names_shorter at names name l = let k = length_with names name in omega (arith, k)
-
-pub names_done : (n : ℕ) (names : List (List ℕ)) (ls : List (List ℕ)) → ls ≡ [] → functions_from names (take n ls) ≡ names
-names_done n names ls e = ap (functions_from names) (take_none n ls e)
-
-pub names_full : (at : ℕ) (names : List (List ℕ)) (ls : List (List ℕ)) → 4000000 ≤ at → functions_from names (take (4000000 - at) ls) ≡ names
-names_full at names ls l = let n : 4000000 - at ≡ 0 = omega arith in ap (λ (m : ℕ). functions_from names (take m ls)) n
+pub names_done : (names : List (List ℕ)) (ls : List (List ℕ)) → ls ≡ [] → functions_from names ls ≡ names
+names_done names ls e = ap (functions_from names) e
 
 pub no_lines : (text : List ℕ) → length text ≡ 0 → lines text ≡ []
 no_lines [] e = refl

@@ -11,3 +11,4 @@ pub mod Whole
 pub mod PrintedRows
 pub mod PrintedLaw
 pub mod Printed
+pub mod Totality

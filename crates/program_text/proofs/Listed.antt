@@ -4,11 +4,10 @@ use Rattle.std.proofs.Common.{length-append}
 use Rattle.std.specs.Prelude.{◌&&◌, ◌||◌, IsTrue, Option, Some, None, codes, option_map}
 use Rattle.std.specs.List.{list_all, list_any, position_from, position_or_len, before_first}
 use Rattle.std.specs.Str.{bytes_eq}
-use Rattle.std.proofs.lemmas.List.{append-nil, length-map, map_push, take_all}
+use Rattle.std.proofs.lemmas.List.{append-nil, length-map, map_push}
 use Rattle.std.proofs.lemmas.List.Sums.{list_all-from_AllPass}
 use Rattle.std.proofs.lemmas.List.Elements.{All-take}
 use Rattle.trace_values.specs.Text.{words, IsTextLine, is_hash, is_text_byte}
-use Rattle.trace_values.specs.Limits.{max_lines}
 use Rattle.trace_values.specs.declared.value.Version.{Version}
 use Rattle.program_lines.specs.declared.keyword.Keyword.{Keyword}
 use Rattle.program_lines.specs.declared.keyword.Keyword.TheVariants as word
@@ -216,23 +215,9 @@ lines_functions names at so_far (line ∷ ls) contents e m =
     let step = known_step names more.0 at so_far line (e ∙ more.1) m.0 m.1 ∙ sym (extended_names at so_far m.0 m.1.3) in
     ap (λ (t : List (List ℕ)). functions_from t ls) step ∙ lines_functions names (at + 1) (extended at so_far m.0) ls contents e m.2
 
--- ---- the number of lines
-
-few_lines : (names : List (List ℕ)) (at : ℕ) (so_far : Draft) (ls : List (List ℕ)) (contents : Contents) → at ≤ max_lines + 1 → LinesMean names at so_far ls contents → at + length ls ≤ max_lines + 1
-few_lines names at so_far [] contents l m = omega (arith, l)
-few_lines names at so_far (line ∷ ls) contents l m =
-    let first : at ≤ max_lines = m.1.0 in
-    let rest = few_lines names (at + 1) (extended at so_far m.0) ls contents (omega (arith, first)) m.2 in
-    omega (arith, rest)
-
-all_lines : (names : List (List ℕ)) (version : Version) (ls : List (List ℕ)) (contents : Contents) → LinesMean names 2 (nothing version) ls contents → functions_of ls ≡ functions_from [] ls
-all_lines names version ls contents m =
-    let few = few_lines names 2 (nothing version) ls contents (omega arith) m in
-    ap (functions_from []) (take_all (max_lines - 1) ls (omega (arith, few)))
-
 -- the functions of a text that means a program are the program's
 pub functions_are : (version : Version) (ls : List (List ℕ)) (contents : Contents) → LinesMean (functions_of ls) 2 (nothing version) ls contents → functions_of ls ≡ names_of contents.functions
-functions_are version ls contents m = text_functions (functions_of ls) 2 (nothing version) ls contents (all_lines (functions_of ls) version ls contents m) m
+functions_are version ls contents m = text_functions (functions_of ls) 2 (nothing version) ls contents refl m
 
 -- so they are as many
 pub as_many : (version : Version) (ls : List (List ℕ)) (contents : Contents) → LinesMean (functions_of ls) 2 (nothing version) ls contents → length (functions_of ls) ≡ length contents.functions
@@ -240,5 +225,4 @@ as_many version ls contents m = ap length (functions_are version ls contents m) 
 
 -- and lines that mean it with its functions have these
 pub functions_again : (version : Version) (ls : List (List ℕ)) (contents : Contents) → LinesMean (names_of contents.functions) 2 (nothing version) ls contents → functions_of ls ≡ names_of contents.functions
-functions_again version ls contents m =
-    all_lines (names_of contents.functions) version ls contents m ∙ lines_functions (names_of contents.functions) 2 (nothing version) ls contents refl m
+functions_again version ls contents m = lines_functions (names_of contents.functions) 2 (nothing version) ls contents refl m

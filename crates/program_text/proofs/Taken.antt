@@ -58,7 +58,7 @@ module _ (names : List (List ℕ)) (at : ℕ) (before : Draft) (line : List ℕ)
     too_many (inl f) = inl f
     too_many (inr f) = inr (inl (item, m, f))
 
-    lowest_of_room : (cause : Cause) → IsRoomCause at before item cause → IsLowest (LineFault names at before line) cause
+    pub lowest_of_room : (cause : Cause) → IsRoomCause at before item cause → IsLowest (LineFault names at before line) cause
     lowest_of_room BadNesting f = ((item, m, f), below_nesting)
     lowest_of_room TooMany f = (too_many f.1, below_too_many f.0)
     lowest_of_room cause f = absurd f
@@ -176,14 +176,20 @@ version_kept : (names : List (List ℕ)) (at : ℕ) (before : Draft) (ls : List 
 version_kept names at before [] contents m = ap (λ (c : Contents). c.known.version) m.2
 version_kept names at before (line ∷ ls) contents m = version_kept names (at + 1) (extended at before m.0) ls contents m.2 ∙ version_extended at before m.0
 
+-- a header and the lines behind it
+pub lines_of_program : (version : Version) (first : List ℕ) (rest : List (List ℕ)) (contents : Contents) → IsHeader first version
+    → LinesMean (functions_of rest) 2 (nothing version) rest contents → LinesOfProgram (first ∷ rest) contents
+lines_of_program version first rest contents h m =
+    let same : contents.known.version ≡ version = version_kept (functions_of rest) 2 (nothing version) rest contents m in
+    let header : IsHeader first contents.known.version = subst (λ (v : Version). IsHeader first v) (sym same) h in
+    let behind : LinesMean (functions_of rest) 2 (nothing contents.known.version) rest contents =
+    subst (λ (v : Version). LinesMean (functions_of rest) 2 (nothing v) rest contents) (sym same) m in
+    (header, behind)
+
 text_means : (version : Version) (text first rest : List ℕ) (contents : Contents) → lines text ≡ first ∷ lines rest → IsHeader first version
     → LinesMean (functions_of (lines rest)) 2 (nothing version) (lines rest) contents → TextMeans text contents
 text_means version text first rest contents e h m =
-    let same : contents.known.version ≡ version = version_kept (functions_of (lines rest)) 2 (nothing version) (lines rest) contents m in
-    let header : IsHeader first contents.known.version = subst (λ (v : Version). IsHeader first v) (sym same) h in
-    let behind : LinesMean (functions_of (lines rest)) 2 (nothing contents.known.version) (lines rest) contents =
-    subst (λ (v : Version). LinesMean (functions_of (lines rest)) 2 (nothing v) (lines rest) contents) (sym same) m in
-    subst (λ (t : List (List ℕ)). LinesOfProgram t contents) (sym e) (header, behind)
+    subst (λ (t : List (List ℕ)). LinesOfProgram t contents) (sym e) (lines_of_program version first (lines rest) contents h m)
 
 body_fault : (version : Version) (text first rest : List ℕ) (fault : TextFault) → lines text ≡ first ∷ lines rest → IsHeader first version → IsBodyFault version rest fault
     → IsTextFault text fault

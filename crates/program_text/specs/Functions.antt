@@ -1,11 +1,10 @@
 -- The functions that a text has: a name is known in the whole text where some line has the words `func`, that name and a name.
-use Rattle.std.specs.Prelude.{ℕ, ◌-◌, Bool, false, ◌&&◌, nat_lt, cond, Option, Some, None, List, [], ◌∷◌, length, take, codes}
+use Rattle.std.specs.Prelude.{ℕ, Bool, false, ◌&&◌, nat_lt, cond, Option, Some, None, List, [], ◌∷◌, length, codes}
 use Rattle.std.specs.List.{list_all, before_first}
 use Rattle.std.specs.Char.{is_ascii_lowercase}
 use Rattle.std.specs.Str.{bytes_eq}
 use Rattle.program_lines.specs.Scopes.{with_name}
 use Rattle.trace_values.specs.Text.{words, is_hash, is_name_byte, is_text_byte}
-use Rattle.trace_values.specs.Limits.{max_lines}
 
 -- Whether a word is a name.
 abbrev pub is_name_word : List ℕ → Bool
@@ -31,6 +30,6 @@ abbrev pub functions_from : List (List ℕ) → List (List ℕ) → List (List �
 functions_from names [] = names
 functions_from names (line ∷ lines) = functions_from (with_function names (function_named line)) lines
 
--- The names that the lines behind the header make known, as far as a text has lines.
+-- The names that the lines behind the header make known: all lines, also one that is past the most that a program may have.
 abbrev pub functions_of : List (List ℕ) → List (List ℕ)
-functions_of lines = functions_from [] (take (max_lines - 1) lines)
+functions_of lines = functions_from [] lines

@@ -1,5 +1,5 @@
 -- Laws of the grammar.
-use Rattle.std.specs.Prelude.{◌≡◌, ℕ, List, length}
+use Rattle.std.specs.Prelude.{◌≡◌, ◌⊎◌, ℕ, List, length}
 use Rattle.trace_values.specs.declared.fault.Cause.{Cause}
 use Rattle.trace_values.specs.Declarations.{cells_of}
 use Rattle.program_text.specs.Sound.{IsSound}
@@ -11,9 +11,13 @@ use Rattle.program_text.specs.Faults.{TextFaults}
 abbrev pub OneMeaning : Type 0
 OneMeaning = (text : List ℕ) (one other : Contents) → TextMeans text one → TextMeans text other → one ≡ other
 
--- No text means a program and has a fault.
+-- Each list of bytes means a program or has a fault.
 abbrev pub MeaningOrFault : Type 0
-MeaningOrFault = (text : List ℕ) (contents : Contents) (line : ℕ) (why : Cause) → TextMeans text contents → TextFaults text line why → ⊥
+MeaningOrFault = (text : List ℕ) → ((contents : Contents) × TextMeans text contents) ⊎ ((line : ℕ) × (why : Cause) × TextFaults text line why)
+
+-- No text means a program and has a fault.
+abbrev pub MeaningExcludesFault : Type 0
+MeaningExcludesFault = (text : List ℕ) (contents : Contents) (line : ℕ) (why : Cause) → TextMeans text contents → TextFaults text line why → ⊥
 
 -- A text has at most one fault.
 abbrev pub OneFault : Type 0

@@ -1,15 +1,20 @@
 //! Laws of the grammar.
 
-ghost use Rattle.program_text.specs.Laws.{OneMeaning, MeaningOrFault, OneFault, SoundLaw};
+ghost use Rattle.program_text.specs.Laws.{OneMeaning, MeaningOrFault, MeaningExcludesFault, OneFault, SoundLaw};
 
 /// A text means at most one program.
 pub fn one_meaning()
     ensures { OneMeaning }
 {}
 
-/// No text means a program and has a fault.
+/// Each list of bytes means a program or has a fault.
 pub fn meaning_or_fault()
     ensures { MeaningOrFault }
+{}
+
+/// No text means a program and has a fault.
+pub fn meaning_excludes_fault()
+    ensures { MeaningExcludesFault }
 {}
 
 /// A text has at most one fault.

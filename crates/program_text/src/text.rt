@@ -1,9 +1,8 @@
 //! A program's text, a line at a time.
 
-ghost use Rattle.std.specs.Prelude.{◌≡◌, ◌<◌, [], None, Some, length, OnOk, IfOk, MatchResult, option_copied, position};
+ghost use Rattle.std.specs.Prelude.{◌≡◌, [], None, Some, OnOk, IfOk, MatchResult, option_copied, position};
 ghost use Rattle.std.specs.List.{before_first};
 ghost use Rattle.trace_values.specs.Text.{lines, is_hash};
-ghost use Rattle.trace_values.specs.Limits.{max_lines};
 ghost use Rattle.program_text.specs.Functions.{is_name_word, function_in as named_in, function_named, with_function, functions_of};
 ghost use Rattle.program_text.specs.Drafts.{held};
 ghost use Rattle.program_text.specs.Codes.{main_of as main_among};
@@ -14,7 +13,7 @@ use crate::draft::{Draft, fault};
 use crate::function::Function;
 use program_lines::FunctionNames;
 use std::alloc::{AllocError, Allocator};
-use trace_text::{LINES, header};
+use trace_text::header;
 use trace_values::{
     Cause, TextFault, Version, Words, as_text, is_name, split_line, without_return,
 };
@@ -72,7 +71,6 @@ fn note_function<'a, A: Allocator + Copy>(
     names: &mut FunctionNames<'a, A>,
     line: &'a [u8],
 ) -> Result<(), AllocError>
-    requires { length names.old < max_lines }
     ensures { OnOk result (names.new ≡ with_function names.old (function_named line.now)) }
 {
     match function_of(line) {
@@ -81,7 +79,7 @@ fn note_function<'a, A: Allocator + Copy>(
     }
 }
 
-/// The functions that the lines behind the header make known, as far as a text has lines.
+/// The functions that the lines behind the header make known, also those past the most that a program may have.
 fn function_names<'a, A: Allocator + Copy>(
     alloc: A,
     text: &'a [u8],
@@ -90,14 +88,9 @@ fn function_names<'a, A: Allocator + Copy>(
 {
     let mut names = FunctionNames::new(alloc);
     let mut rest = text;
-    let mut at = 1;
     while !rest.is_empty() {
-        if at >= LINES {
-            return Ok(names);
-        }
         let (line, after) = split_line(rest);
         note_function(&mut names, without_return(line))?;
-        at += 1;
         rest = after;
     }
     Ok(names)

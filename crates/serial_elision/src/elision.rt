@@ -18,6 +18,7 @@ use program_steps::{cell_of, result_of, value_of};
 use program_text::{Function, Program};
 use reducer_views::{View, combine, identity, of_put, of_update, value};
 use std::alloc::{AllocError, Allocator};
+use thiserror::Error;
 use trace_values::{Monoid, Monoids, Shape};
 
 /// The functions that are begun, the topmost apart, with the cells' values and the reducers' views.
@@ -41,12 +42,25 @@ pub struct Elided<A: Allocator> {
 }
 
 /// Why there is no last memory.
-#[derive(Clone, Copy, Debug, PartialEq, Eq)]
+#[derive(Clone, Copy, Debug, PartialEq, Eq, Error)]
 pub enum ElideFault {
-    /// More requests than the limit.
+    /// There are more requests than the limit.
+    #[error("limit")]
     Limit,
-    /// A growth was refused.
+    /// There is no memory.
+    #[error("memory")]
     Memory,
+}
+
+impl From<AllocError> for ElideFault {
+    ghost use Rattle.std.specs.Prelude.{◌≡◌};
+    ghost use Rattle.serial_elision.specs.declared.elision.ElideFault.TheVariants.{Memory};
+
+    ghost from_gives = { λ _ fault. fault ≡ Memory };
+
+    fn from(_fault: AllocError) -> ElideFault {
+        ElideFault::Memory
+    }
 }
 
 /// The program's last memory, from `main` with argument 0, cells that hold 0 and views that are identities, with at most `limit` requests.
@@ -58,14 +72,10 @@ pub fn elide<A: Allocator + Clone, B: Allocator>(
     ensures ok { IfOk result (λ elided. (elided.requests ≤ limit) × Elides program.now.functions (monoids_in program.now) (cells_of program.now.mems) elided.memory.items elided.requests) }
     ensures limit { result ≡ Err ElideFault.Limit → NeedsMore program.now.functions (monoids_in program.now) (cells_of program.now.mems) limit }
 {
-    let Ok(mut elision) = Elision::open(alloc, program) else {
-        return Err(ElideFault::Memory);
-    };
+    let mut elision = Elision::open(alloc, program)?;
     let mut requests = 0;
     while !elision.over {
-        let Ok(asked) = elision.step(program) else {
-            return Err(ElideFault::Memory);
-        };
+        let asked = elision.step(program)?;
         if asked > limit - requests {
             return Err(ElideFault::Limit);
         }

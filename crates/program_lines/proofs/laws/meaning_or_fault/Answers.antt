@@ -1,5 +1,5 @@
-use Rattle.program_lines.proofs.LineFaults.{item_clean}
+use Rattle.program_lines.proofs.Totality.{line_told}
 use Rattle.program_lines.proofs.laws.meaning_or_fault.Goals as goal
 
 pub returns : goal.returns
-returns c = λ at scope ws item why m f. item_clean scope at ws item m why f
+returns c = line_told

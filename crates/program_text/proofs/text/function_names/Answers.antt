@@ -1,8 +1,8 @@
-use Rattle.std.proofs.Common.{◌≡◌, ◌-◌, ◌∷◌, arith, sym, ◌∙◌}
+use Rattle.std.proofs.Common.{◌≡◌, ◌∷◌, arith, sym, ◌∙◌}
 use Rattle.std.proofs.lemmas.Bool.Decides.{nat_tests}
 use Rattle.trace_values.specs.Text.{lines}
 use Rattle.trace_text.proofs.RoomFaults.{lines_split}
-use Rattle.program_text.proofs.Knowing.{names_step, names_shorter, names_done, names_full, no_lines}
+use Rattle.program_text.proofs.Knowing.{names_step, names_done, no_lines}
 use Rattle.program_text.specs.Functions.{function_named, with_function}
 use Rattle.program_text.proofs.text.function_names.Goals as goal
 
@@ -13,16 +13,8 @@ loop-rest-preserved g c =
     let after = c.split_line.result.1.now in
     let split : lines rest ≡ line ∷ lines after = rw c.without_return.ensures (lines_split rest c.split_line.result.0.now after c.split_line.ensures.pieces) in
     let noted : c.note_function.new.names ≡ with_function c.loop-rest.names (function_named line) = c.in_ok-note_function.ensures in
-    record {
-      few = omega arith;
-      shorter = rw noted (names_shorter c.loop-rest.at c.loop-rest.names (function_named line) c.loop-rest.invariant.shorter);
-      means = rw noted (sym (names_step c.loop-rest.at c.loop-rest.names (lines rest) line (lines after) split (omega arith)) ∙ c.loop-rest.invariant.means);
-    }
-
-pub returns-then-at-ge-LINES : goal.returns-then-at-ge-LINES
-returns-then-at-ge-LINES g c =
-    sym (names_full c.loop-rest.at c.loop-rest.names (lines c.loop-rest.rest.now) c.if-at-ge-LINES.true) ∙ c.loop-rest.invariant.means
+    rw noted (sym (names_step c.loop-rest.names (lines rest) line (lines after) split) ∙ c.loop-rest.invariant)
 
 pub returns : goal.returns
 returns g c =
-    sym (names_done (4000000 - c.loop-rest.at) c.loop-rest.names (lines c.loop-rest.rest.now) (no_lines c.loop-rest.rest.now (grind (arith, nat_tests)))) ∙ c.loop-rest.invariant.means
+    sym (names_done c.loop-rest.names (lines c.loop-rest.rest.now) (no_lines c.loop-rest.rest.now (grind (arith, nat_tests)))) ∙ c.loop-rest.invariant

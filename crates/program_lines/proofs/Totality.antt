@@ -1,0 +1,244 @@
+-- The words of a line say something in their scope, or have a lowest cause why not.
+use Rattle.std.proofs.Common.{◌≡◌, ◌⊎◌, inl, inr, ℕ, ◌≤◌, List, [], ◌∷◌, length, refl, sym, ◌∙◌, ap, subst}
+use Rattle.std.specs.Prelude.{Some, Result, Ok, Err}
+use Rattle.access_table.specs.declared.kind.Kind.TheVariants as kind
+use Rattle.trace_values.specs.declared.fault.Cause.{Cause}
+use Rattle.trace_values.specs.declared.fault.Cause.TheVariants.{BadWord}
+use Rattle.trace_values.specs.declared.value.Version.{Version}
+use Rattle.trace_values.specs.declared.value.Version.TheVariants.{One, Two}
+use Rattle.trace_values.specs.Causes.{IsLowest}
+use Rattle.trace_values.specs.Limits.{max_cells}
+use Rattle.trace_values.proofs.Decided.{OrNot, word_or_not}
+use Rattle.trace_text.specs.Lines as trace
+use Rattle.program_lines.specs.declared.keyword.Keyword.{Keyword}
+use Rattle.program_lines.specs.declared.keyword.Keyword.TheVariants as begin
+use Rattle.program_lines.specs.declared.operator.Operator.{Operator}
+use Rattle.program_lines.specs.declared.operator.Operator.TheVariants.{Plus, Minus, Times, Below}
+use Rattle.program_lines.specs.Scopes.{Scope, max_registers}
+use Rattle.program_lines.specs.Places.{Place, Common, FreshName, OperandWord, LocationWord, AssignedRegister, KnownRegister, FunctionName, ParameterName, Sign, Exactly, Value, Plain, OfOperand, OfLocation, OfRegister, OfAssigned, OfSign, Nothing, WordMeans}
+use Rattle.program_lines.specs.Table.{spelling, HasKeyword, wanted, optional, Placed, placed, WordsMean, Says}
+use Rattle.program_lines.specs.Grammar.{Item, Blank, ItemMeans, number_if_there, expression_values}
+use Rattle.program_lines.specs.Faults.{WordsFault}
+use Rattle.program_lines.specs.Outcome.{Fits}
+use Rattle.program_lines.specs.Laws.{MeaningOrFault}
+use Rattle.program_lines.proofs.Keywords.{keyword_of_word, keyword_of_spelling}
+use Rattle.program_lines.proofs.Crowded.{split_option}
+use Rattle.program_lines.proofs.LineFaults.{lowest_by, lowest_unknown}
+use Rattle.program_lines.proofs.Once.{register_in, named_in, operand_in, location_in, number_in, name_in, monoid_in, count_in, expression_in, first_of_values, behind_first, item_by}
+use Rattle.program_lines.proofs.Readings.{words_reading}
+
+-- ---- keywords
+
+keyword_known_or_not : (version : Version) (keyword : Keyword) → OrNot (HasKeyword version keyword)
+keyword_known_or_not One (begin.Access kind.Bump) = inr (λ t. t)
+keyword_known_or_not Two (begin.Access kind.Bump) = inl tt
+keyword_known_or_not One begin.ParallelFor = inr (λ t. t)
+keyword_known_or_not Two begin.ParallelFor = inl tt
+keyword_known_or_not version (begin.Access kind) = inl tt
+keyword_known_or_not version keyword = inl tt
+
+abbrev KeywordOrNot : Version → List ℕ → Type 0
+KeywordOrNot version word =
+    ((keyword : Keyword) × HasKeyword version keyword × (word ≡ spelling keyword)) ⊎ ((keyword : Keyword) → HasKeyword version keyword → word ≡ spelling keyword → ⊥)
+
+keyword_or_not : (version : Version) (word : List ℕ) → KeywordOrNot version word
+keyword_or_not version word = go (keyword_known_or_not version (keyword_of_word word)) (word_or_not word (spelling (keyword_of_word word)))
+  where
+    same : (keyword : Keyword) → word ≡ spelling keyword → keyword_of_word word ≡ keyword
+    same keyword e = ap keyword_of_word e ∙ keyword_of_spelling keyword
+
+    go : OrNot (HasKeyword version (keyword_of_word word)) → OrNot (word ≡ spelling (keyword_of_word word)) → KeywordOrNot version word
+    go (inl has) (inl e) = inl (keyword_of_word word, has, e)
+    go (inr fails) e = inr (λ keyword has is. fails (subst (λ (k : Keyword). HasKeyword version k) (sym (same keyword is)) has))
+    go (inl has) (inr fails) = inr (λ keyword has is. fails (subst (λ (k : Keyword). word ≡ spelling k) (sym (same keyword is)) is))
+
+-- ---- the form of values in their places
+
+abbrev sign_in : Value → Operator
+sign_in (OfSign operator) = operator
+sign_in value = Plus
+
+-- a value in the form that the place gives it
+abbrev formed : Place → Value → Value
+formed (Common (trace.Number low high)) value = Plain (trace.OfNumber (number_in value))
+formed (Common trace.ReducerName) value = Plain (trace.OfNumber (number_in value))
+formed (Common trace.MonoidWord) value = Plain (trace.OfMonoid (monoid_in value))
+formed (Common place) value = value
+formed FreshName value = Plain (trace.OfName (name_in value))
+formed OperandWord value = OfOperand (operand_in value)
+formed LocationWord value = OfLocation (location_in value)
+formed AssignedRegister value = OfAssigned (register_in value) (named_in value)
+formed KnownRegister value = OfRegister (register_in value)
+formed FunctionName value = Plain (trace.OfNumber (number_in value))
+formed ParameterName value = Plain (trace.OfName (name_in value))
+formed Sign value = OfSign (sign_in value)
+formed (Exactly word) value = Nothing
+
+-- as many values as the places want
+abbrev each_formed : List Place → List Value → List Value
+each_formed [] values = []
+each_formed (place ∷ places) values = formed place (first_of_values values) ∷ each_formed places (behind_first values)
+
+-- all that may stand at the end, or nothing
+abbrev end_formed : List Place → List Value → List Value
+end_formed [] values = []
+end_formed (place ∷ places) [] = []
+end_formed (place ∷ places) (value ∷ values) = formed place value ∷ each_formed places values
+
+abbrev all_formed : List Place → List Place → List Value → List Value
+all_formed [] last values = end_formed last values
+all_formed (place ∷ places) last values = formed place (first_of_values values) ∷ all_formed places last (behind_first values)
+
+each_same : (places : List Place) (values : List Value) → all_formed places [] values ≡ each_formed places values
+each_same [] values = refl
+each_same (place ∷ places) values = ap (λ (vs : List Value). formed place (first_of_values values) ∷ vs) (each_same places (behind_first values))
+
+module _ (scope : Scope) where
+  common_formed : (place : trace.Place) (word : List ℕ) (value : trace.Value) → trace.WordMeans scope.known place word value → Plain value ≡ formed (Common place) (Plain value)
+  common_formed (trace.Number low high) word (trace.OfNumber number) m = refl
+  common_formed (trace.Number low high) word value m = absurd m
+  common_formed trace.ReducerName word (trace.OfNumber number) m = refl
+  common_formed trace.ReducerName word value m = absurd m
+  common_formed trace.MonoidWord word (trace.OfMonoid monoid) m = refl
+  common_formed trace.MonoidWord word value m = absurd m
+  common_formed trace.FreshName word value m = refl
+  common_formed trace.Cell word value m = refl
+  common_formed trace.Mark word value m = refl
+
+  word_formed : (place : Place) (word : List ℕ) (value : Value) → WordMeans scope place word value → value ≡ formed place value
+  word_formed (Common place) word (Plain value) m = common_formed place word value m
+  word_formed FreshName word (Plain (trace.OfName name)) m = refl
+  word_formed OperandWord word (OfOperand operand) m = refl
+  word_formed LocationWord word (OfLocation location) m = refl
+  word_formed AssignedRegister word (OfAssigned register named) m = refl
+  word_formed KnownRegister word (OfRegister register) m = refl
+  word_formed FunctionName word (Plain (trace.OfNumber number)) m = refl
+  word_formed ParameterName word (Plain (trace.OfName name)) m = refl
+  word_formed Sign word (OfSign operator) m = refl
+  word_formed (Exactly other) word Nothing m = refl
+  word_formed place word value m = absurd m
+
+  one_more : (place : Place) (word : List ℕ) (value : Value) (values rest : List Value) → WordMeans scope place word value → values ≡ rest → value ∷ values ≡ formed place value ∷ rest
+  one_more place word value values rest m e = ap (λ (v : Value). v ∷ values) (word_formed place word value m) ∙ ap (λ (vs : List Value). formed place value ∷ vs) e
+
+  none_formed : (last : List Place) → [] ≡ all_formed [] last []
+  none_formed [] = refl
+  none_formed (place ∷ last) = refl
+
+  no_values : (pairs : List Placed) (values : List Value) → [] ≡ pairs → WordsMean scope pairs values → values ≡ []
+  no_values [] [] e m = refl
+  no_values [] (value ∷ values) e m = absurd m
+  no_values (pair ∷ pairs) values e m = absurd (cc)
+
+  -- what words mean in their places has the places' form
+  words_formed : (places last : List Place) (words : List (List ℕ)) (pairs : List Placed) (values : List Value) →
+      placed places last words ≡ Some pairs → WordsMean scope pairs values → values ≡ all_formed places last values
+  words_formed [] last [] pairs values e m =
+      let none : values ≡ [] = no_values pairs values (let same : [] ≡ pairs = cc in same) m in
+      none ∙ (none_formed last ∙ ap (all_formed [] last) (sym none))
+  words_formed [] [] (word ∷ words) pairs values e m = absurd (cc)
+  words_formed [] (place ∷ last) (word ∷ words) pairs values e m =
+      let parts = split_option scope place word (placed last [] words) pairs e in
+      by parts.0 values (subst (λ (ps : List Placed). WordsMean scope ps values) parts.2 m) (λ rest k. words_formed last [] words parts.0 rest parts.1 k)
+    where
+      by : (more : List Placed) (values : List Value) → WordsMean scope ((place, word) ∷ more) values →
+          ((rest : List Value) → WordsMean scope more rest → rest ≡ all_formed last [] rest) → values ≡ all_formed [] (place ∷ last) values
+      by more [] m behind = absurd m
+      by more (value ∷ rest) m behind = one_more place word value rest (each_formed last rest) m.0 (behind rest m.1 ∙ each_same last rest)
+  words_formed (place ∷ places) last [] pairs values e m = absurd (cc)
+  words_formed (place ∷ places) last (word ∷ words) pairs values e m =
+      let parts = split_option scope place word (placed places last words) pairs e in
+      by parts.0 values (subst (λ (ps : List Placed). WordsMean scope ps values) parts.2 m) (λ rest k. words_formed places last words parts.0 rest parts.1 k)
+    where
+      by : (more : List Placed) (values : List Value) → WordsMean scope ((place, word) ∷ more) values →
+          ((rest : List Value) → WordsMean scope more rest → rest ≡ all_formed places last rest) → values ≡ all_formed (place ∷ places) last values
+      by more [] m behind = absurd m
+      by more (value ∷ rest) m behind = one_more place word value rest (all_formed places last rest) m.0 (behind rest m.1)
+
+  -- ---- from values to items
+
+  said_as : (ws : List (List ℕ)) (keyword : Keyword) (values : List Value) → Says scope ws keyword values → values ≡ all_formed (wanted keyword) (optional keyword) values
+  said_as ws keyword values says = words_formed (wanted keyword) (optional keyword) says.1.0 says.0 values says.1.3 says.2
+
+  counted : (values : List Value) → all_formed [] (Common (trace.Number 1 max_cells) ∷ []) values ≡ number_if_there (count_in values)
+  counted [] = refl
+  counted (value ∷ values) = refl
+
+  -- an operand, and a sign with another where they are there
+  expressed : (values : List Value) → values ≡ all_formed (OperandWord ∷ []) (Sign ∷ OperandWord ∷ []) values → values ≡ expression_values (expression_in values)
+  expressed [] e = absurd (cc)
+  expressed (left ∷ []) e = e
+  expressed (left ∷ sign ∷ []) e = absurd (cc)
+  expressed (left ∷ OfSign Plus ∷ right ∷ []) e = e
+  expressed (left ∷ OfSign Minus ∷ right ∷ []) e = e
+  expressed (left ∷ OfSign Times ∷ right ∷ []) e = e
+  expressed (left ∷ OfSign Below ∷ right ∷ []) e = e
+  expressed (left ∷ Plain value ∷ right ∷ []) e = absurd (cc)
+  expressed (left ∷ OfOperand operand ∷ right ∷ []) e = absurd (cc)
+  expressed (left ∷ OfLocation location ∷ right ∷ []) e = absurd (cc)
+  expressed (left ∷ OfRegister register ∷ right ∷ []) e = absurd (cc)
+  expressed (left ∷ OfAssigned register named ∷ right ∷ []) e = absurd (cc)
+  expressed (left ∷ Nothing ∷ right ∷ []) e = absurd (cc)
+  expressed (left ∷ sign ∷ right ∷ value ∷ values) e = absurd (cc)
+
+  let_formed : (values : List Value) → values ≡ all_formed (wanted begin.Let) (optional begin.Let) values →
+      values ≡ OfAssigned (register_in (first_of_values values)) (named_in (first_of_values values)) ∷ Nothing ∷ expression_values (expression_in (behind_first (behind_first values)))
+  let_formed [] e = absurd (cc)
+  let_formed (first ∷ []) e = absurd (cc)
+  let_formed (first ∷ second ∷ values) e =
+      let same : values ≡ all_formed (OperandWord ∷ []) (Sign ∷ OperandWord ∷ []) values = cc in
+      e ∙ ap (λ (vs : List Value). OfAssigned (register_in first) (named_in first) ∷ Nothing ∷ vs) (sym same ∙ expressed values same)
+
+  -- what a keyword and values of its places say
+  item_said : (at : ℕ) (ws : List (List ℕ)) (keyword : Keyword) (values : List Value) → Says scope ws keyword values → ItemMeans at scope ws (item_by at keyword values)
+  item_said at ws begin.Mem values says =
+      subst (λ (vs : List Value). Says scope ws begin.Mem vs)
+      (said_as ws begin.Mem values says ∙ ap (λ (vs : List Value). Plain (trace.OfName (name_in (first_of_values values))) ∷ vs) (counted (behind_first values))) says
+  item_said at ws begin.Reducer values says = subst (λ (vs : List Value). Says scope ws begin.Reducer vs) (said_as ws begin.Reducer values says) says
+  item_said at ws begin.Func values says = subst (λ (vs : List Value). Says scope ws begin.Func vs) (said_as ws begin.Func values says) says
+  item_said at ws begin.Let values says =
+      (tt, refl, subst (λ (vs : List Value). Says scope ws begin.Let vs) (let_formed values (said_as ws begin.Let values says)) says)
+  item_said at ws (begin.Access kind.Read) values says =
+      (tt, refl, subst (λ (vs : List Value). Says scope ws (begin.Access kind.Read) vs) (said_as ws (begin.Access kind.Read) values says) says)
+  item_said at ws (begin.Access kind.Get) values says =
+      (tt, refl, subst (λ (vs : List Value). Says scope ws (begin.Access kind.Get) vs) (said_as ws (begin.Access kind.Get) values says) says)
+  item_said at ws (begin.Access kind.Write) values says =
+      (refl, refl, subst (λ (vs : List Value). Says scope ws (begin.Access kind.Write) vs) (said_as ws (begin.Access kind.Write) values says) says)
+  item_said at ws (begin.Access kind.Bump) values says =
+      (refl, refl, subst (λ (vs : List Value). Says scope ws (begin.Access kind.Bump) vs) (said_as ws (begin.Access kind.Bump) values says) says)
+  item_said at ws (begin.Access kind.Update) values says =
+      (refl, refl, subst (λ (vs : List Value). Says scope ws (begin.Access kind.Update) vs) (said_as ws (begin.Access kind.Update) values says) says)
+  item_said at ws (begin.Access kind.Put) values says =
+      (refl, refl, subst (λ (vs : List Value). Says scope ws (begin.Access kind.Put) vs) (said_as ws (begin.Access kind.Put) values says) says)
+  item_said at ws begin.Spawn values says = (refl, refl, subst (λ (vs : List Value). Says scope ws begin.Spawn vs) (said_as ws begin.Spawn values says) says)
+  item_said at ws begin.Call values says = (refl, refl, subst (λ (vs : List Value). Says scope ws begin.Call vs) (said_as ws begin.Call values says) says)
+  item_said at ws begin.Sync values says = (refl, refl, subst (λ (vs : List Value). Says scope ws begin.Sync vs) (said_as ws begin.Sync values says) says)
+  item_said at ws begin.ParallelFor values says =
+      (tt, refl, subst (λ (vs : List Value). Says scope ws begin.ParallelFor vs) (said_as ws begin.ParallelFor values says) says)
+  item_said at ws begin.If values says = subst (λ (vs : List Value). Says scope ws begin.If vs) (said_as ws begin.If values says) says
+  item_said at ws begin.Else values says = subst (λ (vs : List Value). Says scope ws begin.Else vs) (said_as ws begin.Else values says) says
+  item_said at ws begin.End values says = subst (λ (vs : List Value). Says scope ws begin.End vs) (said_as ws begin.End values says) says
+
+-- ---- lines
+
+-- words say something, or have a lowest cause
+abbrev pub Told : ℕ → Scope → List (List ℕ) → Type 0
+Told at scope ws = ((item : Item) × ItemMeans at scope ws item) ⊎ ((why : Cause) × IsLowest (WordsFault scope ws) why)
+
+words_told : (at : ℕ) (scope : Scope) (ws : List (List ℕ)) → length scope.registers ≤ max_registers → Told at scope ws
+words_told at scope [] few = inl (Blank, refl)
+words_told at scope (word ∷ arguments) few = go (keyword_or_not scope.known.version word)
+  where
+    read : (keyword : Keyword) → HasKeyword scope.known.version keyword → word ≡ spelling keyword →
+        (answer : Result (List Value) Cause) × Fits scope (wanted keyword) (optional keyword) arguments answer (λ values. values) → Told at scope (word ∷ arguments)
+    read keyword has e (Ok values, (pairs, fits, m)) =
+        inl (item_by at keyword values, item_said scope at (word ∷ arguments) keyword values (pairs, (arguments, ap (λ w. w ∷ arguments) e, has, fits), m))
+    read keyword has e (Err cause, f) =
+        inr (cause, lowest_by scope (word ∷ arguments) arguments keyword (placed (wanted keyword) (optional keyword) arguments) cause (ap (λ w. w ∷ arguments) e) has refl f)
+
+    go : KeywordOrNot scope.known.version word → Told at scope (word ∷ arguments)
+    go (inl (keyword, has, e)) = read keyword has e (words_reading scope few (wanted keyword) (optional keyword) arguments)
+    go (inr none) = inr (BadWord, lowest_unknown scope word arguments (λ other. (λ e. absurd (cc), λ is. absurd (none other is.0 is.1))))
+
+pub line_told : MeaningOrFault
+line_told at scope ws few = words_told at scope ws few

@@ -1,0 +1,5 @@
+use Rattle.program_lines.proofs.LineFaults.{item_clean}
+use Rattle.program_lines.proofs.laws.meaning_excludes_fault.Goals as goal
+
+pub returns : goal.returns
+returns c = λ at scope ws item why m f. item_clean scope at ws item m why f
