@@ -20,10 +20,10 @@ use Rattle.program_steps.specs.Values.{first_registers}
 use Rattle.program_steps.specs.Scripts.{script}
 use Rattle.program_steps.specs.Answers.{FromSpawn}
 use Rattle.program_steps.specs.Exchanges.{Exchange}
-use Rattle.program_steps.specs.Dialogue.{Whole, Dialogue}
-use Rattle.program_steps.specs.Activations.{end_line_by, end_line_of}
+use Rattle.program_steps.specs.Dialogue.{Whole}
 use Rattle.program_steps.proofs.Places.{found}
-use Rattle.frame_steps.specs.Frames.{script_of, script_at, DialogueOf}
+use Rattle.frame_steps.specs.Frames.{DialogueOf}
+use Rattle.frame_steps.proofs.Histories.{dialogue_with}
 use Rattle.serial_elision.specs.Evaluation.{Effect}
 use Rattle.program_runs.specs.Frames.{IsSplit, HasSplit, HasFrame, Targets, target_of, said_by}
 use Rattle.program_runs.specs.Runs.{IsRunWith}
@@ -34,7 +34,7 @@ use Rattle.clean_runs.proofs.Expansions.{dialogue_evaluates}
 use Rattle.clean_runs.proofs.Placements.{own_placed, placed_own, said_own, exchange_at, strand_begun}
 use Rattle.clean_runs.proofs.Trees.{IsEarlier, framed_own, expanded_below, expanded_sorted, all_there}
 use Rattle.clean_runs.proofs.Wholes.{Ending, ending, root_ending, ended_whole}
-use Rattle.clean_runs.proofs.Begun.{TreeWithin, script_within, targets_within}
+use Rattle.clean_runs.proofs.Begun.{script_within, targets_within}
 
 -- entries and their numbers
 
@@ -119,12 +119,6 @@ pub placed_effects_of : (all : List Placed) → placed_effects all ≡ effects_o
 placed_effects_of [] = refl
 placed_effects_of (x ∷ all) = ap (λ l. effect_of x.entry ∷ l) (placed_effects_of all)
 
--- a dialogue of a function that is there
-dialogue_with : (functions : List Code) (function argument : ℕ) (code : Code) → slice_get functions function ≡ Some code → (said : List Exchange) →
-    DialogueOf functions function argument Whole said → Dialogue functions FromSpawn Whole code.end_line (script code) (first_registers argument) said
-dialogue_with functions function argument code is said d =
-    subst (λ c. Dialogue functions FromSpawn Whole (end_line_by c) (script_of c) (first_registers argument) said) is d
-
 module _ (functions : List Code) (shape : Shape) (sound : IsSound shape.cells (length shape.monoids) functions) (main : ℕ) (targets : Targets) (entries : Entries)
     (run : IsRunWith functions shape main targets entries) (finish : IsFinished entries) (clean : IsClean entries) where
   legal : IsLegal shape entries
@@ -133,13 +127,16 @@ module _ (functions : List Code) (shape : Shape) (sound : IsSound shape.cells (l
   whole : (number : ℕ) → HasFrame entries number → Ending entries number →
       DialogueOf functions (targets number).function (targets number).argument Whole (said_by targets entries number)
   whole number has e =
-      ended_whole shape functions targets entries number (end_line_of functions (targets number).function) (script_at functions (targets number).function)
-      (first_registers (targets number).argument) e (run.says number has)
+      let d = run.says number has in
+      record {
+        code = d.code;
+        there = d.there;
+        says = ended_whole shape functions targets entries number d.code.end_line (script d.code) (first_registers (targets number).argument) e d.says;
+      }
 
-  -- the function of a frame is there, where that of the frame which begins it is
-  child_code : (x : Placed) → IsPlaced entries x → IsSplit x.entry.answer → (code : Code) → slice_get functions (targets x.frame).function ≡ Some code →
-      HasFrame entries x.frame → (child : Code) × (slice_get functions (targets x.begins).function ≡ Some child)
-  child_code x p k code is has = found functions (targets x.begins).function below
+  -- the function of a frame that is begun is there
+  child_code : (x : Placed) → IsPlaced entries x → IsSplit x.entry.answer → HasFrame entries x.frame → (child : Code) × (slice_get functions (targets x.begins).function ≡ Some child)
+  child_code x p k has = found functions (targets x.begins).function below
     where
       said : List Exchange
       said = said_by targets entries x.frame
@@ -149,9 +146,9 @@ module _ (functions : List Code) (shape : Shape) (sound : IsSound shape.cells (l
 
       below : (targets x.begins).function < length functions
       below =
-          targets_within shape.cells (length shape.monoids) functions sound (end_line_of functions (targets x.frame).function) (script_at functions (targets x.frame).function)
-          (first_registers (targets x.frame).argument) said (run.says x.frame has)
-          (subst (λ c. TreeWithin (length functions) (script_of c)) (sym is) (script_within shape.cells (length shape.monoids) functions sound (targets x.frame).function code is))
+          let d = run.says x.frame has in
+          targets_within shape.cells (length shape.monoids) functions sound d.code.end_line (script d.code) (first_registers (targets x.frame).argument) said d.says
+          (script_within shape.cells (length shape.monoids) functions sound (targets x.frame).function d.code d.there)
           (exchange_at targets x) there (targets x.begins) (split_targets x.entry.request.act x.entry.answer (targets x.begins) (placed_belongs shape entries legal x p) k)
 
   child_done : (x : Placed) (inner : List Placed) → IsPlaced entries x → IsSplit x.entry.answer → (child : Code) →
@@ -161,8 +158,8 @@ module _ (functions : List Code) (shape : Shape) (sound : IsSound shape.cells (l
   child_done x inner p k child is inside store right =
       dialogue_evaluates functions shape.monoids FromSpawn child.end_line (script child) (first_registers (targets x.begins).argument) (said_by targets entries x.begins)
       (placed_effects inner)
-      (dialogue_with functions (targets x.begins).function (targets x.begins).argument child is (said_by targets entries x.begins)
-      (whole x.begins (inr (split_frame entries x p k)) (ending shape entries legal finish x p k)))
+      (dialogue_with functions (targets x.begins).function (targets x.begins).argument Whole (said_by targets entries x.begins)
+      (whole x.begins (inr (split_frame entries x p k)) (ending shape entries legal finish x p k)) child is)
       (subst (λ l. Inserts functions shape.monoids l (placed_effects inner)) (sym (said_own targets entries x.begins)) inside) store right
 
   pub inserts : (number : ℕ) (rest all : List Placed) → HasFrame entries number → (code : Code) → slice_get functions (targets number).function ≡ Some code →
@@ -175,7 +172,7 @@ module _ (functions : List Code) (shape : Shape) (sound : IsSound shape.cells (l
       (inserts number more later has code is (λ z p. known z (inr p)) e)
   inserts number rest all has code is known (began {x = x} {rest = more} {inner = inner} {outer = outer} {all = later} k i o j) =
       let at = known x (inl refl) in
-      let child = child_code x at.0 k code (ap (λ f. slice_get functions (targets f).function) at.1 ∙ is) (subst (HasFrame entries) (sym at.1) has) in
+      let child = child_code x at.0 k (subst (HasFrame entries) (sym at.1) has) in
       inserted (split_targets x.entry.request.act x.entry.answer (targets x.begins) (placed_belongs shape entries legal x at.0) k) child.1
       (child_done x inner at.0 k child.0 child.1
       (inserts x.begins (own entries x.begins) inner (inr (split_frame entries x at.0 k)) child.0 child.1 (λ z p. own_placed entries x.begins z p) i))
@@ -186,8 +183,8 @@ module _ (functions : List Code) (shape : Shape) (sound : IsSound shape.cells (l
       IsDoneBy functions shape.monoids code 0 (placed_effects all)
   run_done all e code is store right =
       dialogue_evaluates functions shape.monoids FromSpawn code.end_line (script code) (first_registers 0) (said_by targets entries 0) (placed_effects all)
-      (dialogue_with functions main 0 code is (said_by targets entries 0)
-      (subst (λ t. DialogueOf functions t.function t.argument Whole (said_by targets entries 0)) run.root (whole 0 (inl refl) (root_ending shape entries legal finish))))
+      (dialogue_with functions main 0 Whole (said_by targets entries 0)
+      (subst (λ t. DialogueOf functions t.function t.argument Whole (said_by targets entries 0)) run.root (whole 0 (inl refl) (root_ending shape entries legal finish))) code is)
       (subst (λ l. Inserts functions shape.monoids l (placed_effects all)) (sym (said_own targets entries 0))
       (inserts 0 (own entries 0) all (inl refl) code (ap (λ t. slice_get functions t.function) run.root ∙ is) (λ z p. own_placed entries 0 z p) e))
       store right

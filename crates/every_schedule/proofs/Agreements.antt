@@ -16,8 +16,8 @@ use Rattle.program_steps.specs.Answers.{Origin, FromCall, FromSpawn, IsReturned,
 use Rattle.program_steps.specs.Exchanges.{Exchange, exchange}
 use Rattle.program_steps.specs.Dialogue.{Extent, Whole, Part, Dialogue, passed, read, write, bump, update, put, get, spawned, called, in_call, synced, returned}
 use Rattle.program_steps.specs.Requests.{act_of, answered}
-use Rattle.program_steps.specs.Activations.{asked_act, end_line_of}
-use Rattle.frame_steps.specs.Frames.{script_at}
+use Rattle.program_steps.specs.Activations.{asked_act}
+use Rattle.frame_steps.proofs.Histories.{dialogue_with}
 use Rattle.frame_steps.specs.Requests.{Follows, tree_at}
 use Rattle.frame_steps.specs.Stacks.{Standing, StackDialogue, NextStack, origin_of}
 use Rattle.frame_steps.proofs.Replies.{act_is, belongs_answered}
@@ -311,4 +311,5 @@ module _ (functions : List Code) where
 -- what a function asks is determined by what it was answered
 pub agreement_law : AgreementLaw
 agreement_law functions function argument one other said others d e =
-    dialogues_agree functions one other (end_line_of functions function) (script_at functions function) (first_registers argument) said others d e
+    dialogues_agree functions one other e.code.end_line (script e.code) (first_registers argument) said others
+    (dialogue_with functions function argument one said d e.code e.there) e.says

@@ -25,16 +25,14 @@ use Rattle.race_gate.proofs.Races.{legal-part}
 use Rattle.program_text.specs.Codes.{Code}
 use Rattle.program_steps.specs.Exchanges.{Exchange}
 use Rattle.program_steps.specs.Dialogue.{Part}
-use Rattle.frame_steps.specs.Frames.{DialogueOf, script_at}
-use Rattle.program_steps.specs.Values.{first_registers}
-use Rattle.program_steps.specs.Activations.{end_line_of}
+use Rattle.frame_steps.specs.Frames.{DialogueOf}
 use Rattle.program_runs.specs.Frames.{Targets, HasFrame, frame_in, next_frame, target_of, exchange_of, said_by}
 use Rattle.program_runs.specs.Runs.{IsRunWith}
 use Rattle.program_runs.proofs.Histories.{spawn_splits, said_here}
 use Rattle.every_schedule.specs.Agreement.{Agree}
 use Rattle.every_schedule.specs.Fronts.{Nest, gone, opening, moved, act_in, front, nest_of, stands_at, IsActive, IsBegun, frame_at}
 use Rattle.every_schedule.specs.Traces.{Spoken, spoken_of, spoken_by, beginning, walk, Item, place, item_of, trace, IsLaterOf}
-use Rattle.every_schedule.proofs.Agreements.{dialogues_agree}
+use Rattle.every_schedule.proofs.Agreements.{agreement_law}
 use Rattle.every_schedule.proofs.Swaps.{Member}
 use Rattle.program_runs.proofs.Strands.{frame_below}
 use Rattle.every_schedule.proofs.Fronts.{fronts, active_begun}
@@ -433,8 +431,7 @@ module _ (shape : Shape) where
         agree =
             let there = whole.says match.frame (has_frame R r match.frame match.begun) in
             let here = run.says own (has_frame (e ∷ H) l own (frame_on shape mine H e l own begun).0) in
-            dialogues_agree functions Part Part (end_line_of functions (T match.frame).function) (script_at functions (T match.frame).function)
-            (first_registers (T match.frame).argument) (said_by mine (e ∷ H) own) (said_by T R match.frame)
+            agreement_law functions (T match.frame).function (T match.frame).argument Part Part (said_by mine (e ∷ H) own) (said_by T R match.frame)
             (subst (λ t. DialogueOf functions t.function t.argument Part (said_by mine (e ∷ H) own)) match.target here) there
 
         x : Exchange

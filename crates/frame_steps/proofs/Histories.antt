@@ -20,7 +20,8 @@ use Rattle.program_steps.specs.Answers.{FromSpawn, IsReturned}
 use Rattle.program_steps.specs.Exchanges.{Exchange}
 use Rattle.program_steps.specs.Dialogue.{Extent, Whole, Part, Dialogue}
 use Rattle.program_steps.specs.Requests.{Asks, act_of, next_line, answered}
-use Rattle.program_steps.specs.Activations.{left, end_line_by, end_line_of, statement_of, asked_act, is_plain, IsInPlace}
+use Rattle.program_steps.specs.Activations.{left, end_line_of, statement_of, asked_act, is_plain, IsInPlace}
+use Rattle.program_steps.specs.Scripts.{script}
 use Rattle.program_steps.proofs.Places.{found}
 use Rattle.program_steps.proofs.Turns.{asks_plain}
 use Rattle.frame_steps.specs.declared.phase.Phase.{Phase}
@@ -29,10 +30,19 @@ use Rattle.frame_steps.specs.Requests.{Belongs, Follows, asked_line, asked_targe
 use Rattle.frame_steps.specs.Stacks.{StackDialogue, SameStack, NextStack, origin_of}
 use Rattle.frame_steps.specs.Joins.{join_after, joins_step, joins_after}
 use Rattle.frame_steps.specs.States.{State}
-use Rattle.frame_steps.specs.Frames.{script_of, DialogueOf, standing, callers_of, stack_in, stack_of, joins_in, joins_of, Stands, Wants, IsAfter, CanFollow, MayAnswer, IsCalled, IsLeft, began_by}
+use Rattle.frame_steps.specs.Frames.{DialogueOf, standing, callers_of, stack_in, stack_of, joins_in, joins_of, Stands, Wants, IsAfter, CanFollow, MayAnswer, IsCalled, IsLeft, began_by}
 use Rattle.frame_steps.proofs.Replies.{act_is, is_same, answered_belongs, belongs_answered}
 use Rattle.frame_steps.proofs.Dialogues.{stack_only, stack_may, stack_stopped}
 use Rattle.frame_steps.proofs.Standings.{begun_standing, begun_place, return_left, asking_tree, called_there, callers_pushed, goes_to, goes_on, calls, returned_by, resumes, ends, origins, line_at, item_of_pushed, item_kept, item_pushed, no_item}
+
+-- a dialogue of the function that is there
+pub dialogue_with : (functions : List Code) (function argument : ℕ) (extent : Extent) (said : List Exchange) → DialogueOf functions function argument extent said →
+    (code : Code) → slice_get functions function ≡ Some code → Dialogue functions FromSpawn extent code.end_line (script code) (first_registers argument) said
+dialogue_with functions function argument extent said d code is =
+    subst (λ (c : Code). Dialogue functions FromSpawn extent c.end_line (script c) (first_registers argument) said) (same _ d.there is) d.says
+  where
+    same : (found : Option Code) → found ≡ Some d.code → found ≡ Some code → d.code ≡ code
+    same found e f = cc
 
 joins_more : (joins : List (Option ℕ)) (history : List Exchange) (x : Exchange) → joins_after joins (history ++ x ∷ []) ≡ joins_step x.act x.answer (joins_after joins history)
 joins_more joins [] x = refl
@@ -73,9 +83,11 @@ module _ (functions : List Code) where
       let o = found functions function h in
       let s = begun_standing functions frame.top function argument o.0 o.1 f p r t in
       let e = running_stack frame running ∙ ap (λ l. standing functions frame.top ∷ callers_of functions l) callers ∙ ap (λ b. b ∷ []) s in
-      let shape : Extent → List Exchange → Option Code → Type 0 = λ extent said c. Dialogue functions FromSpawn extent (end_line_by c) (script_of c) (first_registers argument) said in
       record {
-        goes_on = λ extent said. ((λ d. subst (shape extent said) (sym o.1) (subst (λ k. StackDialogue functions extent k said) e d)), (λ d. subst (λ k. StackDialogue functions extent k said) (sym e) (subst (shape extent said) o.1 d)));
+        goes_on = λ extent said. (
+          (λ d. record { code = o.0; there = o.1; says = subst (λ k. StackDialogue functions extent k said) e d }),
+          (λ d. subst (λ k. StackDialogue functions extent k said) (sym e) (dialogue_with functions function argument extent said d o.0 o.1)),
+        );
         joins = ap (λ q. joins_in q frame.top frame.callers) running ∙ ap (λ l. frame.top.join ∷ map (λ a. a.join) (reverse l)) callers ∙ ap (λ k. k ∷ []) j;
       }
 

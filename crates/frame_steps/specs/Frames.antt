@@ -2,7 +2,7 @@
 use Rattle.std.specs.Prelude.{ℕ, ◌≡◌, ◌↔◌, false, Result, Err, OnOk, OnErr, List, [], ◌∷◌, ◌++◌, map, reverse, Option, Some, None, slice_get, IsTrue}
 use Rattle.program_text.specs.Codes.{Code}
 use Rattle.program_lines.specs.declared.statement.Statement.{Statement}
-use Rattle.program_text.specs.Trees.{Tree, Done, Step}
+use Rattle.program_text.specs.Trees.{Step}
 use Rattle.trace_values.specs.declared.value.Act.{Act}
 use Rattle.race_gate.specs.declared.answer.Answer.{Answer}
 use Rattle.race_gate.specs.declared.answer.Answer.TheVariants.{Resumed, Ended, EndedJoined, Finished}
@@ -22,18 +22,11 @@ use Rattle.frame_steps.specs.Stacks.{Standing, StackDialogue, origin_of}
 use Rattle.frame_steps.specs.Joins.{joins_after}
 use Rattle.frame_steps.specs.States.{State}
 
-abbrev pub script_of : Option Code → Tree
-script_of None = Done
-script_of (Some code) = script code
-
--- What a function does, by its number.
-abbrev pub script_at : List Code → ℕ → Tree
-script_at functions function = script_of (slice_get functions function)
-
--- The dialogues of a function that is spawned with an argument.
-abbrev pub DialogueOf : List Code → (function argument : ℕ) → Extent → List Exchange → Type 0
-DialogueOf functions function argument extent said =
-    Dialogue functions FromSpawn extent (end_line_of functions function) (script_at functions function) (first_registers argument) said
+-- The dialogues of a function that is spawned with an argument. The function is there: one that is absent has none.
+pub record DialogueOf (functions : List Code) (function argument : ℕ) (extent : Extent) (said : List Exchange) : Type 0 where
+  pub code : Code
+  pub there : slice_get functions function ≡ Some code
+  pub says : Dialogue functions FromSpawn extent code.end_line (script code) (first_registers argument) said
 
 -- Where an activation stands.
 abbrev pub standing : List Code → Activation → Standing

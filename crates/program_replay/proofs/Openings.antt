@@ -9,13 +9,13 @@ use Rattle.race_gate.specs.Judged.{IsJudged}
 use Rattle.race_gate.specs.States.{State as GateState, opening}
 use Rattle.race_gate.specs.Verdicts.{IsRefused}
 use Rattle.program_text.specs.Codes.{Code}
-use Rattle.program_steps.specs.Dialogue.{stopped}
 use Rattle.frame_steps.specs.States.{State}
 use Rattle.frame_steps.specs.Frames.{Stands, IsAfter}
 use Rattle.program_runs.specs.Frames.{Targets, HasFrame}
 use Rattle.program_runs.specs.Runs.{IsRun, IsRunWith}
 use Rattle.program_replay.specs.Turns.{IsEntered, IsOdd, HasNoTurn}
 use Rattle.program_replay.specs.Casts.{Opens, IsCast, Plays, IsMisfit}
+use Rattle.frame_steps.proofs.Histories.{after_part}
 use Rattle.program_replay.proofs.Items.{got_one}
 use Rattle.program_replay.proofs.Determined.{refused_or_not}
 use Rattle.program_replay.proofs.Plays.{misfit_turn, misfit_seat}
@@ -25,13 +25,14 @@ module _ (functions : List Code) (shape : Shape) (main : ℕ) where
   first_targets : Targets
   first_targets number = record { function = main; argument = 0 }
 
-  first_run : IsRunWith functions shape main (λ number. record { function = main; argument = 0 }) []
-  first_run = record { judged = record { legal = tt; memory = tt; reducers = tt }; root = refl; says = λ frame has. stopped }
+  first_run : (frame : State) → IsAfter functions main 0 [] frame → IsRunWith functions shape main (λ number. record { function = main; argument = 0 }) []
+  first_run frame begun =
+      record { judged = record { legal = tt; memory = tt; reducers = tt }; root = refl; says = λ number has. after_part functions frame main 0 [] begun }
 
   first_cast : (frame : State) → Stands functions frame → IsAfter functions main 0 [] frame →
       IsCast functions shape main (λ number. record { function = main; argument = 0 }) [] (frame ∷ []) (0 ∷ [])
   first_cast frame stands begun = record {
-    run = first_run;
+    run = first_run frame begun;
     only = same;
     counted = refl;
     each = λ place number one at is. subst (λ f. Stands functions f × IsAfter functions main 0 [] f) (got_one frame one place is).1 (stands, begun);

@@ -1,9 +1,10 @@
 -- The turn of a frame, and the gate's answer.
-use Rattle.std.proofs.Common.{◌≡◌, inl, inr, ℕ, ◌<◌, Bool, true, false, List, [], ◌∷◌, ◌++◌, length, Option, Some, None, refl, sym, ◌∙◌, ap, subst}
+use Rattle.std.proofs.Common.{◌≡◌, ◌≢◌, inl, inr, ℕ, ◌<◌, Bool, true, false, List, [], ◌∷◌, ◌++◌, length, Option, Some, None, refl, sym, ◌∙◌, ap, subst, arith}
 use Rattle.std.specs.Prelude.{IsTrue, IfSome}
 use Rattle.program_lines.specs.declared.statement.Statement.{Statement}
 use Rattle.program_lines.specs.declared.statement.Statement.TheVariants.{Let, Read, Write, Bump, Update, Put, Get, Spawn, Call, Sync, ParallelFor, If, Else, End}
 use Rattle.trace_values.specs.declared.value.Act.{Act}
+use Rattle.trace_values.specs.declared.value.Request.{Request}
 use Rattle.race_gate.specs.declared.answer.Answer.{Answer}
 use Rattle.race_gate.specs.declared.answer.Entry.{Entry}
 use Rattle.race_gate.specs.declared.answer.Receipt.{Receipt}
@@ -12,7 +13,7 @@ use Rattle.race_gate.specs.declared.fault.GateFault.TheVariants.{Stopped, Limit,
 use Rattle.race_gate.specs.Entries.{control_part}
 use Rattle.race_gate.specs.States.{State as GateState}
 use Rattle.race_gate.specs.Judged.{IsJudged}
-use Rattle.race_gate.specs.Faults.{HasCause}
+use Rattle.race_gate.specs.Faults.{IsFaultless, HasCause, HasNoneBefore}
 use Rattle.race_gate.specs.Replies.{IsEntered as EntersReceipt}
 use Rattle.program_text.specs.Codes.{Code}
 use Rattle.program_steps.specs.declared.request.Target.{Target}
@@ -139,3 +140,21 @@ odd_fault entry before BadName not_memory cause = λ going given. absurd (cause 
 odd_fault entry before Unsynced not_memory cause = λ going given.
     absurd (cause.1 (return_synced (control_part before.history) entry.request.strand entry.request.act entry.answer cause.0 given.legal.1.belongs given.legal.1.allowed))
 odd_fault entry before Memory not_memory cause = λ going given. absurd (not_memory refl)
+
+-- a request that was entered is at no fault but want of memory
+pub entered_clean : (state : GateState) (request : Request) → IsFaultless state request → (fault : GateFault) → fault ≢ Memory → HasCause state request fault → ⊥
+entered_clean state request f Stopped other cause = let going : state.stopped ≡ false = f.going in cc
+entered_clean state request f Limit other cause = let below = f.below in omega arith
+entered_clean state request f NotRunning other cause = cause f.runs
+entered_clean state request f BadName other cause = cause f.in_range
+entered_clean state request f Unsynced other cause = cause.1 (f.synced cause.0)
+entered_clean state request f Memory other cause = other refl
+
+-- and so is one for which there was no memory
+pub memory_clean : (state : GateState) (request : Request) → HasNoneBefore state request Memory → (fault : GateFault) → fault ≢ Memory → HasCause state request fault → ⊥
+memory_clean state request none Stopped other cause = none Stopped (omega arith) cause
+memory_clean state request none Limit other cause = none Limit (omega arith) cause
+memory_clean state request none NotRunning other cause = none NotRunning (omega arith) cause
+memory_clean state request none BadName other cause = none BadName (omega arith) cause
+memory_clean state request none Unsynced other cause = none Unsynced (omega arith) cause
+memory_clean state request none Memory other cause = other refl

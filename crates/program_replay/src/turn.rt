@@ -1,6 +1,7 @@
 //! One entry: the turn of its frame, and the gate's answer.
 
-ghost use Rattle.std.specs.Prelude.{◌≡◌, ◌↔◌, IsTrue, IfOk, OnOk, Err};
+ghost use Rattle.std.specs.Prelude.{◌≡◌, ◌≢◌, ◌↔◌, IsTrue, IfOk, OnOk, Err};
+ghost use Rattle.race_gate.specs.Faults.{HasCause};
 ghost use Rattle.frame_steps.specs.Frames.{Stands};
 ghost use Rattle.program_replay.specs.Turns.{IsTurn, HasNoTurn, IsEntered, IsOdd};
 ghost use Rattle.program_replay.specs.declared.turn.Misfit.{Misfit};
@@ -51,10 +52,12 @@ fn is_same_answer(one: Answer, other: Answer) -> bool
     one == other
 }
 
-/// Has a gate judge an entry's request, and compares the answer.
+/// Has a gate judge an entry's request, and compares the answer. A request that has another fault of the gate than want of
+/// memory is strange, so want of memory is told only where it has none.
 pub fn confirm<A: Allocator + Clone>(gate: &mut Gate<A>, entry: Entry) -> Result<(), Misfit>
     ensures ok { OnOk result (IsEntered entry gate.old gate.new) }
     ensures strange { result ≡ Err Misfit.Strange → IsOdd entry gate.old }
+    ensures fault { (fault : GateFault) → fault ≢ GateFault.Memory → HasCause gate.old entry.request fault → result ≡ Err Misfit.Strange }
 {
     match gate.judge(entry.request) {
         Ok(receipt) => {

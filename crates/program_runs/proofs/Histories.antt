@@ -113,7 +113,9 @@ run_shorter functions shape main targets entry entries run =
     record {
       judged = record { legal = run.judged.legal.0; memory = run.judged.memory.0; reducers = run.judged.reducers.0 };
       root = run.root;
-      says = λ frame has. begins functions (said_by targets entries frame) _ (run.says frame (later frame has)) refl;
+      says = λ frame has.
+          let d = run.says frame (later frame has) in
+          record { code = d.code; there = d.there; says = begins functions (said_by targets entries frame) _ d.says refl };
     }
   where
     later : (frame : ℕ) → HasFrame entries frame → HasFrame (entry ∷ entries) frame

@@ -24,7 +24,7 @@ use Rattle.program_steps.specs.Answers.{Origin, after_read, after_get, after_wri
 use Rattle.program_steps.specs.Exchanges.{Exchange}
 use Rattle.program_steps.specs.Dialogue.{Extent, Dialogue, stopped, passed, read, write, bump, update, put, get, spawned, called, in_call, synced, returned}
 use Rattle.program_steps.proofs.Located.{sound_of}
-use Rattle.frame_steps.specs.Frames.{script_of, DialogueOf}
+use Rattle.frame_steps.specs.Frames.{DialogueOf}
 use Rattle.program_runs.specs.Serial.{value_given}
 use Rattle.program_runs.specs.Numbers.{IsNumbered}
 
@@ -238,12 +238,8 @@ module _ (cells reducers : ℕ) (functions : List Code) (sound : IsSound cells r
   asked {registers = registers} (synced {after = after} a h d) w n = (tt, tt, λ given. asked d w.1 (sync_numbers a registers after n h))
   asked (returned a h) w n = (tt, tt, λ given. tt)
 
-  found_written : (found : Option Code) → ((code : Code) → found ≡ Some code → IsWritten (script code)) → IsWritten (script_of found)
-  found_written None f = tt
-  found_written (Some code) f = f code refl
-
   -- the dialogues of a function that is spawned
   pub spawned_asked : (function argument : ℕ) (extent : Extent) (said : List Exchange) → argument < 2 ^ 64 → DialogueOf functions function argument extent said →
       AreAsked said
   spawned_asked function argument extent said lt d =
-      asked d (found_written (slice_get functions function) (λ code h. callee_written function code h)) (first_numbers argument lt)
+      asked d.says (callee_written function d.code d.there) (first_numbers argument lt)

@@ -46,7 +46,7 @@ returns-in_err-target-clause-strange g c =
     c.requires.plays c.args.entry place c.index_mut.result.now seat
     (frame_there c.args.program.now.functions (shape_in c.args.program.now) c.args.self.now.gate c.args.self.now.frames.items c.args.self.now.seats.items
     c.requires.plays c.args.entry place seat c.index_mut.result.now c.index_mut.ensures.value)
-    (search (rules, c.turn.ensures.strange, c.in_err-target.ensures.strange, c.in_err-target.was, c.in_err-target.is, c.from_residual.ensures, e))
+    (c.turn.ensures.strange (search (rules, c.in_err-target.was, c.in_err-target.is, c.from_residual.ensures, e)))
 
 pub returns-in_err-confirm-clause-strange : goal.returns-in_err-confirm-clause-strange
 returns-in_err-confirm-clause-strange g c =
