@@ -6,6 +6,7 @@ ghost use Rattle.race_gate.specs.Shapes.{most_entries};
 mod devices;
 mod elisions;
 mod failures;
+mod hosts;
 mod replays;
 mod runs;
 mod schedules;

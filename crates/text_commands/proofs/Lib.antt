@@ -5,3 +5,4 @@ mod Pairs
 mod Answering
 mod ReplayCauses
 mod RunCauses
+mod CleanReports

@@ -1,33 +1,61 @@
 -- What each step of running a program says of the whole.
-use Rattle.std.proofs.Common.{ℕ, List, Option}
+use Rattle.std.proofs.Common.{◌≡◌, ◌≤◌, ℕ, Bool, true, false, if◌then◌else◌, List, Option, refl, sym, subst, arith}
+use Rattle.std.specs.List.{list_any}
+use Rattle.race_gate.specs.declared.answer.Entry.{Entry}
 use Rattle.program_text.specs.Drafts.{Contents}
 use Rattle.text_commands.specs.declared.fault.CliFault.{CliFault}
 use Rattle.text_commands.specs.declared.fault.CliFault.TheVariants.{Usage, Read, Write, TooLong, Trace, Program, Shape, Illegal, Limit, Stopped, Torn, Strange, Memory}
+use Rattle.text_commands.specs.Statuses.{is_refused}
 use Rattle.text_commands.specs.Streams.{StopsWriting}
 use Rattle.text_commands.specs.Replays.{Reading}
-use Rattle.text_commands.specs.Runs.{IsRunFault, TellsRun, IsProgramRead, HasRunCause}
+use Rattle.text_commands.specs.Runs.{IsRunFault, TellsRun, IsProgramRead, IsRan, HasRunCause}
 
 -- a program was read, and there is no finished run of it
-pub run_stops : (reader : Reading) (wrote writes : Option (List ℕ)) (program : Contents) (fault : CliFault) → IsProgramRead reader program → IsRunFault fault →
-    HasRunCause reader wrote writes fault
-run_stops reader wrote writes program Limit read stops = record { program = program; read = read; stops = stops }
-run_stops reader wrote writes program Stopped read stops = record { program = program; read = read; stops = stops }
-run_stops reader wrote writes program Torn read stops = record { program = program; read = read; stops = stops }
-run_stops reader wrote writes program Strange read stops = record { program = program; read = read; stops = stops }
-run_stops reader wrote writes program Memory read stops = tt
-run_stops reader wrote writes program (Usage words) read stops = absurd stops
-run_stops reader wrote writes program Read read stops = absurd stops
-run_stops reader wrote writes program Write read stops = absurd stops
-run_stops reader wrote writes program TooLong read stops = absurd stops
-run_stops reader wrote writes program (Trace fault) read stops = absurd stops
-run_stops reader wrote writes program (Program fault) read stops = absurd stops
-run_stops reader wrote writes program Shape read stops = absurd stops
-run_stops reader wrote writes program (Illegal number) read stops = absurd stops
+pub run_stops : (reader : Reading) (wrote writes : Option (List ℕ)) (limit : ℕ) (program : Contents) (fault : CliFault) → IsProgramRead reader program → IsRunFault fault →
+    HasRunCause reader wrote writes limit fault
+run_stops reader wrote writes limit program Limit read stops = record { program = program; read = read; stops = stops }
+run_stops reader wrote writes limit program Stopped read stops = record { program = program; read = read; stops = stops }
+run_stops reader wrote writes limit program Torn read stops = record { program = program; read = read; stops = stops }
+run_stops reader wrote writes limit program Strange read stops = record { program = program; read = read; stops = stops }
+run_stops reader wrote writes limit program Memory read stops = tt
+run_stops reader wrote writes limit program (Usage words) read stops = absurd stops
+run_stops reader wrote writes limit program Read read stops = absurd stops
+run_stops reader wrote writes limit program Write read stops = absurd stops
+run_stops reader wrote writes limit program TooLong read stops = absurd stops
+run_stops reader wrote writes limit program (Trace fault) read stops = absurd stops
+run_stops reader wrote writes limit program (Program fault) read stops = absurd stops
+run_stops reader wrote writes limit program Shape read stops = absurd stops
+run_stops reader wrote writes limit program (Illegal number) read stops = absurd stops
+
+-- at most 1 is the status of a run
+few_by_tests : (refused : Bool) → (if refused then 1 else 0) ≤ 4
+few_by_tests true = omega arith
+few_by_tests false = omega arith
+
+pub ran_status : (reader : Reading) (wrote writes : Option (List ℕ)) (limit status : ℕ) → IsRan reader wrote writes limit status → status ≤ 4
+ran_status reader wrote writes limit status ran =
+    subst (λ n. n ≤ 4) (sym ran.tells.status_is) (few_by_tests (list_any (λ (entry : Entry). is_refused entry.answer) ran.tells.entries))
+
+-- writing alone has failed
+pub write_alone : (wrote writes : Option (List ℕ)) (text : List ℕ) (fault : CliFault) → StopsWriting wrote writes text fault → fault ≡ Write
+write_alone wrote writes text Write stops = refl
+write_alone wrote writes text (Usage words) stops = absurd stops
+write_alone wrote writes text Read stops = absurd stops
+write_alone wrote writes text TooLong stops = absurd stops
+write_alone wrote writes text (Trace fault) stops = absurd stops
+write_alone wrote writes text (Program fault) stops = absurd stops
+write_alone wrote writes text Shape stops = absurd stops
+write_alone wrote writes text (Illegal number) stops = absurd stops
+write_alone wrote writes text Limit stops = absurd stops
+write_alone wrote writes text Stopped stops = absurd stops
+write_alone wrote writes text Torn stops = absurd stops
+write_alone wrote writes text Strange stops = absurd stops
+write_alone wrote writes text Memory stops = absurd stops
 
 -- only a part of its line could be written
-pub run_cut : (reader : Reading) (wrote writes : Option (List ℕ)) (program : Contents) (line : List ℕ) (status : ℕ) (fault : CliFault) →
-    IsProgramRead reader program → TellsRun program line status → StopsWriting wrote writes line fault → HasRunCause reader wrote writes fault
-run_cut reader wrote writes program line status Write read tells stops = record {
+pub run_cut : (reader : Reading) (wrote writes : Option (List ℕ)) (limit : ℕ) (program : Contents) (line : List ℕ) (status : ℕ) (fault : CliFault) →
+    IsProgramRead reader program → TellsRun program limit line status → StopsWriting wrote writes line fault → HasRunCause reader wrote writes limit fault
+run_cut reader wrote writes limit program line status Write read tells stops = record {
   program = program;
   line = line;
   status = status;
@@ -38,15 +66,15 @@ run_cut reader wrote writes program line status Write read tells stops = record 
   written = stops.2;
   prefix = stops.3;
 }
-run_cut reader wrote writes program line status (Usage words) read tells stops = absurd stops
-run_cut reader wrote writes program line status Read read tells stops = absurd stops
-run_cut reader wrote writes program line status TooLong read tells stops = absurd stops
-run_cut reader wrote writes program line status (Trace fault) read tells stops = absurd stops
-run_cut reader wrote writes program line status (Program fault) read tells stops = absurd stops
-run_cut reader wrote writes program line status Shape read tells stops = absurd stops
-run_cut reader wrote writes program line status (Illegal number) read tells stops = absurd stops
-run_cut reader wrote writes program line status Limit read tells stops = absurd stops
-run_cut reader wrote writes program line status Stopped read tells stops = absurd stops
-run_cut reader wrote writes program line status Torn read tells stops = absurd stops
-run_cut reader wrote writes program line status Strange read tells stops = absurd stops
-run_cut reader wrote writes program line status Memory read tells stops = absurd stops
+run_cut reader wrote writes limit program line status (Usage words) read tells stops = absurd stops
+run_cut reader wrote writes limit program line status Read read tells stops = absurd stops
+run_cut reader wrote writes limit program line status TooLong read tells stops = absurd stops
+run_cut reader wrote writes limit program line status (Trace fault) read tells stops = absurd stops
+run_cut reader wrote writes limit program line status (Program fault) read tells stops = absurd stops
+run_cut reader wrote writes limit program line status Shape read tells stops = absurd stops
+run_cut reader wrote writes limit program line status (Illegal number) read tells stops = absurd stops
+run_cut reader wrote writes limit program line status Limit read tells stops = absurd stops
+run_cut reader wrote writes limit program line status Stopped read tells stops = absurd stops
+run_cut reader wrote writes limit program line status Torn read tells stops = absurd stops
+run_cut reader wrote writes limit program line status Strange read tells stops = absurd stops
+run_cut reader wrote writes limit program line status Memory read tells stops = absurd stops

@@ -11,3 +11,4 @@ pub mod Replays
 pub mod Runs
 pub mod Sources
 pub mod Performed
+pub mod Laws

@@ -21,7 +21,7 @@ IsPerformed sources (Judge limit) wrote writes status = (behind : Option (List �
 IsPerformed sources (Elide file limit) wrote writes status = (behind : Option (List ℕ)) × (status ≡ 0) ×
     IsElided (sources.file (string_bytes file)) behind wrote writes limit
 IsPerformed sources (Run file workers limit) wrote writes status = (behind : Option (List ℕ)) ×
-    IsRan (reading (sources.file (string_bytes file)) behind) wrote writes status
+    IsRan (reading (sources.file (string_bytes file)) behind) wrote writes limit status
 IsPerformed sources (Replay file trace) wrote writes status = (program_behind : Option (List ℕ)) × (trace_behind : Option (List ℕ)) ×
     IsReplayed (reading (sources.file (string_bytes file)) program_behind) (reading (sources.file (string_bytes trace)) trace_behind)
     wrote writes status
@@ -33,7 +33,7 @@ HasJobCause sources (Judge limit) wrote writes fault = (behind : Option (List �
 HasJobCause sources (Elide file limit) wrote writes fault = (behind : Option (List ℕ)) ×
     HasElisionCause (sources.file (string_bytes file)) behind wrote writes limit fault
 HasJobCause sources (Run file workers limit) wrote writes fault = (behind : Option (List ℕ)) ×
-    HasRunCause (reading (sources.file (string_bytes file)) behind) wrote writes fault
+    HasRunCause (reading (sources.file (string_bytes file)) behind) wrote writes limit fault
 HasJobCause sources (Replay file trace) wrote writes fault = (program_behind : Option (List ℕ)) × (trace_behind : Option (List ℕ)) ×
     HasReplayCause (reading (sources.file (string_bytes file)) program_behind) (reading (sources.file (string_bytes trace)) trace_behind)
     wrote writes fault

@@ -1,15 +1,18 @@
 -- What is read of a program, and what is written of its run by many workers.
-use Rattle.std.specs.Prelude.{ℕ, ◌≡◌, Option, List, ◌++◌, reverse, codes}
+use Rattle.std.specs.Prelude.{ℕ, ◌≡◌, ◌≤◌, ◌↔◌, Option, List, ◌++◌, length, reverse, codes}
 use Rattle.std.specs.Io.KnownBytes.{Appends}
 use Rattle.trace_values.specs.Declarations.{cells_of}
 use Rattle.program_text.specs.Drafts.{Contents}
 use Rattle.program_text.specs.Grammar.{TextMeans}
 use Rattle.race_gate.specs.declared.answer.Entry.{Entry}
 use Rattle.race_gate.specs.Memory.{IsMemory}
+use Rattle.race_gate.specs.Extensions.{IsClean}
 use Rattle.program_runs.specs.Runs.{IsFinishedRun}
 use Rattle.locked_replay.specs.declared.fault.RunFault.{RunFault}
 use Rattle.locked_replay.specs.declared.fault.RunFault.TheVariants as run
+use Rattle.locked_replay.specs.Laws.{SpeaksForAll}
 use Rattle.race_report.specs.ReportText.{report_text}
+use Rattle.race_report.specs.Laws.{TellsSchedules}
 use Rattle.text_commands.specs.declared.fault.CliFault.{CliFault}
 use Rattle.text_commands.specs.declared.fault.CliFault.TheVariants.{Usage, Read, Write, TooLong, Trace, Program, Shape, Illegal, Limit, Stopped, Torn, Strange, Memory}
 use Rattle.text_commands.specs.Elided.{IsFaultyProgram}
@@ -37,14 +40,19 @@ IsRunFault fault = ⊥
 abbrev pub run_line : Contents → List Entry → List ℕ → List ℕ
 run_line program entries memory = report_text program.known entries memory ++ codes "\n"
 
--- The line is the report of some finished run of the program, and the status tells whether something was refused in it.
-pub record TellsRun (program : Contents) (line : List ℕ) (status : ℕ) : Type 0 where
+-- The line is the report of some finished run of the program within the limit, and the status tells whether something was refused in it.
+pub record TellsRun (program : Contents) (limit : ℕ) (line : List ℕ) (status : ℕ) : Type 0 where
   pub entries : List Entry
   pub memory : List ℕ
   pub run : IsFinishedRun program.functions (shape_of_program program) (reverse entries)
+  pub within : length entries ≤ limit
   pub left : IsMemory (cells_of program.known.mems) (reverse entries) memory
   pub line_is : line ≡ run_line program entries memory
   pub status_is : status ≡ refusal_status entries
+  -- where nothing was refused, the entries are the program's serial elision, and every run of the program agrees with them
+  pub speaks : IsClean (reverse entries) → SpeaksForAll program.functions (shape_of_program program) (reverse entries)
+  -- the report has the key `schedules` just there
+  pub schedules : TellsSchedules program.known entries memory ↔ IsClean (reverse entries)
 
 -- The text was read, and means this program.
 pub record IsProgramRead (reader : Reading) (program : Contents) : Type 0 where
@@ -53,22 +61,22 @@ pub record IsProgramRead (reader : Reading) (program : Contents) : Type 0 where
   pub means : TextMeans text program
 
 -- A program was read, and the line of its run was written.
-pub record IsRan (reader : Reading) (wrote writes : Option (List ℕ)) (status : ℕ) : Type 0 where
+pub record IsRan (reader : Reading) (wrote writes : Option (List ℕ)) (limit status : ℕ) : Type 0 where
   pub program : Contents
   pub line : List ℕ
   pub read : IsProgramRead reader program
-  pub tells : TellsRun program line status
+  pub tells : TellsRun program limit line status
   pub written : Appends wrote writes line
 
 -- A program was read, and only a part of the line of its run could be written.
-pub record IsRunCut (reader : Reading) (wrote writes : Option (List ℕ)) : Type 0 where
+pub record IsRunCut (reader : Reading) (wrote writes : Option (List ℕ)) (limit : ℕ) : Type 0 where
   pub program : Contents
   pub line : List ℕ
   pub status : ℕ
   pub part : List ℕ
   pub rest : List ℕ
   pub read : IsProgramRead reader program
-  pub tells : TellsRun program line status
+  pub tells : TellsRun program limit line status
   pub written : Appends wrote writes part
   pub prefix : part ++ rest ≡ line
 
@@ -79,10 +87,10 @@ pub record IsRunStopped (reader : Reading) (fault : CliFault) : Type 0 where
   pub stops : IsRunFault fault
 
 -- Why the line of a run is not written, or not wholly: each fault has its cause.
-abbrev pub HasRunCause : Reading → (wrote writes : Option (List ℕ)) → CliFault → Type 0
-HasRunCause reader wrote writes Read = Unit {0}
-HasRunCause reader wrote writes Write = IsRunCut reader wrote writes
-HasRunCause reader wrote writes TooLong = StopsReader reader TooLong
-HasRunCause reader wrote writes (Program fault) = IsFaultyProgram reader.before reader.behind (Program fault)
-HasRunCause reader wrote writes Memory = Unit {0}
-HasRunCause reader wrote writes fault = IsRunStopped reader fault
+abbrev pub HasRunCause : Reading → (wrote writes : Option (List ℕ)) → (limit : ℕ) → CliFault → Type 0
+HasRunCause reader wrote writes limit Read = Unit {0}
+HasRunCause reader wrote writes limit Write = IsRunCut reader wrote writes limit
+HasRunCause reader wrote writes limit TooLong = StopsReader reader TooLong
+HasRunCause reader wrote writes limit (Program fault) = IsFaultyProgram reader.before reader.behind (Program fault)
+HasRunCause reader wrote writes limit Memory = Unit {0}
+HasRunCause reader wrote writes limit fault = IsRunStopped reader fault

@@ -11,7 +11,8 @@
 //! mean a program, and what was written are the lines of the memory and of the number of requests of its one evaluation, in which each
 //! spawn is a call, and which makes no more requests than the limit. At the fault Limit an evaluation, if there is one, makes more. Of
 //! the other faults the same holds as of a trace. [`run_text`] carries that of `run`: at a status the bytes that were read mean a program,
-//! and what was written is the report of some finished run of it. [`replay_text`] carries that of `replay`: at a status the bytes that were
+//! and what was written is the report of some finished run of it within the limit, which is its serial elision and speaks for every
+//! schedule where nothing was refused; [`laws::clean_report_law`] draws from this alone what status 0 means. [`replay_text`] carries that of `replay`: at a status the bytes that were
 //! read mean a program and a trace which declare the same, a gate answered each request of the trace, and what was written tells of the
 //! gate's entries that they are a finished run, a run that is not finished, or which of them is the first strange one. [`read_words`] gives
 //! a job with its numbers in their ranges; which words give which job is shown by tests.
@@ -20,10 +21,10 @@
 mod declarations;
 mod elide;
 mod fault;
-mod files;
 mod help;
 mod host;
 mod judge;
+pub mod laws;
 mod outcome;
 mod performing;
 mod replay;
@@ -35,7 +36,6 @@ mod words;
 
 pub use elide::elide_text;
 pub use fault::CliFault;
-pub use files::opened;
 pub use host::Host;
 pub use judge::judge_stream;
 pub use performing::{exit_of, perform, perform_alone};

@@ -1,6 +1,6 @@
 //! Running the program that a reader gives by many workers.
 
-ghost use Rattle.std.specs.Prelude.{◌≡◌, ◌↔◌, ◌<◌, ◌≤◌, ◌≢◌, ◌+◌, [], true, false, reverse, IfOk, IfErr, OnOk, IsErrOf, IsTrue};
+ghost use Rattle.std.specs.Prelude.{◌≡◌, ◌↔◌, ◌<◌, ◌≤◌, ◌≢◌, ◌+◌, [], true, false, length, reverse, IfOk, IfErr, OnOk, IsErrOf, IsTrue};
 ghost use Rattle.program_text.specs.Programs.{contents};
 ghost use Rattle.race_gate.specs.Shapes.{most_entries};
 ghost use Rattle.race_gate.specs.Memory.{IsMemory};
@@ -111,7 +111,7 @@ fn run_through<L: Ledger + Send + Sync, D: Door + Sync, R: Threads + Wait + Sync
     run(rt, alloc, program, workers, &gate, seat)
 }
 
-/// A finished run of the program by so many workers.
+/// A finished run of the program by so many workers, of at most `limit` entries. More of them would be none of the fresh gate's.
 fn whole_run<L: Ledger + Send + Sync, D: Door + Sync, R: Threads + Wait + Sync>(
     rt: &R,
     alloc: Global,
@@ -129,11 +129,16 @@ fn whole_run<L: Ledger + Send + Sync, D: Door + Sync, R: Threads + Wait + Sync>(
     ensures run { IfOk result (λ whole. IsFinishedRun program.now.functions (shape_in program.now) (reverse whole.entries.items)) }
     ensures memory { IfOk result (λ whole. IsMemory (shape_in program.now).cells (reverse whole.entries.items) whole.memory.items) }
     ensures clean { IfOk result (λ whole. IsTrue whole.clean ↔ IsClean (reverse whole.entries.items)) }
+    ensures within { IfOk result (λ whole. length whole.entries.items ≤ limit) }
 {
     let gate = fresh_gate(alloc, program, limit)?;
     let (locked, seat) = LockedGate::<L>::new(gate, blank, PARTS);
     let logs = run_through(rt, alloc, program, workers, door, &locked, seat)?;
-    gather(alloc, program, locked, logs)
+    let whole = gather(alloc, program, locked, logs)?;
+    if whole.entries.len() > limit as usize {
+        return Err(RunFault::Torn);
+    }
+    Ok(whole)
 }
 
 /// The report of a finished run and a line feed.
@@ -163,7 +168,7 @@ fn ran<D: Door + Sync, R: Threads + Wait + Sync>(
 ) -> Result<(Vec<u8>, u8), CliFault>
     requires workers { (0 < workers) × (workers ≤ 64) }
     requires limit { limit ≤ most_entries }
-    ensures ok { IfOk result (λ told. TellsRun (contents program.now) told.0.items told.1) }
+    ensures ok { IfOk result (λ told. TellsRun (contents program.now) limit told.0.items told.1) }
     ensures fault { IfErr result IsRunFault }
 {
     let whole = match whole_run::<Brand, D, R>(
@@ -205,9 +210,9 @@ pub fn run_text<D: Door + Sync, P: Read, W: Write, R: Threads + Wait + Sync>(
     requires workers { (0 < workers) × (workers ≤ 64) }
     requires limit { limit ≤ most_entries }
     ensures answered { IfOk result (IsRan (reading (P.remaining (held program.old)) (P.remaining (held program.new)))
-        (W.contents (held output.old)) (W.contents (held output.new))) }
+        (W.contents (held output.old)) (W.contents (held output.new)) limit) }
     ensures fault { IfErr result (HasRunCause (reading (P.remaining (held program.old)) (P.remaining (held program.new)))
-        (W.contents (held output.old)) (W.contents (held output.new))) }
+        (W.contents (held output.old)) (W.contents (held output.new)) limit) }
     ensures read_failed { IsErrOf result CliFault.Read ↔ IsTrue (has_failed program.new) }
     ensures delivered { OnOk result (is_delivered output.new ≡ true) }
     ensures write_failed { IsErrOf result CliFault.Write ↔ IsTrue (has_failed output.new) }

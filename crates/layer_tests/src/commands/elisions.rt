@@ -5,14 +5,12 @@ ghost use Rattle.race_gate.specs.Shapes.{most_entries};
 
 use super::devices::{Breaking, Filling};
 use super::worked::{ENDLESS, FIB, LASTS, NO_TURNS, PAIR, SERIES, TURNS};
-use super::{
-    MOST, Outcome, check_fault, check_told, check_written, has_filled, is_fault, is_unread, lined,
-};
+use super::{MOST, Outcome, check_fault, check_told, check_written, has_filled, is_unread, lined};
 use std::alloc::Global;
 use std::io::{Read, Write};
 use std::process::Abort;
 use std::test::Fail;
-use text_commands::{CliFault, Watched, elide_text, opened};
+use text_commands::{CliFault, Watched, elide_text};
 
 /// A program of 29 bytes whose elision has 15.
 const SHORT: &str = "cilk 1\nmem x\nfunc main z\nend\n";
@@ -156,15 +154,6 @@ fn faults_of_elisions(rt: HostRuntime) -> Result<(), Fail> {
             ),
         ],
     )
-}
-
-#[test]
-fn a_file_that_cannot_be_opened(rt: HostRuntime) -> Result<(), Fail> {
-    match opened(&rt, "no/such/file") {
-        Ok(_) => assert!(rt; false, "it is opened"),
-        Err(fault) => is_fault(&rt, rt.alloc(), &fault, 2, "read")?,
-    }
-    Ok(())
 }
 
 fn elided_breaking(alloc: Global, left: u32) -> Outcome<Vec<u8>> {
