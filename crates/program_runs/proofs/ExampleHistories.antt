@@ -1,5 +1,5 @@
 -- The worked histories are judged.
-use Rattle.std.proofs.Common.{◌≡◌, inl, inr, ℕ, true, [], ◌∷◌, refl, sym, ap, subst, lit<, arith}
+use Rattle.std.proofs.Common.{◌≡◌, inl, inr, ℕ, true, [], ◌∷◌, refl, sym, ap, lit<, arith}
 use Rattle.std.proofs.lemmas.List.Elements.{All-from_recursion}
 use Rattle.access_table.specs.declared.kind.Kind.TheVariants as kind
 use Rattle.trace_values.specs.declared.value.Act.{Act}
@@ -7,61 +7,26 @@ use Rattle.control_history.specs.Updated.{updated}
 use Rattle.control_history.specs.History.{same, joined, ended, finished, History}
 use Rattle.control_history.specs.Strands.{Running}
 use Rattle.control_history.specs.Blocks.{root, spawned as spawned_in}
-use Rattle.control_history.specs.Legal.{Allowed, open_split, sync_same, sync_joined, child_return, root_return}
-use Rattle.control_history.specs.Dag.{IsParallel, Reaches, stay, step}
+use Rattle.control_history.specs.Legal.{Allowed, sync_same, sync_joined, child_return, root_return}
+use Rattle.control_history.specs.Dag.{Reaches, stay, step}
 use Rattle.control_history.specs.Examples.{first_spawn}
 use Rattle.control_history.proofs.Examples.{examples_law as control_examples}
 use Rattle.shadow_history.specs.Accesses.{Access, Races}
-use Rattle.shadow_history.proofs.Added.{listed-cases}
 use Rattle.race_gate.specs.declared.access.CellAccess.{CellAccess}
-use Rattle.race_gate.specs.declared.answer.Answer.TheVariants.{Split, Same, Granted, Value}
+use Rattle.race_gate.specs.declared.answer.Answer.TheVariants.{Split, Same, Value}
 use Rattle.race_gate.specs.declared.answer.Entry.{Entry}
-use Rattle.race_gate.specs.Entries.{Entries, control_part}
 use Rattle.race_gate.specs.Legal.{MayFollow}
 use Rattle.race_gate.specs.Accesses.{granted}
-use Rattle.race_gate.specs.Races.{HasRace}
-use Rattle.race_gate.specs.Memory.{value_of}
-use Rattle.race_gate.specs.Verdicts.{IsRightVerdict}
 use Rattle.race_gate.specs.Judged.{IsJudged}
 use Rattle.race_gate.specs.Extensions.{IsCleanAnswer, IsClean}
-use Rattle.race_gate.proofs.Races.{none-listed}
+use Rattle.race_gate.proofs.WorkedSteps.{free-at_first, free-of_more, free-of_one, write-granted, read-granted, root_runs, split_allowed, child_runs, next_runs}
 use Rattle.program_runs.specs.Examples as example
-use Rattle.program_runs.specs.Examples.{two_cells, asked, child_wrote, refused_by_write, read_refused, pair_entries, other_cell, series_joined, series_written, series_entries, never_synced, chosen}
+use Rattle.program_runs.specs.Examples.{two_cells, asked, child_wrote, read_refused, pair_entries, other_cell, series_joined, series_written, series_entries, never_synced, chosen}
 
--- ---- accesses without a race
-
-free_at_first : (dag : History) (strand : ℕ) (new : CellAccess) → HasRace dag [] strand new → ⊥
-free_at_first dag strand new race = none-listed race.0 race.1.0
-
--- one earlier access does not race where it is of another cell, or where its strand reaches the new one's
-free_of_one : (dag : History) (one : Access) (strand : ℕ) (new : CellAccess) → (one.location ≡ new.location → IsParallel dag one.strand strand → ⊥) →
-    HasRace dag (one ∷ []) strand new → ⊥
-free_of_one dag one strand new none (access, (listed, at, rule, parallel)) = elim (listed-cases [] one access listed) [
-  | inl k ↦ none-listed access k
-  | inr e ↦ none (subst (λ (a : Access). a.location ≡ new.location) e at) (subst (λ (a : Access). IsParallel dag a.strand strand) e parallel)
-]
-
--- nor do two of another cell
-free_of_others : (dag : History) (one other : Access) (strand : ℕ) (new : CellAccess) → (one.location ≡ new.location → ⊥) → (other.location ≡ new.location → ⊥) →
-    HasRace dag (one ∷ other ∷ []) strand new → ⊥
-free_of_others dag one other strand new off far (access, (listed, at, rule, parallel)) = elim (listed-cases (one ∷ []) other access listed) [
-  | inl k ↦ elim (listed-cases [] one access k) [
-    | inl m ↦ none-listed access m
-    | inr e ↦ off (subst (λ (a : Access). a.location ≡ new.location) e at)
-  ]
-  | inr e ↦ far (subst (λ (a : Access). a.location ≡ new.location) e at)
-]
+-- ---- accesses
 
 other_place : ◌≡◌ {A = ℕ} 0 1 → ⊥
 other_place e = absurd (omega (arith, e))
-
-granted_right : (entries : Entries) (strand : ℕ) (new : CellAccess) → (HasRace (control_part entries) (granted entries) strand new → ⊥) →
-    IsRightVerdict entries strand new Granted
-granted_right entries strand new free = record { refused = ((λ t. absurd t), (λ race. absurd (free race))); witness = tt; value = tt }
-
-value_right : (entries : Entries) (strand : ℕ) (new : CellAccess) (value : ℕ) → value ≡ value_of entries new.location →
-    (HasRace (control_part entries) (granted entries) strand new → ⊥) → IsRightVerdict entries strand new (Value value)
-value_right entries strand new value is free = record { refused = ((λ t. absurd t), (λ race. absurd (free race))); witness = tt; value = is }
 
 abbrev reading : ℕ → CellAccess
 reading cell = record { kind = kind.Read; location = cell }
@@ -88,16 +53,7 @@ abbrev after_join : History
 after_join = joined 2 3 ∷ child_returned
 
 spawned_follows : MayFollow two_cells [] (asked 0 Act.Spawn 5 (Split (record { child = 1; next = 2; join = 3; first = true })))
-unfolding updated
-spawned_follows = record { runs = refl; in_range = tt; belongs = tt; allowed = open_split refl tt refl refl refl }
-
-child_runs : Running first_spawn 1
-unfolding updated
-child_runs = refl
-
-next_runs : Running first_spawn 2
-unfolding updated
-next_runs = refl
+spawned_follows = record { runs = root_runs; in_range = tt; belongs = tt; allowed = split_allowed }
 
 same_allowed : Allowed first_spawn (same 1)
 unfolding updated
@@ -151,7 +107,7 @@ module _ (value line : ℕ) where
   pub wrote_judged : IsJudged two_cells (child_wrote value line)
   wrote_judged = record {
     legal = ((tt, spawned_follows), record { runs = child_runs; in_range = lit< tt; belongs = tt; allowed = tt });
-    memory = ((tt, tt), granted_right example.spawned 1 (writing 0) (free_at_first first_spawn 1 (writing 0)));
+    memory = ((tt, tt), write-granted example.spawned 1 (writing 0) (free-at_first first_spawn 1 (writing 0)));
     reducers = ((tt, tt), tt);
   }
 
@@ -195,7 +151,7 @@ other_cell_judged =
       legal = (before.legal, record { runs = next_runs; in_range = lit< tt; belongs = tt; allowed = tt });
       memory = (
         before.memory,
-        value_right (child_wrote 7 9) 2 (reading 1) 0 refl (free_of_one first_spawn child_access 2 (reading 1) (λ at parallel. other_place at)),
+        read-granted (child_wrote 7 9) 2 (reading 1) (free-of_one first_spawn 2 (reading 1) child_access (λ at rule parallel. other_place at)) 0 refl,
       );
       reducers = (before.reducers, tt);
     }
@@ -226,10 +182,11 @@ written_judged =
       memory = (
         (
           before.memory,
-          value_right series_joined 3 (reading 0) 7 refl (free_of_one after_join child_access 3 (reading 0) (λ at parallel. parallel.0 child_reaches)),
+          read-granted series_joined 3 (reading 0) (free-of_one after_join 3 (reading 0) child_access (λ at rule parallel. parallel.0 child_reaches)) 7 refl,
         ),
-        granted_right (asked 3 (Act.Read 0) 7 (Value 7) ∷ series_joined) 3 (writing 1)
-            (free_of_others after_join child_access join_access 3 (writing 1) other_place other_place),
+        write-granted (asked 3 (Act.Read 0) 7 (Value 7) ∷ series_joined) 3 (writing 1)
+            (free-of_more after_join 3 (writing 1) (child_access ∷ []) join_access
+            (free-of_one after_join 3 (writing 1) child_access (λ at rule parallel. other_place at)) (λ at rule parallel. other_place at)),
       );
       reducers = ((before.reducers, tt), tt);
     }
@@ -265,7 +222,7 @@ chosen_judged value line =
       legal = (before.legal, record { runs = next_runs; in_range = lit< tt; belongs = tt; allowed = tt });
       memory = (
         before.memory,
-        granted_right (read_refused 14) 2 (writing 1) (free_of_one first_spawn child_access 2 (writing 1) (λ at parallel. other_place at)),
+        write-granted (read_refused 14) 2 (writing 1) (free-of_one first_spawn 2 (writing 1) child_access (λ at rule parallel. other_place at)),
       );
       reducers = (before.reducers, tt);
     }

@@ -1,43 +1,25 @@
 -- The worked histories are judged as they show.
-use Rattle.std.proofs.Common.{◌≡◌, inl, inr, ℕ, zero, suc, true, [], ◌∷◌, refl, subst, lit<, arith}
+use Rattle.std.proofs.Common.{◌≡◌, ℕ, zero, suc, true, [], ◌∷◌, refl, lit<, arith}
 use Rattle.access_table.specs.declared.kind.Rule.TheVariants.{Free, Race}
 use Rattle.access_table.specs.declared.kind.Kind.TheVariants as kind
-use Rattle.access_table.specs.Table.{rule_between}
 use Rattle.trace_values.specs.declared.value.Act.TheVariants.{Spawn, Read, Write}
 use Rattle.control_history.specs.Updated.{updated}
-use Rattle.control_history.specs.History.{History}
 use Rattle.control_history.specs.Strands.{Running}
-use Rattle.control_history.specs.Legal.{open_split, sync_same, root_return}
-use Rattle.control_history.specs.Dag.{IsParallel, stay}
+use Rattle.control_history.specs.Legal.{sync_same, root_return}
+use Rattle.control_history.specs.Dag.{stay}
 use Rattle.control_history.specs.Examples.{first_spawn}
 use Rattle.control_history.proofs.Examples.{examples_law}
-use Rattle.shadow_history.specs.Accesses.{Access, Races}
-use Rattle.shadow_history.proofs.Added.{listed-cases}
+use Rattle.shadow_history.specs.Accesses.{Races}
 use Rattle.race_gate.specs.declared.access.CellAccess.{CellAccess}
 use Rattle.race_gate.specs.declared.answer.Answer.{Answer}
 use Rattle.race_gate.specs.declared.answer.Answer.TheVariants.{Split, Granted, Value}
 use Rattle.race_gate.specs.Entries.{Entries, control_part}
 use Rattle.race_gate.specs.Legal.{Belongs, MayFollow}
 use Rattle.race_gate.specs.Accesses.{granted}
-use Rattle.race_gate.specs.Races.{HasRace}
-use Rattle.race_gate.specs.Memory.{value_of}
-use Rattle.race_gate.specs.Verdicts.{IsRightVerdict}
 use Rattle.race_gate.specs.Judged.{IsJudged}
 use Rattle.race_gate.specs.Extensions.{IsClean}
-use Rattle.race_gate.proofs.Races.{none-listed}
+use Rattle.race_gate.proofs.WorkedSteps.{free-at_first, free-of_one, write-granted, read-granted, root_runs, split_allowed, child_runs, next_runs}
 use Rattle.race_gate.specs.Examples.{one_cell, asked, one_strand, whole_run, spawned, parallel_reads, racing_write, refused_by_read, refused_by_write, read_behind, WorkedHistories}
-
--- what no access races with
-free-at_first : (dag : History) (strand : ℕ) (new : CellAccess) → HasRace dag [] strand new → ⊥
-free-at_first dag strand new race = none-listed race.0 race.1.0
-
--- one earlier access does not race where the rule is another, or where the strand is the same
-free-of_one : (dag : History) (one : Access) (strand : ℕ) (new : CellAccess) →
-    (rule_between one.kind new.kind ≡ Race → IsParallel dag one.strand strand → ⊥) → HasRace dag (one ∷ []) strand new → ⊥
-free-of_one dag one strand new none (access, (listed, at, rule, parallel)) = elim (listed-cases [] one access listed) [
-  | inl k ↦ none-listed access k
-  | inr e ↦ none (subst (λ (a : Access). rule_between a.kind new.kind ≡ Race) e rule) (subst (λ (a : Access). IsParallel dag a.strand strand) e parallel)
-]
 
 free_is_no_race : Free ≡ Race → ⊥
 free_is_no_race e = absurd (cc)
@@ -50,36 +32,24 @@ module _ (entries : Entries) (strand : ℕ) (runs : Running (control_part entrie
   writes : (value : ℕ) (answer : Answer) → Belongs (Write 0 value) answer → MayFollow one_cell entries (asked strand (Write 0 value) answer)
   writes value answer belongs = record { runs = runs; in_range = lit< tt; belongs = belongs; allowed = tt }
 
-  read_right : (value : ℕ) → value ≡ value_of entries 0 → (HasRace (control_part entries) (granted entries) strand (record { kind = kind.Read; location = 0 }) → ⊥) →
-      IsRightVerdict entries strand (record { kind = kind.Read; location = 0 }) (Value value)
-  read_right value is free = record { refused = ((λ t. absurd t), (λ race. absurd (free race))); witness = tt; value = is }
+abbrev reading : CellAccess
+reading = record { kind = kind.Read; location = 0 }
 
-  write_right : (HasRace (control_part entries) (granted entries) strand (record { kind = kind.Write; location = 0 }) → ⊥) →
-      IsRightVerdict entries strand (record { kind = kind.Write; location = 0 }) Granted
-  write_right free = record { refused = ((λ t. absurd t), (λ race. absurd (free race))); witness = tt; value = tt }
+abbrev writing : CellAccess
+writing = record { kind = kind.Write; location = 0 }
 
 spawned_follows : MayFollow one_cell [] (asked 0 Spawn (Split (record { child = 1; next = 2; join = 3; first = true })))
-unfolding updated
-spawned_follows = record { runs = refl; in_range = tt; belongs = tt; allowed = open_split refl tt refl refl refl }
-
-root_runs : Running [] 0
-unfolding updated
-root_runs = refl
-
-child_runs : Running first_spawn 1
-unfolding updated
-child_runs = refl
-
-next_runs : Running first_spawn 2
-unfolding updated
-next_runs = refl
+spawned_follows = record { runs = root_runs; in_range = tt; belongs = tt; allowed = split_allowed }
 
 one_strand_judged : IsJudged one_cell one_strand
 one_strand_judged =
     let before = asked 0 (Write 0 5) Granted ∷ [] in
     record {
       legal = ((tt, writes [] 0 root_runs 5 Granted tt), reads before 0 root_runs 5);
-      memory = ((tt, write_right [] 0 root_runs (free-at_first [] _ _)), read_right before 0 root_runs 5 refl (free-of_one [] _ _ _ (λ rule parallel. parallel.0 stay)));
+      memory = (
+        (tt, write-granted [] 0 writing (free-at_first [] 0 writing)),
+        read-granted before 0 reading (free-of_one [] 0 reading _ (λ at rule parallel. parallel.0 stay)) 5 refl,
+      );
       reducers = ((tt, tt), tt);
     }
 
@@ -100,8 +70,8 @@ parallel_reads_judged =
     record {
       legal = (((tt, spawned_follows), reads spawned 1 child_runs 0), reads before 2 next_runs 0);
       memory = (
-        ((tt, tt), read_right spawned 1 child_runs 0 refl (free-at_first first_spawn _ _)),
-        read_right before 2 next_runs 0 refl (free-of_one first_spawn _ _ _ (λ rule parallel. free_is_no_race rule)),
+        ((tt, tt), read-granted spawned 1 reading (free-at_first first_spawn 1 reading) 0 refl),
+        read-granted before 2 reading (free-of_one first_spawn 2 reading _ (λ at rule parallel. free_is_no_race rule)) 0 refl,
       );
       reducers = (((tt, tt), tt), tt);
     }
@@ -132,10 +102,10 @@ read_behind_judged =
       legal = ((((tt, spawned_follows), writes spawned 1 child_runs 5 Granted tt), writes first 2 next_runs 6 refused_by_write tt), reads second 1 child_runs 5);
       memory = (
         (
-          ((tt, tt), write_right spawned 1 child_runs (free-at_first first_spawn _ _)),
+          ((tt, tt), write-granted spawned 1 writing (free-at_first first_spawn 1 writing)),
           record { refused = ((λ t. (_, write_races)), (λ race. tt)); witness = (write_races, refl); value = tt },
         ),
-        read_right second 1 child_runs 5 refl (free-of_one first_spawn _ _ _ (λ rule parallel. parallel.0 stay)),
+        read-granted second 1 reading (free-of_one first_spawn 1 reading _ (λ at rule parallel. parallel.0 stay)) 5 refl,
       );
       reducers = ((((tt, tt), tt), tt), tt);
     }

@@ -6,6 +6,7 @@ pub mod Followed
 pub mod Lists
 pub mod Races
 pub mod Values
+pub mod WorkedSteps
 pub mod Examples
 pub mod Keeping
 pub mod Reading

@@ -11,7 +11,7 @@ use Rattle.control_history.specs.Updated.{updated}
 use Rattle.control_history.specs.History.{History, split, joined, ended}
 use Rattle.control_history.specs.Strands.{Running, Begun}
 use Rattle.control_history.specs.Blocks.{root, spawned as spawned_in}
-use Rattle.control_history.specs.Legal.{Allowed, Legal, open_split, next_split, sync_joined, child_return, start, then}
+use Rattle.control_history.specs.Legal.{Allowed, Legal, next_split, sync_joined, child_return, start, then}
 use Rattle.control_history.specs.Branches.{trunk, right, branch}
 use Rattle.control_history.specs.Peers.{HaveSamePeers}
 use Rattle.control_history.specs.Examples.{first_spawn}
@@ -31,6 +31,7 @@ use Rattle.race_gate.specs.Judged.{IsJudged}
 use Rattle.race_gate.specs.Examples.{asked}
 use Rattle.race_gate.specs.ReducerExamples.{one_sum, added_by_child, refused_by_put, early_get, grown_peers, WorkedReducers}
 use Rattle.race_gate.proofs.Races.{none-listed}
+use Rattle.race_gate.proofs.WorkedSteps.{root_runs, split_allowed, first_spawn_legal, child_runs, next_runs}
 use Rattle.race_gate.proofs.Reading.{granted-right, refused-read}
 use Rattle.race_gate.proofs.Getting.{get-value}
 
@@ -86,25 +87,6 @@ before_last = asked 2 Sync (Joined 3) ∷ before_join
 
 abbrev added_steps : Steps
 added_steps = control (joined 2 3) ∷ control (ended 1) ∷ other 2 ∷ update 1 0 5 ∷ control (split 0 1 2 3 true) ∷ put 0 0 0 ∷ []
-
-root_runs : Running [] 0
-unfolding updated
-root_runs = refl
-
-split_allowed : Allowed [] (split 0 1 2 3 true)
-unfolding updated
-split_allowed = open_split refl tt refl refl refl
-
-first_spawn_legal : Legal first_spawn
-first_spawn_legal = then start split_allowed
-
-child_runs : Running first_spawn 1
-unfolding updated
-child_runs = refl
-
-next_runs : Running first_spawn 2
-unfolding updated
-next_runs = refl
 
 ended_allowed : Allowed first_spawn (ended 1)
 unfolding updated
