@@ -1,6 +1,6 @@
 -- What the frames of a run say, statement by statement.
 use Rattle.std.proofs.Common.{◌≡◌, inl, inr, ℕ, zero, suc, List, [], ◌∷◌, Some, refl, sym, ap, ◌∙◌, subst}
-use Rattle.std.specs.Prelude.{slice_index}
+use Rattle.std.specs.Prelude.{slice_get, slice_index}
 use Rattle.trace_values.specs.declared.value.Act.{Act}
 use Rattle.race_gate.specs.Entries.{Entries}
 use Rattle.race_gate.specs.Shapes.{Shape}
@@ -9,14 +9,15 @@ use Rattle.program_lines.specs.declared.statement.Statement.{Statement}
 use Rattle.program_text.specs.Codes.{Code, main_of}
 use Rattle.program_text.specs.Trees.{Tree, Step, Choice, and_then}
 use Rattle.program_steps.specs.declared.request.Target.{Target}
-use Rattle.program_steps.specs.Values.{Registers}
-use Rattle.program_steps.specs.Scripts.{first_part, second_part}
+use Rattle.program_steps.specs.Values.{Registers, first_registers}
+use Rattle.program_steps.specs.Scripts.{script, first_part, second_part}
 use Rattle.program_steps.specs.Answers.{FromSpawn}
 use Rattle.program_steps.specs.Exchanges.{Exchange}
 use Rattle.program_steps.specs.Dialogue.{Part, Dialogue, passed}
 use Rattle.program_steps.specs.Requests.{act_of, answered}
 use Rattle.frame_steps.specs.Frames.{DialogueOf}
 use Rattle.frame_steps.specs.Requests.{Follows}
+use Rattle.frame_steps.proofs.Histories.{dialogue_with}
 use Rattle.frame_steps.proofs.Dialogues.{follows_is, answer_stack, stack_only}
 use Rattle.program_runs.specs.Frames.{Targets, HasSplit, HasFrame, said_by}
 use Rattle.program_runs.specs.Runs.{IsRun}
@@ -43,13 +44,14 @@ module _ (functions : List Code) where
 
   -- the root frame is of `main`, the first function, with argument 0
   pub root_says : (shape : Shape) (entries : Entries) (run : IsRun functions shape entries) → main_of functions ≡ Some 0 →
-      DialogueOf functions 0 0 Part (said_by run.targets entries 0)
-  root_says shape entries run is =
+      (code : Code) → slice_get functions 0 ≡ Some code → Dialogue functions FromSpawn Part code.end_line (script code) (first_registers 0) (said_by run.targets entries 0)
+  root_says shape entries run is code there =
       let place : Some 0 ≡ Some run.main = sym is ∙ run.is_main in
       let zero_is : run.main ≡ 0 = cc in
       let target : run.targets 0 ≡ record { function = 0; argument = 0 } =
       run.run.root ∙ ap (λ (m : ℕ). let made : Target = record { function = m; argument = 0 } in made) zero_is in
-      subst (λ (t : Target). DialogueOf functions t.function t.argument Part (said_by run.targets entries 0)) target (run.run.says 0 (inl refl))
+      dialogue_with functions 0 0 Part (said_by run.targets entries 0)
+      (subst (λ (t : Target). DialogueOf functions t.function t.argument Part (said_by run.targets entries 0)) target (run.run.says 0 (inl refl))) code there
 
 -- what holds of both frames holds of each
 pub two_frames : (P : ℕ → Type 0) → P 0 → P 1 → (entries : Entries) → ((frame : ℕ) → HasSplit entries frame → frame ≡ 1) →

@@ -11,6 +11,7 @@ use Rattle.program_steps.specs.declared.request.Target.{Target}
 use Rattle.program_steps.specs.Values.{first_registers}
 use Rattle.program_steps.specs.Dialogue.{Part}
 use Rattle.frame_steps.specs.Frames.{DialogueOf}
+use Rattle.frame_steps.proofs.Histories.{dialogue_with}
 use Rattle.frame_steps.proofs.Dialogues.{stack_only}
 use Rattle.program_runs.specs.Frames.{said_by}
 use Rattle.program_runs.specs.Runs.{IsRun}
@@ -30,7 +31,7 @@ module _ (ok_there : 0 < 17) (parameter_there : 1 < 17) (named_there : 2 < 17) w
   pub other_cell_no_run : IsRun pairing two_cells other_cell → ⊥
   unfolding updated
   other_cell_no_run run =
-      let d = root_says pairing two_cells other_cell run refl in
+      let d = root_says pairing two_cells other_cell run refl _ refl in
       let on = goes_on pairing 7 (stated.Spawn 5 1 (Number 7)) _ (first_registers 0) _ _ _ Act.Spawn d refl refl in
       let f = stack_only pairing 7 (Some (stated.Read 6 (named ok_there parameter_there named_there) (Cell 0))) _ (first_registers 0) [] (Act.Read 0) _ _ refl on.1 in
       let clash : Some (Act.Read 0) ≡ Some (Act.Read 1) = f.act in
@@ -40,11 +41,11 @@ module _ (ok_there : 0 < 17) (parameter_there : 1 < 17) (named_there : 2 < 17) w
   pub other_value_no_run : IsRun pairing two_cells (child_wrote 8 9) → ⊥
   unfolding updated
   other_value_no_run run =
-      let d = root_says pairing two_cells (child_wrote 8 9) run refl in
+      let d = root_says pairing two_cells (child_wrote 8 9) run refl _ refl in
       let on = goes_on pairing 7 (stated.Spawn 5 1 (Number 7)) _ (first_registers 0) _ _ _ Act.Spawn d refl refl in
       let target : Some (record { function = 1; argument = 7 }) ≡ Some (run.targets 1) = on.0.target in
       let is : run.targets 1 ≡ record { function = 1; argument = 7 } = cc in
-      let child = subst (λ (t : Target). DialogueOf pairing t.function t.argument Part (said_by run.targets (child_wrote 8 9) 1)) is (run.run.says 1 (inr (inr (inl (refl, tt))))) in
+      let child = dialogue_with pairing 1 7 Part (said_by run.targets (child_wrote 8 9) 1) (subst (λ (t : Target). DialogueOf pairing t.function t.argument Part (said_by run.targets (child_wrote 8 9) 1)) is (run.run.says 1 (inr (inr (inl (refl, tt)))))) _ refl in
       let f = stack_only pairing 10 (Some (stated.Write 9 (Cell 0) (Held (parameter ok_there parameter_there named_there)))) _ (first_registers 7) [] (Act.Write 0 7) _ [] refl child in
       let clash : Some (Act.Write 0 7) ≡ Some (Act.Write 0 8) = f.act in
       let value : ◌≡◌ {A = ℕ} 7 8 = cc in
@@ -54,7 +55,7 @@ module _ (ok_there : 0 < 17) (parameter_there : 1 < 17) (named_there : 2 < 17) w
   unfolding updated
   never_synced_no_run run =
       let register = named ok_there parameter_there named_there in
-      let d = root_says serial two_cells never_synced run refl in
+      let d = root_says serial two_cells never_synced run refl _ refl in
       let one = goes_on serial 9 (stated.Spawn 5 1 (Number 7)) _ (first_registers 0) _ _ _ Act.Spawn d refl refl in
       let two = goes_on serial 9 (stated.Sync 6) _ _ _ _ _ Act.Sync one.1 refl refl in
       let three = goes_on serial 9 (stated.Read 7 register (Cell 0)) _ _ _ _ _ (Act.Read 0) two.1 refl refl in
@@ -67,7 +68,7 @@ module _ (ok_there : 0 < 17) (parameter_there : 1 < 17) (named_there : 2 < 17) w
   unfolding updated
   first_part_no_run run =
       let register = named ok_there parameter_there named_there in
-      let d = root_says chooser two_cells (chosen 1 8) run refl in
+      let d = root_says chooser two_cells (chosen 1 8) run refl _ refl in
       let on = goes_on chooser 12 (stated.Spawn 5 1 (Number 7)) _ (first_registers 0) _ _ _ Act.Spawn d refl refl in
       let later = goes_on chooser 12 (stated.Read 6 register (Cell 0)) _ (first_registers 0) _ _ _ (Act.Read 0) on.1 refl refl in
       let behind = second_only chooser 12 7 (ok ok_there parameter_there named_there) _ _ _ _ _ _ later.1 refl in

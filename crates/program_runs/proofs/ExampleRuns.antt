@@ -66,8 +66,8 @@ module _ (ok_there : 0 < 17) (parameter_there : 1 < 17) (named_there : 2 < 17) w
         judged = pair_judged;
         root = refl;
         says = two_frames (λ frame. DialogueOf pairing (child_targets frame).function (child_targets frame).argument Part (said_by child_targets pair_entries frame))
-            (spawned _ refl (read _ refl (synced (Joined 3) refl (returned Finished tt))))
-            (write Granted refl (synced Same refl (returned Ended tt))) pair_entries pair_frames;
+            (record { code = _; there = refl; says = spawned _ refl (read _ refl (synced (Joined 3) refl (returned Finished tt))) })
+            (record { code = _; there = refl; says = write Granted refl (synced Same refl (returned Ended tt)) }) pair_entries pair_frames;
       };
     },
     tt,
@@ -84,8 +84,8 @@ module _ (ok_there : 0 < 17) (parameter_there : 1 < 17) (named_there : 2 < 17) w
         judged = series_judged;
         root = refl;
         says = two_frames (λ frame. DialogueOf serial (child_targets frame).function (child_targets frame).argument Part (said_by child_targets series_entries frame))
-            (spawned _ refl (synced (Joined 3) refl (read (Value 7) refl (write Granted refl (synced Same refl (returned Finished tt))))))
-            (write Granted refl (synced Same refl (returned Ended tt))) series_entries series_frames;
+            (record { code = _; there = refl; says = spawned _ refl (synced (Joined 3) refl (read (Value 7) refl (write Granted refl (synced Same refl (returned Finished tt))))) })
+            (record { code = _; there = refl; says = write Granted refl (synced Same refl (returned Ended tt)) }) series_entries series_frames;
       };
     },
     tt,
@@ -108,7 +108,7 @@ module _ (ok_there : 0 < 17) (parameter_there : 1 < 17) (named_there : 2 < 17) w
       judged = chosen_judged 2 10;
       root = refl;
       says = two_frames (λ frame. DialogueOf chooser (child_targets frame).function (child_targets frame).argument Part (said_by child_targets (chosen 2 10) frame))
-          (spawned _ refl (read _ refl (passed (second_part refl) (write Granted refl stopped))))
-          (write Granted refl stopped) (chosen 2 10) (chosen_frames 2 10);
+          (record { code = _; there = refl; says = spawned _ refl (read _ refl (passed (second_part refl) (write Granted refl stopped))) })
+          (record { code = _; there = refl; says = write Granted refl stopped }) (chosen 2 10) (chosen_frames 2 10);
     };
   }
