@@ -12,4 +12,6 @@ pub mod pranks;
 #[cfg(test)]
 mod rounds;
 #[cfg(test)]
+mod schedules;
+#[cfg(test)]
 mod worked;
