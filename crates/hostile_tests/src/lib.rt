@@ -8,7 +8,11 @@
 mod checks;
 #[cfg(test)]
 mod gates;
+#[cfg(test)]
+mod histories;
 pub mod pranks;
+#[cfg(test)]
+mod receipts;
 #[cfg(test)]
 mod rounds;
 #[cfg(test)]
