@@ -10,6 +10,8 @@ mod checks;
 mod gates;
 #[cfg(test)]
 mod histories;
+#[cfg(test)]
+mod limits;
 pub mod pranks;
 #[cfg(test)]
 mod receipts;
@@ -17,5 +19,7 @@ mod receipts;
 mod rounds;
 #[cfg(test)]
 mod schedules;
+#[cfg(test)]
+mod texts;
 #[cfg(test)]
 mod worked;
