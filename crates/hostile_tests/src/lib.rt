@@ -1,0 +1,25 @@
+//! Tests of hostile use, a module for each way, and the gates that they put round a gate: gates that stop, want memory or answer another
+//! request, histories and receipts that are not those of a run, texts that break off, and limits.
+//!
+//! They make public calls alone, and stand apart from `layer_tests` so that both are proved beside one another.
+#![tactic(auto)]
+
+#[cfg(test)]
+mod checks;
+#[cfg(test)]
+mod gates;
+#[cfg(test)]
+mod histories;
+#[cfg(test)]
+mod limits;
+pub mod pranks;
+#[cfg(test)]
+mod receipts;
+#[cfg(test)]
+mod rounds;
+#[cfg(test)]
+mod schedules;
+#[cfg(test)]
+mod texts;
+#[cfg(test)]
+mod worked;
