@@ -6,3 +6,4 @@ mod Answering
 mod ReplayCauses
 mod RunCauses
 mod CleanReports
+mod RunFaults

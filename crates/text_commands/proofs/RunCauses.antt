@@ -11,7 +11,7 @@ use Rattle.text_commands.specs.Replays.{Reading}
 use Rattle.text_commands.specs.Runs.{IsRunFault, TellsRun, IsProgramRead, IsRan, HasRunCause}
 
 -- a program was read, and there is no finished run of it
-pub run_stops : (reader : Reading) (wrote writes : Option (List ℕ)) (limit : ℕ) (program : Contents) (fault : CliFault) → IsProgramRead reader program → IsRunFault fault →
+pub run_stops : (reader : Reading) (wrote writes : Option (List ℕ)) (limit : ℕ) (program : Contents) (fault : CliFault) → IsProgramRead reader program → IsRunFault program limit fault →
     HasRunCause reader wrote writes limit fault
 run_stops reader wrote writes limit program Limit read stops = record { program = program; read = read; stops = stops }
 run_stops reader wrote writes limit program Stopped read stops = record { program = program; read = read; stops = stops }

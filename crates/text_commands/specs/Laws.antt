@@ -1,5 +1,5 @@
 -- What a clean report means.
-use Rattle.std.specs.Prelude.{ℕ, ◌≡◌, List, length, reverse}
+use Rattle.std.specs.Prelude.{ℕ, ◌≡◌, List, length}
 use Rattle.trace_values.specs.Declarations.{cells_of}
 use Rattle.race_gate.specs.declared.answer.Entry.{Entry}
 use Rattle.race_gate.specs.Entries.{Entries}

@@ -1,15 +1,22 @@
 -- What is read of a program, and what is written of its run by many workers.
-use Rattle.std.specs.Prelude.{ℕ, ◌≡◌, ◌≤◌, ◌↔◌, Option, List, ◌++◌, length, reverse, codes}
+use Rattle.std.specs.Prelude.{ℕ, ◌≡◌, ◌<◌, ◌≤◌, ◌⊎◌, ◌↔◌, true, Option, List, ◌++◌, length, reverse, codes}
+use Rattle.std.specs.List.{All, flat_map}
+use Rattle.std.specs.List.Sorted.{IsPermutation}
 use Rattle.std.specs.Io.KnownBytes.{Appends}
 use Rattle.trace_values.specs.Declarations.{cells_of}
 use Rattle.program_text.specs.Drafts.{Contents}
 use Rattle.program_text.specs.Grammar.{TextMeans}
 use Rattle.race_gate.specs.declared.answer.Entry.{Entry}
+use Rattle.race_gate.specs.declared.answer.Receipt.{Receipt}
+use Rattle.race_gate.specs.Entries.{Entries}
 use Rattle.race_gate.specs.Memory.{IsMemory}
-use Rattle.race_gate.specs.Extensions.{IsClean}
-use Rattle.program_runs.specs.Runs.{IsFinishedRun}
+use Rattle.race_gate.specs.States.{State, IsRight}
+use Rattle.race_gate.specs.Extensions.{IsFinished, IsClean}
+use Rattle.program_runs.specs.Runs.{IsRun, IsFinishedRun}
 use Rattle.locked_replay.specs.declared.fault.RunFault.{RunFault}
 use Rattle.locked_replay.specs.declared.fault.RunFault.TheVariants as run
+use Rattle.locked_replay.specs.Receipts.{numbered, Rises}
+use Rattle.locked_replay.specs.Strange.{IsStrangeGate}
 use Rattle.locked_replay.specs.Laws.{SpeaksForAll}
 use Rattle.race_report.specs.ReportText.{report_text}
 use Rattle.race_report.specs.Laws.{TellsSchedules}
@@ -27,14 +34,38 @@ fault_of_run run.Torn = Torn
 fault_of_run run.Strange = Strange
 fault_of_run run.Memory = Memory
 
--- The workers brought no finished run.
-abbrev pub IsRunFault : CliFault → Type 0
-IsRunFault Limit = Unit {0}
-IsRunFault Stopped = Unit {0}
-IsRunFault Torn = Unit {0}
-IsRunFault Strange = Unit {0}
-IsRunFault Memory = Unit {0}
-IsRunFault fault = ⊥
+-- A run of the program wants more entries than the limit: it has more, or it has as many and is not at its end.
+pub record WantsMore (program : Contents) (limit : ℕ) : Type 0 where
+  pub entries : Entries
+  pub run : IsRun program.functions (shape_of_program program) entries
+  pub more : (limit < length entries) ⊎ (limit ≤ length entries) × (IsFinished entries → ⊥)
+
+-- the receipts of some logs, in each of which they rise in number, are those of the entries, oldest first, each once; and as much was asked
+pub record AreReceiptsOf (entries : List Entry) (logs : List (List Receipt)) (asked : ℕ) : Type 0 where
+  pub rise : All Rises logs
+  pub receipts : IsPermutation (flat_map (λ log. log) logs) (numbered 1 entries)
+  pub counted : asked ≡ length entries
+
+-- what was brought back of the gate's entries is something else
+pub record IsTornGate (gate : State) : Type 0 where
+  pub logs : List (List Receipt)
+  pub asked : ℕ
+  pub torn : AreReceiptsOf (reverse gate.history) logs asked → ⊥
+
+-- Behind the workers stands a gate that is right, and it was stopped, or this is so of it.
+pub record IsLeft (P : State → Type 0) : Type 0 where
+  pub gate : State
+  pub right : IsRight gate
+  pub left : (gate.stopped ≡ true) ⊎ P gate
+
+-- Why the workers brought no finished run within the limit.
+abbrev pub IsRunFault : Contents → (limit : ℕ) → CliFault → Type 0
+IsRunFault program limit Limit = WantsMore program limit
+IsRunFault program limit Stopped = IsLeft (λ gate. ⊥)
+IsRunFault program limit Torn = IsLeft IsTornGate
+IsRunFault program limit Strange = IsLeft (IsStrangeGate program.functions (shape_of_program program))
+IsRunFault program limit Memory = Unit {0}
+IsRunFault program limit fault = ⊥
 
 -- the report of these entries, oldest first, that leave this memory, and a line feed
 abbrev pub run_line : Contents → List Entry → List ℕ → List ℕ
@@ -81,10 +112,10 @@ pub record IsRunCut (reader : Reading) (wrote writes : Option (List ℕ)) (limit
   pub prefix : part ++ rest ≡ line
 
 -- A program was read, and there is no finished run of it to be told.
-pub record IsRunStopped (reader : Reading) (fault : CliFault) : Type 0 where
+pub record IsRunStopped (reader : Reading) (limit : ℕ) (fault : CliFault) : Type 0 where
   pub program : Contents
   pub read : IsProgramRead reader program
-  pub stops : IsRunFault fault
+  pub stops : IsRunFault program limit fault
 
 -- Why the line of a run is not written, or not wholly: each fault has its cause.
 abbrev pub HasRunCause : Reading → (wrote writes : Option (List ℕ)) → (limit : ℕ) → CliFault → Type 0
@@ -93,4 +124,4 @@ HasRunCause reader wrote writes limit Write = IsRunCut reader wrote writes limit
 HasRunCause reader wrote writes limit TooLong = StopsReader reader TooLong
 HasRunCause reader wrote writes limit (Program fault) = IsFaultyProgram reader.before reader.behind (Program fault)
 HasRunCause reader wrote writes limit Memory = Unit {0}
-HasRunCause reader wrote writes limit fault = IsRunStopped reader fault
+HasRunCause reader wrote writes limit fault = IsRunStopped reader limit fault

@@ -12,10 +12,10 @@
 //! spawn is a call, and which makes no more requests than the limit. At the fault Limit an evaluation, if there is one, makes more. Of
 //! the other faults the same holds as of a trace. [`run_text`] carries that of `run`: at a status the bytes that were read mean a program,
 //! and what was written is the report of some finished run of it within the limit, which is its serial elision and speaks for every
-//! schedule where nothing was refused; [`laws::clean_report_law`] draws from this alone what status 0 means. [`replay_text`] carries that of `replay`: at a status the bytes that were
-//! read mean a program and a trace which declare the same, a gate answered each request of the trace, and what was written tells of the
-//! gate's entries that they are a finished run, a run that is not finished, or which of them is the first strange one. [`read_words`] gives
-//! a job with its numbers in their ranges; which words give which job is shown by tests.
+//! schedule where nothing was refused; [`laws::clean_report_law`] draws from this alone what status 0 means. [`replay_text`] carries that
+//! of `replay`: at a status the bytes that were read mean a program and a trace which declare the same, a gate answered each request of the
+//! trace, and what was written tells of the gate's entries that they are a finished run, a run that is not finished, or which of them is
+//! the first strange one. [`read_words`] gives a job with its numbers in their ranges; which words give which job is shown by tests.
 #![tactic(auto)]
 
 mod declarations;

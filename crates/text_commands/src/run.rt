@@ -5,6 +5,7 @@ ghost use Rattle.program_text.specs.Programs.{contents};
 ghost use Rattle.race_gate.specs.Shapes.{most_entries};
 ghost use Rattle.race_gate.specs.Memory.{IsMemory};
 ghost use Rattle.race_gate.specs.Extensions.{IsClean};
+ghost use Rattle.race_gate.specs.States.{IsRight};
 ghost use Rattle.program_runs.specs.Runs.{shape_in, IsFinishedRun};
 ghost use Rattle.text_commands.specs.Watched.{held, has_failed, is_delivered, calls_of};
 ghost use Rattle.text_commands.specs.Streams.{most_reads};
@@ -12,10 +13,10 @@ ghost use Rattle.text_commands.specs.Replays.{reading};
 ghost use Rattle.text_commands.specs.Runs.{fault_of_run, run_line, IsRunFault, TellsRun, IsRan, HasRunCause};
 
 use crate::fault::CliFault;
-use crate::outcome::refusal_status;
+use crate::outcome::{Outcome, outcome_of, refusal_status};
 use crate::streams::{parse_program, read_text, write_text};
 use crate::watched::Watched;
-use locked_replay::{Ask, LockedGate, RunFault, Seat, Whole, WorkerLog, gather};
+use locked_replay::{Ask, LockedGate, RunFault, Seat, Whole, WorkerLog, check_run, gather};
 use program_text::Program;
 use race_gate::{Gate, GateFault, Receipt};
 use race_report::{push_words, report};
@@ -111,7 +112,74 @@ fn run_through<L: Ledger + Send + Sync, D: Door + Sync, R: Threads + Wait + Sync
     run(rt, alloc, program, workers, &gate, seat)
 }
 
-/// A finished run of the program by so many workers, of at most `limit` entries. More of them would be none of the fresh gate's.
+/// What the gate shows behind workers that brought no logs: that its history is no finished run, or that it is one which nobody brought.
+fn left(alloc: Global, program: &Program<Global>, gate: &Gate<Global>, limit: u32) -> RunFault
+    requires { IsRight gate.now }
+    ensures { IsRunFault (contents program.now) limit (fault_of_run result) }
+{
+    match check_run(alloc, program, gate) {
+        Ok(()) => RunFault::Torn,
+        Err(fault) => fault,
+    }
+}
+
+/// Limit where the gate's history is a run of the program that has come to the limit, and is not at its end.
+fn full(alloc: Global, program: &Program<Global>, gate: &Gate<Global>, limit: u32) -> RunFault
+    requires { IsRight gate.now }
+    ensures { IsRunFault (contents program.now) limit (fault_of_run result) }
+{
+    let entries = gate.history();
+    if entries.len() < limit as usize {
+        return left(alloc, program, gate, limit);
+    }
+    match outcome_of(alloc, program, entries) {
+        Ok(Outcome::Unfinished) => RunFault::Limit,
+        Ok(_) => left(alloc, program, gate, limit),
+        Err(_) => RunFault::Memory,
+    }
+}
+
+/// The fault where a worker that met it stopped the gate.
+fn stopped(
+    alloc: Global,
+    program: &Program<Global>,
+    gate: &Gate<Global>,
+    limit: u32,
+    fault: RunFault,
+) -> RunFault
+    requires right { IsRight gate.now }
+    requires other { fault ≢ RunFault.Limit }
+    ensures { IsRunFault (contents program.now) limit (fault_of_run result) }
+{
+    if gate.is_stopped() {
+        fault
+    } else {
+        left(alloc, program, gate, limit)
+    }
+}
+
+/// What a run answers whose workers met this fault and brought no logs: the fault, where the gate bears it out, and else what the gate
+/// shows.
+fn met(
+    alloc: Global,
+    program: &Program<Global>,
+    gate: &Gate<Global>,
+    limit: u32,
+    fault: RunFault,
+) -> RunFault
+    requires { IsRight gate.now }
+    ensures { IsRunFault (contents program.now) limit (fault_of_run result) }
+{
+    match fault {
+        RunFault::Limit => full(alloc, program, gate, limit),
+        RunFault::Memory => RunFault::Memory,
+        RunFault::Stopped | RunFault::Torn | RunFault::Strange => {
+            stopped(alloc, program, gate, limit, fault)
+        }
+    }
+}
+
+/// A finished run of the program by so many workers, of at most `limit` entries.
 fn whole_run<L: Ledger + Send + Sync, D: Door + Sync, R: Threads + Wait + Sync>(
     rt: &R,
     alloc: Global,
@@ -130,13 +198,20 @@ fn whole_run<L: Ledger + Send + Sync, D: Door + Sync, R: Threads + Wait + Sync>(
     ensures memory { IfOk result (λ whole. IsMemory (shape_in program.now).cells (reverse whole.entries.items) whole.memory.items) }
     ensures clean { IfOk result (λ whole. IsTrue whole.clean ↔ IsClean (reverse whole.entries.items)) }
     ensures within { IfOk result (λ whole. length whole.entries.items ≤ limit) }
+    ensures fault { IfErr result (λ fault. IsRunFault (contents program.now) limit (fault_of_run fault)) }
 {
     let gate = fresh_gate(alloc, program, limit)?;
     let (locked, seat) = LockedGate::<L>::new(gate, blank, PARTS);
-    let logs = run_through(rt, alloc, program, workers, door, &locked, seat)?;
+    let logs = match run_through(rt, alloc, program, workers, door, &locked, seat) {
+        Ok(logs) => logs,
+        Err(fault) => {
+            let gate = locked.into_gate();
+            return Err(met(alloc, program, &gate, limit, fault));
+        }
+    };
     let whole = gather(alloc, program, locked, logs)?;
     if whole.entries.len() > limit as usize {
-        return Err(RunFault::Torn);
+        return Err(RunFault::Limit);
     }
     Ok(whole)
 }
@@ -169,7 +244,7 @@ fn ran<D: Door + Sync, R: Threads + Wait + Sync>(
     requires workers { (0 < workers) × (workers ≤ 64) }
     requires limit { limit ≤ most_entries }
     ensures ok { IfOk result (λ told. TellsRun (contents program.now) limit told.0.items told.1) }
-    ensures fault { IfErr result IsRunFault }
+    ensures fault { IfErr result (IsRunFault (contents program.now) limit) }
 {
     let whole = match whole_run::<Brand, D, R>(
         rt,
@@ -193,9 +268,10 @@ fn ran<D: Door + Sync, R: Threads + Wait + Sync>(
 ///
 /// It answers [`CliFault::Read`] or [`CliFault::Write`] exactly where the reader or the writer has failed, [`CliFault::TooLong`] for more
 /// than 67,108,864 bytes, [`CliFault::Program`] with the first fault of a text that means
-/// no program, [`CliFault::Limit`], [`CliFault::Stopped`], [`CliFault::Torn`] or [`CliFault::Strange`] where the workers brought no finished
-/// run, and [`CliFault::Memory`] where a growth was refused or a thread could not be started. Nothing is written then, but for the part
-/// that a failed write has taken. The reader is asked at most 67,108,865 times.
+/// no program, [`CliFault::Limit`] only where some run of the program wants more entries than the limit, [`CliFault::Stopped`],
+/// [`CliFault::Torn`] or [`CliFault::Strange`] where the workers brought no finished run, and [`CliFault::Memory`] where a growth was
+/// refused or a thread could not be started. Nothing is written then, but for the part that a failed write has taken. The reader is asked
+/// at most 67,108,865 times.
 pub fn run_text<D: Door + Sync, P: Read, W: Write, R: Threads + Wait + Sync>(
     rt: &R,
     alloc: Global,
