@@ -1,4 +1,4 @@
-//! The limits of traces, histories and replays, at the limit and one past it.
+//! The limits of texts, histories and replays, at the limit and one past it.
 
 use crate::checks::equal;
 use crate::worked::ENDLESS;
@@ -59,6 +59,35 @@ fn lines_of_a_trace(rt: HostRuntime) -> Result<(), Fail> {
     check_lines(&rt, rt.alloc(), "\n", 3_999_999, Ok(0))?;
     let wanted = Err((4_000_001, Cause::TooMany));
     check_lines(&rt, rt.alloc(), "\n", 4_000_000, wanted)
+}
+
+/// A program that calls `g` on its third line, and has blank lines up to this one, on which `g` begins.
+fn with_far_function(alloc: Global, line: u32) -> Result<String, AllocError> {
+    let mut text = String::from_str(alloc, "cilk 1\nfunc main z\ncall g 0\nend\n")?;
+    for _ in 5..line {
+        text.push_str("\n")?;
+    }
+    text.push_str("func g z\nend\n")?;
+    Ok(text)
+}
+
+/// What such a text means: a program, or a fault at a line.
+fn meant_far(alloc: Global, line: u32) -> Result<Option<(u32, Cause)>, AllocError> {
+    let text = with_far_function(alloc, line)?;
+    match Program::parse(alloc, text.as_bytes()) {
+        Ok(_) => Ok(None),
+        Err(TextFault::At { line, why }) => Ok(Some((line, why))),
+        Err(TextFault::Memory) => Err(AllocError),
+    }
+}
+
+// A function is known also where it begins past the last line that a program may have, so the call of it is no fault.
+#[test]
+fn a_function_past_the_last_line(rt: HostRuntime) -> Result<(), Fail> {
+    let wanted = Some((4_000_001, Cause::TooMany));
+    equal(&rt, &"past", &meant_far(rt.alloc(), 4_000_001)?, &wanted);
+    equal(&rt, &"last", &meant_far(rt.alloc(), 3_999_999)?, &None);
+    Ok(())
 }
 
 const CALL: Request = Request {
