@@ -1,6 +1,6 @@
 //! A worker.
 
-ghost use Rattle.std.specs.Prelude.{◌≡◌, ◌+◌, ◌<◌, [], ◌∷◌, ◌++◌, Err, IfErr, IfSome, MatchOption, OnOk, length, vec_len};
+ghost use Rattle.std.specs.Prelude.{◌≡◌, ◌↔◌, ◌+◌, ◌<◌, [], ◌∷◌, ◌++◌, Err, IfErr, IfSome, IsTrue, MatchOption, OnOk, length, vec_len};
 ghost use Rattle.locked_replay.specs.declared.fault.RunFault.{RunFault};
 ghost use Rattle.steal_workers.specs.Hands.{pushing};
 
@@ -16,7 +16,7 @@ use race_gate::{Answer, Receipt};
 use std::alloc::{AllocError, Global};
 use std::sync::Wait;
 use std::sync::ledger::Ledger;
-use trace_values::Request;
+use trace_values::{Act, Request};
 
 /// What a frame knew of its request before it was answered.
 #[derive(Clone, Copy)]
@@ -25,6 +25,19 @@ struct Asked {
     target: Option<Target>,
     /// The join of the block that was open.
     join: Option<u32>,
+}
+
+fn is_same_act(one: Act, other: Act) -> bool
+    ensures { IsTrue result ↔ one ≡ other }
+{
+    one == other
+}
+
+/// Whether the two are one request. Field by field, since the search for one proof of all of them passes its limit.
+fn is_same_request(one: Request, other: Request) -> bool
+    ensures { IsTrue result ↔ one ≡ other }
+{
+    one.strand == other.strand && one.line == other.line && is_same_act(one.act, other.act)
 }
 
 /// A worker: what was asked on its seat before it began, what it was told since, and its ends of the deques.
@@ -82,7 +95,7 @@ impl<'p, L: Ledger> Worker<'p, L> {
         receipts.reserve(1)?;
         let receipt = gate.ask(rt, seat, request).map_err(fault_of)?;
         receipts.push_reserved(receipt);
-        if receipt.request == request {
+        if is_same_request(receipt.request, request) {
             Ok(receipt.answer)
         } else {
             Err(RunFault::Strange)
