@@ -9,10 +9,15 @@ mod checks;
 #[cfg(test)]
 mod gates;
 #[cfg(test)]
+mod growths;
+#[cfg(test)]
 mod histories;
+#[cfg(test)]
+mod judgements;
 #[cfg(test)]
 mod limits;
 pub mod pranks;
+pub mod refusing;
 #[cfg(test)]
 mod receipts;
 #[cfg(test)]
