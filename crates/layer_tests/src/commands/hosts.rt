@@ -6,7 +6,7 @@ ghost use Rattle.text_commands.specs.Performed.{IsAlone};
 ghost use Rattle.text_commands.specs.Sources.{unknown_sources};
 
 use super::devices::Breaking;
-use super::worked::{FIB, PAIR};
+use super::worked::FIB;
 use super::{MOST, Outcome, check_fault, check_written, lined};
 use std::alloc::Global;
 use std::io::{self, Error, ErrorKind};
@@ -26,9 +26,13 @@ const FIB_LINES: &str = "x 55 / requests 713";
 const FIB_REPORT: &str =
     "{\"clean\":true,\"entries\":713,\"memory\":{\"x\":55},\"refusals\":[],\"schedules\":\"clean for every schedule\"}";
 
+/// PAIR, a line for each of its lines.
+const PAIR_LINES: &str =
+    "cilk 1\nmem x\nmem y\nfunc main z\nspawn f 7\nread r x\nend\nfunc f v\nwrite x v\nend\n";
+
 /// A run of PAIR in which the write comes first, and the read is refused.
 const PAIR_TRACE: &str =
-    "cilk 1; mem x; mem y; spawn 0 @5; write 1 x 7 @9; read 2 x @6; sync 1 @10; return 1 @10; sync 2 @7; return 3 @7";
+    "cilk 1\nmem x\nmem y\nspawn 0 @5\nwrite 1 x 7 @9\nread 2 x @6\nsync 1 @10\nreturn 1 @10\nsync 2 @7\nreturn 3 @7\n";
 
 /// A standard input, and files with their names.
 #[derive(Clone, Copy)]
@@ -231,12 +235,9 @@ fn a_program_in_a_file(rt: HostRuntime) -> Result<(), Fail> {
 
 #[test]
 fn a_program_and_a_trace_in_two_files(rt: HostRuntime) -> Result<(), Fail> {
-    let program = lined(rt.alloc(), PAIR, "; ")?;
-    let trace = lined(rt.alloc(), PAIR_TRACE, "; ")?;
-    let files = [("trace", trace.as_str()), ("program", program.as_str())];
     let texts = Texts {
         input: "",
-        files: &files,
+        files: &[("trace", PAIR_TRACE), ("program", PAIR_LINES)],
     };
     let job = replay_job(rt.alloc(), "program", "trace")?;
     check_either(&rt, rt.alloc(), texts, &job, "replayed 7", 1)
