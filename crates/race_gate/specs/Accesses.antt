@@ -1,9 +1,10 @@
 -- The accesses of memory that were granted.
-use Rattle.std.specs.Prelude.{ℕ, suc, List, [], ◌∷◌, ◌++◌, length, Option, Some, None, Bool, true, false, if◌then◌else◌}
+use Rattle.std.specs.Prelude.{ℕ, suc, List, [], ◌∷◌, ◌++◌, length, Option, Some, None, option_and_then, unwrap_or, Bool, true, false, if◌then◌else◌}
 use Rattle.std.specs.Option.{option_map, option_to_list}
-use Rattle.access_table.specs.declared.kind.Kind.TheVariants as kind
+use Rattle.access_table.specs.Table.{is_memory_kind}
 use Rattle.trace_values.specs.declared.value.Act.{Act}
-use Rattle.trace_values.specs.declared.value.Act.TheVariants.{Read, Write, Bump, Update, Put, Get}
+use Rattle.trace_values.specs.declared.asked.Asked.{Asked}
+use Rattle.trace_values.specs.Asking.{access_asked}
 use Rattle.shadow_history.specs.Accesses.{Access}
 use Rattle.race_gate.specs.declared.access.CellAccess.{CellAccess}
 use Rattle.race_gate.specs.declared.access.Sort.{Sort}
@@ -13,22 +14,21 @@ use Rattle.race_gate.specs.declared.answer.Answer.TheVariants.{Granted, Value}
 use Rattle.race_gate.specs.declared.answer.Entry.{Entry}
 use Rattle.race_gate.specs.Entries.{Entries}
 
+-- the access of a cell that an access is, where it is one
+abbrev pub in_cell : Asked → Option CellAccess
+in_cell asked = if is_memory_kind asked.kind then Some (record { kind = asked.kind; location = asked.place }) else None
+
 -- what access of a cell an act is, where it is one
 abbrev pub cell_access : Act → Option CellAccess
-cell_access (Read location) = Some (record { kind = kind.Read; location = location })
-cell_access (Write location value) = Some (record { kind = kind.Write; location = location })
-cell_access (Bump location value) = Some (record { kind = kind.Bump; location = location })
-cell_access act = None
+cell_access act = option_and_then in_cell (access_asked act)
+
+-- an access of a cell, or one of a reducer
+abbrev pub sort_asked : Asked → Sort
+sort_asked asked = if is_memory_kind asked.kind then Cell (record { kind = asked.kind; location = asked.place }) else Reducer
 
 -- an act of control, an access of a cell, or one of a reducer
 abbrev pub sort_of : Act → Sort
-sort_of (Read location) = Cell (record { kind = kind.Read; location = location })
-sort_of (Write location value) = Cell (record { kind = kind.Write; location = location })
-sort_of (Bump location value) = Cell (record { kind = kind.Bump; location = location })
-sort_of (Update reducer value) = Reducer
-sort_of (Put reducer value) = Reducer
-sort_of (Get reducer) = Reducer
-sort_of act = Control
+sort_of act = unwrap_or (option_map sort_asked (access_asked act)) Control
 
 -- an access with this answer was done
 abbrev pub is_granted : Answer → Bool

@@ -3,8 +3,8 @@
 ghost use Rattle.std.specs.Prelude.{◌≡◌};
 ghost use Rattle.race_gate.specs.Accesses.{sort_of};
 
-use access_table::{Kind, access_table};
-use trace_values::Act;
+use access_table::{Kind, is_memory};
+use trace_values::{Act, Asked, access_asked};
 
 /// An access of a cell of memory.
 #[derive(Clone, Copy)]
@@ -30,25 +30,12 @@ pub enum Sort {
 pub fn sort_of(act: Act) -> Sort
     ensures { result ≡ sort_of act }
 {
-    macro_rules! access {
-        (memory $kind:ident $location:ident) => {
-            Sort::Cell(CellAccess {
-                kind: Kind::$kind,
-                location: $location,
-            })
-        };
-        (reducer $kind:ident $location:ident) => {{
-            let _ = $location;
-            Sort::Reducer
-        }};
+    match access_asked(act) {
+        None => Sort::Control,
+        Some(Asked { kind, place }) if is_memory(kind) => Sort::Cell(CellAccess {
+            kind,
+            location: place,
+        }),
+        Some(_) => Sort::Reducer,
     }
-    macro_rules! accesses {
-        ([] $({ $kind:ident $word:literal $sort:ident $($conflict:tt)* })*) => {
-            match act {
-                $(Act::$kind(place, ..) => access!($sort $kind place),)*
-                _ => Sort::Control,
-            }
-        };
-    }
-    access_table!(accesses [])
 }

@@ -1,10 +1,9 @@
 -- The text of verdicts.
-use Rattle.std.specs.Prelude.{ℕ, Option, Some, None, List, [], ◌∷◌, ◌++◌, codes, decimal, flat_map, unwrap_or, option_and_then, IsSome}
+use Rattle.std.specs.Prelude.{ℕ, Option, Some, None, List, [], ◌∷◌, ◌++◌, codes, decimal, flat_map, unwrap_or, option_and_then, option_map, IsSome}
 use Rattle.access_table.specs.declared.kind.Kind.{Kind}
-use Rattle.access_table.specs.declared.kind.Kind.TheVariants as kind
 use Rattle.access_table.specs.Table.{rule_between, rule_spelling}
 use Rattle.trace_values.specs.declared.value.Act.{Act}
-use Rattle.trace_values.specs.declared.value.Act.TheVariants.{Read, Write, Bump, Update, Put, Get}
+use Rattle.trace_values.specs.Asking.{access_asked}
 use Rattle.race_gate.specs.declared.answer.Answer.{Answer}
 use Rattle.race_gate.specs.declared.answer.Answer.TheVariants.{Split, Same, Joined, Waits, Resumed, Ended, EndedJoined, Finished, Granted, Value, Refused, Unset}
 use Rattle.race_gate.specs.declared.answer.Reply.{Reply}
@@ -14,13 +13,7 @@ use Rattle.race_gate.specs.declared.fault.GateFault.TheVariants.{Stopped, Limit,
 
 -- the kind of access that an act is, where it is one
 abbrev pub kind_asked : Act → Option Kind
-kind_asked (Read location) = Some kind.Read
-kind_asked (Write location value) = Some kind.Write
-kind_asked (Bump location value) = Some kind.Bump
-kind_asked (Update reducer value) = Some kind.Update
-kind_asked (Put reducer value) = Some kind.Put
-kind_asked (Get reducer) = Some kind.Get
-kind_asked act = None
+kind_asked act = option_map (λ asked. asked.kind) (access_asked act)
 
 -- the word of the rule that an act and an earlier access of this kind come under, where they conflict
 abbrev pub refusal_word : Act → Kind → Option (List ℕ)

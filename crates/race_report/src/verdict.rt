@@ -2,38 +2,23 @@
 
 ghost use Rattle.std.specs.Prelude.{◌≡◌, ◌++◌, ℕ, List, IfOk, OnOk, IsSome, decimal, unwrap_or};
 ghost use Rattle.std.specs.List.{All};
-ghost use Rattle.race_report.specs.VerdictText.{kind_asked, refusal_word, HasWord, HasWords, answer_word, answer_numbers, answer_text, fault_word as word_of_fault, numbers_text, line_of, verdict_text};
+ghost use Rattle.race_report.specs.VerdictText.{refusal_word, HasWord, HasWords, answer_word, answer_numbers, answer_text, fault_word as word_of_fault, numbers_text, line_of, verdict_text};
 
-use access_table::{Kind, access_table, rule_word};
+use access_table::{Kind, rule_word};
 use itoa::Buffer;
 use race_gate::{Answer, GateFault, Reply};
 use std::alloc::{AllocError, Allocator};
-use trace_values::Act;
-
-/// The kind of access that an act is, where it is one.
-fn kind_of_act(act: Act) -> Option<Kind>
-    ensures { result ≡ kind_asked act }
-{
-    macro_rules! kinds {
-        ([] $({ $kind:ident $($rest:tt)* })*) => {
-            match act {
-                $(Act::$kind(..) => Some(Kind::$kind),)*
-                _ => None,
-            }
-        };
-    }
-    access_table!(kinds [])
-}
+use trace_values::{Act, access_asked};
 
 /// The word of the rule that an act and an earlier access of this kind come under.
 pub(crate) fn rule_of_refusal(act: Act, witness: Kind) -> &'static str
     requires { IsSome (refusal_word act witness) }
     ensures { refusal_word act witness ≡ Some result.now }
 {
-    let Some(kind) = kind_of_act(act) else {
+    let Some(asked) = access_asked(act) else {
         unreachable!()
     };
-    match rule_word(witness, kind) {
+    match rule_word(witness, asked.kind) {
         Some(word) => word,
         None => unreachable!(),
     }

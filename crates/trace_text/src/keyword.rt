@@ -5,7 +5,7 @@ ghost use Rattle.trace_text.specs.declared.keyword.Keyword.{Keyword};
 ghost use Rattle.trace_text.specs.Lines.{spelling, asks, HasKeyword};
 
 use access_table::{Kind, kind_of, word};
-use trace_values::{Act, Version};
+use trace_values::{Act, Version, access_asked};
 
 /// The first word of a line.
 #[derive(Clone, Copy, Debug)]
@@ -64,16 +64,13 @@ pub fn keyword_word(keyword: Keyword) -> &'static str
 pub fn keyword_for(act: Act) -> Keyword
     ensures { result ≡ asks act }
 {
+    if let Some(asked) = access_asked(act) {
+        return Keyword::Access(asked.kind);
+    }
     match act {
         Act::Spawn => Keyword::Spawn,
         Act::Sync => Keyword::Sync,
         Act::Call => Keyword::Call,
-        Act::Return => Keyword::Return,
-        Act::Read(_) => Keyword::Access(Kind::Read),
-        Act::Write(_, _) => Keyword::Access(Kind::Write),
-        Act::Bump(_, _) => Keyword::Access(Kind::Bump),
-        Act::Update(_, _) => Keyword::Access(Kind::Update),
-        Act::Put(_, _) => Keyword::Access(Kind::Put),
-        Act::Get(_) => Keyword::Access(Kind::Get),
+        _ => Keyword::Return,
     }
 }

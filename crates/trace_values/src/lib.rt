@@ -5,9 +5,10 @@
 //! with the contract that it is the next one by that definition; [`is_name`] decides what a name is. [`Names::find`] carries the theorem
 //! that what the index finds is what a name stands for behind the declarations so far, which [`Names::add_memory`] and
 //! [`Names::add_reducer`] extend by just one, or not at all where memory runs out. [`monoid_of`] and [`monoid_word`] are the spelling of
-//! monoids, and [`both`] is the lower of two causes.
+//! monoids, [`access_asked`] says which access an act is, and [`both`] is the lower of two causes.
 #![tactic(auto)]
 
+mod asked;
 mod fault;
 mod name;
 mod names;
@@ -15,6 +16,7 @@ mod spelling;
 mod value;
 mod words;
 
+pub use asked::{Asked, access_asked};
 pub use fault::{Cause, TextFault, both};
 pub use name::{NAME_LEN, Name, is_name};
 pub use names::{Named, Names};
