@@ -1,8 +1,8 @@
 -- What a gate keeps is right after one more entry.
-use Rattle.std.proofs.Common.{◌≡◌, ℕ, suc, ◌<◌, Option, Some, None, List, [], ◌∷◌, ◌++◌, length, reverse, take, drop, true, false, Bool, cond, refl, sym, ◌∙◌, ap, subst, arith}
+use Rattle.std.proofs.Common.{◌≡◌, ℕ, suc, ◌<◌, Option, Some, None, List, [], ◌∷◌, ◌++◌, length, take, drop, true, false, Bool, cond, refl, sym, ◌∙◌, ap, subst, arith}
 use Rattle.std.specs.Prelude.{MatchOption, slice_index}
 use Rattle.std.specs.Option.{option_to_list}
-use Rattle.std.proofs.lemmas.List.{append-nil, reverse-append}
+use Rattle.std.proofs.lemmas.List.{append-nil}
 use Rattle.std.proofs.lemmas.Grind.{common_steps}
 use Rattle.trace_values.specs.declared.value.Act.{Act}
 use Rattle.trace_values.specs.declared.value.Act.TheVariants.{Spawn, Sync, Call, Return, Read, Write, Bump, Update, Put, Get}
@@ -345,15 +345,6 @@ module _ (state : State) (strands : Roster) (shadow : List Cell) (books : Option
       (subst (λ h. Follows strands h) (sym part) kept.follows)
       (subst (λ h. Remembers shadow h (granted (entry ∷ state.history))) (sym part)
       (subst (λ xs. Remembers shadow (control_part state.history) xs) (sym (no_access-granted entry state.history no_access)) kept.remembers)) refl done.books
-
--- the entry stands behind the others in the list that the gate keeps
-pub kept-pushed : (shape : Shape) (limit : ℕ) (stopped : Bool) (memory : List ℕ) (items pushed : List Entry) (entry : Entry) (strands : Roster) (shadow : List Cell)
-    (books : Option Books) → pushed ≡ items ++ entry ∷ [] →
-    IsKept (record { shape = shape; limit = limit; stopped = stopped; history = entry ∷ reverse items; memory = memory }) strands shadow books →
-    IsKept (record { shape = shape; limit = limit; stopped = stopped; history = reverse pushed; memory = memory }) strands shadow books
-kept-pushed shape limit stopped memory items pushed entry strands shadow books is kept =
-    let same : entry ∷ reverse items ≡ reverse pushed = sym (ap reverse is ∙ reverse-append items (entry ∷ [])) in
-    subst (λ entries. IsKept (record { shape = shape; limit = limit; stopped = stopped; history = entries; memory = memory }) strands shadow books) same kept
 
 -- a whole slice that is written back
 pub written_back : (old new : List ℕ) (len : ℕ) → length old ≡ len → length new ≡ length old → take len (new ++ drop (length new) old) ≡ new

@@ -18,4 +18,5 @@ pub mod Controlled
 pub mod Finished
 pub mod Tracked
 pub mod Checking
+pub mod Cores
 pub mod Admitted

@@ -1,12 +1,11 @@
 -- What a gate keeps at first.
-use Rattle.std.proofs.Common.{◌≡◌, ℕ, ◌≤◌, List, [], length, replicate, reverse, false, Option, Some, None, refl, arith}
+use Rattle.std.proofs.Common.{◌≡◌, ℕ, ◌≤◌, List, [], length, replicate, false, Option, Some, None, refl, arith}
 use Rattle.std.proofs.lemmas.List.{get_or-replicate}
 use Rattle.std.proofs.Math.ListN.{length-replicate}
 use Rattle.trace_values.specs.declared.value.Monoid.{Monoid}
 use Rattle.sp_labels.specs.Roster.{Roster, Follows}
 use Rattle.shadow_history.specs.declared.cell.Cell.{Cell}
 use Rattle.shadow_history.specs.Shadow.{Remembers}
-use Rattle.race_gate.specs.declared.answer.Entry.{Entry}
 use Rattle.race_gate.specs.Shapes.{Shape, most_entries}
 use Rattle.race_gate.specs.States.{opening}
 use Rattle.branch_names.specs.Names.{Follows as FollowsNames}
@@ -14,6 +13,7 @@ use Rattle.view_read_rule.specs.Reads.{Remembers as RemembersReads}
 use Rattle.reducer_views.specs.Held.{Holds}
 use Rattle.race_gate.specs.Books.{Books, Keeps, OpensBooks}
 use Rattle.race_gate.specs.Kept.{AreBooksOf, IsKept}
+use Rattle.race_gate.specs.Cores.{IsCoreOf}
 use Rattle.race_gate.proofs.Races.{none-listed}
 
 books-at_first : (shape : Shape) (books : Option Books) → OpensBooks books shape.monoids → AreBooksOf shape [] books
@@ -50,15 +50,19 @@ kept-at_first shape limit strands shadow books follows remembers len small opens
   reducers = books-at_first shape books opens;
 }
 
-pub kept-opening : (shape : Shape) (limit : ℕ) (entries : List Entry) (memory : List ℕ) (strands : Roster) (shadow : List Cell) (books : Option Books) → entries ≡ [] →
-    memory ≡ replicate shape.cells 0 → Follows strands [] → Remembers shadow [] [] → length shadow ≡ shape.cells → limit ≤ most_entries →
-    OpensBooks books shape.monoids → IsKept (record { shape = shape; limit = limit; stopped = false; history = reverse entries; memory = memory }) strands shadow books
-kept-opening shape limit entries memory strands shadow books no_entries zeros follows remembers len small opens =
-    rw (no_entries, zeros) (kept-at_first shape limit strands shadow books follows remembers len small opens)
-
-pub is-opening : (shape made : Shape) (limit : ℕ) (entries : List Entry) (memory : List ℕ) → made ≡ shape → entries ≡ [] → memory ≡ replicate made.cells 0 →
-    opening shape limit ≡ record { shape = made; limit = limit; stopped = false; history = reverse entries; memory = memory }
-is-opening shape made limit entries memory same no_entries zeros = rw (zeros, same, no_entries) refl
+-- the core that has copied the shape
+pub core-opening : (shape made : Shape) (limit : ℕ) (memory : List ℕ) (strands : Roster) (shadow : List Cell) (books : Option Books) → made ≡ shape →
+    memory ≡ replicate made.cells 0 → Follows strands [] → Remembers shadow [] [] → length shadow ≡ made.cells → limit ≤ most_entries →
+    OpensBooks books made.monoids → IsCoreOf
+    (record { shape = made; limit = limit; stopped = false; entries = 0; finished = false; memory = memory; strands = strands; shadow = shadow; reducers = books })
+    (opening shape limit)
+core-opening shape made limit memory strands shadow books same zeros follows remembers len small opens =
+    rw (zeros, ← same) record {
+      shown = refl;
+      counted = refl;
+      finished = (λ is. absurd (cc), λ is. absurd is);
+      kept = kept-at_first made limit strands shadow books follows remembers len small opens;
+    }
 
 abbrev the_shape : ℕ → List Monoid → Shape
 the_shape cells monoids = record { cells = cells; monoids = monoids }

@@ -1,7 +1,6 @@
 -- A request that has no fault is answered.
-use Rattle.std.proofs.Common.{◌≡◌, ℕ, suc, ◌+◌, ◌<◌, Bool, List, [], ◌∷◌, ◌++◌, length, reverse, take, drop, Option, Some, Result, Ok, Err, refl, sym, ap, ◌∙◌, subst, arith}
+use Rattle.std.proofs.Common.{◌≡◌, ℕ, suc, ◌<◌, List, length, Option, Some, Result, Ok, Err, refl, sym, subst, arith}
 use Rattle.std.specs.Prelude.{MatchResult, IfOk, IfErr, OnErr, slice_index}
-use Rattle.std.proofs.lemmas.List.{length-reverse, reverse-append}
 use Rattle.trace_values.specs.declared.value.Act.TheVariants.{Return}
 use Rattle.trace_values.specs.declared.value.Request.{Request}
 use Rattle.control_history.specs.History.{Event, History}
@@ -14,7 +13,6 @@ use Rattle.shadow_history.specs.Shadow.{Remembers}
 use Rattle.race_gate.specs.declared.access.CellAccess.{CellAccess}
 use Rattle.race_gate.specs.declared.access.Sort.TheVariants.{Control, Cell as CellSort, Reducer}
 use Rattle.race_gate.specs.declared.answer.Answer.{Answer}
-use Rattle.race_gate.specs.declared.answer.Entry.{Entry}
 use Rattle.race_gate.specs.declared.fault.GateFault.{GateFault}
 use Rattle.race_gate.specs.declared.fault.GateFault.TheVariants.{Memory}
 use Rattle.race_gate.specs.Entries.{event_between}
@@ -22,16 +20,13 @@ use Rattle.race_gate.specs.Legal.{Belongs}
 use Rattle.race_gate.specs.Accesses.{sort_of}
 use Rattle.race_gate.specs.Memory.{effect}
 use Rattle.race_gate.specs.Verdicts.{IfValue}
-use Rattle.race_gate.specs.Shapes.{Shape}
 use Rattle.race_gate.specs.Books.{Books, OptionKeepsStill, OptionKeepsOn, OptionKeepsRunning, OptionHasReducer, OptionAnswersAccess}
 use Rattle.race_gate.specs.States.{State}
-use Rattle.race_gate.specs.Faults.{IsFaultless}
-use Rattle.race_gate.specs.Replies.{IsEntered}
 use Rattle.race_gate.specs.Kept.{IsKept, IsReady, with_entry}
 use Rattle.race_gate.specs.Steps.{FollowsWith, GoesOn, IsJudgedBy, TakesPlace}
 use Rattle.race_gate.proofs.Followed.{running-in-each, synced-in-each, few-in-each}
 use Rattle.race_gate.proofs.Numbers.{not_few}
-use Rattle.race_gate.proofs.Entering.{in-cells, sort-cell, books-known, books-running, kept-follows, entered-access, entered-control, entered-reducer, kept-still, kept-pushed, written_back}
+use Rattle.race_gate.proofs.Entering.{in-cells, sort-cell, books-known, books-running, kept-follows, entered-access, entered-control, entered-reducer, kept-still}
 
 module _ (state : State) (strands : Roster) (shadow : List Cell) (books : Option Books) (memory : List ℕ) (request : Request) (number : ℕ)
     (ready : IsReady state strands shadow books memory request number) where
@@ -101,52 +96,3 @@ module _ (state : State) (strands : Roster) (shadow : List Cell) (books : Option
       subst (λ cells. IsKept (with_entry state request answer cells) strands shadow others) (sym ready.cells)
       (entered-reducer state strands shadow books ready.kept (record { request = request; answer = answer }) ready.faultless others number numbered is answers)
   answers-reducer others (Err fault) is answers none still = (none, refl, kept-still _ _ _ _ _ _ ready.kept (λ history follows. follows) still)
-
--- ---- the gate's own lists
-
-module _ (shape : Shape) (limit : ℕ) (stopped : Bool) (items : List Entry) (held : List ℕ) (strands : Roster) (shadow : List Cell) (books : Option Books)
-    (kept : IsKept (record { shape = shape; limit = limit; stopped = stopped; history = reverse items; memory = held }) strands shadow books) where
-  abbrev the_state : State
-  the_state = record { shape = shape; limit = limit; stopped = stopped; history = reverse items; memory = held }
-
-  pub is-ready : (request : Request) (memory : List ℕ) (number : ℕ) → memory ≡ held →
-      IsFaultless (record { shape = shape; limit = limit; stopped = stopped; history = reverse items; memory = held }) request → number ≡ length items + 1 →
-      IsReady (record { shape = shape; limit = limit; stopped = stopped; history = reverse items; memory = held }) strands shadow books memory request number
-  is-ready request memory number same faultless numbered =
-      record { kept = kept; cells = same; faultless = faultless; numbered = omega (arith, length-reverse items) }
-
-  -- the cells are written back, and the entry stands behind the others
-  pub kept-answered : (entry : Entry) (pushed : List Entry) (memory : List ℕ) (len : ℕ) (after : Roster) (marks : List Cell) (others : Option Books) → len ≡ length held →
-      pushed ≡ items ++ entry ∷ [] →
-      IsKept (record { shape = shape; limit = limit; stopped = stopped; history = entry ∷ reverse items; memory = memory }) after marks others →
-      IsKept (record { shape = shape; limit = limit; stopped = stopped; history = reverse pushed; memory = take len (memory ++ drop (length memory) held) }) after marks others
-  kept-answered entry pushed memory len after marks others counted is answered =
-      let same_length : length memory ≡ length held = omega (arith, answered.right.memory.len, kept.right.memory.len) in
-      kept-pushed _ _ _ _ _ _ _ _ _ _ is (subst (λ (cells : List ℕ). IsKept (record { shape = shape; limit = limit; stopped = stopped; history = entry ∷ reverse items; memory = cells }) after marks others)
-      (sym (written_back held memory len (sym counted) same_length)) answered)
-
-  same-cells : (memory : List ℕ) (len : ℕ) → len ≡ length held → memory ≡ held → take len (memory ++ drop (length memory) held) ≡ held
-  same-cells memory len counted same = written_back held memory len (sym counted) (ap length same) ∙ same
-
-  -- nothing changed
-  pub same-state : (others : List Entry) (memory : List ℕ) (len : ℕ) → len ≡ length held → others ≡ items → memory ≡ held →
-      record { shape = shape; limit = limit; stopped = stopped; history = reverse others; memory = take len (memory ++ drop (length memory) held) } ≡
-      the_state
-  same-state others memory len counted same_entries same = rw (same_entries, same-cells memory len counted same) refl
-
-  abbrev the_after : List Entry → List ℕ → State
-  the_after entries cells = record { shape = shape; limit = limit; stopped = stopped; history = entries; memory = cells }
-
-  pub is-entered : (now : State) (request : Request) (answer : Answer) (number : ℕ) (pushed : List Entry) (memory : List ℕ) → the_state ≡ now → IsFaultless now request →
-      number ≡ length items + 1 → pushed ≡ items ++ record { request = request; answer = answer } ∷ [] →
-      IsEntered now request (record { number = number; request = request; answer = answer }) (the_after (reverse pushed) memory)
-  is-entered now request answer number pushed memory state_is faultless numbered is =
-      let entry : Entry = record { request = request; answer = answer } in
-      let turned : reverse pushed ≡ entry ∷ reverse items = ap reverse is ∙ reverse-append items (entry ∷ []) in
-      subst (λ (s : State). IsFaultless s request → IsEntered s request (record { number = number; request = request; answer = answer }) (the_after (reverse pushed) memory)) state_is
-      (λ clean. record {
-        faultless = clean;
-        asked = refl;
-        number = subst (λ (h : List Entry). number ≡ length h) (sym turned) (omega (arith, length-reverse items));
-        after = ap (λ (h : List Entry). the_after h memory) turned;
-      }) faultless

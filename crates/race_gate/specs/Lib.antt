@@ -16,6 +16,7 @@ pub mod Kept
 pub mod Steps
 pub mod Faults
 pub mod Replies
+pub mod Cores
 pub mod Admission
 pub mod Examples
 pub mod ReducerExamples

@@ -1,75 +1,48 @@
 //! The gate.
 
-ghost use Rattle.std.specs.Prelude.{◌≡◌, ◌≤◌, ◌↔◌, true, length, reverse, IsTrue, IfOk, IfErr, MatchResult};
+ghost use Rattle.std.specs.Prelude.{◌≡◌, ◌≤◌, ◌↔◌, true, length, reverse, IsTrue, IfOk, IfErr};
 ghost use Rattle.race_gate.specs.Shapes.{shape_of, most_cells, most_reducers, most_entries};
 ghost use Rattle.race_gate.specs.Memory.{IsMemory};
 ghost use Rattle.race_gate.specs.Judged.{IsJudged};
 ghost use Rattle.race_gate.specs.Extensions.{IsFinished};
 ghost use Rattle.race_gate.specs.States.{opening};
-ghost use Rattle.race_gate.specs.Faults.{IsFaultless, IsFirstFault};
 ghost use Rattle.race_gate.specs.Replies.{Judges, reply_of};
 ghost use Rattle.race_gate.specs.Admission.{IsAdmitted, IsOfTheGate};
 
-use crate::answer::{Answer, Entry, Receipt};
+use crate::answer::{Entry, Receipt};
 use crate::fault::GateFault;
-use crate::step::is_in_range;
-use crate::tracks::Tracks;
+use crate::judging::Core;
 use std::alloc::{AllocError, Allocator};
 use std::marker::Model;
-use trace_values::{Act, Monoids, Request, Shape};
+use trace_values::{Request, Shape};
 
 /// A gate: it judges requests one after another and keeps the history of its answers. Contracts see its shape, its limit, whether it
 /// was stopped, its history, the newest entry first, and what its cells hold.
 pub struct Gate<A: Allocator + Clone> {
-    shape: Shape<A>,
-    limit: u32,
-    stopped: bool,
+    core: Core<A>,
     history: Vec<Entry, A>,
-    memory: Vec<u64, A>,
-    tracks: Tracks<A>,
 }
 
 /// Written out, so that what lets a gate go calls one function.
 impl<A: Allocator + Clone> Drop for Gate<A> {
     fn drop(self) {
         let Gate {
-            shape: _,
-            limit: _,
-            stopped: _,
+            core: _,
             history: _,
-            memory: _,
-            tracks: _,
         } = self;
     }
 }
 
 impl<A: Allocator + Clone> Model for Gate<A> {
     ghost use Rattle.std.specs.Prelude.{reverse};
-    ghost use Rattle.race_gate.specs.Shapes.{shape_of};
     ghost use Rattle.race_gate.specs.States.{State};
+    ghost use Rattle.race_gate.specs.Cores.{IsCoreOf, with_history};
 
     ghost Value = { State };
 
-    ghost use Rattle.race_gate.specs.Kept.{IsKept};
+    ghost view = { λ gate. with_history gate.core (reverse gate.history.items) };
 
-    ghost view = { λ gate. record { shape = shape_of gate.shape; limit = gate.limit; stopped = gate.stopped; history = reverse gate.history.items; memory = gate.memory.items } };
-
-    ghost invariant = { λ gate. IsKept (record { shape = shape_of gate.shape; limit = gate.limit; stopped = gate.stopped; history = reverse gate.history.items; memory = gate.memory.items }) gate.tracks.strands gate.tracks.shadow gate.tracks.reducers };
-}
-
-/// A copy of what a program declares.
-fn copied<A: Allocator + Clone, B: Allocator>(
-    alloc: &A,
-    shape: &Shape<B>,
-) -> Result<Shape<A>, AllocError>
-    ensures { IfOk result (λ copy. shape_of copy ≡ shape_of shape.now) }
-{
-    let cells = shape.cells;
-    let monoids = Vec::from_slice(alloc.clone()?, shape.monoids.as_slice())?;
-    Ok(Shape {
-        cells,
-        monoids: Monoids::new(monoids),
-    })
+    ghost invariant = { λ gate. IsCoreOf gate.core (with_history gate.core (reverse gate.history.items)) };
 }
 
 impl<A: Allocator + Clone> Gate<A> {
@@ -80,13 +53,8 @@ impl<A: Allocator + Clone> Gate<A> {
         requires reducers { length shape.now.monoids ≤ most_reducers }
         ensures { IfOk result (λ gate. gate ≡ opening (shape_of shape.now) limit) }
     {
-        let shape = copied(&alloc, shape)?;
         Ok(Gate {
-            memory: vec![in alloc.clone()?; 0; shape.cells as usize]?,
-            tracks: Tracks::new(&alloc, shape.cells, shape.monoids.as_slice())?,
-            shape,
-            limit,
-            stopped: false,
+            core: Core::new(alloc.clone()?, shape, limit)?,
             history: Vec::new(alloc),
         })
     }
@@ -95,7 +63,7 @@ impl<A: Allocator + Clone> Gate<A> {
     pub fn shape(&self) -> &Shape<A>
         ensures { shape_of result.now ≡ self.now.shape }
     {
-        &self.shape
+        self.core.shape()
     }
 
     /// The entries so far, the oldest first.
@@ -112,24 +80,21 @@ impl<A: Allocator + Clone> Gate<A> {
         ensures cells { result.now ≡ self.now.memory }
         ensures values { IsMemory self.now.shape.cells self.now.history self.now.memory }
     {
-        self.memory.as_slice()
+        self.core.memory()
     }
 
     /// Whether the root function has returned.
     pub fn is_finished(&self) -> bool
         ensures { IsTrue result ↔ IsFinished self.now.history }
     {
-        match self.history.as_slice().last() {
-            Some(entry) => matches!(entry.answer, Answer::Finished),
-            None => false,
-        }
+        self.core.is_finished()
     }
 
     /// Whether the gate was stopped.
     pub fn is_stopped(&self) -> bool
         ensures { result ≡ self.now.stopped }
     {
-        self.stopped
+        self.core.is_stopped()
     }
 
     /// How many entries the history may have; it never has more.
@@ -137,36 +102,14 @@ impl<A: Allocator + Clone> Gate<A> {
         ensures is { result ≡ self.now.limit }
         ensures within { length self.now.history ≤ self.now.limit }
     {
-        self.limit
+        self.core.limit()
     }
 
     /// Stops the gate: from now on it judges no request.
     pub fn stop(&mut self)
         ensures { self.new ≡ record self.old { stopped = true } }
     {
-        self.stopped = true;
-    }
-
-    /// The first fault of a request that can be told without memory.
-    fn check(&self, request: Request) -> Result<(), GateFault>
-        ensures { MatchResult result (λ _. IsFaultless self.now request) (IsFirstFault self.now request) }
-    {
-        if self.stopped {
-            return Err(GateFault::Stopped);
-        }
-        if self.history.len() >= self.limit as usize {
-            return Err(GateFault::Limit);
-        }
-        if !self.tracks.strands.is_running(request.strand) {
-            return Err(GateFault::NotRunning);
-        }
-        if !is_in_range(&self.shape, request.act) {
-            return Err(GateFault::BadName);
-        }
-        if request.act == Act::Return && !self.tracks.strands.is_synced(request.strand) {
-            return Err(GateFault::Unsynced);
-        }
-        Ok(())
+        self.core.stop();
     }
 
     /// Answers a request of a strand, does what was granted, and enters both in the history. A fault is the first one, in the order of
@@ -178,15 +121,12 @@ impl<A: Allocator + Clone> Gate<A> {
         ensures judged { IsJudged self.new.shape self.new.history }
         ensures values { IsMemory self.new.shape.cells self.new.history self.new.memory }
     {
-        self.check(request)?;
+        self.core.check(request)?;
         self.history.reserve(1)?;
-        let number = self.history.len() as u32 + 1;
-        let answer = self
-            .tracks
-            .answer(self.memory.as_mut_slice(), number, request)?;
+        let answer = self.core.answer(request)?;
         self.history.push_reserved(Entry { request, answer });
         Ok(Receipt {
-            number,
+            number: self.core.entries(),
             request,
             answer,
         })

@@ -1,6 +1,0 @@
-use Rattle.std.proofs.Common.{arith}
-use Rattle.std.proofs.lemmas.Grind.{common_steps}
-use Rattle.race_gate.proofs.gate.Gate.is_finished.Goals as goal
-
-pub returns-in-Finished : goal.returns-in-Finished
-returns-in-Finished g c = grind (arith, common_steps)

@@ -1,4 +1,0 @@
-use Rattle.race_gate.proofs.gate.Gate.memory.Goals as goal
-
-pub returns-clause-cells : goal.returns-clause-cells
-returns-clause-cells g c = cc

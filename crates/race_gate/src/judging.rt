@@ -1,0 +1,203 @@
+//! Judging without a history.
+
+ghost use Rattle.std.specs.Prelude.{◌≡◌, ◌≤◌, ◌+◌, ◌↔◌, true, length, IsTrue, IfOk, IfErr, MatchResult};
+ghost use Rattle.race_gate.specs.Shapes.{shape_of, most_cells, most_reducers, most_entries};
+ghost use Rattle.race_gate.specs.Memory.{IsMemory};
+ghost use Rattle.race_gate.specs.Extensions.{IsEnd};
+ghost use Rattle.race_gate.specs.States.{State, opening};
+ghost use Rattle.race_gate.specs.Faults.{IsFaultless, IsFirstFault};
+ghost use Rattle.race_gate.specs.Kept.{with_entry};
+ghost use Rattle.race_gate.specs.Replies.{Judges};
+ghost use Rattle.race_gate.specs.Admission.{IsAdmitted, IsOfTheGate};
+ghost use Rattle.race_gate.specs.Cores.{IsCoreOf, IsCore, reply_with};
+
+use crate::answer::Answer;
+use crate::fault::GateFault;
+use crate::step::is_in_range;
+use crate::tracks::Tracks;
+use std::alloc::{AllocError, Allocator};
+use std::marker::Model;
+use trace_values::{Act, Monoids, Request, Shape};
+
+/// All of a gate but its history: it judges requests one after another as a gate does, and counts its answers in place of keeping them.
+/// Contracts speak of every state of a gate that fits it; whoever wants one state keeps it, and gets the next one from each request.
+pub struct Core<A: Allocator + Clone> {
+    shape: Shape<A>,
+    limit: u32,
+    stopped: bool,
+    entries: u32,
+    finished: bool,
+    memory: Vec<u64, A>,
+    tracks: Tracks<A>,
+}
+
+/// Written out, so that what lets a core go calls one function.
+impl<A: Allocator + Clone> Drop for Core<A> {
+    fn drop(self) {
+        let Core {
+            shape: _,
+            limit: _,
+            stopped: _,
+            entries: _,
+            finished: _,
+            memory: _,
+            tracks: _,
+        } = self;
+    }
+}
+
+impl<A: Allocator + Clone> Model for Core<A> {
+    ghost use Rattle.race_gate.specs.Shapes.{shape_of};
+    ghost use Rattle.race_gate.specs.Cores.{CoreState, IsCore};
+
+    ghost Value = { CoreState };
+
+    ghost view = { λ core. record { shape = shape_of core.shape; limit = core.limit; stopped = core.stopped; entries = core.entries; finished = core.finished; memory = core.memory.items; strands = core.tracks.strands; shadow = core.tracks.shadow; reducers = core.tracks.reducers } };
+
+    ghost invariant = { λ core. IsCore (record { shape = shape_of core.shape; limit = core.limit; stopped = core.stopped; entries = core.entries; finished = core.finished; memory = core.memory.items; strands = core.tracks.strands; shadow = core.tracks.shadow; reducers = core.tracks.reducers }) };
+}
+
+/// A copy of what a program declares.
+fn copied<A: Allocator + Clone, B: Allocator>(
+    alloc: &A,
+    shape: &Shape<B>,
+) -> Result<Shape<A>, AllocError>
+    ensures { IfOk result (λ copy. shape_of copy ≡ shape_of shape.now) }
+{
+    let cells = shape.cells;
+    let monoids = Vec::from_slice(alloc.clone()?, shape.monoids.as_slice())?;
+    Ok(Shape {
+        cells,
+        monoids: Monoids::new(monoids),
+    })
+}
+
+/// Whether the answer is that the root function returned.
+fn is_end(answer: Answer) -> bool
+    ensures { IsTrue result ↔ IsEnd answer }
+{
+    matches!(answer, Answer::Finished)
+}
+
+impl<A: Allocator + Clone> Core<A> {
+    /// A core before any request, over these cells and reducers, that answers so many; 0 is a limit too. Each cell holds 0.
+    pub fn new<B: Allocator>(alloc: A, shape: &Shape<B>, limit: u32) -> Result<Core<A>, AllocError>
+        requires cells { shape.now.cells ≤ most_cells }
+        requires entries { limit ≤ most_entries }
+        requires reducers { length shape.now.monoids ≤ most_reducers }
+        ensures { IfOk result (λ core. IsCoreOf core (opening (shape_of shape.now) limit)) }
+    {
+        let shape = copied(&alloc, shape)?;
+        Ok(Core {
+            tracks: Tracks::new(&alloc, shape.cells, shape.monoids.as_slice())?,
+            memory: vec![in alloc; 0; shape.cells as usize]?,
+            shape,
+            limit,
+            stopped: false,
+            entries: 0,
+            finished: false,
+        })
+    }
+
+    /// How many cells there are, and the monoids of the reducers, as handed to `new`.
+    pub fn shape(&self) -> &Shape<A>
+        ensures { shape_of result.now ≡ self.now.shape }
+    {
+        &self.shape
+    }
+
+    /// How many entries a gate that judged the same requests has.
+    pub fn entries(&self) -> u32
+        ensures { result ≡ self.now.entries }
+    {
+        self.entries
+    }
+
+    /// What the cells hold.
+    pub fn memory(&self) -> &[u64]
+        ensures cells { result.now ≡ self.now.memory }
+        ensures values { (state : State) → IsCoreOf self.now state → IsMemory state.shape.cells state.history result.now }
+    {
+        self.memory.as_slice()
+    }
+
+    /// Whether the root function has returned.
+    pub fn is_finished(&self) -> bool
+        ensures { result ≡ self.now.finished }
+    {
+        self.finished
+    }
+
+    /// Whether the core was stopped.
+    pub fn is_stopped(&self) -> bool
+        ensures { result ≡ self.now.stopped }
+    {
+        self.stopped
+    }
+
+    /// How many requests the core may answer; it never answers more.
+    pub fn limit(&self) -> u32
+        ensures { result ≡ self.now.limit }
+    {
+        self.limit
+    }
+
+    /// Stops the core: from now on it judges no request.
+    pub fn stop(&mut self)
+        ensures is { self.new ≡ record self.old { stopped = true } }
+        ensures fits { (state : State) → IsCoreOf self.old state → IsCoreOf self.new (record state { stopped = true }) }
+    {
+        self.stopped = true;
+    }
+
+    /// The first fault of a request that can be told without memory.
+    pub(crate) fn check(&self, request: Request) -> Result<(), GateFault>
+        ensures fits { IsCore self.now }
+        ensures fault { (state : State) → IsCoreOf self.now state → MatchResult result (λ _. IsFaultless state request) (IsFirstFault state request) }
+    {
+        if self.stopped {
+            return Err(GateFault::Stopped);
+        }
+        if self.entries >= self.limit {
+            return Err(GateFault::Limit);
+        }
+        if !self.tracks.strands.is_running(request.strand) {
+            return Err(GateFault::NotRunning);
+        }
+        if !is_in_range(&self.shape, request.act) {
+            return Err(GateFault::BadName);
+        }
+        if request.act == Act::Return && !self.tracks.strands.is_synced(request.strand) {
+            return Err(GateFault::Unsynced);
+        }
+        Ok(())
+    }
+
+    /// Answers a request that has no fault, and does what was granted. Where memory is refused, nothing changes.
+    pub(crate) fn answer(&mut self, request: Request) -> Result<Answer, GateFault>
+        requires { (state : State) × IsCoreOf self.old state × IsFaultless state request }
+        ensures { (state : State) → IsCoreOf self.old state → IsFaultless state request → MatchResult result
+            (λ answer. IsCoreOf self.new (with_entry state request answer self.new.memory))
+            (λ fault. (fault ≡ GateFault.Memory) × IsCoreOf self.new state) }
+    {
+        let number = self.entries + 1;
+        let answer = self
+            .tracks
+            .answer(self.memory.as_mut_slice(), number, request)?;
+        self.entries = number;
+        self.finished = is_end(answer);
+        Ok(answer)
+    }
+
+    /// Answers a request of a strand and does what was granted, as [`Gate::judge`](crate::Gate::judge) does. A fault is the first one, in the
+    /// order of [`GateFault`], that has its cause. It changes nothing, and none but the last depends on memory. A request that the rules of
+    /// legal histories admit is answered unless the core was stopped, is at its limit, or has no memory.
+    pub fn judge(&mut self, request: Request) -> Result<Answer, GateFault>
+        ensures judges { (state : State) → IsCoreOf self.old state →
+            (next : State) × Judges state request (reply_with (self.old.entries + 1) request result) next × IsCoreOf self.new next }
+        ensures admitted { (state : State) → IsCoreOf self.old state → IsAdmitted state.shape state.history request → IfErr result IsOfTheGate }
+    {
+        self.check(request)?;
+        self.answer(request)
+    }
+}
