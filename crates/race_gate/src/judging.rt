@@ -11,7 +11,7 @@ ghost use Rattle.race_gate.specs.Replies.{Judges};
 ghost use Rattle.race_gate.specs.Admission.{IsAdmitted, IsOfTheGate};
 ghost use Rattle.race_gate.specs.Cores.{IsCoreOf, IsCore, reply_with};
 
-use crate::answer::Answer;
+use crate::answer::{Answer, Receipt, Reply};
 use crate::fault::GateFault;
 use crate::step::is_in_range;
 use crate::tracks::Tracks;
@@ -199,5 +199,19 @@ impl<A: Allocator + Clone> Core<A> {
     {
         self.check(request)?;
         self.answer(request)
+    }
+
+    /// Answers a request as [`Core::judge`] does, and gives the reply of a gate that judged the same requests.
+    pub fn reply(&mut self, request: Request) -> Reply
+        ensures { (state : State) → IsCoreOf self.old state → (next : State) × Judges state request result next × IsCoreOf self.new next }
+    {
+        match self.judge(request) {
+            Ok(answer) => Reply::Done(Receipt {
+                number: self.entries,
+                request,
+                answer,
+            }),
+            Err(fault) => Reply::Illegal(fault),
+        }
     }
 }

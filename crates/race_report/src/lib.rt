@@ -1,6 +1,6 @@
 //! The texts of results: the verdict lines of replies, and the report of a run.
 //!
-//! [`verdict_lines`] writes a line for each reply of a gate. [`report`] writes one JSON object: whether the run is clean, the number of its
+//! [`verdict_lines`] writes a line for each reply of a gate, and [`push_verdict`] one such line. [`report`] writes one JSON object: whether the run is clean, the number of its
 //! entries, what each memory holds, and each refusal with its witness. `specs/` says which text that is: `verdict_text` by cases on replies,
 //! and `report_told` as a JSON value, of which the report is the compact text. [`laws::schedules_law`] says what the report of a clean run
 //! promises of all runs of the program.
@@ -11,4 +11,4 @@ pub mod laws;
 mod verdict;
 
 pub use json_report::report;
-pub use verdict::{push_number, push_words, verdict_lines};
+pub use verdict::{push_number, push_verdict, push_words, verdict_lines};

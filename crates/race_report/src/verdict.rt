@@ -116,8 +116,8 @@ fn push_answer<A: Allocator>(
     push_numbers(text, answer)
 }
 
-/// Adds the line of a reply.
-fn push_line<A: Allocator>(text: &mut Vec<u8, A>, reply: &Reply) -> Result<(), AllocError>
+/// Adds the verdict line of a reply, as [`verdict_lines`] writes it.
+pub fn push_verdict<A: Allocator>(text: &mut Vec<u8, A>, reply: &Reply) -> Result<(), AllocError>
     requires { HasWords reply.now }
     ensures { OnOk result (text.new.items ≡ text.old.items ++ line_of reply.now) }
 {
@@ -144,7 +144,7 @@ pub fn verdict_lines<A: Allocator>(alloc: A, replies: &[Reply]) -> Result<Vec<u8
 {
     let mut text = Vec::new(alloc);
     for reply in replies {
-        push_line(&mut text, reply)?;
+        push_verdict(&mut text, reply)?;
     }
     Ok(text)
 }

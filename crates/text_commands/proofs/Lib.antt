@@ -3,6 +3,7 @@ mod Causes
 mod ElisionCauses
 mod Pairs
 mod Answering
+mod Met
 mod ReplayCauses
 mod RunCauses
 mod CleanReports

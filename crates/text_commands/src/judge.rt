@@ -1,24 +1,28 @@
 //! Judging the trace that a reader gives.
 
-ghost use Rattle.std.specs.Prelude.{◌≡◌, ◌↔◌, ◌≤◌, ◌≢◌, ◌++◌, ◌+◌, ◌<◌, ℕ, List, [], true, false, length, map, IfOk, IfErr, OnOk, IsErrOf, IsTrue, MatchResult};
+ghost use Rattle.std.specs.Prelude.{◌≡◌, ◌↔◌, ◌≤◌, ◌≢◌, ◌++◌, ◌∷◌, ◌+◌, ◌<◌, ℕ, List, [], true, false, length, map, IfOk, IfErr, OnOk, IsErrOf, IsTrue, MatchResult};
 ghost use Rattle.std.specs.List.{All};
 ghost use Rattle.std.specs.Io.KnownBytes.{Appends};
 ghost use Rattle.trace_text.specs.Grammar.{TextMeans};
 ghost use Rattle.trace_values.specs.Limits.{max_requests};
 ghost use Rattle.trace_text.specs.Traces.{contents};
 ghost use Rattle.race_gate.specs.Shapes.{most_entries, most_cells, most_reducers, shape_of};
+ghost use Rattle.race_gate.specs.Cores.{IsCore};
+ghost use Rattle.race_gate.specs.States.{State};
 ghost use Rattle.race_gate.specs.declared.answer.Reply.{Reply as SpecReply};
+ghost use Rattle.trace_values.specs.declared.value.Request.{Request as SpecRequest};
 ghost use Rattle.text_commands.specs.Watched.{held, has_failed, is_delivered, calls_of};
 ghost use Rattle.race_report.specs.VerdictText.{HasWords};
+ghost use Rattle.text_commands.specs.Meetings.{HasJudged, Tells, TellsTrace};
 ghost use Rattle.text_commands.specs.Statuses.{status_of_replies};
 ghost use Rattle.text_commands.specs.Streams.{most_reads, declared_shape, requests_of, IsJudgedBy, JudgesTrace, AreReplies, AnswersText, IsAnswered, IsFaultOf, HasCause};
 
 use crate::fault::CliFault;
-use crate::status::status_of;
+use crate::status::Met;
 use crate::streams::{parse_trace, read_text, write_text};
 use crate::watched::Watched;
-use race_gate::{Gate, Reply, judge_all};
-use race_report::verdict_lines;
+use race_gate::{Core, Gate, Reply, judge_all};
+use race_report::push_verdict;
 use std::alloc::{AllocError, Allocator};
 use std::io::{Read, Write};
 use trace_text::Trace;
@@ -85,33 +89,62 @@ pub fn judged<A: Allocator + Copy>(
     reply_to_all(alloc, &shape, requests.as_slice(), limit)
 }
 
-/// The replies of a gate to the requests of a trace, which is let go.
-fn judge<A: Allocator + Copy>(
-    alloc: A,
-    trace: Trace<A>,
-    limit: u32,
-) -> Result<Vec<Reply, A>, AllocError>
-    requires limit { limit ≤ most_entries }
-    ensures replies { IfOk result (λ replies. AreReplies (contents trace) limit replies.items) }
-    ensures words { IfOk result (λ replies. All HasWords replies.items) }
-{
-    let (_gate, replies) = judged(alloc, trace, limit)?;
-    Ok(replies)
+/// What is told of the replies to requests: their verdict lines, and what the exit status wants to know of them.
+#[derive(Drop)]
+struct Verdicts<A: Allocator> {
+    lines: Vec<u8, A>,
+    met: Met,
 }
 
-/// The replies of a gate to the requests of the trace that a text means; the text is let go.
+/// Judges a request and tells the reply.
+fn tell<A: Allocator + Clone>(
+    core: &mut Core<A>,
+    verdicts: &mut Verdicts<A>,
+    request: Request,
+) -> Result<(), AllocError>
+    requires { IsCore core.old }
+    ensures { (start : State) (requests : List SpecRequest) (replies : List SpecReply) → HasJudged start requests replies core.old verdicts.old →
+        OnOk result ((reply : SpecReply) × HasJudged start (requests ++ request ∷ []) (replies ++ reply ∷ []) core.new verdicts.new) }
+{
+    let reply = core.reply(request);
+    push_verdict(&mut verdicts.lines, &reply)?;
+    verdicts.met.meet(&reply);
+    Ok(())
+}
+
+/// Judges the requests of a trace in their order, and tells the replies one by one, so that none is kept.
+fn judge<A: Allocator + Copy>(
+    alloc: A,
+    trace: &Trace<A>,
+    limit: u32,
+) -> Result<Verdicts<A>, AllocError>
+    requires limit { limit ≤ most_entries }
+    ensures { IfOk result (TellsTrace (contents trace.now) limit) }
+{
+    let shape = trace.shape(alloc)?;
+    let mut core = Core::new(alloc, &shape, limit)?;
+    let mut verdicts = Verdicts {
+        lines: Vec::new(alloc),
+        met: Met::new(),
+    };
+    for line in trace.lines.as_slice() {
+        tell(&mut core, &mut verdicts, line.request)?;
+    }
+    Ok(verdicts)
+}
+
+/// What is told of the requests of the trace that a text means; the text is let go.
 fn answer_text<A: Allocator + Copy>(
     alloc: A,
     text: Vec<u8, A>,
     limit: u32,
-) -> Result<Vec<Reply, A>, CliFault>
+) -> Result<Verdicts<A>, CliFault>
     requires limit { limit ≤ most_entries }
-    ensures answers { IfOk result (λ replies. AnswersText text.items limit replies.items) }
-    ensures words { IfOk result (λ replies. All HasWords replies.items) }
+    ensures answers { IfOk result (λ verdicts. (replies : List SpecReply) × AnswersText text.items limit replies × Tells replies verdicts) }
     ensures fault { IfErr result (IsFaultOf text.items) }
 {
     let trace = parse_trace(alloc, text)?;
-    Ok(judge(alloc, trace, limit)?)
+    Ok(judge(alloc, &trace, limit)?)
 }
 
 /// Reads a trace to its end, judges its requests in their order by a gate with this limit on the entries of its history, and writes
@@ -141,9 +174,7 @@ pub fn judge_stream<A: Allocator + Copy, R: Read, W: Write>(
     ensures unwritten { IfErr result (λ fault. fault ≢ CliFault.Write → output.new ≡ output.old) }
 {
     let text = read_text(alloc, input)?;
-    let replies = answer_text(alloc, text, limit)?;
-    let lines = verdict_lines(alloc, replies.as_slice())?;
-    let status = status_of(replies.as_slice());
-    write_text(output, lines.as_slice())?;
-    Ok(status)
+    let verdicts = answer_text(alloc, text, limit)?;
+    write_text(output, verdicts.lines.as_slice())?;
+    Ok(verdicts.met.status())
 }

@@ -1,8 +1,9 @@
 //! The exit status of a judged trace.
 
-ghost use Rattle.std.specs.Prelude.{◌≡◌};
-ghost use Rattle.std.specs.List.{list_any};
+ghost use Rattle.std.specs.Prelude.{◌≡◌, ◌++◌, ◌∷◌, [], List};
+ghost use Rattle.race_gate.specs.declared.answer.Reply.{Reply as SpecReply};
 ghost use Rattle.text_commands.specs.Statuses.{is_memory as memory_spec, is_limit as limit_spec, is_illegal as illegal_spec, is_refusal as refusal_spec, status_of_replies};
+ghost use Rattle.text_commands.specs.Meetings.{HasMet};
 
 use race_gate::{Answer, GateFault, Reply};
 
@@ -33,28 +34,56 @@ fn is_refusal(reply: &Reply) -> bool
     }
 }
 
-fn any_memory(replies: &[Reply]) -> bool
-    ensures { result ≡ list_any memory_spec replies.now }
-{
-    replies.iter().any(is_memory)
+/// What the replies so far have among them, as far as the exit status tells it.
+#[derive(Clone, Copy, Debug)]
+pub(crate) struct Met {
+    memory: bool,
+    limit: bool,
+    illegal: bool,
+    refusal: bool,
 }
 
-fn any_limit(replies: &[Reply]) -> bool
-    ensures { result ≡ list_any limit_spec replies.now }
-{
-    replies.iter().any(is_limit)
-}
+impl Met {
+    /// Before the first reply.
+    pub(crate) fn new() -> Met
+        ensures { HasMet [] result }
+    {
+        Met {
+            memory: false,
+            limit: false,
+            illegal: false,
+            refusal: false,
+        }
+    }
 
-fn any_illegal(replies: &[Reply]) -> bool
-    ensures { result ≡ list_any illegal_spec replies.now }
-{
-    replies.iter().any(is_illegal)
-}
+    /// Sees one reply more.
+    pub(crate) fn meet(&mut self, reply: &Reply)
+        ensures { (replies : List SpecReply) → HasMet replies self.old → HasMet (replies ++ reply.now ∷ []) self.new }
+    {
+        self.memory |= is_memory(reply);
+        self.limit |= is_limit(reply);
+        self.illegal |= is_illegal(reply);
+        self.refusal |= is_refusal(reply);
+    }
 
-fn any_refusal(replies: &[Reply]) -> bool
-    ensures { result ≡ list_any refusal_spec replies.now }
-{
-    replies.iter().any(is_refusal)
+    /// The exit status of the replies.
+    pub(crate) fn status(self) -> u8
+        ensures { (replies : List SpecReply) → HasMet replies self → result ≡ status_of_replies replies }
+    {
+        if self.illegal {
+            if self.memory {
+                3
+            } else if self.limit {
+                4
+            } else {
+                2
+            }
+        } else if self.refusal {
+            1
+        } else {
+            0
+        }
+    }
 }
 
 /// The exit status of replies: 3 where one is a want of memory, else 4 where one is beyond the limit, else 2 where one is illegal,
@@ -62,17 +91,9 @@ fn any_refusal(replies: &[Reply]) -> bool
 pub fn status_of(replies: &[Reply]) -> u8
     ensures { result ≡ status_of_replies replies.now }
 {
-    if any_illegal(replies) {
-        if any_memory(replies) {
-            3
-        } else if any_limit(replies) {
-            4
-        } else {
-            2
-        }
-    } else if any_refusal(replies) {
-        1
-    } else {
-        0
+    let mut met = Met::new();
+    for reply in replies {
+        met.meet(reply);
     }
+    met.status()
 }
