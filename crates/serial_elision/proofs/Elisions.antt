@@ -201,6 +201,18 @@ module _ (functions : List Code) (monoids : List Monoid) where
           fits = s.fits;
         })
 
+  -- a function whose turns are over
+  pub stopped_stands : (cells : ℕ) (before after : State) → Stands functions monoids cells before → after ≡ with_top before (turning before.top None) → Stands functions monoids cells after
+  stopped_stands cells before after s e =
+      subst (λ t. Stands functions monoids cells t) (sym e) (record {
+        top = record { known = s.top.known; within = s.top.within; turning = tt };
+        callers = s.callers;
+        memory = s.memory;
+        views = s.views;
+        same_monoids = s.same_monoids;
+        fits = s.fits;
+      })
+
   begun_standing : (function argument : ℕ) (callee : Code) → slice_get functions function ≡ Some callee → standing functions (begun function argument) ≡ record { end_line = callee.end_line; rest = script callee; registers = first_registers argument }
   begun_standing function argument callee h = ap (λ o. standing_in o (begun function argument)) h
 
@@ -276,7 +288,7 @@ module _ (functions : List Code) (monoids : List Monoid) where
   left_stack before after false e l = going_stack after e ∙ sym (callers_pushed after.callers after.top) ∙ ap (λ c. callers_of functions c) (sym l)
 
   left_places : (before after : State) (over : Bool) → IsInPlace functions before.top → ((index : ℕ) (caller : Activation) → slice_get before.callers index ≡ Some caller → IsInPlace functions caller) → is_left over before after → IsInPlace functions after.top × ((index : ℕ) (caller : Activation) → slice_get after.callers index ≡ Some caller → IsInPlace functions caller)
-  left_places before after true top callers l = (subst (λ a. IsInPlace functions a) (sym l.2) top, λ k caller h. absurd (no_item k caller (ap (λ xs. slice_get xs k) (sym l.1) ∙ h)))
+  left_places before after true top callers l = (subst (λ a. IsInPlace functions a) (sym l.2) (record { known = let k = top.known in omega (arith, k); within = omega arith; turning = tt }), λ k caller h. absurd (no_item k caller (ap (λ xs. slice_get xs k) (sym l.1) ∙ h)))
   left_places before after false top callers l =
       (callers (length after.callers) after.top (ap (λ xs. slice_get xs (length after.callers)) l ∙ item_pushed after.callers after.top), λ k caller h. callers k caller (ap (λ xs. slice_get xs k) l ∙ item_kept after.callers after.top k caller h))
 

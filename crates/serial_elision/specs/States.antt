@@ -1,5 +1,5 @@
 -- The evaluator's stack and store.
-use Rattle.std.specs.Prelude.{◌≡◌, ℕ, ◌+◌, ◌<◌, ◌≤◌, ◌^◌, Bool, true, false, List, [], ◌∷◌, ◌++◌, map, reverse, Option, Some, None, length, drop, replicate, slice_get, slice_index_or}
+use Rattle.std.specs.Prelude.{◌≡◌, ℕ, ◌+◌, ◌-◌, ◌<◌, ◌≤◌, ◌^◌, Bool, true, false, List, [], ◌∷◌, ◌++◌, map, reverse, Option, Some, None, length, take, drop, replicate, slice_get, slice_index_or, slice_set}
 use Rattle.trace_values.specs.declared.value.Monoid.{Monoid}
 use Rattle.reducer_views.specs.declared.view.View.{View}
 use Rattle.reducer_views.specs.declared.view.View.TheVariants.{Nothing}
@@ -26,15 +26,33 @@ pub record State : Type 0 where
   pub monoids : List Monoid
   pub over : Bool
 
+-- a function at its begin
+abbrev pub begun : ℕ → ℕ → Activation
+begun function argument = record { function = function; place = 0; registers = first_registers argument; turns = None }
+
+-- the last of the functions that are begun, which is the topmost one, and those below it
+abbrev pub topmost : List Activation → Activation
+topmost [] = begun 0 0
+topmost (first ∷ more) = slice_index_or (first ∷ more) (length more) (begun 0 0)
+
+abbrev pub waiting : List Activation → List Activation
+waiting [] = []
+waiting (first ∷ more) = take (length more) (first ∷ more)
+
+-- no function is begun
+abbrev pub is_idle : List Activation → Bool
+is_idle [] = true
+is_idle (first ∷ more) = false
+
+abbrev pub state_in : List Activation → List ℕ → List View → List Monoid → State
+state_in stack memory views monoids =
+    record { top = topmost stack; callers = waiting stack; memory = memory; views = views; monoids = monoids; over = is_idle stack }
+
 abbrev pub state_of : {A : Type 0} → Elision A → State
-state_of elision = record {
-  top = elision.top;
-  callers = elision.callers.items;
-  memory = elision.memory.items;
-  views = elision.views.items;
-  monoids = elision.monoids;
-  over = elision.over;
-}
+state_of elision = state_in elision.stack.items elision.memory.items elision.views.items elision.monoids
+
+abbrev pub top_of : {A : Type 0} → Elision A → Activation
+top_of elision = topmost elision.stack.items
 
 abbrev pub store_of : State → Store
 store_of state = record { memory = state.memory; views = state.views }
@@ -55,9 +73,14 @@ moved top place registers = record { function = top.function; place = place; reg
 abbrev pub turning : Activation → Option Turns → Activation
 turning top turns = record { function = top.function; place = top.place; registers = top.registers; turns = turns }
 
--- a function at its begin
-abbrev pub begun : ℕ → ℕ → Activation
-begun function argument = record { function = function; place = 0; registers = first_registers argument; turns = None }
+-- a function that waits for this turn's function, its number in the register
+abbrev pub counted : Turns → Activation → Activation
+counted turns top = record {
+  function = top.function;
+  place = top.place;
+  registers = slice_set top.registers turns.register.index turns.number;
+  turns = Some (record { line = turns.line; register = turns.register; function = turns.function; number = turns.number + 1; left = turns.left - 1 });
+}
 
 -- the same with a function begun above the topmost one
 abbrev pub with_begun : State → Activation → ℕ → ℕ → State
@@ -130,7 +153,7 @@ pub record Makes (functions : List Code) (monoids : List Monoid) (asked : ℕ) (
   pub further : asked ≡ 0 → before.top.place < after.top.place
 
 abbrev pub is_left : Bool → State → State → Type 0
-is_left true before after = (before.callers ≡ []) × (after.callers ≡ []) × (after.top ≡ before.top)
+is_left true before after = (before.callers ≡ []) × (after.callers ≡ []) × (after.top ≡ begun 0 0)
 is_left false before after = before.callers ≡ after.callers ++ after.top ∷ []
 
 -- an evaluator before and after its topmost function returned

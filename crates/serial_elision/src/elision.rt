@@ -8,7 +8,7 @@ ghost use Rattle.reducer_views.specs.Touched.{monoid_of};
 ghost use Rattle.program_text.specs.Sound.{is_located};
 ghost use Rattle.program_steps.specs.Values.{cell_of, result_of, value_of, with_ok};
 ghost use Rattle.serial_elision.specs.Evaluation.{got, view_at, with_cell, with_register, with_view};
-ghost use Rattle.serial_elision.specs.States.{IsGoing, IsLeft, IsOpening, Makes, Stands, moved, monoids_in, opening, state_of, store_of, turning, with_begun, with_store, with_top};
+ghost use Rattle.serial_elision.specs.States.{IsGoing, IsLeft, IsOpening, Makes, Stands, counted, moved, monoids_in, opening, state_of, store_of, top_of, turning, with_begun, with_store, with_top};
 ghost use Rattle.serial_elision.specs.Statements.{is_access, is_invocation, is_reduction, is_silent};
 ghost use Rattle.serial_elision.specs.Elisions.{Elides, NeedsMore};
 
@@ -21,15 +21,13 @@ use std::alloc::{AllocError, Allocator};
 use thiserror::Error;
 use trace_values::{Monoid, Monoids, Shape};
 
-/// The functions that are begun, the topmost apart, with the cells' values and the reducers' views.
+/// The functions that are begun, the topmost last, with the cells' values and the reducers' views.
 #[derive(Drop)]
 struct Elision<A: Allocator> {
-    top: Activation,
-    callers: Vec<Activation, A>,
+    stack: Vec<Activation, A>,
     memory: Vec<u64, A>,
     views: Vec<View, A>,
     monoids: Monoids<A>,
-    over: bool,
 }
 
 /// The last memory, and how many requests led to it.
@@ -74,7 +72,7 @@ pub fn elide<A: Allocator + Clone, B: Allocator>(
 {
     let mut elision = Elision::open(alloc, program)?;
     let mut requests = 0;
-    while !elision.over {
+    while !elision.is_over() {
         let asked = elision.step(program)?;
         if asked > limit - requests {
             return Err(ElideFault::Limit);
@@ -152,190 +150,274 @@ impl<A: Allocator + Clone> Elision<A> {
         ensures { IfOk result (λ elision. state_of elision ≡ opening main shape.monoids shape.cells) }
     {
         let (memory, views) = first_store(&alloc, &shape)?;
+        let mut stack = Vec::new(alloc);
+        stack.push(Activation::begin(main, 0))?;
         Ok(Elision {
-            top: Activation::begin(main, 0),
-            callers: Vec::new(alloc),
+            stack,
             memory,
             views,
             monoids: shape.monoids,
-            over: false,
         })
     }
 }
 
 impl<A: Allocator> Elision<A> {
+    /// No function is begun any more.
+    fn is_over(&self) -> bool
+        ensures { result ≡ (state_of self.now).over }
+    {
+        self.stack.is_empty()
+    }
+
+    /// The place of the topmost function among those that are begun.
+    fn last(&self) -> usize
+        requires { (state_of self.now).over ≡ false }
+        ensures { result + 1 ≡ length self.now.stack.items }
+    {
+        self.stack.len() - 1
+    }
+
+    /// The topmost function.
+    fn top(&self) -> &Activation
+        requires { (state_of self.now).over ≡ false }
+        ensures { result.now ≡ top_of self.now }
+    {
+        &self.stack[self.last()]
+    }
+
     /// Goes on at another place.
     fn go(&mut self, place: u32)
-        ensures { state_of self.new ≡ with_top (state_of self.old) (moved self.old.top place self.old.top.registers) }
+        requires { (state_of self.old).over ≡ false }
+        ensures { state_of self.new ≡ with_top (state_of self.old) (moved (top_of self.old) place (top_of self.old).registers) }
     {
-        self.top.place = place;
+        let last = self.last();
+        self.stack[last].go(place);
+    }
+
+    /// Goes on with the next statement.
+    fn skip(&mut self)
+        requires begun { (state_of self.old).over ≡ false }
+        requires place { (top_of self.old).place + 1 < 2 ^ 32 }
+        ensures { state_of self.new ≡ with_top (state_of self.old) (moved (top_of self.old) ((top_of self.old).place + 1) (top_of self.old).registers) }
+    {
+        let last = self.last();
+        self.stack[last].skip();
+    }
+
+    /// Goes on behind a statement that was granted.
+    fn pass_granted(&mut self)
+        requires begun { (state_of self.old).over ≡ false }
+        requires place { (top_of self.old).place + 1 < 2 ^ 32 }
+        ensures { state_of self.new ≡ with_top (state_of self.old) (moved (top_of self.old) ((top_of self.old).place + 1) (with_ok 1 (top_of self.old).registers)) }
+    {
+        let last = self.last();
+        self.stack[last].pass();
+    }
+
+    /// Takes a value into a register, and goes on.
+    fn take(&mut self, register: Register, value: u64)
+        requires begun { (state_of self.old).over ≡ false }
+        requires place { (top_of self.old).place + 1 < 2 ^ 32 }
+        ensures { state_of self.new ≡ with_top (state_of self.old) (moved (top_of self.old) ((top_of self.old).place + 1) (with_register (top_of self.old).registers register value)) }
+    {
+        let last = self.last();
+        self.stack[last].assign(register, value);
+    }
+
+    /// Takes a value that was granted into a register, and goes on.
+    fn receive(&mut self, register: Register, value: u64)
+        requires begun { (state_of self.old).over ≡ false }
+        requires place { (top_of self.old).place + 1 < 2 ^ 32 }
+        ensures { state_of self.new ≡ with_top (state_of self.old) (moved (top_of self.old) ((top_of self.old).place + 1) (with_register (with_ok 1 (top_of self.old).registers) register value)) }
+    {
+        let last = self.last();
+        self.stack[last].receive(register, value);
+    }
+
+    /// Has these turns come first.
+    fn set_turns(&mut self, turns: Option<Turns>)
+        requires { (state_of self.old).over ≡ false }
+        ensures { state_of self.new ≡ with_top (state_of self.old) (turning (top_of self.old) turns) }
+    {
+        let last = self.last();
+        self.stack[last].turn(turns);
+    }
+
+    /// Begins the turn of this number.
+    fn count_turn(&mut self, turns: Turns)
+        requires begun { (state_of self.old).over ≡ false }
+        requires some { 0 < turns.left }
+        requires fits { turns.number + 1 < 2 ^ 64 }
+        ensures { state_of self.new ≡ with_top (state_of self.old) (counted turns (top_of self.old)) }
+    {
+        let last = self.last();
+        self.stack[last].count(turns);
     }
 
     /// `let`.
     fn assign(&mut self, register: Register, expression: Expression)
-        requires { self.old.top.place + 1 < 2 ^ 32 }
-        ensures { state_of self.new ≡ with_top (state_of self.old) (moved self.old.top (self.old.top.place + 1) (with_register self.old.top.registers register (result_of expression self.old.top.registers))) }
+        requires begun { (state_of self.old).over ≡ false }
+        requires place { (top_of self.old).place + 1 < 2 ^ 32 }
+        ensures { state_of self.new ≡ with_top (state_of self.old) (moved (top_of self.old) ((top_of self.old).place + 1) (with_register (top_of self.old).registers register (result_of expression (top_of self.old).registers))) }
     {
-        self.top.registers[usize::from(register.index)] = result_of(
-            &self.top.registers,
-            expression,
-        );
-        self.top.place += 1;
+        let value = result_of(&self.top().registers, expression);
+        self.take(register, value);
     }
 
     /// `read`.
     fn read(&mut self, register: Register, location: Location)
-        requires place { self.old.top.place + 1 < 2 ^ 32 }
+        requires begun { (state_of self.old).over ≡ false }
+        requires place { (top_of self.old).place + 1 < 2 ^ 32 }
         requires located { IsTrue (is_located max_cells location) }
-        requires known { cell_of location self.old.top.registers < length self.old.memory.items }
-        ensures { state_of self.new ≡ with_top (state_of self.old) (moved self.old.top (self.old.top.place + 1)
-            (with_register (with_ok 1 self.old.top.registers) register (slice_index self.old.memory.items (cell_of location self.old.top.registers)))) }
+        requires known { cell_of location (top_of self.old).registers < length self.old.memory.items }
+        ensures { state_of self.new ≡ with_top (state_of self.old) (moved (top_of self.old) ((top_of self.old).place + 1)
+            (with_register (with_ok 1 (top_of self.old).registers) register (slice_index self.old.memory.items (cell_of location (top_of self.old).registers)))) }
     {
-        let cell = cell_of(&self.top.registers, location);
-        self.top.registers[0] = 1;
-        self.top.registers[usize::from(register.index)] = self.memory[cell as usize];
-        self.top.place += 1;
+        let cell = cell_of(&self.top().registers, location);
+        let value = self.memory[cell as usize];
+        self.receive(register, value);
     }
 
     /// `write`.
     fn write(&mut self, location: Location, operand: Operand)
-        requires place { self.old.top.place + 1 < 2 ^ 32 }
+        requires begun { (state_of self.old).over ≡ false }
+        requires place { (top_of self.old).place + 1 < 2 ^ 32 }
         requires located { IsTrue (is_located max_cells location) }
-        requires known { cell_of location self.old.top.registers < length self.old.memory.items }
-        ensures { state_of self.new ≡ with_store (with_top (state_of self.old) (moved self.old.top (self.old.top.place + 1) (with_ok 1 self.old.top.registers)))
-            (with_cell (store_of (state_of self.old)) (cell_of location self.old.top.registers) (value_of operand self.old.top.registers)) }
+        requires known { cell_of location (top_of self.old).registers < length self.old.memory.items }
+        ensures { state_of self.new ≡ with_store (with_top (state_of self.old) (moved (top_of self.old) ((top_of self.old).place + 1) (with_ok 1 (top_of self.old).registers)))
+            (with_cell (store_of (state_of self.old)) (cell_of location (top_of self.old).registers) (value_of operand (top_of self.old).registers)) }
     {
-        let cell = cell_of(&self.top.registers, location);
-        self.memory[cell as usize] = value_of(&self.top.registers, operand);
-        self.top.registers[0] = 1;
-        self.top.place += 1;
+        let top = self.top();
+        let cell = cell_of(&top.registers, location);
+        self.memory[cell as usize] = value_of(&top.registers, operand);
+        self.pass_granted();
     }
 
     /// `bump`.
     fn bump(&mut self, location: Location, operand: Operand)
-        requires place { self.old.top.place + 1 < 2 ^ 32 }
+        requires begun { (state_of self.old).over ≡ false }
+        requires place { (top_of self.old).place + 1 < 2 ^ 32 }
         requires located { IsTrue (is_located max_cells location) }
-        requires known { cell_of location self.old.top.registers < length self.old.memory.items }
-        ensures { state_of self.new ≡ with_store (with_top (state_of self.old) (moved self.old.top (self.old.top.place + 1) (with_ok 1 self.old.top.registers)))
-            (with_cell (store_of (state_of self.old)) (cell_of location self.old.top.registers)
-            ((slice_index self.old.memory.items (cell_of location self.old.top.registers) + value_of operand self.old.top.registers) % 2 ^ 64)) }
+        requires known { cell_of location (top_of self.old).registers < length self.old.memory.items }
+        ensures { state_of self.new ≡ with_store (with_top (state_of self.old) (moved (top_of self.old) ((top_of self.old).place + 1) (with_ok 1 (top_of self.old).registers)))
+            (with_cell (store_of (state_of self.old)) (cell_of location (top_of self.old).registers)
+            ((slice_index self.old.memory.items (cell_of location (top_of self.old).registers) + value_of operand (top_of self.old).registers) % 2 ^ 64)) }
     {
-        let cell = cell_of(&self.top.registers, location) as usize;
-        let value = value_of(&self.top.registers, operand);
+        let top = self.top();
+        let cell = cell_of(&top.registers, location) as usize;
+        let value = value_of(&top.registers, operand);
         self.memory[cell] = self.memory[cell].wrapping_add(value);
-        self.top.registers[0] = 1;
-        self.top.place += 1;
+        self.pass_granted();
     }
 
     /// Gives a reducer another view, and goes on.
     fn set_view(&mut self, reducer: u32, view: View)
-        requires place { self.old.top.place + 1 < 2 ^ 32 }
+        requires begun { (state_of self.old).over ≡ false }
+        requires place { (top_of self.old).place + 1 < 2 ^ 32 }
         requires known { reducer < length self.old.views.items }
-        ensures { state_of self.new ≡ with_store (with_top (state_of self.old) (moved self.old.top (self.old.top.place + 1) (with_ok 1 self.old.top.registers)))
+        ensures { state_of self.new ≡ with_store (with_top (state_of self.old) (moved (top_of self.old) ((top_of self.old).place + 1) (with_ok 1 (top_of self.old).registers)))
             (with_view (store_of (state_of self.old)) reducer view) }
     {
         self.views[reducer as usize] = view;
-        self.top.registers[0] = 1;
-        self.top.place += 1;
+        self.pass_granted();
     }
 
     /// `update`.
     fn update(&mut self, reducer: u32, operand: Operand)
-        requires place { self.old.top.place + 1 < 2 ^ 32 }
+        requires begun { (state_of self.old).over ≡ false }
+        requires place { (top_of self.old).place + 1 < 2 ^ 32 }
         requires known { reducer < length self.old.views.items }
         requires count { length self.old.views.items ≡ length self.old.monoids }
         requires fits { FitsMonoid (monoid_of self.old.monoids reducer) (view_at (store_of (state_of self.old)) reducer) }
-        ensures state { state_of self.new ≡ with_store (with_top (state_of self.old) (moved self.old.top (self.old.top.place + 1) (with_ok 1 self.old.top.registers)))
+        ensures state { state_of self.new ≡ with_store (with_top (state_of self.old) (moved (top_of self.old) ((top_of self.old).place + 1) (with_ok 1 (top_of self.old).registers)))
             (with_view (store_of (state_of self.old)) reducer
-            (product_of (monoid_of self.old.monoids reducer) (view_at (store_of (state_of self.old)) reducer) (update_view (monoid_of self.old.monoids reducer) (value_of operand self.old.top.registers)))) }
+            (product_of (monoid_of self.old.monoids reducer) (view_at (store_of (state_of self.old)) reducer) (update_view (monoid_of self.old.monoids reducer) (value_of operand (top_of self.old).registers)))) }
         ensures fits { FitsMonoid (monoid_of self.old.monoids reducer)
-            (product_of (monoid_of self.old.monoids reducer) (view_at (store_of (state_of self.old)) reducer) (update_view (monoid_of self.old.monoids reducer) (value_of operand self.old.top.registers))) }
+            (product_of (monoid_of self.old.monoids reducer) (view_at (store_of (state_of self.old)) reducer) (update_view (monoid_of self.old.monoids reducer) (value_of operand (top_of self.old).registers))) }
     {
         let monoid = self.monoids.as_slice()[reducer as usize];
-        let value = value_of(&self.top.registers, operand);
+        let value = value_of(&self.top().registers, operand);
         let view = self.views[reducer as usize];
         self.set_view(reducer, combine(monoid, view, of_update(monoid, value)));
     }
 
     /// `put`.
     fn put(&mut self, reducer: u32, operand: Operand)
-        requires place { self.old.top.place + 1 < 2 ^ 32 }
+        requires begun { (state_of self.old).over ≡ false }
+        requires place { (top_of self.old).place + 1 < 2 ^ 32 }
         requires known { reducer < length self.old.views.items }
         requires count { length self.old.views.items ≡ length self.old.monoids }
-        ensures state { state_of self.new ≡ with_store (with_top (state_of self.old) (moved self.old.top (self.old.top.place + 1) (with_ok 1 self.old.top.registers)))
-            (with_view (store_of (state_of self.old)) reducer (put_view (monoid_of self.old.monoids reducer) (value_of operand self.old.top.registers))) }
-        ensures fits { FitsMonoid (monoid_of self.old.monoids reducer) (put_view (monoid_of self.old.monoids reducer) (value_of operand self.old.top.registers)) }
+        ensures state { state_of self.new ≡ with_store (with_top (state_of self.old) (moved (top_of self.old) ((top_of self.old).place + 1) (with_ok 1 (top_of self.old).registers)))
+            (with_view (store_of (state_of self.old)) reducer (put_view (monoid_of self.old.monoids reducer) (value_of operand (top_of self.old).registers))) }
+        ensures fits { FitsMonoid (monoid_of self.old.monoids reducer) (put_view (monoid_of self.old.monoids reducer) (value_of operand (top_of self.old).registers)) }
     {
         let monoid = self.monoids.as_slice()[reducer as usize];
-        let value = value_of(&self.top.registers, operand);
+        let value = value_of(&self.top().registers, operand);
         self.set_view(reducer, of_put(monoid, value));
     }
 
     /// `get`.
     fn get(&mut self, register: Register, reducer: u32)
-        requires place { self.old.top.place + 1 < 2 ^ 32 }
+        requires begun { (state_of self.old).over ≡ false }
+        requires place { (top_of self.old).place + 1 < 2 ^ 32 }
         requires known { reducer < length self.old.views.items }
-        ensures { state_of self.new ≡ with_top (state_of self.old) (moved self.old.top (self.old.top.place + 1)
-            (with_register (with_ok 1 self.old.top.registers) register (got (store_of (state_of self.old)) reducer))) }
+        ensures { state_of self.new ≡ with_top (state_of self.old) (moved (top_of self.old) ((top_of self.old).place + 1)
+            (with_register (with_ok 1 (top_of self.old).registers) register (got (store_of (state_of self.old)) reducer))) }
     {
-        self.top.registers[0] = 1;
-        self.top.registers[usize::from(register.index)] = value(
-            self.views[reducer as usize],
-        ).unwrap_or(0);
-        self.top.place += 1;
+        let found = value(self.views[reducer as usize]).unwrap_or(0);
+        self.receive(register, found);
     }
 
     /// `pfor`: its turns are to come.
     fn repeat(&mut self, line: u32, register: Register, count: Operand, function: u32)
-        requires { self.old.top.place + 1 < 2 ^ 32 }
-        ensures fits { value_of count self.old.top.registers < 2 ^ 64 }
-        ensures state { state_of self.new ≡ with_top (state_of self.old) (turning (moved self.old.top (self.old.top.place + 1) self.old.top.registers)
-            (Some (record { line = line; register = register; function = function; number = 0; left = value_of count self.old.top.registers }))) }
+        requires begun { (state_of self.old).over ≡ false }
+        requires place { (top_of self.old).place + 1 < 2 ^ 32 }
+        ensures fits { value_of count (top_of self.old).registers < 2 ^ 64 }
+        ensures state { state_of self.new ≡ with_top (state_of self.old) (turning (moved (top_of self.old) ((top_of self.old).place + 1) (top_of self.old).registers)
+            (Some (record { line = line; register = register; function = function; number = 0; left = value_of count (top_of self.old).registers }))) }
     {
-        let left = value_of(&self.top.registers, count);
-        self.top.turns = Some(Turns {
+        let left = value_of(&self.top().registers, count);
+        self.skip();
+        self.set_turns(Some(Turns {
             line,
             register,
             function,
             number: 0,
             left,
-        });
-        self.top.place += 1;
+        }));
     }
 
     /// Begins a function above the topmost one.
     fn begin(&mut self, function: u32, argument: u64) -> Result<(), AllocError>
-        ensures { OnOk result (state_of self.new ≡ with_begun (state_of self.old) self.old.top function argument) }
+        requires { (state_of self.old).over ≡ false }
+        ensures { OnOk result (state_of self.new ≡ with_begun (state_of self.old) (top_of self.old) function argument) }
     {
-        self.callers.push(self.top)?;
-        self.top = Activation::begin(function, argument);
+        self.stack.push(Activation::begin(function, argument))?;
         Ok(())
     }
 
     /// Goes back to the caller, or ends.
     fn leave(&mut self)
-        requires { self.old.over ≡ false }
+        requires { (state_of self.old).over ≡ false }
         ensures { IsLeft (state_of self.old) (state_of self.new) }
     {
-        match self.callers.pop() {
-            Some(caller) => self.top = caller,
-            None => self.over = true,
-        }
+        self.stack.pop();
     }
 
     /// Goes on by a turn of a `pfor`, by a line of the topmost function, or by its end, and says how many requests that made.
     fn step<B: Allocator>(&mut self, program: &Program<B>) -> Result<u32, AllocError>
         requires stands { Stands program.now.functions (monoids_in program.now) (cells_of program.now.mems) (state_of self.old) }
-        requires going { self.old.over ≡ false }
+        requires going { (state_of self.old).over ≡ false }
         ensures stands { OnOk result (Stands program.now.functions (monoids_in program.now) (cells_of program.now.mems) (state_of self.new)) }
         ensures makes { IfOk result (λ asked. Makes program.now.functions (monoids_in program.now) asked (state_of self.old) (state_of self.new)) }
     {
-        if let Some(turns) = self.top.turns {
+        let top = self.top();
+        if let Some(turns) = top.turns {
             return self.turn(program, turns);
         }
-        let function = function_at(program, self.top.function);
-        match function.body.as_slice().get(self.top.place as usize) {
-            Some(statement) => self.perform(program, function, *statement),
+        let function = function_at(program, top.function);
+        match function.body.as_slice().get(top.place as usize) {
+            Some(statement) => self.perform(program, function, statement),
             None => {
                 self.leave();
                 Ok(2)
@@ -346,20 +428,15 @@ impl<A: Allocator> Elision<A> {
     /// A turn of a `pfor`, or the sync behind the last one.
     fn turn<B: Allocator>(&mut self, program: &Program<B>, turns: Turns) -> Result<u32, AllocError>
         requires stands { Stands program.now.functions (monoids_in program.now) (cells_of program.now.mems) (state_of self.old) }
-        requires going { self.old.over ≡ false }
-        requires turns { self.old.top.turns ≡ Some turns }
+        requires going { (state_of self.old).over ≡ false }
+        requires turns { (top_of self.old).turns ≡ Some turns }
         ensures stands { OnOk result (Stands program.now.functions (monoids_in program.now) (cells_of program.now.mems) (state_of self.new)) }
         ensures makes { IfOk result (λ asked. Makes program.now.functions (monoids_in program.now) asked (state_of self.old) (state_of self.new)) }
     {
         if turns.left == 0 {
-            self.top.turns = None;
+            self.set_turns(None);
         } else {
-            self.top.registers[usize::from(turns.register.index)] = turns.number;
-            self.top.turns = Some(Turns {
-                number: turns.number + 1,
-                left: turns.left - 1,
-                ..turns
-            });
+            self.count_turn(turns);
             self.begin(turns.function, turns.number)?;
         }
         Ok(1)
@@ -370,14 +447,14 @@ impl<A: Allocator> Elision<A> {
         &mut self,
         program: &Program<B>,
         function: &Function<B>,
-        statement: Statement,
+        statement: &Statement,
     ) -> Result<u32, AllocError>
         requires going { IsGoing program.now.functions (monoids_in program.now) (cells_of program.now.mems) (state_of self.old) function.now }
-        requires at { slice_get function.now.body self.old.top.place ≡ Some statement }
+        requires at { slice_get function.now.body (top_of self.old).place ≡ Some statement.now }
         ensures stands { OnOk result (Stands program.now.functions (monoids_in program.now) (cells_of program.now.mems) (state_of self.new)) }
         ensures makes { IfOk result (λ asked. Makes program.now.functions (monoids_in program.now) asked (state_of self.old) (state_of self.new)) }
     {
-        match statement {
+        match *statement {
             Statement::Read { .. } | Statement::Write { .. } | Statement::Bump { .. } => {
                 self.access(program, function, statement);
                 Ok(1)
@@ -391,7 +468,7 @@ impl<A: Allocator> Elision<A> {
                 Ok(1)
             }
             Statement::Sync { .. } => {
-                self.go(self.top.place + 1);
+                self.skip();
                 Ok(1)
             }
             _ => {
@@ -406,15 +483,15 @@ impl<A: Allocator> Elision<A> {
         &mut self,
         program: &Program<B>,
         function: &Function<B>,
-        statement: Statement,
+        statement: &Statement,
     )
         requires going { IsGoing program.now.functions (monoids_in program.now) (cells_of program.now.mems) (state_of self.old) function.now }
-        requires at { slice_get function.now.body self.old.top.place ≡ Some statement }
-        requires kind { IsTrue (is_access statement) }
+        requires at { slice_get function.now.body (top_of self.old).place ≡ Some statement.now }
+        requires kind { IsTrue (is_access statement.now) }
         ensures stands { Stands program.now.functions (monoids_in program.now) (cells_of program.now.mems) (state_of self.new) }
         ensures makes { Makes program.now.functions (monoids_in program.now) 1 (state_of self.old) (state_of self.new) }
     {
-        match statement {
+        match *statement {
             Statement::Read {
                 register,
                 location,
@@ -439,15 +516,15 @@ impl<A: Allocator> Elision<A> {
         &mut self,
         program: &Program<B>,
         function: &Function<B>,
-        statement: Statement,
+        statement: &Statement,
     )
         requires going { IsGoing program.now.functions (monoids_in program.now) (cells_of program.now.mems) (state_of self.old) function.now }
-        requires at { slice_get function.now.body self.old.top.place ≡ Some statement }
-        requires kind { IsTrue (is_reduction statement) }
+        requires at { slice_get function.now.body (top_of self.old).place ≡ Some statement.now }
+        requires kind { IsTrue (is_reduction statement.now) }
         ensures stands { Stands program.now.functions (monoids_in program.now) (cells_of program.now.mems) (state_of self.new) }
         ensures makes { Makes program.now.functions (monoids_in program.now) 1 (state_of self.old) (state_of self.new) }
     {
-        match statement {
+        match *statement {
             Statement::Update { reducer, value, .. } => self.update(reducer, value),
             Statement::Put { reducer, value, .. } => self.put(reducer, value),
             Statement::Get {
@@ -464,15 +541,15 @@ impl<A: Allocator> Elision<A> {
         &mut self,
         program: &Program<B>,
         function: &Function<B>,
-        statement: Statement,
+        statement: &Statement,
     ) -> Result<(), AllocError>
         requires going { IsGoing program.now.functions (monoids_in program.now) (cells_of program.now.mems) (state_of self.old) function.now }
-        requires at { slice_get function.now.body self.old.top.place ≡ Some statement }
-        requires kind { IsTrue (is_invocation statement) }
+        requires at { slice_get function.now.body (top_of self.old).place ≡ Some statement.now }
+        requires kind { IsTrue (is_invocation statement.now) }
         ensures stands { OnOk result (Stands program.now.functions (monoids_in program.now) (cells_of program.now.mems) (state_of self.new)) }
         ensures makes { OnOk result (Makes program.now.functions (monoids_in program.now) 1 (state_of self.old) (state_of self.new)) }
     {
-        match statement {
+        match *statement {
             Statement::Spawn {
                 function,
                 argument,
@@ -492,15 +569,15 @@ impl<A: Allocator> Elision<A> {
         &mut self,
         program: &Program<B>,
         function: &Function<B>,
-        statement: Statement,
+        statement: &Statement,
     )
         requires going { IsGoing program.now.functions (monoids_in program.now) (cells_of program.now.mems) (state_of self.old) function.now }
-        requires at { slice_get function.now.body self.old.top.place ≡ Some statement }
-        requires kind { IsTrue (is_silent statement) }
+        requires at { slice_get function.now.body (top_of self.old).place ≡ Some statement.now }
+        requires kind { IsTrue (is_silent statement.now) }
         ensures stands { Stands program.now.functions (monoids_in program.now) (cells_of program.now.mems) (state_of self.new) }
         ensures makes { Makes program.now.functions (monoids_in program.now) 0 (state_of self.old) (state_of self.new) }
     {
-        match statement {
+        match *statement {
             Statement::Let {
                 register,
                 value,
@@ -518,31 +595,36 @@ impl<A: Allocator> Elision<A> {
                 ..
             } => self.choose(register, otherwise),
             Statement::Else { after, .. } => self.go(after),
-            Statement::End { .. } => self.go(self.top.place + 1),
+            Statement::End { .. } => self.skip(),
             _ => unreachable!(),
         }
     }
 
     /// `if`.
     fn choose(&mut self, register: Register, otherwise: u32)
-        requires { self.old.top.place + 1 < 2 ^ 32 }
-        ensures first { slice_index self.old.top.registers register.index ≢ 0 → state_of self.new ≡ with_top (state_of self.old) (moved self.old.top (self.old.top.place + 1) self.old.top.registers) }
-        ensures second { slice_index self.old.top.registers register.index ≡ 0 → state_of self.new ≡ with_top (state_of self.old) (moved self.old.top otherwise self.old.top.registers) }
+        requires begun { (state_of self.old).over ≡ false }
+        requires place { (top_of self.old).place + 1 < 2 ^ 32 }
+        ensures first { slice_index (top_of self.old).registers register.index ≢ 0 →
+            state_of self.new ≡ with_top (state_of self.old) (moved (top_of self.old) ((top_of self.old).place + 1) (top_of self.old).registers) }
+        ensures second { slice_index (top_of self.old).registers register.index ≡ 0 →
+            state_of self.new ≡ with_top (state_of self.old) (moved (top_of self.old) otherwise (top_of self.old).registers) }
     {
-        if self.top.registers[usize::from(register.index)] != 0 {
-            self.top.place += 1;
+        if self.top().registers[usize::from(register.index)] != 0 {
+            self.skip();
         } else {
-            self.top.place = otherwise;
+            self.go(otherwise);
         }
     }
 
     /// `spawn` or `call`.
     fn enter(&mut self, function: u32, argument: Operand) -> Result<(), AllocError>
-        requires { self.old.top.place + 1 < 2 ^ 32 }
-        ensures { OnOk result (state_of self.new ≡ with_begun (state_of self.old) (moved self.old.top (self.old.top.place + 1) self.old.top.registers) function (value_of argument self.old.top.registers)) }
+        requires begun { (state_of self.old).over ≡ false }
+        requires place { (top_of self.old).place + 1 < 2 ^ 32 }
+        ensures { OnOk result (state_of self.new ≡ with_begun (state_of self.old)
+            (moved (top_of self.old) ((top_of self.old).place + 1) (top_of self.old).registers) function (value_of argument (top_of self.old).registers)) }
     {
-        let argument = value_of(&self.top.registers, argument);
-        self.top.place += 1;
+        let argument = value_of(&self.top().registers, argument);
+        self.skip();
         self.begin(function, argument)
     }
 }

@@ -1,6 +1,6 @@
-use Rattle.std.proofs.Common.{refl, arith, length, []}
+use Rattle.std.proofs.Common.{refl, sym, ◌∙◌, arith, length, []}
 use Rattle.trace_values.specs.Declarations.{cells_of}
-use Rattle.serial_elision.specs.States.{state_of, monoids_in}
+use Rattle.serial_elision.specs.States.{state_of, monoids_in, top_of}
 use Rattle.serial_elision.proofs.Soundness.{few_places}
 use Rattle.serial_elision.proofs.Elisions.{opening_leads, opening_stands, more_leads, leads_needs, over_elides, nearer}
 use Rattle.serial_elision.proofs.elision.elide.Goals as goal
@@ -25,7 +25,7 @@ loop-elision-smaller g c =
     let i = c.loop-elision.invariant in
     let before = few_places (cells_of p.mems) (length p.reducers) p.functions p.sound _ i.stands.top in
     let after = few_places (cells_of p.mems) (length p.reducers) p.functions p.sound _ c.in_ok-asked.ensures.stands.top in
-    nearer c.args.limit c.loop-elision.requests c.in_ok-asked.asked c.loop-elision.elision.top.place c.step.new.self.top.place before after c.if-asked-limit.false c.in_ok-asked.ensures.makes.further
+    nearer c.args.limit c.loop-elision.requests c.in_ok-asked.asked (top_of c.loop-elision.elision).place (top_of c.step.new.self).place before after c.if-asked-limit.false c.in_ok-asked.ensures.makes.further
 
 pub loop-elision-preserved : goal.loop-elision-preserved
 loop-elision-preserved g c =
@@ -38,13 +38,13 @@ pub returns-clause-ok : goal.returns-clause-ok
 returns-clause-ok g c =
     let p = c.args.program.now in
     let i = c.loop-elision.invariant in
-    (i.within, over_elides p.functions (monoids_in p) (cells_of p.mems) c.loop-elision.requests i.main i.done (state_of c.loop-elision.elision) i.is_main c.loop-elision-test.false i.count i.leads)
+    (i.within, over_elides p.functions (monoids_in p) (cells_of p.mems) c.loop-elision.requests i.main i.done (state_of c.loop-elision.elision) i.is_main (sym c.is_over.ensures ∙ c.loop-elision-test.false) i.count i.leads)
 
 pub step-requires-clause-stands : goal.step-requires-clause-stands
 step-requires-clause-stands g c = c.loop-elision.invariant.stands
 
 pub step-requires-clause-going : goal.step-requires-clause-going
-step-requires-clause-going g c = c.loop-elision-test.true
+step-requires-clause-going g c = sym c.is_over.ensures ∙ c.loop-elision-test.true
 
 pub overflow_sub-limit : goal.overflow_sub-limit
 overflow_sub-limit g c = c.loop-elision.invariant.within

@@ -3,7 +3,7 @@ use Rattle.trace_values.specs.Declarations.{cells_of}
 use Rattle.program_text.specs.Codes.{Code}
 use Rattle.serial_elision.specs.Evaluation.{Effect, Leads}
 use Rattle.serial_elision.specs.Elisions.{first_store, HasMain}
-use Rattle.serial_elision.specs.States.{Stands, monoids_in, state_of, stack_of, store_of}
+use Rattle.serial_elision.specs.States.{Stands, monoids_in, state_of, stack_of, store_of, top_of}
 use Rattle.serial_elision.proofs.Elisions.{main_stack}
 use Rattle.serial_elision.proofs.elision.elide.Given as goal
 
@@ -21,4 +21,4 @@ invariant-loop-elision g l = record {
 
 -- a request uses up one of those that are left, and between requests the topmost function comes further
 abbrev pub decreases-loop-elision : goal.decreases-loop-elision
-decreases-loop-elision g l = (l.limit - l.requests) * 100001 + (100000 - l.elision.top.place)
+decreases-loop-elision g l = (l.limit - l.requests) * 100001 + (100000 - (top_of l.elision).place)

@@ -117,3 +117,12 @@ bump-requires-clause-place g c =
     let p = c.args.program.now in
     let before = state_of c.args.self.now in
     next_fits (cells_of p.mems) (length p.reducers) p.functions p.sound before.top.function c.args.function.now c.requires.going.here before.top.place _ (c.requires.at ∙ ap Some c.in-Bump.is)
+
+pub read-requires-clause-begun : goal.read-requires-clause-begun
+read-requires-clause-begun g c = c.requires.going.going
+
+pub write-requires-clause-begun : goal.write-requires-clause-begun
+write-requires-clause-begun g c = c.requires.going.going
+
+pub bump-requires-clause-begun : goal.bump-requires-clause-begun
+bump-requires-clause-begun g c = c.requires.going.going

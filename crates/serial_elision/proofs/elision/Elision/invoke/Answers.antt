@@ -46,14 +46,20 @@ returns-in-Call-clause-makes g c =
     (call_leads p.functions (monoids_in p) code.end_line (callers_of p.functions before.callers) (left_at code.end_line (drop (before.top.place + 1) code.body)) before.top.registers (store_of before) c.in-Call.line c.in-Call.function c.in-Call.argument f.0 f.1)
     e) c.enter-in-Call.ensures
 
-pub enter-requires : goal.enter-requires
-enter-requires g c =
+pub enter-requires-clause-place : goal.enter-requires-clause-place
+enter-requires-clause-place g c =
     let p = c.args.program.now in
     let before = state_of c.args.self.now in
     next_fits (cells_of p.mems) (length p.reducers) p.functions p.sound before.top.function c.args.function.now c.requires.going.here before.top.place _ (c.requires.at ∙ ap Some c.in-Spawn.is)
 
-pub enter-requires-in-Call : goal.enter-requires-in-Call
-enter-requires-in-Call g c =
+pub enter-requires-in-Call-clause-place : goal.enter-requires-in-Call-clause-place
+enter-requires-in-Call-clause-place g c =
     let p = c.args.program.now in
     let before = state_of c.args.self.now in
     next_fits (cells_of p.mems) (length p.reducers) p.functions p.sound before.top.function c.args.function.now c.requires.going.here before.top.place _ (c.requires.at ∙ ap Some c.in-Call.is)
+
+pub enter-requires-clause-begun : goal.enter-requires-clause-begun
+enter-requires-clause-begun g c = c.requires.going.going
+
+pub enter-requires-in-Call-clause-begun : goal.enter-requires-in-Call-clause-begun
+enter-requires-in-Call-clause-begun g c = c.requires.going.going

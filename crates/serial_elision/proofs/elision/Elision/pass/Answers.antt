@@ -74,41 +74,56 @@ returns-in-Else-clause-makes g c =
     (left_behind_else code.body before.top.place c.in-Else.line c.in-Else.after sound.linked sound.divided at)
     c.go.ensures
 
-pub overflow_add-self : goal.overflow_add-self
-overflow_add-self g c =
+pub skip-requires-clause-place : goal.skip-requires-clause-place
+skip-requires-clause-place g c =
     let p = c.args.program.now in
     let before = state_of c.args.self.now in
     let code = c.args.function.now in
-    let few = next_fits (cells_of p.mems) (length p.reducers) p.functions p.sound before.top.function code c.requires.going.here before.top.place _ (c.requires.at ∙ ap Some c.in-End.is) in omega (arith, few)
+    next_fits (cells_of p.mems) (length p.reducers) p.functions p.sound before.top.function code c.requires.going.here before.top.place _ (c.requires.at ∙ ap Some c.in-End.is)
 
 pub returns-in-End-clause-stands : goal.returns-in-End-clause-stands
 returns-in-End-clause-stands g c =
     let p = c.args.program.now in
     let before = state_of c.args.self.now in
     let code = c.args.function.now in
-    moved_stands p.functions (monoids_in p) (cells_of p.mems) before code c.requires.going.here _ _ _ c.requires.going.stands (next_within (cells_of p.mems) (length p.reducers) p.functions p.sound before.top.function code c.requires.going.here before.top.place _ (c.requires.at ∙ ap Some c.in-End.is)) c.go-in-End.ensures
+    moved_stands p.functions (monoids_in p) (cells_of p.mems) before code c.requires.going.here _ _ _ c.requires.going.stands (next_within (cells_of p.mems) (length p.reducers) p.functions p.sound before.top.function code c.requires.going.here before.top.place _ (c.requires.at ∙ ap Some c.in-End.is)) c.skip.ensures
 
 pub returns-in-End-clause-makes : goal.returns-in-End-clause-makes
 returns-in-End-clause-makes g c =
     let p = c.args.program.now in
     let before = state_of c.args.self.now in
     let code = c.args.function.now in
-    same_makes p.functions (monoids_in p) (cells_of p.mems) before code c.requires.going.here c.requires.going.going c.requires.going.quiet _ (c.requires.at ∙ ap Some c.in-End.is) (before.top.place + 1) _ (omega arith) refl c.go-in-End.ensures
+    same_makes p.functions (monoids_in p) (cells_of p.mems) before code c.requires.going.here c.requires.going.going c.requires.going.quiet _ (c.requires.at ∙ ap Some c.in-End.is) (before.top.place + 1) _ (omega arith) refl c.skip.ensures
 
-pub assign-requires : goal.assign-requires
-assign-requires g c =
+pub assign-requires-clause-place : goal.assign-requires-clause-place
+assign-requires-clause-place g c =
     let p = c.args.program.now in
     let before = state_of c.args.self.now in
     next_fits (cells_of p.mems) (length p.reducers) p.functions p.sound before.top.function c.args.function.now c.requires.going.here before.top.place _ (c.requires.at ∙ ap Some c.in-Let.is)
 
-pub repeat-requires : goal.repeat-requires
-repeat-requires g c =
+pub repeat-requires-clause-place : goal.repeat-requires-clause-place
+repeat-requires-clause-place g c =
     let p = c.args.program.now in
     let before = state_of c.args.self.now in
     next_fits (cells_of p.mems) (length p.reducers) p.functions p.sound before.top.function c.args.function.now c.requires.going.here before.top.place _ (c.requires.at ∙ ap Some c.in-ParallelFor.is)
 
-pub choose-requires : goal.choose-requires
-choose-requires g c =
+pub choose-requires-clause-place : goal.choose-requires-clause-place
+choose-requires-clause-place g c =
     let p = c.args.program.now in
     let before = state_of c.args.self.now in
     next_fits (cells_of p.mems) (length p.reducers) p.functions p.sound before.top.function c.args.function.now c.requires.going.here before.top.place _ (c.requires.at ∙ ap Some c.in-If.is)
+
+pub assign-requires-clause-begun : goal.assign-requires-clause-begun
+assign-requires-clause-begun g c = c.requires.going.going
+
+pub repeat-requires-clause-begun : goal.repeat-requires-clause-begun
+repeat-requires-clause-begun g c = c.requires.going.going
+
+pub choose-requires-clause-begun : goal.choose-requires-clause-begun
+choose-requires-clause-begun g c = c.requires.going.going
+
+pub skip-requires-clause-begun : goal.skip-requires-clause-begun
+skip-requires-clause-begun g c = c.requires.going.going
+
+pub go-requires : goal.go-requires
+go-requires g c = c.requires.going.going

@@ -94,3 +94,12 @@ update-requires-clause-fits g c =
     let p = c.args.program.now in
     let before = state_of c.args.self.now in
     reducer_fits p before c.requires.going.stands c.in-Update.reducer (within (cells_of p.mems) (length p.reducers) p.functions p.sound before.top.function c.args.function.now c.requires.going.here before.top.place _ (c.requires.at ∙ ap Some c.in-Update.is))
+
+pub update-requires-clause-begun : goal.update-requires-clause-begun
+update-requires-clause-begun g c = c.requires.going.going
+
+pub put-requires-clause-begun : goal.put-requires-clause-begun
+put-requires-clause-begun g c = c.requires.going.going
+
+pub get-requires-clause-begun : goal.get-requires-clause-begun
+get-requires-clause-begun g c = c.requires.going.going

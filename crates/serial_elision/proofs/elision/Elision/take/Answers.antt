@@ -1,0 +1,10 @@
+use Rattle.std.proofs.Common.{◌+◌}
+use Rattle.serial_elision.specs.Evaluation.{with_register}
+use Rattle.serial_elision.specs.States.{moved}
+use Rattle.serial_elision.proofs.Stacks.{topped}
+use Rattle.serial_elision.proofs.elision.Elision.take.Goals as goal
+
+pub returns : goal.returns
+returns g c =
+    let before = c.args.self.now in
+    topped before.memory.items before.views.items before.monoids before.stack.items c.last-last.result c.index_mut.result.now c.assign.new.self (λ t. moved t (t.place + 1) (with_register t.registers c.args.register c.args.value)) c.requires.begun c.last-last.ensures c.index_mut.ensures.value c.assign.ensures
