@@ -10,3 +10,9 @@ invariant_of-result g c = (
       c.in_ok-new.ensures.remembers c.in_ok-new.ensures.locations c.requires.entries
       (subst (OpensBooks c.in_ok-new.field-0.reducers) c.as_slice.ensures c.in_ok-new.ensures.opens),
 )
+
+pub returns : goal.returns
+returns g c =
+    core-opening _ _ _ _ _ _ _ c.in_ok-shape.ensures (c.in_ok-vec.ensures.items_if_clones_equal (λ y e. e)) c.in_ok-new.ensures.follows
+    c.in_ok-new.ensures.remembers c.in_ok-new.ensures.locations c.requires.entries
+    (subst (OpensBooks c.in_ok-new.field-0.reducers) c.as_slice.ensures c.in_ok-new.ensures.opens)
