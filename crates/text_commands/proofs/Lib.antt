@@ -3,7 +3,7 @@ mod Causes
 mod ElisionCauses
 mod Pairs
 mod Answering
-mod Met
+mod Meeting
 mod ReplayCauses
 mod RunCauses
 mod CleanReports
