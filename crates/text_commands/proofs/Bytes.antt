@@ -1,12 +1,12 @@
 -- Bytes that are read or written in pieces, and calls that are counted.
-use Rattle.std.proofs.Common.{◌≡◌, ◌≤◌, ◌<◌, ℕ, ◌+◌, List, [], ◌++◌, Option, Some, None, take, drop, length, refl, ap, sym, subst, ◌∙◌, append_assoc, length-append, arith}
+use Rattle.std.proofs.Common.{◌≡◌, ◌≤◌, ◌<◌, ℕ, zero, suc, ◌+◌, ◌-◌, ◌^◌, min, List, [], ◌++◌, Option, Some, None, take, drop, length, refl, ap, sym, subst, ◌∙◌, append_assoc, length-append, add-one, arith}
 use Rattle.std.specs.Prelude.{Bool, true, false, ◌==◌, ◌&&◌, ◌||◌, not}
 use Rattle.std.proofs.lemmas.List.{take-append-drop}
 use Rattle.std.proofs.lemmas.Bool.{ne_eqb}
 use Rattle.std.specs.Io.KnownBytes.{Consumes, Appends}
 use Rattle.text_commands.specs.declared.fault.CliFault.{CliFault}
 use Rattle.text_commands.specs.declared.fault.CliFault.TheVariants.{Usage, Read, Write, TooLong, Trace, Program, Shape, Illegal, Limit, Stopped, Torn, Strange, Memory}
-use Rattle.text_commands.specs.Watched.{one_more}
+use Rattle.text_commands.specs.Watched.{one_more, count_after, IsCalledAtMost}
 use Rattle.text_commands.specs.Streams.{TakesPiece, StopsPiece, StopsReading}
 
 -- nothing was read
@@ -38,9 +38,33 @@ pub write-fresh : (failed now : Bool) (count bytes : ℕ) → 0 < count → fail
 write-fresh failed now count bytes some fresh is =
     is ∙ ap (λ (b : Bool). b || ((count == 0) && not (bytes == 0))) fresh ∙ ap (λ (b : Bool). b && not (bytes == 0)) (ne_eqb count 0 (λ none. omega arith))
 
--- so many calls, and one more
-pub calls-bound : (calls more now next : ℕ) → now ≤ calls + more → next ≡ one_more now → next ≤ calls + (more + 1)
-calls-bound calls more now next bound is = omega arith
+-- a count stands at its end
+count_is : (count calls : ℕ) → count < 2 ^ 64 → count_after count calls ≡ min (count + calls) (2 ^ 64 - 1)
+count_is count zero below = omega arith
+count_is count (suc calls) below = let before = count_is count calls below in omega arith
+
+-- it was called so often
+pub called : (most before after calls : ℕ) → calls ≤ most → after ≡ count_after before calls → IsCalledAtMost most before after
+called most before after calls few count = record {
+  calls = calls;
+  few = few;
+  count = count;
+  exact = λ room other is.
+      let below : before < 2 ^ 64 = omega arith in
+      let here = count_is before calls below in
+      let there = count_is before other below in omega arith;
+}
+
+-- it was not called
+pub uncalled : (most count : ℕ) → IsCalledAtMost most count count
+uncalled most count = called most count count 0 (omega arith) refl
+
+-- it was called so often, and once more
+pub count_more : (before now after calls : ℕ) → now ≡ count_after before calls → after ≡ one_more now → after ≡ count_after before (calls + 1)
+count_more before now after calls count is = is ∙ ap (λ (n : ℕ). one_more n) count ∙ sym (ap (λ (n : ℕ). count_after before n) (add-one calls))
+
+pub called_more : (most before now after calls : ℕ) → calls < most → now ≡ count_after before calls → after ≡ one_more now → IsCalledAtMost most before after
+called_more most before now after calls few count is = called most before after (calls + 1) (omega arith) (count_more before now after calls count is)
 
 -- why reading a piece stops is why reading stops
 pub piece_cause : (first between last : Option (List ℕ)) (text : List ℕ) (fault : CliFault) →

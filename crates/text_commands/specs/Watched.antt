@@ -1,5 +1,5 @@
 -- What is known of a watched reader or writer.
-use Rattle.std.specs.Prelude.{ℕ, ◌+◌, ◌-◌, ◌^◌, ◌==◌, ◌&&◌, Bool, true, min, not, Result, Ok, Err}
+use Rattle.std.specs.Prelude.{ℕ, zero, suc, ◌≡◌, ◌<◌, ◌≤◌, ◌+◌, ◌-◌, ◌^◌, ◌==◌, ◌&&◌, Bool, true, min, not, Result, Ok, Err}
 use Rattle.text_commands.specs.declared.watched.Watched.{Watched}
 
 -- the reader or writer itself
@@ -14,13 +14,27 @@ has_failed watched = watched.failed
 abbrev pub is_delivered : {T : Type 0} → Watched T → Bool
 is_delivered watched = watched.delivered
 
--- how often it was called, up to 2^64 - 1
+-- how often it was called, where that is less than 2^64 - 1; else 2^64 - 1
 abbrev pub calls_of : {T : Type 0} → Watched T → ℕ
 calls_of watched = watched.calls
 
--- so many calls and one more
+-- the count behind one more call
 abbrev pub one_more : ℕ → ℕ
-one_more calls = min (calls + 1) (2 ^ 64 - 1)
+one_more count = min (count + 1) (2 ^ 64 - 1)
+
+-- the count behind so many more calls
+abbrev pub count_after : (count calls : ℕ) → ℕ
+count_after count zero = count
+count_after count (suc calls) = one_more (count_after count calls)
+
+-- From one count to the other it was called at most so often.
+pub record IsCalledAtMost (most before after : ℕ) : Type 0 where
+  -- so many calls make the one count the other
+  pub calls : ℕ
+  pub few : calls ≤ most
+  pub count : after ≡ count_after before calls
+  -- and no other number does, where the count began with room for more than the most
+  pub exact : before + most < 2 ^ 64 - 1 → (other : ℕ) → after ≡ count_after before other → other ≡ calls
 
 -- a write of so many bytes answered an error, or took none of some bytes
 abbrev pub took_none : {E : Type 0} → Result ℕ E → ℕ → Bool

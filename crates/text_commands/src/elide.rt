@@ -6,7 +6,7 @@ ghost use Rattle.trace_text.specs.Shapes.{name_in};
 ghost use Rattle.program_text.specs.Grammar.{TextMeans};
 ghost use Rattle.program_text.specs.Programs.{contents};
 ghost use Rattle.race_gate.specs.Shapes.{most_entries};
-ghost use Rattle.text_commands.specs.Watched.{held, has_failed, is_delivered, calls_of};
+ghost use Rattle.text_commands.specs.Watched.{held, has_failed, is_delivered, calls_of, IsCalledAtMost};
 ghost use Rattle.text_commands.specs.Faults.{fault_of_program};
 ghost use Rattle.text_commands.specs.Streams.{most_reads};
 ghost use Rattle.text_commands.specs.ElisionText.{cell_line, cell_lines, memory_text, elision_text};
@@ -127,7 +127,8 @@ fn elided<A: Allocator + Copy>(
 /// It answers [`CliFault::Read`] or [`CliFault::Write`] exactly where the reader or the writer has failed, [`CliFault::TooLong`] for
 /// more than 67,108,864 bytes, [`CliFault::Program`] with the first fault of a text
 /// that means no program, [`CliFault::Limit`] only where the elision makes more requests than the limit, and [`CliFault::Memory`] where a
-/// growth was refused. Nothing is written then, but for the part that a failed write has taken.
+/// growth was refused. Nothing is written then, but for the part that a failed write has taken. The reader is asked at most 67,108,865
+/// times, as its `calls` tells where it began with room for more than these.
 pub fn elide_text<A: Allocator + Copy, R: Read, W: Write>(
     alloc: A,
     program: &mut Watched<R>,
@@ -142,7 +143,7 @@ pub fn elide_text<A: Allocator + Copy, R: Read, W: Write>(
     ensures read_failed { IsErrOf result CliFault.Read ↔ IsTrue (has_failed program.new) }
     ensures delivered { OnOk result (is_delivered output.new ≡ true) }
     ensures write_failed { IsErrOf result CliFault.Write ↔ IsTrue (has_failed output.new) }
-    ensures reads { calls_of program.new ≤ calls_of program.old + most_reads }
+    ensures reads { IsCalledAtMost most_reads (calls_of program.old) (calls_of program.new) }
     ensures unwritten { IfErr result (λ fault. fault ≢ CliFault.Write → output.new ≡ output.old) }
 {
     let text = read_text(alloc, program)?;

@@ -11,7 +11,7 @@ ghost use Rattle.race_gate.specs.Cores.{IsCore};
 ghost use Rattle.race_gate.specs.States.{State};
 ghost use Rattle.race_gate.specs.declared.answer.Reply.{Reply as SpecReply};
 ghost use Rattle.trace_values.specs.declared.value.Request.{Request as SpecRequest};
-ghost use Rattle.text_commands.specs.Watched.{held, has_failed, is_delivered, calls_of};
+ghost use Rattle.text_commands.specs.Watched.{held, has_failed, is_delivered, calls_of, IsCalledAtMost};
 ghost use Rattle.race_report.specs.VerdictText.{HasWords};
 ghost use Rattle.text_commands.specs.Meetings.{HasJudged, Tells, TellsTrace};
 ghost use Rattle.text_commands.specs.Statuses.{status_of_replies};
@@ -154,7 +154,7 @@ fn answer_text<A: Allocator + Copy>(
 /// It answers [`CliFault::Read`] or [`CliFault::Write`] exactly where the reader or the writer has failed, [`CliFault::TooLong`] for
 /// more than 67,108,864 bytes, [`CliFault::Trace`] with the first fault of a text that means no trace, and [`CliFault::Memory`] where
 /// a growth was refused. Nothing is written then, but for the part that a failed write has taken. The reader is asked at most
-/// 67,108,865 times, since each piece but the last has a byte.
+/// 67,108,865 times, since each piece but the last has a byte; its `calls` tells so where it began with room for more than these.
 pub fn judge_stream<A: Allocator + Copy, R: Read, W: Write>(
     alloc: A,
     input: &mut Watched<R>,
@@ -170,7 +170,7 @@ pub fn judge_stream<A: Allocator + Copy, R: Read, W: Write>(
     ensures read_failed { IsErrOf result CliFault.Read ↔ IsTrue (has_failed input.new) }
     ensures delivered { OnOk result (is_delivered output.new ≡ true) }
     ensures write_failed { IsErrOf result CliFault.Write ↔ IsTrue (has_failed output.new) }
-    ensures reads { calls_of input.new ≤ calls_of input.old + most_reads }
+    ensures reads { IsCalledAtMost most_reads (calls_of input.old) (calls_of input.new) }
     ensures unwritten { IfErr result (λ fault. fault ≢ CliFault.Write → output.new ≡ output.old) }
 {
     let text = read_text(alloc, input)?;

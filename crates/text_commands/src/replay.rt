@@ -5,7 +5,7 @@ ghost use Rattle.std.specs.List.{All};
 ghost use Rattle.trace_values.specs.Limits.{max_requests};
 ghost use Rattle.trace_text.specs.Traces.{contents as trace_contents};
 ghost use Rattle.program_text.specs.Programs.{contents};
-ghost use Rattle.text_commands.specs.Watched.{held, has_failed, is_delivered, calls_of};
+ghost use Rattle.text_commands.specs.Watched.{held, has_failed, is_delivered, calls_of, IsCalledAtMost};
 ghost use Rattle.text_commands.specs.Streams.{most_reads};
 ghost use Rattle.text_commands.specs.Replays.{IsDone, fault_of_request as request_fault_spec, StopsReplies, AnswersAll, StopsGate, ReplaysContents, StopsReplay, reading, IsReplayed, HasReplayCause};
 
@@ -80,6 +80,7 @@ fn replayed<A: Allocator + Copy>(
     Ok((line, outcome_status(outcome, entries)))
 }
 
+#[tactic(auto, using(crate::proofs::Bytes::uncalled))]
 /// Reads a program and then a trace to their ends, has a gate judge the requests of the trace in their order, replays the gate's entries
 /// as a run of the program, and writes a line: `replayed N` where the N entries are a finished run, `unfinished` where they are a run
 /// that is not finished, and else `strange N`, by the first entry that is none of the program's. It answers the exit status: of a
@@ -89,7 +90,8 @@ fn replayed<A: Allocator + Copy>(
 /// than 67,108,864 bytes, [`CliFault::Program`] or [`CliFault::Trace`] with the first
 /// fault of a text that means none, [`CliFault::Shape`] where the two do not declare the same, and by the first request that the gate does
 /// not answer [`CliFault::Limit`] or [`CliFault::Illegal`] with the number of that request. [`CliFault::Memory`] comes where a growth was
-/// refused. Nothing is written then, but for the part that a failed write has taken.
+/// refused. Nothing is written then, but for the part that a failed write has taken. Each reader is asked at most 67,108,865 times, as its
+/// `calls` tells where it began with room for more than these.
 pub fn replay_text<A: Allocator + Copy, P: Read, T: Read, W: Write>(
     alloc: A,
     program: &mut Watched<P>,
@@ -108,8 +110,8 @@ pub fn replay_text<A: Allocator + Copy, P: Read, T: Read, W: Write>(
     ensures read_failed { IsErrOf result CliFault.Read ↔ IsTrue (has_failed program.new || has_failed trace.new) }
     ensures delivered { OnOk result (is_delivered output.new ≡ true) }
     ensures write_failed { IsErrOf result CliFault.Write ↔ IsTrue (has_failed output.new) }
-    ensures program_reads { calls_of program.new ≤ calls_of program.old + most_reads }
-    ensures trace_reads { calls_of trace.new ≤ calls_of trace.old + most_reads }
+    ensures program_reads { IsCalledAtMost most_reads (calls_of program.old) (calls_of program.new) }
+    ensures trace_reads { IsCalledAtMost most_reads (calls_of trace.old) (calls_of trace.new) }
     ensures unwritten { IfErr result (λ fault. fault ≢ CliFault.Write → output.new ≡ output.old) }
 {
     let program_bytes = match read_text(alloc, program) {

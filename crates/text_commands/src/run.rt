@@ -7,7 +7,7 @@ ghost use Rattle.race_gate.specs.Memory.{IsMemory};
 ghost use Rattle.race_gate.specs.Extensions.{IsClean};
 ghost use Rattle.race_gate.specs.States.{IsRight};
 ghost use Rattle.program_runs.specs.Runs.{shape_in, IsFinishedRun};
-ghost use Rattle.text_commands.specs.Watched.{held, has_failed, is_delivered, calls_of};
+ghost use Rattle.text_commands.specs.Watched.{held, has_failed, is_delivered, calls_of, IsCalledAtMost};
 ghost use Rattle.text_commands.specs.Streams.{most_reads};
 ghost use Rattle.text_commands.specs.Replays.{reading};
 ghost use Rattle.text_commands.specs.Runs.{fault_of_run, run_line, IsRunFault, TellsRun, IsRan, HasRunCause};
@@ -271,7 +271,7 @@ fn ran<D: Door + Sync, R: Threads + Wait + Sync>(
 /// no program, [`CliFault::Limit`] only where some run of the program wants more entries than the limit, [`CliFault::Stopped`],
 /// [`CliFault::Torn`] or [`CliFault::Strange`] where the workers brought no finished run, and [`CliFault::Memory`] where a growth was
 /// refused or a thread could not be started. Nothing is written then, but for the part that a failed write has taken. The reader is asked
-/// at most 67,108,865 times.
+/// at most 67,108,865 times, as its `calls` tells where it began with room for more than these.
 pub fn run_text<D: Door + Sync, P: Read, W: Write, R: Threads + Wait + Sync>(
     rt: &R,
     alloc: Global,
@@ -292,7 +292,7 @@ pub fn run_text<D: Door + Sync, P: Read, W: Write, R: Threads + Wait + Sync>(
     ensures read_failed { IsErrOf result CliFault.Read ↔ IsTrue (has_failed program.new) }
     ensures delivered { OnOk result (is_delivered output.new ≡ true) }
     ensures write_failed { IsErrOf result CliFault.Write ↔ IsTrue (has_failed output.new) }
-    ensures reads { calls_of program.new ≤ calls_of program.old + most_reads }
+    ensures reads { IsCalledAtMost most_reads (calls_of program.old) (calls_of program.new) }
     ensures unwritten { IfErr result (λ fault. fault ≢ CliFault.Write → output.new ≡ output.old) }
 {
     let text = read_text(alloc, program)?;

@@ -7,7 +7,7 @@ ghost use Rattle.trace_text.specs.Grammar.{TextMeans as TraceMeans};
 ghost use Rattle.trace_text.specs.Traces.{contents as trace_contents};
 ghost use Rattle.program_text.specs.Grammar.{TextMeans};
 ghost use Rattle.program_text.specs.Programs.{contents};
-ghost use Rattle.text_commands.specs.Watched.{held, has_failed, is_delivered, calls_of, one_more};
+ghost use Rattle.text_commands.specs.Watched.{held, has_failed, is_delivered, calls_of, one_more, IsCalledAtMost};
 ghost use Rattle.text_commands.specs.Faults.{fault_of_program};
 ghost use Rattle.text_commands.specs.Elided.{IsProgramFault};
 ghost use Rattle.text_commands.specs.Streams.{most_reads, IsRead, IsFaultOf, TakesPiece, StopsPiece, StopsReading, StopsWriting};
@@ -54,6 +54,7 @@ fn read_piece<A: Allocator, R: Read>(
     Ok(count > 0)
 }
 
+#[tactic(auto, using(crate::proofs::Bytes::uncalled))]
 /// Reads all that is left. Each piece but the last has a byte, so a reader that is asked as often as it may be has too many.
 pub fn read_text<A: Allocator + Copy, R: Read>(
     alloc: A,
@@ -63,7 +64,7 @@ pub fn read_text<A: Allocator + Copy, R: Read>(
     ensures ok { IfOk result (λ text. IsRead (R.remaining (held input.old)) (R.remaining (held input.new)) text.items) }
     ensures fault { IfErr result (StopsReading (R.remaining (held input.old)) (R.remaining (held input.new))) }
     ensures failed { IsErrOf result CliFault.Read ↔ IsTrue (has_failed input.new) }
-    ensures calls { calls_of input.new ≤ calls_of input.old + most_reads }
+    ensures calls { IsCalledAtMost most_reads (calls_of input.old) (calls_of input.new) }
 {
     let mut buffer = vec![in alloc; 0u8; PIECE]?;
     let piece = buffer.as_mut_slice();

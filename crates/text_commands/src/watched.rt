@@ -57,7 +57,8 @@ impl<T> Watched<T> {
         self.inner
     }
 
-    /// How often it was asked to read, to write or to flush; 2^64 - 1 where it was more.
+    /// How often it was asked to read, to write or to flush since [`Watched::new`], where that is less than 2^64 - 1. The count stands
+    /// there: 2^64 - 1 says that it was asked as often as that, or more often.
     pub fn calls(&self) -> u64
         ensures { result ≡ calls_of self.now }
     {
@@ -70,6 +71,7 @@ impl<H: Host> Watched<H> {
     pub fn input(&mut self) -> Watched<H::Input>
         ensures bytes { H.Input.remaining (held result) ≡ (H.sources (held self.old)).input }
         ensures fresh { has_failed result ≡ false }
+        ensures calls { calls_of result ≡ 0 }
         ensures failed { has_failed self.new ≡ has_failed self.old }
     {
         Watched::new(self.inner.input())
@@ -79,6 +81,7 @@ impl<H: Host> Watched<H> {
     pub fn open(&mut self, name: &str) -> Result<Watched<H::File>, CliFault>
         ensures bytes { IfOk result (λ file. H.File.remaining (held file) ≡ (H.sources (held self.old)).file name.now) }
         ensures fresh { IfOk result (λ file. has_failed file ≡ false) }
+        ensures calls { IfOk result (λ file. calls_of file ≡ 0) }
         ensures fault { IfErr result (λ fault. fault ≡ CliFault.Read) }
         ensures failed { has_failed self.new ≡ (has_failed self.old || is_err result) }
         ensures same { held self.new ≡ held self.old }

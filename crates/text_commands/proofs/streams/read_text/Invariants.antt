@@ -1,6 +1,6 @@
-use Rattle.std.proofs.Common.{◌≡◌, ◌≤◌, ◌+◌, false, length}
+use Rattle.std.proofs.Common.{◌≡◌, ◌≤◌, false, length}
 use Rattle.std.specs.Io.KnownBytes.{Consumes}
-use Rattle.text_commands.specs.Watched.{held, has_failed, calls_of}
+use Rattle.text_commands.specs.Watched.{held, has_failed, calls_of, count_after}
 use Rattle.text_commands.specs.Streams.{most_bytes}
 use Rattle.text_commands.proofs.streams.read_text.Given as goal
 
@@ -10,6 +10,6 @@ invariant-loop g l = record {
   taken : Consumes (g.R.Read.remaining (held l.initial.input)) (g.R.Read.remaining (held l.input)) l.text.items;
   short : length l.text.items ≤ most_bytes;
   fresh : has_failed l.input ≡ false;
-  bound : calls_of l.input ≤ calls_of l.initial.input + l.counter;
+  count : calls_of l.input ≡ count_after (calls_of l.initial.input) l.counter;
   counted : l.counter ≤ length l.text.items;
 }
