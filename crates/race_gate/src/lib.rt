@@ -9,7 +9,8 @@
 //! is that of the last granted write and the granted bumps since, and each value of a get that of the last granted put, combined in
 //! serial order with the granted updates that lie between the two. [`judge_all`] carries the theorem in its contract: whatever the
 //! requests are, the history that the gate keeps is judged, and there is one reply to each request.
-//! [`Gate::judge`] says the same of one request. The laws of the definitions are in the module `laws`.
+//! [`Gate::judge`] says the same of one request, and [`Core::judge`] says it where no history is kept. The laws of the definitions are
+//! in the module `laws`.
 #![tactic(auto)]
 
 mod access;
