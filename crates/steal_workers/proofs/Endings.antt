@@ -1,5 +1,5 @@
 -- Some of those that were to begin.
-use Rattle.std.proofs.Common.{◌≡◌, ◌⊎◌, inl, inr, ◌∷◌, ◌++◌, [], List, map, refl, ap}
+use Rattle.std.proofs.Common.{inl, inr, ◌∷◌, ◌++◌, [], List, map, refl, ap}
 use Rattle.steal_workers.specs.Ending.{AreSomeOf}
 
 -- one more began

@@ -1,4 +1,4 @@
-use Rattle.std.proofs.Common.{rules, ◌≡◌, ◌∷◌, true, false, None, Ok, Err, refl, sym, subst, ap, ◌∙◌}
+use Rattle.std.proofs.Common.{◌≡◌, ◌∷◌, true, false, None, Ok, Err, refl, sym, subst, ap, ◌∙◌}
 use Rattle.locked_replay.specs.declared.fault.RunFault.TheVariants.{Strange}
 use Rattle.steal_workers.specs.Faults.{IsFirstOf, refused_thread}
 use Rattle.steal_workers.specs.Finishing.{some_finished}
