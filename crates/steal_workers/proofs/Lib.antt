@@ -1,5 +1,6 @@
 pub mod Asking
 pub mod Balances
+pub mod Endings
 pub mod FirstFaults
 pub mod Joins
 pub mod Ready

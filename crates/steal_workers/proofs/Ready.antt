@@ -4,7 +4,7 @@ use Rattle.std.specs.Prelude.{All, OnOk, IfOk}
 use Rattle.locked_replay.specs.declared.fault.RunFault.{RunFault}
 use Rattle.locked_replay.specs.Logs.{all_receipts, all_asked}
 use Rattle.std.specs.List.{sum_by}
-use Rattle.std.proofs.lemmas.List.{length-map}
+use Rattle.std.proofs.lemmas.List.{length-map, map-set, get_or-map}
 use Rattle.std.proofs.lemmas.List.Elements.{All-head, All-tail}
 use Rattle.std.proofs.lemmas.Simd.{map-map}
 use Rattle.locked_replay.specs.declared.worker.WorkerLog.{WorkerLog}
@@ -26,6 +26,15 @@ root_lies [] d some idle = absurd (omega (arith, some))
 root_lies (v ∷ vs) d some idle = (vs, ap (λ u. pushing 0 u ∷ vs) (All-head (λ v. v ≡ hand [] []) v vs idle), All-tail (λ v. v ≡ hand [] []) v vs idle)
 
 module _ {L : Type 0} where
+  -- so it is where the first of some ready workers begins
+  pub root_begun : (workers : List (Worker L)) (here new : Worker L) → IsReady workers → here ≡ get_or workers 0 here → own_view new.ends ≡ pushing 0 (own_view here.ends) → HaveRoot (own_hands (set workers 0 new))
+  root_begun workers here new is value pushed =
+      let hands = own_hands workers in
+      let some : 0 < length hands = omega (arith, length-map workers (λ worker. own_view worker.ends), is.0) in
+      let had : own_view here.ends ≡ get_or hands 0 (own_view here.ends) = ap (λ worker. own_view worker.ends) value ∙ sym (get_or-map (λ worker. own_view worker.ends) workers 0 here (own_view here.ends) is.0) in
+      let after : own_hands (set workers 0 new) ≡ set hands 0 (pushing 0 (get_or hands 0 (own_view here.ends))) = map-set (λ worker. own_view worker.ends) workers 0 new ∙ ap (set hands 0) (pushed ∙ ap (pushing 0) had) in
+      subst HaveRoot (sym after) (root_lies hands (own_view here.ends) some is.2)
+
   -- workers that were given the ends of all deques are ready
   pub ready : (workers : List (Worker L)) (all : List Ends) → map (λ w. w.ends) workers ≡ all → 0 < length all → AllLeadTo (map own_deque all) (map deques_of all) → All (λ v. v ≡ hand [] []) (map own_view all) → IsReady workers
   ready workers all given some lead idle =

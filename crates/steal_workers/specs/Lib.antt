@@ -1,3 +1,4 @@
+pub mod Ending
 pub mod Faults
 pub mod Finishing
 pub mod Hands

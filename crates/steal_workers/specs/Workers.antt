@@ -1,5 +1,5 @@
 -- What a worker keeps, and what it does at a request.
-use Rattle.std.specs.Prelude.{◌≡◌, ◌≢◌, ◌⊎◌, ◌<◌, ◌≤◌, ℕ, Bool, true, false, List, [], ◌∷◌, ◌++◌, length, map, All, Option, Some, None, Result, Ok, Err, IfOk, IfSome, IsOk, IsOkAnd, IsSomeAnd, vec_len, vec_capacity}
+use Rattle.std.specs.Prelude.{◌≡◌, ◌≢◌, ◌⊎◌, ◌<◌, ◌≤◌, ℕ, Bool, true, false, List, [], ◌∷◌, ◌++◌, length, map, All, Option, Some, None, Result, Ok, Err, IfOk, IfSome, IsOkAnd, IsSomeAnd, vec_len, vec_capacity}
 use Rattle.std.specs.List.{list_any}
 use Rattle.std.specs.Global.{Vec}
 use Rattle.trace_values.specs.declared.value.Request.{Request}
@@ -10,7 +10,7 @@ use Rattle.race_gate.specs.declared.answer.Receipt.{Receipt}
 use Rattle.program_steps.specs.Exchanges.{Exchange}
 use Rattle.frame_steps.specs.Frames.{IsAfter, CanFollow}
 use Rattle.locked_replay.specs.declared.fault.RunFault.{RunFault}
-use Rattle.locked_replay.specs.declared.fault.RunFault.TheVariants.{Strange}
+use Rattle.locked_replay.specs.declared.fault.RunFault.TheVariants.{Torn, Strange}
 use Rattle.steal_workers.specs.declared.task.Task.{Task}
 use Rattle.steal_workers.specs.declared.worker.Worker.{Worker}
 use Rattle.locked_replay.specs.declared.worker.WorkerLog.{WorkerLog}
@@ -21,6 +21,14 @@ use Rattle.steal_workers.specs.Tasks.{IsOn}
 use Rattle.steal_workers.specs.declared.hand.Hand.{Hand}
 use Rattle.steal_workers.specs.Hands.{hand}
 use Rattle.steal_workers.specs.Reaches.{Deque, own_deque, own_view, deques_of, AllLeadTo}
+
+-- the answers at which a task comes to a join, or the last child that ends there
+abbrev pub MeetsJoin : Answer → Type 0
+MeetsJoin answer = (answer ≡ Waits) ⊎ ((join : ℕ) × (answer ≡ EndedJoined join))
+
+-- the last of these receipts is answered so
+abbrev pub EndsAtJoin : List Receipt → Type 0
+EndsAtJoin receipts = (before : List Receipt) × (receipt : Receipt) × (receipts ≡ before ++ receipt ∷ []) × MeetsJoin receipt.answer
 
 -- what a worker began with: how much was asked on its seat, its place, and the deques of its ends
 pub record Station : Type 0 where
@@ -61,19 +69,28 @@ module _ {L : Type 0} where
       (vec_len room.logs ≡ 0) × (vec_len room.owners ≡ 0) × (vec_len room.passes ≡ 0)
       × (workers ≤ vec_capacity room.logs) × (workers ≤ vec_capacity room.owners) × (workers ≤ vec_capacity room.passes)
 
+  -- a join that was met twice shows in what the worker was told last
+  abbrev pub TornAtJoin : Worker L → Type 0
+  TornAtJoin worker = worker.fault ≡ Some Torn → EndsAtJoin worker.receipts.items
+
   -- whether a worker saw the run's end
   abbrev pub saw_end : List (Worker L) → Bool
   saw_end = list_any (λ worker. list_any (λ receipt. finishes receipt.answer) worker.receipts.items)
 
-  -- what a run answers by the first fault that was met, and by whether its end was seen
-  abbrev pub Tells : Option RunFault → Bool → Result (Vec (WorkerLog L)) RunFault → Type 0
-  Tells (Some fault) ended result = result ≡ Err fault
-  Tells None true result = IsOk result
-  Tells None false result = result ≡ Err Strange
+  -- the logs hold the receipts of these workers, in their order
+  abbrev pub AreLogsOf : List (Worker L) → List (WorkerLog L) → Type 0
+  AreLogsOf workers logs = map (λ log. log.receipts) logs ≡ map (λ worker. worker.receipts) workers
+
+  -- what a run answers by the first fault that was met, and by whether its end was seen: what the workers brought, where there was none and it was
+  abbrev pub Tells : Option RunFault → Bool → List (Worker L) → Result (Vec (WorkerLog L)) RunFault → Type 0
+  Tells (Some fault) ended workers result = result ≡ Err fault
+  Tells None true workers result = IsOkAnd result (λ logs. AreLogsOf workers logs.items)
+  Tells None false workers result = result ≡ Err Strange
 
   -- whether all threads could be started, and how the workers came back, decide what a run answers
   abbrev pub IsTold : Bool → List (Worker L) → Result (Vec (WorkerLog L)) RunFault → Type 0
-  IsTold all workers result = (first : Option RunFault) × IsFirstOf (refused_thread all ∷ faults_of workers) first × Tells first (saw_end workers) result
+  IsTold all workers result =
+      (first : Option RunFault) × IsFirstOf (refused_thread all ∷ faults_of workers) first × Tells first (saw_end workers) workers result
 
 -- At Ok a receipt of that request was kept, with the answer. At Err nothing was kept, and the gate's fault or want of memory is told; or
 -- the receipt that was kept is of another request, which is strange.

@@ -1,13 +1,14 @@
 //! Runs of a program by many workers.
 
-ghost use Rattle.std.specs.Prelude.{◌≡◌, ◌+◌, ◌<◌, ◌≤◌, [], ◌∷◌, true, length, map, All, IfOk, OnOk, vec_len, vec_capacity};
+ghost use Rattle.std.specs.Prelude.{◌≡◌, ◌+◌, ◌<◌, ◌≤◌, [], ◌∷◌, true, false, length, map, All, IfOk, OnOk, vec_len, vec_capacity};
 ghost use Rattle.std.specs.List.{list_any, sum_by};
 ghost use Rattle.locked_replay.specs.Logs.{all_receipts, all_asked};
+ghost use Rattle.steal_workers.specs.Ending.{AreSomeOf, IsEnded, IsAnswered};
 ghost use Rattle.steal_workers.specs.Faults.{IsFirstOf};
 ghost use Rattle.steal_workers.specs.Finishing.{finishes, some_finished};
 ghost use Rattle.steal_workers.specs.Reaches.{own_deque, own_view, deques_of, AllLeadTo, HaveRoot};
 ghost use Rattle.steal_workers.specs.Hands.{hand};
-ghost use Rattle.steal_workers.specs.Workers.{station_of, stations_of, owns_of, others_of, faults_of, own_hands, HasRoom, IsReady, IsTold};
+ghost use Rattle.steal_workers.specs.Workers.{station_of, stations_of, owns_of, others_of, faults_of, own_hands, HasRoom, IsReady, IsTold, TornAtJoin};
 
 use crate::ends::{Ends, make_ends};
 use crate::fault::{first_of, of_threads};
@@ -29,7 +30,7 @@ use std::thread::{Promise, PromisedHandle, Scope, Threads};
 struct Hired<'p, L: Ledger>(Snapshot<Worker<'p, L>>);
 
 impl<'p, L: Ledger> Promise<Worker<'p, L>> for Hired<'p, L> {
-    ghost kept_by = { λ hired worker. station_of worker ≡ station_of hired.0.value };
+    ghost kept_by = { λ hired worker. (station_of worker ≡ station_of hired.0.value) × TornAtJoin worker };
 }
 
 /// A worker that runs.
@@ -112,7 +113,9 @@ fn start<
 ) -> Result<(Vec<Running<'p, L>>, bool), AllocError>
     requires { HaveRoot (own_hands hired.items) }
     ensures hired { IfOk result (λ r. r.1 ≡ true → map (λ h. h.promise.0.value) r.0.items ≡ hired.entry.items) }
+    ensures some { IfOk result (λ r. AreSomeOf (map (λ h. h.promise.0.value) r.0.items) hired.entry.items) }
     ensures at_most { IfOk result (λ r. vec_len r.0 ≤ vec_len hired.entry) }
+    ensures fewer { IfOk result (λ r. r.1 ≡ false → vec_len r.0 < vec_len hired.entry) }
 {
     let mut running = Vec::with_capacity(alloc, hired.len())?;
     let mut all = true;
@@ -151,6 +154,7 @@ fn all_work<
     ensures one_each { IfOk result (λ logs. vec_len logs ≡ vec_len hired.entry) }
     ensures counted { IfOk result (λ logs. all_asked logs.items ≡ sum_by (λ w. w.before) hired.entry.items + length (all_receipts logs.items)) }
     ensures finished { IfOk result (λ logs. some_finished logs.items ≡ true) }
+    ensures ended { IsEnded hired.entry.items result }
 {
     let back = Vec::with_capacity(alloc, hired.len())?;
     let room = Room::new(alloc, hired.len())?;
@@ -167,7 +171,8 @@ fn finish<'p, L: Ledger, R: Threads>(
 ) -> Vec<Worker<'p, L>>
     requires room { vec_len back + vec_len running ≤ vec_capacity back }
     requires empty { vec_len back ≡ 0 }
-    ensures { stations_of result.items ≡ stations_of (map (λ h. h.promise.0.value) running.entry.items) }
+    ensures stations { stations_of result.items ≡ stations_of (map (λ h. h.promise.0.value) running.entry.items) }
+    ensures torn { All TornAtJoin result.items }
 {
     for thread in running {
         back.push_reserved(thread.join(rt));
@@ -215,8 +220,9 @@ fn told<'p, L: Ledger>(
 }
 
 /// Runs the program by so many workers, which ask the gate on parts of the seat. At Ok the run came to its end, and there is one log for
-/// each worker. Otherwise a worker met a fault: the answer is Limit, Torn, Strange or Memory, the first of these that was met, and Stopped
-/// where there was no other. It is Memory too where a thread can't be started, and Strange where nobody saw the run's end.
+/// each worker, with what it brought back. Otherwise the answer is Limit, Torn, Strange or Memory, the first of these that a worker met, and
+/// Stopped where none met another; a thread that can't be started counts as a worker that met Memory. It is Memory too where there is none
+/// before a worker begins, and Strange where no worker met a fault and none saw the run's end.
 pub fn run<L: Ledger + Send + Sync, G: Ask<L> + Sync, R: Threads + Wait + Sync>(
     rt: &R,
     alloc: Global,
@@ -230,6 +236,7 @@ pub fn run<L: Ledger + Send + Sync, G: Ask<L> + Sync, R: Threads + Wait + Sync>(
     ensures one_each { IfOk result (λ logs. vec_len logs ≡ workers) }
     ensures counted { IfOk result (λ logs. all_asked logs.items ≡ seat.asked + length (all_receipts logs.items)) }
     ensures finished { IfOk result (λ logs. some_finished logs.items ≡ true) }
+    ensures answered { IsAnswered workers seat.asked result }
 {
     let hired = hire(alloc, make_ends(alloc, workers)?, seat)?;
     let lot = Lot::new(alloc);
@@ -239,7 +246,8 @@ pub fn run<L: Ledger + Send + Sync, G: Ask<L> + Sync, R: Threads + Wait + Sync>(
         rt,
         move |scope| -> Result<Vec<WorkerLog<L>>, RunFault>
             requires { IsReady hired.items }
-            ensures { IfOk result (λ logs. (vec_len logs ≡ vec_len hired.entry) × (all_asked logs.items ≡ sum_by (λ w. w.before) hired.entry.items + length (all_receipts logs.items)) × (some_finished logs.items ≡ true)) }
+            ensures logs { IfOk result (λ logs. (vec_len logs ≡ vec_len hired.entry) × (all_asked logs.items ≡ sum_by (λ w. w.before) hired.entry.items + length (all_receipts logs.items)) × (some_finished logs.items ≡ true)) }
+            ensures ended { IsEnded hired.entry.items result }
         { all_work(rt, alloc, scope, program, hired, gate, shared) },
     )
 }

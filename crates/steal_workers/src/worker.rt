@@ -53,7 +53,7 @@ pub(crate) struct Worker<'p, L: Ledger> {
 
 impl<'p, L: Ledger> Worker<'p, L> {
     ghost use Rattle.steal_workers.specs.Reaches.{own_view};
-    ghost use Rattle.steal_workers.specs.Workers.{station_of, AsksFor, KeepsReceipt, GoesOn, child_of};
+    ghost use Rattle.steal_workers.specs.Workers.{station_of, AsksFor, KeepsReceipt, GoesOn, MeetsJoin, EndsAtJoin, TornAtJoin, child_of};
 
     pub(crate) fn new(alloc: Global, seat: Seat<L>, ends: Ends<'p>) -> Worker<'p, L>
         ensures before { result.before ≡ seat.asked }
@@ -113,6 +113,7 @@ impl<'p, L: Ledger> Worker<'p, L> {
     ) -> Result<Option<Task<'p>>, RunFault>
         ensures station { station_of self.new ≡ station_of self.old }
         ensures asks { OnOk result (AsksFor task.entry self.old.receipts.items self.new.receipts.items) }
+        ensures torn { result ≡ Err RunFault.Torn → EndsAtJoin self.new.receipts.items }
     {
         let Task {
             strand,
@@ -158,6 +159,7 @@ impl<'p, L: Ledger> Worker<'p, L> {
         ensures pushed { OnOk result ((own_view self.new.ends).pushed ≡ (own_view self.old.ends).pushed ++ child_of answer) }
         ensures receipts { self.new.receipts ≡ self.old.receipts }
         ensures goes_on { GoesOn answer asked.join task.entry result }
+        ensures torn { result ≡ Err RunFault.Torn → MeetsJoin answer }
     {
         match answer {
             Answer::Split(strands) => {
@@ -215,7 +217,8 @@ impl<'p, L: Ledger> Worker<'p, L> {
         gate: &G,
         lot: &Lot<'p>,
     ) -> Result<(), RunFault>
-        ensures { station_of self.new ≡ station_of self.old }
+        ensures station { station_of self.new ≡ station_of self.old }
+        ensures torn { result ≡ Err RunFault.Torn → EndsAtJoin self.new.receipts.items }
     {
         let backoff = Backoff::new();
         let mut next = None;
@@ -248,12 +251,16 @@ impl<'p, L: Ledger> Worker<'p, L> {
         gate: &G,
         lot: &Lot<'p>,
     ) -> Worker<'p, L>
-        ensures { station_of result ≡ station_of self.entry }
+        ensures station { station_of result ≡ station_of self.entry }
+        ensures torn { TornAtJoin result }
     {
-        if let Err(fault) = self.work(rt, alloc, gate, lot) {
-            gate.stop(rt);
-            lot.close(rt);
-            self.fault = Some(fault);
+        match self.work(rt, alloc, gate, lot) {
+            Ok(()) => self.fault = None,
+            Err(fault) => {
+                gate.stop(rt);
+                lot.close(rt);
+                self.fault = Some(fault);
+            }
         }
         self
     }

@@ -1,0 +1,33 @@
+use Rattle.std.proofs.Common.{rules, ◌≡◌, ◌++◌, ◌∷◌, [], map, sym, subst, ap, ◌∙◌}
+use Rattle.std.proofs.lemmas.List.{map-append}
+use Rattle.std.specs.declared.thread.PromisedHandle.{PromisedHandle}
+use Rattle.steal_workers.specs.declared.pool.Hired.{Hired}
+use Rattle.steal_workers.specs.declared.worker.Worker.{Worker}
+use Rattle.steal_workers.specs.Ending.{AreSomeOf}
+use Rattle.steal_workers.proofs.Endings.{some-push, some-less}
+use Rattle.steal_workers.proofs.pool.start.Goals as goal
+
+pub loop-worker-preserved-in-Ok : goal.loop-worker-preserved-in-Ok
+loop-worker-preserved-in-Ok g c =
+    let began = λ (h : PromisedHandle (Worker g.row.L.Denot) (Hired g.row.L.Denot)). h.promise.0.value in
+    let was = c.loop-worker.invariant in
+    let running = c.loop-worker.running.items in
+    let worker = c.in-Some.worker in
+    let promised : began c.in-Ok.thread ≡ worker = search rules in
+    let grown : map began c.push_reserved.new.self.items ≡ map began running ++ worker ∷ [] =
+    ap (map began) c.push_reserved.ensures.items ∙ map-append began running (c.in-Ok.thread ∷ []) ∙ ap (λ more. map began running ++ more ∷ []) promised in record {
+      room = search rules;
+      at_most = search rules;
+      hired = λ all. grown ∙ ap (λ workers. workers ++ worker ∷ []) (was.hired all);
+      some = subst (λ workers. AreSomeOf workers (c.loop-worker.yielded ++ worker ∷ [])) (sym grown) (some-push (map began running) c.loop-worker.yielded worker was.some);
+      fewer = λ refused. let less = was.fewer refused in search rules;
+    }
+
+pub loop-worker-preserved : goal.loop-worker-preserved
+loop-worker-preserved g c = record {
+  room = search rules;
+  at_most = search rules;
+  hired = λ all. absurd (cc);
+  some = some-less _ c.loop-worker.yielded c.in-Some.worker c.loop-worker.invariant.some;
+  fewer = λ refused. search rules;
+}

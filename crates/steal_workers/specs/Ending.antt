@@ -1,0 +1,43 @@
+-- What a run answers, by the workers that it hired and those that came back.
+use Rattle.std.specs.Prelude.{◌≡◌, ◌⊎◌, ◌<◌, ℕ, Bool, true, false, List, [], ◌∷◌, length, All, Result, Err}
+use Rattle.std.specs.List.{sum_by}
+use Rattle.std.specs.Global.{Vec}
+use Rattle.locked_replay.specs.declared.fault.RunFault.{RunFault}
+use Rattle.locked_replay.specs.declared.fault.RunFault.TheVariants.{Memory}
+use Rattle.locked_replay.specs.declared.worker.WorkerLog.{WorkerLog}
+use Rattle.steal_workers.specs.declared.worker.Worker.{Worker}
+use Rattle.steal_workers.specs.Reaches.{HaveRoot}
+use Rattle.steal_workers.specs.Workers.{stations_of, own_hands, IsReady, IsTold, TornAtJoin}
+
+-- the first list is the second, less some of its items
+abbrev pub AreSomeOf : {X : Type 0} → List X → List X → Type 0
+AreSomeOf xs [] = xs ≡ []
+AreSomeOf xs (y ∷ ys) = AreSomeOf xs ys ⊎ ((rest : List _) × (xs ≡ y ∷ rest) × AreSomeOf rest ys)
+
+-- what comes of workers that were hired
+pub record Ended {L : Type 0} (hired : List (Worker L)) (result : Result (Vec (WorkerLog L)) RunFault) : Type 0 where
+  -- the workers as their threads were to begin, those that came back, and whether all threads could be started
+  pub began : List (Worker L)
+  pub back : List (Worker L)
+  pub all : Bool
+  -- the task of the program's begin lies on the first worker's deque
+  pub stations : stations_of began ≡ stations_of hired
+  pub root : HaveRoot (own_hands began)
+  -- each came back as the worker that it was, in their order: all of them, or fewer where a thread could not be started
+  pub some : AreSomeOf (stations_of back) (stations_of began)
+  pub each : all ≡ true → stations_of back ≡ stations_of began
+  pub fewer : all ≡ false → length back < length began
+  -- a join that is met twice shows in its worker's last receipt
+  pub torn : All TornAtJoin back
+  -- and what is answered is the first of their faults, or what they brought
+  pub told : IsTold all back result
+
+-- what a run answers whose workers were hired: want of memory before any of them began, or what comes of them
+abbrev pub IsEnded : {L : Type 0} → List (Worker L) → Result (Vec (WorkerLog L)) RunFault → Type 0
+IsEnded hired result = (result ≡ Err Memory) ⊎ Ended hired result
+
+-- what a run answers: want of memory before any worker began, or what comes of so many workers, on whose seats so much had been asked before
+abbrev pub IsAnswered : {L : Type 0} → (workers asked : ℕ) → Result (Vec (WorkerLog L)) RunFault → Type 0
+IsAnswered {L} workers asked result =
+    (result ≡ Err Memory)
+    ⊎ ((hired : List (Worker L)) × (length hired ≡ workers) × (sum_by (λ w. w.before) hired ≡ asked) × IsReady hired × Ended hired result)
