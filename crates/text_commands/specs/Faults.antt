@@ -1,5 +1,6 @@
 -- The faults of commands.
-use Rattle.std.specs.Prelude.{ℕ}
+use Rattle.std.specs.Prelude.{ℕ, ◌≡◌, List}
+use Rattle.std.specs.String.{string_bytes}
 use Rattle.trace_values.specs.declared.fault.TextFault.{TextFault}
 use Rattle.trace_values.specs.declared.fault.TextFault.TheVariants.{Memory as TextMemory}
 use Rattle.text_commands.specs.declared.fault.CliFault.{CliFault}
@@ -31,3 +32,9 @@ abbrev pub IsUsageFault : CliFault → Type 0
 IsUsageFault (Usage text) = Unit {0}
 IsUsageFault Memory = Unit {0}
 IsUsageFault fault = ⊥
+
+-- a fault of the words of the command line that tells this text, or want of memory for it
+abbrev pub TellsUsage : List ℕ → CliFault → Type 0
+TellsUsage text (Usage told) = string_bytes told ≡ text
+TellsUsage text Memory = Unit {0}
+TellsUsage text fault = ⊥

@@ -3,7 +3,7 @@
 ghost use Rattle.std.specs.Prelude.{◌≡◌, ◌<◌, ◌≤◌, IfOk, IfErr};
 ghost use Rattle.race_gate.specs.Shapes.{most_entries};
 ghost use Rattle.text_commands.specs.Jobs.{IsInRange};
-ghost use Rattle.text_commands.specs.Faults.{IsUsageFault};
+ghost use Rattle.text_commands.specs.Faults.{IsUsageFault, TellsUsage};
 
 use crate::fault::CliFault;
 use crate::help;
@@ -149,7 +149,8 @@ fn commands<'a>(alloc: Global) -> Result<Command<'a>, AllocError> {
 
 /// A usage fault with this text, which stands in one line; or want of memory.
 pub fn usage(alloc: Global, text: &str) -> CliFault
-    ensures { IsUsageFault result }
+    ensures fault { IsUsageFault result }
+    ensures tells { TellsUsage text.now result }
 {
     match String::from_str(alloc, text) {
         Ok(text) => CliFault::Usage(text),
