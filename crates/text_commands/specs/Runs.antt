@@ -21,7 +21,7 @@ use Rattle.locked_replay.specs.Laws.{SpeaksForAll}
 use Rattle.race_report.specs.ReportText.{report_text}
 use Rattle.race_report.specs.Laws.{TellsSchedules}
 use Rattle.text_commands.specs.declared.fault.CliFault.{CliFault}
-use Rattle.text_commands.specs.declared.fault.CliFault.TheVariants.{Usage, Read, Write, TooLong, Trace, Program, Shape, Illegal, Limit, Stopped, Torn, Strange, Memory}
+use Rattle.text_commands.specs.declared.fault.CliFault.TheVariants.{Read, Write, TooLong, Program, Limit, Stopped, Torn, Strange, Memory}
 use Rattle.text_commands.specs.Elided.{IsFaultyProgram}
 use Rattle.text_commands.specs.Outcomes.{refusal_status}
 use Rattle.text_commands.specs.Replays.{Reading, StopsReader, shape_of_program}

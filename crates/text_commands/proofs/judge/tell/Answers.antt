@@ -1,4 +1,4 @@
-use Rattle.std.proofs.Common.{zero, [], ◌∷◌, ◌++◌, refl, arith}
+use Rattle.std.proofs.Common.{zero, [], ◌∷◌, refl, arith}
 use Rattle.race_gate.proofs.Lists.{JudgesAll-more}
 use Rattle.race_report.proofs.GateWords.{replies_have_words}
 use Rattle.text_commands.proofs.Meeting.{lines_more}

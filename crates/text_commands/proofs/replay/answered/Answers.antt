@@ -1,4 +1,4 @@
-use Rattle.std.proofs.Common.{rules, ◌≡◌, sym, subst, List}
+use Rattle.std.proofs.Common.{subst, List}
 use Rattle.std.specs.List.{All}
 use Rattle.race_gate.specs.declared.answer.Reply.{Reply}
 use Rattle.text_commands.specs.Replays.{IsDone}
