@@ -1,6 +1,22 @@
 //! Each growth of a call refused in turn, over a heap of the test: the call answers that there is no memory, what it was asked on is as
 //! before, and where it is asked once more, or none is refused, it answers as ever.
 
+/// What a strand asks on a line, and what it is answered.
+macro_rules! entry {
+    ($strand:literal, $act:expr, $line:literal, $answer:expr $(,)?) => {
+        Entry {
+            request: Request {
+                strand: $strand,
+                act: $act,
+                line: $line,
+            },
+            answer: $answer,
+        }
+    };
+}
+
+mod gates;
+mod programs;
 mod strands;
 mod traces;
 
@@ -10,12 +26,13 @@ use std::alloc::Global;
 use std::fmt::Debug;
 use std::process::Abort;
 use std::test::Fail;
+use trace_values::TextFault;
 
 /// A heap of which one growth is refused.
 type Heap = Refusing<Global>;
 
 /// The calls over an allocator that can answer that there is no memory.
-#[derive(Clone, Copy, Debug)]
+#[derive(Clone, Copy)]
 enum Call {
     NewList,
     ReserveItems,
@@ -33,6 +50,11 @@ enum Call {
     PrintTrace,
     ShapeOfTrace,
     NameCell,
+    NewGate,
+    Judge(gates::Way),
+    TellReplies,
+    ParseProgram,
+    Do(programs::Use),
 }
 
 /// Makes the call where its growth of this number is refused, and checks what it answers. It says whether that was Memory.
@@ -54,6 +76,11 @@ fn is_refused(rt: &impl Abort, heap: &Heap, call: Call, number: u64) -> Result<b
         Call::PrintTrace => traces::print(rt, heap, number),
         Call::ShapeOfTrace => traces::shape(rt, heap, number),
         Call::NameCell => traces::name_cell(rt, heap, number),
+        Call::NewGate => gates::new_gate(rt, heap, number),
+        Call::Judge(way) => gates::judge(rt, heap, number, way),
+        Call::TellReplies => Ok(gates::tell(rt, heap, number)),
+        Call::ParseProgram => Ok(programs::parse(rt, heap, number)),
+        Call::Do(done) => programs::make(rt, heap, number, done),
     }
 }
 
@@ -74,23 +101,29 @@ fn answered<T, E: PartialEq + Debug + Drop>(
     }
 }
 
+/// Whether a text could not be read for want of memory, which is so just where a growth was refused.
+fn wants_memory(rt: &impl Abort, heap: &Heap, fault: &TextFault) -> bool {
+    assert!(rt; heap.has_refused() && matches!(fault, TextFault::Memory));
+    true
+}
+
 /// Refuses the call's first growth, its second, and so on until none is refused. There is one at least.
-fn check(rt: &impl Abort, alloc: Global, call: Call) -> Result<(), Fail> {
+fn check(rt: &impl Abort, alloc: Global, name: &str, call: Call) -> Result<(), Fail> {
     for number in 1..10_000u64 {
         let heap = Refusing::new(alloc);
         if !is_refused(rt, &heap, call, number)? {
-            assert!(rt; number > 1, "{call:?} grows nothing");
+            assert!(rt; number > 1, "{name} grows nothing");
             return Ok(());
         }
     }
-    assert!(rt; false, "the growths of {call:?} have no end");
+    assert!(rt; false, "the growths of {name} have no end");
     Ok(())
 }
 
 /// The same of each of these calls.
-fn check_all(rt: &impl Abort, alloc: Global, calls: &[Call]) -> Result<(), Fail> {
-    for call in calls {
-        check(rt, alloc, *call)?;
+fn check_all(rt: &impl Abort, alloc: Global, calls: &[(&str, Call)]) -> Result<(), Fail> {
+    for (name, call) in calls {
+        check(rt, alloc, name, *call)?;
     }
     Ok(())
 }
@@ -101,18 +134,18 @@ fn strands_and_what_is_kept_of_them(rt: HostRuntime) -> Result<(), Fail> {
         &rt,
         rt.alloc(),
         &[
-            Call::NewList,
-            Call::ReserveItems,
-            Call::NewStrands,
-            Call::ReserveStrands,
-            Call::Spawn,
-            Call::CallFunction,
-            Call::NewBranches,
-            Call::ReserveBranches,
-            Call::NewViews,
-            Call::ReserveViews,
-            Call::NewReads,
-            Call::NewShadow,
+            ("OrderList::new", Call::NewList),
+            ("OrderList::reserve", Call::ReserveItems),
+            ("Strands::new", Call::NewStrands),
+            ("Strands::reserve_event", Call::ReserveStrands),
+            ("Strands::spawn", Call::Spawn),
+            ("Strands::call", Call::CallFunction),
+            ("Branches::new", Call::NewBranches),
+            ("Branches::reserve_event", Call::ReserveBranches),
+            ("Views::new", Call::NewViews),
+            ("Views::reserve_event", Call::ReserveViews),
+            ("ReadPeers::new", Call::NewReads),
+            ("Shadow::new", Call::NewShadow),
         ],
     )
 }
@@ -123,10 +156,41 @@ fn traces_and_their_texts(rt: HostRuntime) -> Result<(), Fail> {
         &rt,
         rt.alloc(),
         &[
-            Call::ParseTrace,
-            Call::PrintTrace,
-            Call::ShapeOfTrace,
-            Call::NameCell,
+            ("Trace::parse", Call::ParseTrace),
+            ("Trace::print", Call::PrintTrace),
+            ("Trace::shape", Call::ShapeOfTrace),
+            ("cell_name", Call::NameCell),
+        ],
+    )
+}
+
+#[test]
+fn gates_and_lists_of_requests(rt: HostRuntime) -> Result<(), Fail> {
+    check_all(
+        &rt,
+        rt.alloc(),
+        &[
+            ("Gate::new", Call::NewGate),
+            ("Gate::judge", Call::Judge(gates::Way::OneByOne)),
+            ("judge_all", Call::Judge(gates::Way::AsAList)),
+            ("verdict_lines", Call::TellReplies),
+        ],
+    )
+}
+
+#[test]
+fn programs_and_what_is_done_with_them(rt: HostRuntime) -> Result<(), Fail> {
+    check_all(
+        &rt,
+        rt.alloc(),
+        &[
+            ("Program::parse", Call::ParseProgram),
+            ("Program::print", Call::Do(programs::Use::Print)),
+            ("Program::shape", Call::Do(programs::Use::Shape)),
+            ("Frame::answer", Call::Do(programs::Use::AnswerCall)),
+            ("Frame::reserve_call", Call::Do(programs::Use::ReserveCall)),
+            ("elide", Call::Do(programs::Use::Elide)),
+            ("replay", Call::Do(programs::Use::Replay)),
         ],
     )
 }

@@ -3,23 +3,17 @@
 ghost use Rattle.std.specs.Prelude.{◌≤◌};
 ghost use Rattle.trace_values.specs.Declarations.{cells_of};
 
-use super::{Heap, answered};
+use super::{Heap, answered, wants_memory};
 use crate::checks::equal;
 use std::alloc::AllocError;
 use std::process::Abort;
 use std::test::Fail;
 use trace_text::{Trace, cell_name};
-use trace_values::{Monoid, TextFault};
+use trace_values::Monoid;
 
 /// A trace with three cells and two reducers, in which something is asked for on five lines, the last with the line of a program.
 const TEXT: &[u8] =
     b"cilk 1\nmem x\nmem a 2\nreducer h sum\nreducer g min\nspawn 0\nwrite 1 a[1] 7\n\nread 2 x\nupdate 2 h 3\nget 2 g @12\n";
-
-/// Whether a text could not be read for want of memory, which is so just where a growth was refused.
-fn wants_memory(rt: &impl Abort, heap: &Heap, fault: &TextFault) -> bool {
-    assert!(rt; heap.has_refused() && matches!(fault, TextFault::Memory));
-    true
-}
 
 pub(super) fn parse(rt: &impl Abort, heap: &Heap, number: u64) -> bool {
     heap.refuse(number);
