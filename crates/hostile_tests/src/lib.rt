@@ -1,5 +1,5 @@
-//! Tests of hostile use, a module for each way, and the gates that they put round a gate: gates that stop, want memory or answer another
-//! request, histories and receipts that are not those of a run, texts that break off, and limits.
+//! Tests of hostile use, a module for each way, and the gates that they put round a gate: growths that are refused, one after another, gates
+//! that stop, want memory or answer another request, histories and receipts that are not those of a run, texts that break off, and limits.
 //!
 //! They make public calls alone, and stand apart from `layer_tests` so that both are proved beside one another.
 #![tactic(auto)]
@@ -9,12 +9,15 @@ mod checks;
 #[cfg(test)]
 mod gates;
 #[cfg(test)]
+mod growths;
+#[cfg(test)]
 mod histories;
 #[cfg(test)]
 mod limits;
 pub mod pranks;
 #[cfg(test)]
 mod receipts;
+pub mod refusing;
 #[cfg(test)]
 mod rounds;
 #[cfg(test)]
