@@ -2,6 +2,8 @@
 
 ghost use Rattle.std.specs.Prelude.{◌≡◌, ◌+◌, ◌≤◌, ℕ, length, reverse, OnOk, Err};
 ghost use Rattle.race_gate.specs.Shapes.{most_entries};
+ghost use Rattle.race_gate.specs.States.{opening};
+ghost use Rattle.race_gate.specs.Cores.{IsCoreOf};
 ghost use Rattle.program_runs.specs.Runs.{shape_in, IsFinishedRun};
 ghost use Rattle.program_replay.specs.Casts.{Opens};
 ghost use Rattle.program_replay.specs.Replays.{IsUnfinishedRun, IsStrange};
@@ -10,7 +12,7 @@ ghost use Rattle.program_replay.specs.declared.replays.ReplayFault.{ReplayFault}
 use crate::cast::Cast;
 use crate::turn::Misfit;
 use program_text::Program;
-use race_gate::{Entry, Gate};
+use race_gate::{Core, Entry};
 use std::alloc::{AllocError, Allocator};
 use thiserror::Error;
 
@@ -41,11 +43,11 @@ impl From<AllocError> for ReplayFault {
 }
 
 /// The number of the entry that comes next.
-fn next_number<A: Allocator + Clone>(gate: &Gate<A>) -> u32
-    requires { length gate.now.history ≤ most_entries }
-    ensures { result ≡ length gate.now.history + 1 }
+fn next_number<A: Allocator + Clone>(core: &Core<A>) -> u32
+    requires { core.now.entries ≤ most_entries }
+    ensures { result ≡ core.now.entries + 1 }
 {
-    gate.history().len() as u32 + 1
+    core.entries() + 1
 }
 
 /// Plays the entries, the oldest first, on what has been opened.
@@ -54,28 +56,29 @@ fn play_all<A: Allocator + Copy, B: Allocator>(
     program: &Program<B>,
     entries: &[Entry],
 ) -> Result<(), ReplayFault>
-    requires { Opens program.now.functions (shape_in program.now) cast.old.gate cast.old.frames.items cast.old.seats.items }
+    requires core { IsCoreOf cast.old.core (opening (shape_in program.now) most_entries) }
+    requires opens { Opens program.now.functions (shape_in program.now) (opening (shape_in program.now) most_entries) cast.old.frames.items cast.old.seats.items }
     ensures finished { OnOk result (IsFinishedRun program.now.functions (shape_in program.now) (reverse entries.now)) }
     ensures unfinished { result ≡ Err ReplayFault.Unfinished → IsUnfinishedRun program.now.functions (shape_in program.now) (reverse entries.now) }
     ensures strange { (number : ℕ) → result ≡ Err (ReplayFault.Strange number) → IsStrange program.now.functions (shape_in program.now) entries.now number }
 {
     for entry in entries {
-        let number = next_number(&cast.gate);
+        let number = next_number(&cast.core);
         match cast.play(program, *entry) {
             Ok(()) => {}
             Err(Misfit::Strange) => return Err(ReplayFault::Strange(number)),
             Err(Misfit::Memory) => return Err(ReplayFault::Memory),
         }
     }
-    if cast.gate.is_finished() {
+    if cast.core.is_finished() {
         Ok(())
     } else {
         Err(ReplayFault::Unfinished)
     }
 }
 
-/// Plays the entries, the oldest first, with the program's frames before a fresh gate. It is Ok only on a finished run. Of a run that is not finished
-/// it says so, and otherwise which entry is strange; a refused entry can be strange in its witness alone.
+/// Plays the entries, the oldest first, with the program's frames before a fresh core of the gate. It is Ok only on a finished run. Of a run that is
+/// not finished it says so, and otherwise which entry is strange; a refused entry can be strange in its witness alone.
 pub fn replay<A: Allocator + Copy, B: Allocator>(
     alloc: A,
     program: &Program<B>,

@@ -1,7 +1,9 @@
 //! One entry: the turn of its frame, and the gate's answer.
 
 ghost use Rattle.std.specs.Prelude.{◌≡◌, ◌≢◌, ◌↔◌, IsTrue, IfOk, OnOk, Err};
+ghost use Rattle.race_gate.specs.States.{State};
 ghost use Rattle.race_gate.specs.Faults.{HasCause};
+ghost use Rattle.race_gate.specs.Cores.{IsCoreOf};
 ghost use Rattle.frame_steps.specs.Frames.{Stands};
 ghost use Rattle.program_replay.specs.Turns.{IsTurn, HasNoTurn, IsEntered, IsOdd};
 ghost use Rattle.program_replay.specs.declared.turn.Misfit.{Misfit};
@@ -9,7 +11,7 @@ ghost use Rattle.program_replay.specs.declared.turn.Misfit.{Misfit};
 use frame_steps::{Frame, FrameFault};
 use program_steps::Target;
 use program_text::Program;
-use race_gate::{Answer, Entry, Gate, GateFault};
+use race_gate::{Answer, Core, Entry, GateFault};
 use std::alloc::Allocator;
 
 /// Why an entry is not played.
@@ -52,16 +54,17 @@ fn is_same_answer(one: Answer, other: Answer) -> bool
     one == other
 }
 
-/// Has a gate judge an entry's request, and compares the answer. A request that has another fault of the gate than want of
+/// Has a core judge an entry's request, and compares the answer. A request that has another fault of the gate than want of
 /// memory is strange, so want of memory is told only where it has none.
-pub fn confirm<A: Allocator + Clone>(gate: &mut Gate<A>, entry: Entry) -> Result<(), Misfit>
-    ensures ok { OnOk result (IsEntered entry gate.old gate.new) }
-    ensures strange { result ≡ Err Misfit.Strange → IsOdd entry gate.old }
-    ensures fault { (fault : GateFault) → fault ≢ GateFault.Memory → HasCause gate.old entry.request fault → result ≡ Err Misfit.Strange }
+pub fn confirm<A: Allocator + Clone>(core: &mut Core<A>, entry: Entry) -> Result<(), Misfit>
+    ensures ok { (state : State) → IsCoreOf core.old state → OnOk result ((next : State) × IsCoreOf core.new next × IsEntered entry state next) }
+    ensures strange { (state : State) → IsCoreOf core.old state → result ≡ Err Misfit.Strange → IsOdd entry state }
+    ensures fault { (state : State) → IsCoreOf core.old state →
+        (fault : GateFault) → fault ≢ GateFault.Memory → HasCause state entry.request fault → result ≡ Err Misfit.Strange }
 {
-    match gate.judge(entry.request) {
-        Ok(receipt) => {
-            if is_same_answer(receipt.answer, entry.answer) {
+    match core.judge(entry.request) {
+        Ok(answer) => {
+            if is_same_answer(answer, entry.answer) {
                 Ok(())
             } else {
                 Err(Misfit::Strange)
