@@ -1,8 +1,8 @@
 -- One more digit behind those that were read.
-use Rattle.std.proofs.Common.{◌≡◌, ◌++◌, ◌∷◌, [], ◌+◌, ◌*◌, ◌-◌, ◌<◌, ◌≤◌, ◌∙◌, ℕ, List, length, IsTrue, take, drop, arith, refl, ap, sym, slice_index_or}
-use Rattle.std.proofs.lemmas.List.{take_all, append_assoc, length-append}
+use Rattle.std.proofs.Common.{◌≡◌, ◌++◌, ◌∷◌, [], ◌+◌, ◌*◌, ◌-◌, ◌≤◌, ◌∙◌, ℕ, List, length, IsTrue, take, drop, arith, refl, ap, sym, slice_index_or}
+use Rattle.std.proofs.lemmas.List.{take_all, append_assoc}
 use Rattle.std.proofs.lemmas.Bool.Decides.{nat_tests}
-use Rattle.std.specs.Char.{is_ascii_digit, digit_value}
+use Rattle.std.specs.Char.{digit_value}
 use Rattle.std.specs.Str.{all_ascii_digits}
 use Rattle.std.specs.Str.Parse.{digits_value, digits_value_after}
 
@@ -26,8 +26,8 @@ pub one_more_digit : (bytes front rest : List ℕ) (value v : ℕ)
     → (x : List ℕ) × (bytes ≡ x ++ take (length rest - 1) (drop 1 rest)) × IsTrue (all_ascii_digits x) × (value * 10 + v ≡ digits_value 10 x)
 one_more_digit bytes front [] value v split digits is some low high same = absurd (omega arith)
 one_more_digit bytes front (d ∷ after) value v split digits is some low high same = (
-    front ++ d ∷ [],
-    split ∙ sym (append_assoc front (d ∷ []) after) ∙ ap (λ r. (front ++ d ∷ []) ++ r) (sym (take_all (length (d ∷ after) - 1) after (omega arith))),
-    digits_step front d digits low high,
-    omega (arith, is, value_step 0 front d, digit_is d v low high same),
-  )
+  front ++ d ∷ [],
+  split ∙ sym (append_assoc front (d ∷ []) after) ∙ ap (λ r. (front ++ d ∷ []) ++ r) (sym (take_all (length (d ∷ after) - 1) after (omega arith))),
+  digits_step front d digits low high,
+  omega (arith, is, value_step 0 front d, digit_is d v low high same),
+)

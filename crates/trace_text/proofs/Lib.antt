@@ -15,6 +15,7 @@ pub mod PlainWords
 pub mod HeadDigits
 pub mod PlainPlaces
 pub mod PlainRequests
+pub mod PlainTaken
 pub mod PlainLines
 pub mod Printed
 pub mod Readings

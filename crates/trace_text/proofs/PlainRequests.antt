@@ -1,5 +1,5 @@
 -- Requests in plain form mean what their lines mean.
-use Rattle.std.proofs.Common.{◌≡◌, ◌++◌, ◌∷◌, [], ◌+◌, ◌-◌, ◌<◌, ◌≤◌, ◌∙◌, ℕ, suc, zero, List, Bool, true, false, cond, length, take, drop, get_or, arith, refl, ap, sym, subst, inl, inr, slice_index_or, append_assoc}
+use Rattle.std.proofs.Common.{◌≡◌, ◌++◌, ◌∷◌, [], ◌+◌, ◌-◌, ◌<◌, ◌≤◌, ◌∙◌, ℕ, suc, List, Bool, true, false, cond, length, take, drop, get_or, arith, refl, ap, sym, subst, inl, inr, slice_index_or, append_assoc}
 use Rattle.std.specs.Prelude.{Option, Some, None, IsTrue, option_map}
 use Rattle.std.specs.List.{All, AllByRecursion}
 use Rattle.std.specs.Char.{is_ascii_lowercase}
@@ -8,17 +8,16 @@ use Rattle.std.proofs.lemmas.List.Elements.{All-from_recursion}
 use Rattle.trace_values.specs.declared.value.Act.{Act}
 use Rattle.trace_values.specs.declared.value.Act.TheVariants as act
 use Rattle.trace_values.specs.declared.value.Mem.{Mem}
-use Rattle.trace_values.specs.declared.names.Named.{Named}
 use Rattle.trace_values.specs.declared.names.Named.TheVariants.{Single, Array, Reducer}
-use Rattle.trace_values.specs.Text.{words, IsTextLine, IsName, IsNumber, is_name_byte}
+use Rattle.trace_values.specs.Text.{words, IsTextLine, IsName, is_name_byte}
 use Rattle.trace_values.specs.Limits.{max_strand, max_value, max_cells}
 use Rattle.trace_values.specs.Values.{Known}
 use Rattle.trace_values.specs.Names.{memory_named, reducer_named, SingleMeans, ElementMeans, element_word}
 use Rattle.trace_values.specs.Index.{IsInRange, named, named_by}
 use Rattle.trace_text.specs.declared.keyword.Keyword.{Keyword}
-use Rattle.trace_text.specs.Lines.{Place, Number, Cell, ReducerName, Mark, Placed, placed, wanted, optional, Value, OfNumber, WordMeans, WordsMean, Says, asks, operands, if_there, a_strand, a_value, spelling, HasKeyword}
+use Rattle.trace_text.specs.Lines.{Place, Number, Cell, ReducerName, Mark, wanted, optional, Value, OfNumber, Says, asks, operands, if_there, a_strand, a_value, spelling, HasKeyword}
 use Rattle.trace_text.specs.Printing.{behind_space, spaced}
-use Rattle.trace_text.specs.Plain.{IsPlain, ArePlain, HasNumber, HasWord, HasNext, HasTwo, HasIndex, HasEnd, HasOperands, HasRequest}
+use Rattle.trace_text.specs.Plain.{ArePlain, HasNumber, HasNext, HasTwo, HasIndex, HasEnd, HasOperands, HasRequest}
 use Rattle.trace_text.proofs.CellWords.{flat}
 use Rattle.trace_text.proofs.NamedWords.{element_means, array_end}
 use Rattle.trace_text.proofs.PlainWords.{digits_plain, name_plain, words_spaced, text_spaced}
@@ -157,22 +156,22 @@ pub record IsNextName (bytes name rest : List ℕ) : Type 0 where
 module _ (known : Known) (bytes name rest : List ℕ) (next : IsNextName bytes name rest) where
   pub next_single : (cell : ℕ) → Some (Single cell) ≡ named known name → HasNext known Cell bytes (OfNumber cell) rest
   next_single cell e = (
-      take (length bytes - 1) (drop 1 bytes),
-      behind_byte bytes 32 next.some next.space,
-      (name, next.split, name_plain name next.is_name, inl (single_named known name cell next.is_name e)),
-    )
+    take (length bytes - 1) (drop 1 bytes),
+    behind_byte bytes 32 next.some next.space,
+    (name, next.split, name_plain name next.is_name, inl (single_named known name cell next.is_name e)),
+  )
 
   pub next_reducer : (number : ℕ) → Some (Reducer number) ≡ named known name → HasNext known ReducerName bytes (OfNumber number) rest
   next_reducer number e = (
-      take (length bytes - 1) (drop 1 bytes),
-      behind_byte bytes 32 next.some next.space,
-      (
-        name,
-        next.split,
-        name_plain name next.is_name,
-        (next.is_name, reducer_named_by (memory_named known.mems name) (reducer_named known.reducers name) number e),
-      ),
-    )
+    take (length bytes - 1) (drop 1 bytes),
+    behind_byte bytes 32 next.some next.space,
+    (
+      name,
+      next.split,
+      name_plain name next.is_name,
+      (next.is_name, reducer_named_by (memory_named known.mems name) (reducer_named known.reducers name) number e),
+    ),
+  )
 
   pub next_element : (first cells cell : ℕ) (behind : List ℕ) → Some (Array first cells) ≡ named known name → All IsInRange known.mems
       → HasIndex rest first cells cell behind → HasNext known Cell bytes (OfNumber cell) behind

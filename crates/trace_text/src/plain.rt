@@ -14,14 +14,13 @@ ghost use Rattle.trace_text.specs.Lines.{Cell, ReducerName, Mark, a_strand, a_va
 ghost use Rattle.trace_text.specs.Plain.{HasNumber, HasNext, HasTwo, HasIndex, HasEnd, HasOperands, HasRequest};
 
 use crate::keyword::Keyword;
+use crate::place::STRAND;
 use access_table::Kind;
 use std::alloc::Allocator;
 use trace_values::{Act, NAME_LEN, Named, Names, Version};
 
-/// The greatest number of a strand, and of a line that a mark names.
-const STRAND: u64 = 4_294_967_295;
-
 /// A request in plain form.
+#[derive(Clone, Copy)]
 pub struct Plain<'b> {
     /// The strand's number.
     pub strand: u32,
