@@ -1,0 +1,5 @@
+pub mod Made
+pub mod Climbing
+pub mod Numbers
+pub mod Parted
+pub mod Asked

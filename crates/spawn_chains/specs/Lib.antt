@@ -1,0 +1,3 @@
+pub mod Makers
+pub mod Partings
+pub mod Climbs

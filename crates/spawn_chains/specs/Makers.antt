@@ -1,0 +1,42 @@
+-- Which entry made each strand.
+use Rattle.std.specs.Prelude.{◌≡◌, ◌⊎◌, ◌<◌, ℕ, suc, true, false, List, [], ◌∷◌, length, slice_index, Option, Some}
+use Rattle.trace_values.specs.declared.value.Act.TheVariants.{Spawn}
+use Rattle.sp_labels.specs.declared.answer.Spawned.{Spawned}
+use Rattle.control_history.specs.Updated.{updated}
+use Rattle.control_history.specs.History.{Event, split}
+use Rattle.control_history.specs.Strands.{unused}
+use Rattle.control_history.specs.Legal.{Legal}
+use Rattle.race_gate.specs.declared.answer.Answer.TheVariants.{Split}
+use Rattle.race_gate.specs.declared.answer.Entry.{Entry}
+use Rattle.race_gate.specs.Entries.{Entries, event_of, control_part}
+
+-- the entry has this number
+abbrev pub HasNumber : Entries → ℕ → Entry → Type 0
+HasNumber [] number one = ⊥
+HasNumber (entry ∷ entries) number one = (number ≡ suc (length entries)) × (one ≡ entry) ⊎ HasNumber entries number one
+
+-- the entry is a spawn, which began these
+abbrev pub Began : Entry → Spawned → Type 0
+Began entry spawned = (entry.request.act ≡ Spawn) × (entry.answer ≡ Split spawned)
+
+-- the entry with this number is a spawn by the strand, which began these
+abbrev pub IsSpawn : Entries → ℕ → ℕ → Spawned → Type 0
+IsSpawn entries number spawner spawned =
+    (entry : Entry) × HasNumber entries number entry × (entry.request.strand ≡ spawner) × Began entry spawned
+
+-- the makers of strands after an event with this number, which a split is of its child, its next and, where it is its block's first, its join
+abbrev pub with_maker : Option Event → ℕ → (ℕ → ℕ) → ℕ → ℕ
+with_maker (Some (split strand child next join true)) number makers = updated (updated (updated makers child number) next number) join number
+with_maker (Some (split strand child next join false)) number makers = updated (updated makers child number) next number
+with_maker event number makers = makers
+
+-- the number of the entry that made the strand or reserved it as a join, and 0 for strand 0
+abbrev pub maker : Entries → ℕ → ℕ
+maker [] = λ strand. 0
+maker (entry ∷ entries) = with_maker (event_of entry) (suc (length entries)) (maker entries)
+
+-- the entries are legal, and these are the makers of their strands and reserved joins, in order
+pub record IsLineage (makers : List ℕ) (entries : Entries) : Type 0 where
+  pub legal : Legal (control_part entries)
+  pub len : length makers ≡ unused (control_part entries)
+  pub each : (strand : ℕ) → strand < length makers → slice_index makers strand ≡ maker entries strand

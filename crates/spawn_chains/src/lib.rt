@@ -1,0 +1,13 @@
+//! How strands came about: which spawns lead to a strand, and at which spawn two strands part.
+//!
+//! Two strands are logically parallel exactly where they part at a spawn: its child reaches the one, its next the other, and neither
+//! the other way round. A [`Lineage`] knows of each strand the entry that made it, and finds that spawn by climbing from both strands
+//! to what made them. [`Lineage::parting`] carries the theorem in its contract: over the dag of the history it finds a spawn exactly
+//! where no path leads from one strand to the other, and the spawn is such a one.
+#![tactic(auto)]
+
+mod lineage;
+#[cfg(test)]
+mod tests;
+
+pub use lineage::{Lineage, Parting};

@@ -1,0 +1,147 @@
+//! The makers of strands, and where two strands part.
+
+ghost use Rattle.std.specs.Prelude.{◌≡◌, ◌<◌, ◌↔◌, ◌++◌, ℕ, [], ◌∷◌, length, reverse, IfOk, IfSome, IsSome, MatchOption, if◌then◌else◌};
+ghost use Rattle.control_history.specs.Strands.{Begun};
+ghost use Rattle.control_history.specs.Legal.{Legal};
+ghost use Rattle.control_history.specs.Dag.{IsParallel};
+ghost use Rattle.race_gate.specs.Entries.{control_part};
+ghost use Rattle.sp_labels.specs.declared.answer.Spawned.{Spawned};
+ghost use Rattle.spawn_chains.specs.Makers.{Began, IsSpawn, maker, IsLineage};
+ghost use Rattle.spawn_chains.specs.Climbs.{Climbs};
+ghost use Rattle.spawn_chains.specs.Partings.{IsParting};
+
+use race_gate::{Answer, Entry};
+use sp_labels::Spawned;
+use std::alloc::{AllocError, Allocator};
+use trace_values::Act;
+
+/// The spawn where two strands part.
+#[derive(Clone, Copy, Debug, PartialEq, Eq)]
+pub struct Parting {
+    /// The number of its entry, from 1 on.
+    pub entry: usize,
+    /// The strand that spawned.
+    pub spawner: u32,
+    /// The child, the next strand and the join that it made.
+    pub spawned: Spawned,
+    /// That of the two strands which the child reaches, or is.
+    pub by_child: u32,
+    /// The other one, which the next strand reaches, or is.
+    pub by_next: u32,
+}
+
+/// Which entry made each strand of a history.
+#[derive(Debug, Drop)]
+pub struct Lineage<A: Allocator> {
+    /// By the strand's number. No entry made strand 0, which has 0.
+    makers: Vec<usize, A>,
+}
+
+/// What an entry began, where it is a spawn.
+fn began(entry: Entry) -> Option<Spawned>
+    ensures { MatchOption result ((spawned : Spawned) → Began entry spawned → ⊥) (Began entry) }
+{
+    match (entry.request.act, entry.answer) {
+        (Act::Spawn, Answer::Split(spawned)) => Some(spawned),
+        _ => None,
+    }
+}
+
+/// Adds what the spawn with this number makes: three strands where it opens a block, else two.
+fn add_spawn<A: Allocator>(
+    makers: &mut Vec<usize, A>,
+    entry: usize,
+    opens: bool,
+) -> Result<(), AllocError>
+    ensures { IfOk result (λ _. makers.new.items ≡ makers.old.items ++ (if opens then entry ∷ (entry ∷ (entry ∷ [])) else entry ∷ (entry ∷ []))) }
+{
+    makers.push(entry)?;
+    makers.push(entry)?;
+    if opens {
+        makers.push(entry)?;
+    }
+    Ok(())
+}
+
+/// The strand that spawned at the entry with this number, and what it began.
+fn spawn_at(entries: &[Entry], number: usize) -> (u32, Spawned)
+    requires { (spawner : ℕ) × (spawned : Spawned) × IsSpawn (reverse entries.now) number spawner spawned }
+    ensures { IsSpawn (reverse entries.now) number result.0 result.1 }
+{
+    let entry = entries[number - 1];
+    match entry.answer {
+        Answer::Split(spawned) => (entry.request.strand, spawned),
+        _ => unreachable!(),
+    }
+}
+
+/// Where the climb from two strands ends: at what one entry made, or at strand 0 twice. From the one whose maker is the later entry
+/// it goes on to the spawner, so it passes no spawn at which the two part.
+fn meeting(makers: &[usize], entries: &[Entry], strand: u32, other: u32) -> (u32, u32)
+    requires lineage { IsLineage makers.now (reverse entries.now) }
+    requires strand { strand < length makers.now }
+    requires other { other < length makers.now }
+    ensures climbs { Climbs (reverse entries.now) strand other result.0 result.1 }
+    ensures same { maker (reverse entries.now) result.0 ≡ maker (reverse entries.now) result.1 }
+{
+    let mut one = strand;
+    let mut two = other;
+    'climb: while makers[one as usize] != makers[two as usize] {
+        if makers[one as usize] < makers[two as usize] {
+            two = spawn_at(entries, makers[two as usize]).0;
+        } else {
+            one = spawn_at(entries, makers[one as usize]).0;
+        }
+    }
+    (one, two)
+}
+
+impl<A: Allocator> Lineage<A> {
+    /// The lineage of the strands of a history, whose entries are given from the oldest on. Its time and its memory are linear in
+    /// their number. Errors where there is no memory.
+    pub fn new(alloc: A, entries: &[Entry]) -> Result<Lineage<A>, AllocError>
+        requires { Legal (control_part (reverse entries.now)) }
+        ensures { IfOk result (λ lineage. IsLineage lineage.makers.items (reverse entries.now)) }
+    {
+        let mut makers = Vec::new(alloc);
+        makers.push(0)?;
+        for (before, entry) in entries.iter().enumerate() {
+            if let Some(spawned) = began(*entry) {
+                add_spawn(&mut makers, before + 1, spawned.first)?;
+            }
+        }
+        Ok(Lineage { makers })
+    }
+
+    /// The spawn where two begun strands of the history part, and none where a path leads from one to the other or they are one
+    /// strand. The entries are those of which this is the lineage. Its time is at most linear in the spawns that lead to the two.
+    pub fn parting(&self, entries: &[Entry], strand: u32, other: u32) -> Option<Parting>
+        requires lineage { IsLineage self.now.makers.items (reverse entries.now) }
+        requires strand { Begun (control_part (reverse entries.now)) strand }
+        requires other { Begun (control_part (reverse entries.now)) other }
+        ensures parts { IfSome result (IsParting (reverse entries.now) strand other) }
+        ensures found { IsSome result ↔ IsParallel (control_part (reverse entries.now)) strand other }
+    {
+        let makers = self.makers.as_slice();
+        let (one, two) = meeting(makers, entries, strand, other);
+        let entry = makers[one as usize];
+        if entry == 0 {
+            return None;
+        }
+        let (spawner, spawned) = spawn_at(entries, entry);
+        let (by_child, by_next) = if one == spawned.child && two == spawned.next {
+            (strand, other)
+        } else if two == spawned.child && one == spawned.next {
+            (other, strand)
+        } else {
+            return None;
+        };
+        Some(Parting {
+            entry,
+            spawner,
+            spawned,
+            by_child,
+            by_next,
+        })
+    }
+}
