@@ -243,7 +243,7 @@ impl<A: Allocator> Elision<A> {
         self.stack[last].turn(turns);
     }
 
-    /// Begins the turn of this number.
+    /// Takes a turn's number into its register, and has the next turn come first.
     fn count_turn(&mut self, turns: Turns)
         requires begun { (state_of self.old).over ≡ false }
         requires some { 0 < turns.left }
