@@ -14,7 +14,8 @@ use Rattle.trace_text.specs.Shapes.{is_numbered}
 use Rattle.trace_text.specs.Printing.{spaced}
 use Rattle.trace_text.proofs.CellWords.{found_of_all}
 use Rattle.trace_text.proofs.PlainPlaces.{IsSmall, same_memory, found_name, single_plain, brackets, word_plain as common_plain}
-use Rattle.trace_text.proofs.PlainWords.{IsPlain, ArePlain, decimal_number, decimal_plain, name_plain, words_spaced, text_spaced}
+use Rattle.trace_text.specs.Plain.{IsPlain, ArePlain}
+use Rattle.trace_text.proofs.PlainWords.{decimal_number, decimal_plain, name_plain, words_spaced, text_spaced}
 use Rattle.program_lines.specs.declared.keyword.Keyword.{Keyword}
 use Rattle.program_lines.specs.declared.keyword.Keyword.TheVariants as begin
 use Rattle.program_lines.specs.declared.operator.Operator.{Operator}
