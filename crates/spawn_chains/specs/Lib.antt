@@ -1,3 +1,4 @@
 pub mod Makers
 pub mod Partings
 pub mod Climbs
+pub mod Frames
