@@ -12,7 +12,10 @@ pub mod Kept
 pub mod CellNames
 pub mod CellSearch
 pub mod PlainWords
+pub mod HeadDigits
 pub mod PlainPlaces
+pub mod PlainRequests
+pub mod PlainTaken
 pub mod PlainLines
 pub mod Printed
 pub mod Readings

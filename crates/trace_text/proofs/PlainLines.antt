@@ -19,7 +19,8 @@ use Rattle.trace_values.specs.Declarations.{memory_at, reducer_at}
 use Rattle.trace_text.specs.Grammar.{Item, Blank, Declared, Reduces, Asked, LineMeans, LinesMean, LinesOfTrace, TextMeans, IsHeader, extended, nothing}
 use Rattle.trace_text.specs.Printing.{spaced, plain_line, Entry, OfMemory, OfReducer, OfRequest, line_of, mark_of, entry_text, merged_into, declarations, entries, lines_from, plain_lines, plain_text}
 use Rattle.trace_text.proofs.Kept.{IsKept, kept_extended, kept_nothing}
-use Rattle.trace_text.proofs.PlainWords.{ArePlain, words_spaced, text_spaced, AreText, lines_ended}
+use Rattle.trace_text.specs.Plain.{ArePlain}
+use Rattle.trace_text.proofs.PlainWords.{words_spaced, text_spaced, AreText, lines_ended}
 use Rattle.trace_text.proofs.PlainPlaces.{says_plain}
 
 -- ---- entries

@@ -24,7 +24,8 @@ use Rattle.trace_text.proofs.Kept.{both_true, first_is}
 use Rattle.std.proofs.lemmas.List.{append-nil}
 use Rattle.std.proofs.Common.{length-append}
 use Rattle.trace_text.proofs.CellWords.{found_of_all, flat}
-use Rattle.trace_text.proofs.PlainWords.{IsPlain, ArePlain, is_word_byte, rec_append, decimal_number, decimal_plain, name_plain, words_spaced, text_spaced}
+use Rattle.trace_text.specs.Plain.{is_word_byte, IsPlain, ArePlain}
+use Rattle.trace_text.proofs.PlainWords.{rec_append, decimal_number, decimal_plain, name_plain, words_spaced, text_spaced}
 
 -- ---- places
 
@@ -61,7 +62,7 @@ small_optional : (keyword : Keyword) → IsSmallLast (optional keyword)
 small_optional MemWord = omega arith
 small_optional keyword = tt
 
-spelling_plain : (keyword : Keyword) → IsPlain (spelling keyword)
+pub spelling_plain : (keyword : Keyword) → IsPlain (spelling keyword)
 spelling_plain MemWord = (omega arith, (refl, (refl, (refl, tt))))
 spelling_plain ReducerWord = (omega arith, (refl, (refl, (refl, (refl, (refl, (refl, (refl, tt))))))))
 spelling_plain Spawn = (omega arith, (refl, (refl, (refl, (refl, (refl, tt))))))

@@ -4,7 +4,6 @@ use Rattle.std.proofs.Math.Seq.{take-length}
 use Rattle.std.specs.Prelude.{◌==◌, IsTrue, map, flat_map}
 use Rattle.std.specs.List.{AllByRecursion, before_first, position_or_len, onto_first}
 use Rattle.std.specs.Char.{is_ascii_digit, is_ascii_lowercase}
-use Rattle.std.specs.Int.{is_in_range}
 use Rattle.std.specs.Str.{all_ascii_digits}
 use Rattle.std.specs.Str.Lines.{strip_carriage_return}
 use Rattle.std.specs.Fmt.{decimal}
@@ -15,16 +14,11 @@ use Rattle.std.proofs.lemmas.Str.Parse.{IsNumeralModel, numerals_by_value, tells
 use Rattle.std.specs.Str.Parse.{digits_value}
 use Rattle.trace_values.specs.Text.{pieces, lines, words, split_words, is_text_byte, IsTextLine, is_blank, is_hash, IsName, is_name_byte, IsNumber}
 use Rattle.trace_text.specs.Printing.{spaced, behind_space}
+use Rattle.trace_text.specs.Plain.{is_word_byte, IsPlain, ArePlain}
 use Rattle.trace_values.proofs.WordsOfLine.{take_word, HasNoBlank}
 use Rattle.trace_text.proofs.Kept.{both_true}
 
 -- ---- bytes of words
-
-abbrev pub is_word_byte : ℕ → Bool
-is_word_byte byte = is_in_range 36 126 byte
-
-abbrev pub IsPlain : List ℕ → Type 0
-IsPlain word = (0 < length word) × AllByRecursion (λ byte. IsTrue (is_word_byte byte)) word
 
 word_is_text : (byte : ℕ) → IsTrue (is_word_byte byte) → IsTrue (is_text_byte byte)
 word_is_text byte h = grind (arith, nat_tests)
@@ -42,10 +36,6 @@ rec_weaker P Q f (x ∷ xs) h = (f x h.0, rec_weaker P Q f xs h.1)
 pub rec_append : (P : ℕ → Type 0) (xs ys : List ℕ) → AllByRecursion P xs → AllByRecursion P ys → AllByRecursion P (xs ++ ys)
 rec_append P [] ys h k = k
 rec_append P (x ∷ xs) ys h k = (h.0, rec_append P xs ys h.1 k)
-
-abbrev pub ArePlain : List (List ℕ) → Type 0
-ArePlain [] = Unit {0}
-ArePlain (word ∷ words) = IsPlain word × ArePlain words
 
 module _ (P : ℕ → Type 0) (space : P 32) (of_word : (byte : ℕ) → IsTrue (is_word_byte byte) → P byte) where
   behind_all : (words : List (List ℕ)) → ArePlain words → AllByRecursion P (behind_space words)
@@ -106,13 +96,17 @@ AreText (line ∷ ls) = IsTextLine line × AreText ls
 no_return : (line : List ℕ) → IsTextLine line → strip_carriage_return line ≡ line
 no_return line h = rw (text_at line (length line - 1) (recursion_from_All _ _ h)) refl
 
+-- the first line, which a line feed ends
+pub line_ended : (line rest : List ℕ) → IsTextLine line → lines (line ++ 10 ∷ rest) ≡ line ∷ lines rest
+line_ended line rest h =
+    ap (map strip_carriage_return) (one_piece line rest (recursion_from_All _ _ h)) ∙ ap (λ (l : List ℕ). l ∷ lines rest) (no_return line h)
+
 pub lines_ended : (ls : List (List ℕ)) → AreText ls → lines (flat_map (λ line. line ++ 10 ∷ []) ls) ≡ ls
 lines_ended [] h = refl
 lines_ended (line ∷ ls) h =
     let rest = flat_map (λ l. l ++ 10 ∷ []) ls in
     let whole : (line ++ 10 ∷ []) ++ rest ≡ line ++ 10 ∷ rest = simp append_assoc in
-    let piece : pieces ((line ++ 10 ∷ []) ++ rest) ≡ line ∷ pieces rest = ap pieces whole ∙ one_piece line rest (recursion_from_All _ _ h.0) in
-    ap (map strip_carriage_return) piece ∙ (ap (λ (l : List ℕ). l ∷ lines rest) (no_return line h.0) ∙ ap (λ (t : List (List ℕ)). line ∷ t) (lines_ended ls h.1))
+    ap lines whole ∙ (line_ended line rest h.0 ∙ ap (λ (t : List (List ℕ)). line ∷ t) (lines_ended ls h.1))
 
 -- ---- numbers and names
 
@@ -122,7 +116,7 @@ own_digits = numerals_by_value _ tells_all_ascii_digits
 digit_is_word : (byte : ℕ) → IsTrue (is_ascii_digit byte) → IsTrue (is_word_byte byte)
 digit_is_word byte h = grind (arith, nat_tests)
 
-digits_plain : (ds : List ℕ) → all_ascii_digits ds ≡ true → AllByRecursion (λ byte. IsTrue (is_word_byte byte)) ds
+pub digits_plain : (ds : List ℕ) → all_ascii_digits ds ≡ true → AllByRecursion (λ byte. IsTrue (is_word_byte byte)) ds
 digits_plain [] h = tt
 digits_plain (d ∷ ds) h = (digit_is_word d (both_true _ _ h).0, digits_plain ds (both_true _ _ h).1)
 

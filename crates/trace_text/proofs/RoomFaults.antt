@@ -1,5 +1,5 @@
 -- A line that says something, and has no room or no right place.
-use Rattle.std.proofs.Common.{◌≡◌, ◌≢◌, ℕ, ◌<◌, ◌∷◌, [], List, true, false, arith, refl, sym, ◌∙◌, subst, ap, ◌+◌, inl, inr}
+use Rattle.std.proofs.Common.{◌≡◌, ◌≢◌, ℕ, ◌<◌, ◌∷◌, [], List, length, true, false, arith, refl, sym, ◌∙◌, subst, ap, ◌+◌, inl, inr}
 use Rattle.std.specs.Prelude.{◌⊎◌, Result, Ok, Err, MatchResult, map}
 use Rattle.trace_values.specs.declared.fault.Cause.{Cause}
 use Rattle.trace_values.specs.declared.fault.Cause.TheVariants.{NotText, BadNesting, NoMain, TooMany}
@@ -20,7 +20,7 @@ use Rattle.trace_text.specs.Faults.{LineFault, LinesFault, FaultOfLines, WordFau
 use Rattle.trace_values.specs.declared.value.Mem.{Mem}
 use Rattle.trace_values.specs.declared.value.Reducer.{Reducer}
 use Rattle.trace_values.specs.declared.value.TraceLine.{TraceLine}
-use Rattle.trace_text.specs.Drafts.{so_far, IsRoomCause, Extends, IsRoomFault, IsLineFault, IsBodyFault, IsTextFault}
+use Rattle.trace_text.specs.Drafts.{so_far, IsRoomCause, Extends, IsRoomFault, IsLineFault, IsBodyFault, IsTextFault, IsTaken, IsStopped}
 use Rattle.trace_text.proofs.LineFaults.{arranged_once}
 
 -- an act's keyword declares nothing
@@ -112,15 +112,40 @@ line_taken at before after line item (Err Memory) text m clean e = tt
 
 -- ---- the lines behind the header
 
-module _ (n : ℕ) (before : Contents) (rest line after : List ℕ) (split : lines rest ≡ line ∷ lines after) where
-  pub fault_here : (version : Version) (fault : TextFault) (text : List ℕ) → IsLineFault n before line fault
-      → ((bad : ℕ) (cause : Cause) → LinesFault n before (lines rest) bad cause → LinesFault 2 (nothing version) (lines text) bad cause) → IsBodyFault version text fault
-  fault_here version (At bad why) text f h = h bad why (subst (λ (t : List (List ℕ)). LinesFault n before t bad why) (sym split) (inl f))
-  fault_here version Memory text f h = tt
+-- what the rest means behind the first line, the text means
+pub means_on : (n : ℕ) (before after contents : Contents) (text rest : List ℕ) → IsTaken n before text rest after
+    → LinesMean (n + 1) after (lines rest) contents → LinesMean n before (lines text) contents
+means_on n before after contents text rest taken m =
+    subst (λ (t : List (List ℕ)). LinesMean n before t contents) (sym taken.1)
+    (taken.3, taken.4, subst (λ (c : Contents). LinesMean (n + 1) c (lines rest) contents) taken.5 m)
+
+-- and the first fault of the rest is that of the text
+pub fault_on : (n : ℕ) (before after : Contents) (text rest : List ℕ) (bad : ℕ) (cause : Cause) → IsTaken n before text rest after
+    → LinesFault (n + 1) after (lines rest) bad cause → LinesFault n before (lines text) bad cause
+fault_on n before after text rest bad cause taken f =
+    subst (λ (t : List (List ℕ)). LinesFault n before t bad cause) (sym taken.1)
+    (inr (taken.3, taken.4, subst (λ (c : Contents). LinesFault (n + 1) c (lines rest) bad cause) taken.5 f))
+
+pub fault_here : (n : ℕ) (before : Contents) (version : Version) (fault : TextFault) (rest text : List ℕ) → IsStopped n before rest fault
+    → ((bad : ℕ) (cause : Cause) → LinesFault n before (lines rest) bad cause → LinesFault 2 (nothing version) (lines text) bad cause) → IsBodyFault version text fault
+fault_here n before version (At bad why) rest text f h = h bad why (subst (λ (t : List (List ℕ)). LinesFault n before t bad why) (sym f.2) (inl f.3))
+fault_here n before version Memory rest text f h = tt
 
 -- the first line of a text and the others
 pub lines_split : (text line rest : List ℕ) → pieces text ≡ line ∷ pieces rest → lines text ≡ strip_carriage_return line ∷ lines rest
 lines_split text line rest e = ap (map strip_carriage_return) e
+
+first_line : (text line stripped rest : List ℕ) → pieces text ≡ line ∷ pieces rest → stripped ≡ strip_carriage_return line → lines text ≡ stripped ∷ lines rest
+first_line text line stripped rest e s = lines_split text line rest e ∙ ap (λ (l : List ℕ). l ∷ lines rest) (sym s)
+
+-- the first line, read in the general way
+pub first_taken : (at : ℕ) (before after : Contents) (text line stripped rest : List ℕ) → pieces text ≡ line ∷ pieces rest → stripped ≡ strip_carriage_return line
+    → length rest < length text → (item : Item) × LineMeans at before stripped item × (after ≡ extended at before item) → IsTaken at before text rest after
+first_taken at before after text line stripped rest e s l m = (stripped, first_line text line stripped rest e s, l, m.0, m.1, m.2)
+
+pub first_stopped : (at : ℕ) (before : Contents) (text line stripped rest : List ℕ) (fault : TextFault) → pieces text ≡ line ∷ pieces rest → stripped ≡ strip_carriage_return line
+    → IsLineFault at before stripped fault → IsStopped at before text fault
+first_stopped at before text line stripped rest fault e s f = (stripped, rest, first_line text line stripped rest e s, f)
 
 body_fault : (version : Version) (text first rest : List ℕ) (fault : TextFault) → lines text ≡ first ∷ lines rest → IsHeader first version → IsBodyFault version rest fault
     → IsTextFault text fault

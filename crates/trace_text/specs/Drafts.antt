@@ -1,5 +1,5 @@
 -- What was read so far, and what one more line makes of it.
-use Rattle.std.specs.Prelude.{◌≡◌, ℕ, ◌<◌, ◌≤◌, ◌⊎◌, List}
+use Rattle.std.specs.Prelude.{◌≡◌, ℕ, ◌<◌, ◌≤◌, ◌⊎◌, List, ◌∷◌, length}
 use Rattle.trace_values.specs.declared.fault.Cause.{Cause}
 use Rattle.trace_values.specs.declared.fault.Cause.TheVariants.{BadNesting, TooMany}
 use Rattle.trace_values.specs.declared.fault.TextFault.{TextFault}
@@ -9,7 +9,7 @@ use Rattle.trace_values.specs.declared.value.TraceLine.{TraceLine}
 use Rattle.trace_values.specs.Text.{lines}
 use Rattle.trace_values.specs.Limits.{max_lines}
 use Rattle.trace_values.specs.Values.{Known, Contents}
-use Rattle.trace_text.specs.Grammar.{Item, ItemMeans, IsInOrder, HasRoom, extended, nothing}
+use Rattle.trace_text.specs.Grammar.{Item, ItemMeans, IsInOrder, HasRoom, LineMeans, extended, nothing}
 use Rattle.trace_values.specs.Causes.{IsLowest}
 use Rattle.trace_text.specs.Faults.{LineFault, HeaderFault, LinesFault, TextFaults}
 
@@ -39,6 +39,16 @@ IsRoomFault at before item fault = IsFaultOf (IsRoomCause at before item) at fau
 
 abbrev pub IsLineFault : ℕ → Contents → List ℕ → TextFault → Type 0
 IsLineFault at before line fault = IsFaultOf (IsLowest (LineFault at before line)) at fault
+
+-- The first line of the text is taken, the rest stands behind it, and next is what was read with it.
+abbrev pub IsTaken : ℕ → Contents → List ℕ → List ℕ → Contents → Type 0
+IsTaken at before text rest next =
+    (line : List ℕ) × (lines text ≡ line ∷ lines rest) × (length rest < length text)
+    × (item : Item) × LineMeans at before line item × (next ≡ extended at before item)
+
+-- The fault is that of the first line of the text.
+abbrev pub IsStopped : ℕ → Contents → List ℕ → TextFault → Type 0
+IsStopped at before text fault = (line : List ℕ) × (rest : List ℕ) × (lines text ≡ line ∷ lines rest) × IsLineFault at before line fault
 
 abbrev pub IsHeaderFault : List ℕ → TextFault → Type 0
 IsHeaderFault line fault = IsFaultOf (IsLowest (HeaderFault line)) 1 fault

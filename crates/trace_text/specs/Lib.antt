@@ -9,3 +9,4 @@ pub mod Traces
 pub mod Laws
 pub mod Shapes
 pub mod Printing
+pub mod Plain

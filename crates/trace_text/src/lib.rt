@@ -17,6 +17,7 @@ mod laws;
 mod line;
 pub mod number;
 mod place;
+mod plain;
 mod print;
 mod trace;
 

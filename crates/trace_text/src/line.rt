@@ -6,7 +6,7 @@ ghost use Rattle.trace_text.specs.declared.keyword.Keyword.TheVariants.{Access};
 ghost use Rattle.trace_values.specs.Values.{Known};
 ghost use Rattle.trace_text.specs.Lines.{Cell, ReducerName, FreshName, MonoidWord, Number, Mark, a_strand, a_value, OfName, OfNumber, OfMonoid, if_there, asks, IsControl, HasKeyword};
 ghost use Rattle.trace_values.specs.Limits.{max_cells};
-ghost use Rattle.trace_text.specs.Grammar.{ItemMeans};
+ghost use Rattle.trace_text.specs.Grammar.{Asked as AskedLine, ItemMeans};
 ghost use Rattle.trace_values.specs.Causes.{IsLowest};
 ghost use Rattle.trace_text.specs.Faults.{WordsFault};
 ghost use Rattle.trace_text.specs.Outcome.{Fits};
@@ -31,10 +31,12 @@ pub enum Item<'a> {
     Asked(TraceLine),
 }
 
-fn asked(at: u32, strand: u32, act: Act, mark: Option<u32>) -> Item<'static>
-    ensures { item_of result ≡ line_asked at strand act mark }
+/// A request on the line with the number `at`.
+#[inline(always)]
+pub fn request_on(at: u32, strand: u32, act: Act, mark: Option<u32>) -> TraceLine
+    ensures { AskedLine result ≡ line_asked at strand act mark }
 {
-    Item::Asked(TraceLine {
+    TraceLine {
         at,
         request: Request {
             strand,
@@ -42,7 +44,13 @@ fn asked(at: u32, strand: u32, act: Act, mark: Option<u32>) -> Item<'static>
             line: mark.unwrap_or(at),
         },
         marked: mark.is_some(),
-    })
+    }
+}
+
+fn asked(at: u32, strand: u32, act: Act, mark: Option<u32>) -> Item<'static>
+    ensures { item_of result ≡ line_asked at strand act mark }
+{
+    Item::Asked(request_on(at, strand, act, mark))
 }
 
 /// The name and the length of a memory.

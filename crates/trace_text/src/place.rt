@@ -15,7 +15,7 @@ use trace_values::{Cause, Monoid, Named, Names, Words, is_name, monoid_of};
 /// The most cells that a text declares.
 pub const CELLS: u64 = 1_000_000;
 /// The greatest number of a strand, and of a line that a mark names.
-const STRAND: u64 = 4_294_967_295;
+pub const STRAND: u64 = 4_294_967_295;
 
 /// Takes a strand's number.
 pub fn strand(words: &mut Words<'_>) -> Result<u32, Cause>

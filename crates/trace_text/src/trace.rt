@@ -1,6 +1,6 @@
 //! A trace from its text.
 
-ghost use Rattle.std.specs.Prelude.{◌≡◌, ◌≤◌, ℕ, List, length, IsTrue, IfOk, map, MatchResult};
+ghost use Rattle.std.specs.Prelude.{◌≡◌, ◌<◌, ◌≤◌, ℕ, List, length, IsTrue, IfOk, map, MatchResult};
 ghost use Rattle.std.specs.List.{All};
 ghost use Rattle.trace_values.specs.Limits.{max_cells, max_reducers, max_requests};
 ghost use Rattle.trace_text.specs.Shapes.{is_numbered, IsWithin};
@@ -8,10 +8,11 @@ ghost use Rattle.trace_values.specs.Text.{lines};
 ghost use Rattle.trace_values.specs.Declarations.{cells_of};
 ghost use Rattle.trace_text.specs.Grammar.{Item as SpecItem, Declared, Reduces, Asked, LineMeans, LinesMean, TextMeans, extended, nothing, IsHeader};
 ghost use Rattle.trace_text.specs.Items.{item_of};
-ghost use Rattle.trace_text.specs.Drafts.{so_far, Extends, IsRoomFault, IsLineFault, IsHeaderFault, IsBodyFault, IsTextFault, SaysSo};
+ghost use Rattle.trace_text.specs.Drafts.{so_far, Extends, IsRoomFault, IsLineFault, IsHeaderFault, IsBodyFault, IsTextFault, IsTaken, IsStopped, SaysSo};
 
-use crate::line::{Item, read_line};
+use crate::line::{Item, read_line, request_on};
 use crate::place::CELLS;
+use crate::plain::plain_request;
 use std::alloc::{AllocError, Allocator};
 use trace_values::{
     Cause, Lines, Mems, Monoid, Monoids, Names, Reducers, Shape, TextFault, TraceLine, Version,
@@ -122,6 +123,28 @@ impl<'a, A: Allocator + Copy> Draft<'a, A> {
             Err(why) => Err(fault(at, why)),
         }
     }
+
+    /// Reads the first line of the text, which has the number `at`, and gives what stands behind it.
+    #[inline(always)]
+    fn take_first(&mut self, at: u32, text: &'a [u8]) -> Result<&'a [u8], TextFault>
+        requires { 0 < length text.now }
+        ensures { MatchResult result
+            (λ rest. IsTaken at (so_far self.old.names self.old.lines.items) text.now rest.now (so_far self.new.names self.new.lines.items))
+            (IsStopped at (so_far self.old.names self.old.lines.items) text.now) }
+    {
+        if let Some(plain) = plain_request(&self.names, text) {
+            let line = request_on(at, plain.strand, plain.act, plain.mark);
+            return match self.ask(at, line) {
+                Ok(()) => Ok(plain.rest),
+                Err(fault) => Err(fault),
+            };
+        }
+        let (line, rest) = split_line(text);
+        match self.take(at, without_return(line)) {
+            Ok(()) => Ok(rest),
+            Err(fault) => Err(fault),
+        }
+    }
 }
 
 /// Reads the first line.
@@ -156,12 +179,11 @@ fn body<'a, A: Allocator + Copy>(
     let mut rest = text;
     let mut at = 1;
     while !rest.is_empty() {
-        let (line, after) = split_line(rest);
         at += 1;
-        if let Err(fault) = draft.take(at, without_return(line)) {
-            return Err(fault);
+        match draft.take_first(at, rest) {
+            Ok(after) => rest = after,
+            Err(fault) => return Err(fault),
         }
-        rest = after;
     }
     Ok(draft)
 }

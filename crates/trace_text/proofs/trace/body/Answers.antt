@@ -1,14 +1,23 @@
-use Rattle.std.proofs.Common.{◌≡◌, ◌+◌, ◌∷◌}
-use Rattle.trace_values.specs.Text.{lines}
+use Rattle.std.proofs.Common.{◌+◌}
 use Rattle.trace_text.specs.Drafts.{so_far}
-use Rattle.trace_text.proofs.RoomFaults.{fault_here, lines_split}
+use Rattle.trace_text.proofs.RoomFaults.{means_on, fault_on, fault_here}
 use Rattle.trace_text.proofs.trace.body.Goals as goal
+
+pub loop-rest-preserved : goal.loop-rest-preserved
+loop-rest-preserved g c =
+    let was = c.loop-rest.invariant in
+    let rest = c.loop-rest.rest.now in
+    let after = c.in-Ok.after.now in
+    let before = so_far c.loop-rest.draft.names c.loop-rest.draft.lines.items in
+    let next = so_far c.take_first.new.self.names c.take_first.new.self.lines.items in
+    let taken = c.in-Ok.ensures in
+    record {
+      few = taken.4.0;
+      means = λ contents m. was.means contents (means_on (c.loop-rest.at + 1) before next contents rest after taken m);
+      faults = λ bad cause f. was.faults bad cause (fault_on (c.loop-rest.at + 1) before next rest after bad cause taken f);
+    }
 
 pub returns-in-Err : goal.returns-in-Err
 returns-in-Err g c =
-    let rest = c.loop-rest.rest.now in
-    let line = c.without_return.result.now in
-    let after = c.split_line.result.1.now in
-    let split : lines rest ≡ line ∷ lines after = rw c.without_return.ensures (lines_split rest c.split_line.result.0.now after c.split_line.ensures.pieces) in
-    fault_here (c.loop-rest.at + 1) (so_far c.loop-rest.draft.names c.loop-rest.draft.lines.items) rest line after split c.args.version c.in-Err.fault c.args.text.now
+    fault_here (c.loop-rest.at + 1) (so_far c.loop-rest.draft.names c.loop-rest.draft.lines.items) c.args.version c.in-Err.fault c.loop-rest.rest.now c.args.text.now
     c.in-Err.ensures c.loop-rest.invariant.faults

@@ -1,0 +1,67 @@
+-- Lines in plain form: single spaces between words, no comment, and a line feed at the end.
+use Rattle.std.specs.Prelude.{◌≡◌, ℕ, ◌+◌, ◌<◌, ◌≤◌, Bool, IsTrue, Option, Some, List, [], ◌∷◌, ◌++◌, length, drop}
+use Rattle.std.specs.List.{AllByRecursion}
+use Rattle.std.specs.Int.{is_in_range}
+use Rattle.trace_values.specs.declared.value.Act.{Act}
+use Rattle.trace_values.specs.Text.{words, IsTextLine, IsNumber}
+use Rattle.trace_values.specs.Limits.{max_value}
+use Rattle.trace_values.specs.Values.{Known}
+use Rattle.trace_text.specs.declared.keyword.Keyword.{Keyword}
+use Rattle.trace_text.specs.Lines.{Place, Placed, placed, wanted, a_value, Value, WordMeans, WordsMean, Mark, asks, operands}
+use Rattle.trace_text.specs.Grammar.{ItemMeans}
+use Rattle.trace_text.specs.Items.{line_asked}
+use Rattle.trace_text.specs.Printing.{behind_space}
+
+-- The bytes that words are written with: no blank, and nothing that begins a comment.
+abbrev pub is_word_byte : ℕ → Bool
+is_word_byte byte = is_in_range 36 126 byte
+
+abbrev pub IsPlain : List ℕ → Type 0
+IsPlain word = (0 < length word) × AllByRecursion (λ byte. IsTrue (is_word_byte byte)) word
+
+abbrev pub ArePlain : List (List ℕ) → Type 0
+ArePlain [] = Unit {0}
+ArePlain (word ∷ words) = IsPlain word × ArePlain words
+
+-- The bytes begin with the digits of this number of 64 bits, and the rest stands behind them.
+abbrev pub HasNumber : List ℕ → ℕ → List ℕ → Type 0
+HasNumber bytes number rest = (word : List ℕ) × (bytes ≡ word ++ rest) × IsNumber word number × (number ≤ max_value)
+
+-- The bytes begin with a plain word that means this value in its place.
+abbrev pub HasWord : Known → Place → List ℕ → Value → List ℕ → Type 0
+HasWord known place bytes value rest = (word : List ℕ) × (bytes ≡ word ++ rest) × IsPlain word × WordMeans known place word value
+
+-- The same behind one space.
+abbrev pub HasNext : Known → Place → List ℕ → Value → List ℕ → Type 0
+HasNext known place bytes value rest = (behind : List ℕ) × (bytes ≡ 32 ∷ behind) × HasWord known place behind value rest
+
+-- The same of two words, of which the second means a value.
+abbrev pub HasTwo : Known → Place → List ℕ → Value → Value → List ℕ → Type 0
+HasTwo known place bytes first second rest =
+    (between : List ℕ) × HasNext known place bytes first between × HasNext known a_value between second rest
+
+-- The bytes begin with an index in brackets, which is that of this cell of an array.
+abbrev pub HasIndex : List ℕ → ℕ → ℕ → ℕ → List ℕ → Type 0
+HasIndex bytes first cells cell rest =
+    (digits : List ℕ) × (i : ℕ) × (bytes ≡ 91 ∷ (digits ++ 93 ∷ rest)) × IsNumber digits i × (i < cells) × (cell ≡ first + i)
+
+-- The bytes begin with plain words, each behind one space, and a line feed. In these places the words mean these values.
+pub record HasEnd (known : Known) (places : List Place) (last : Option Place) (bytes : List ℕ) (values : List Value) (rest : List ℕ) : Type 0 where
+  pub ws : List (List ℕ)
+  pub pairs : List Placed
+  pub split : bytes ≡ behind_space ws ++ 10 ∷ rest
+  pub plain : ArePlain ws
+  pub in_places : placed places last ws ≡ Some pairs
+  pub mean : WordsMean known pairs values
+
+-- The bytes begin with the operands of this act, whatever mark stands behind them.
+abbrev pub HasOperands : Known → Keyword → List ℕ → Act → List ℕ → Type 0
+HasOperands known keyword bytes act rest =
+    (asks act ≡ keyword)
+    × ((mark : List Value) (behind : List ℕ) → HasEnd known [] (Some Mark) rest mark behind
+    → HasEnd known (drop 1 (wanted keyword)) (Some Mark) bytes (operands act ++ mark) behind)
+
+-- The bytes begin with a line that asks for this, on whatever line of the text it stands.
+abbrev pub HasRequest : Known → List ℕ → ℕ → Act → Option ℕ → List ℕ → Type 0
+HasRequest known bytes strand act mark rest =
+    (line : List ℕ) × (bytes ≡ line ++ 10 ∷ rest) × IsTextLine line × ((at : ℕ) → ItemMeans at known (words line) (line_asked at strand act mark))

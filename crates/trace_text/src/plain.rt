@@ -1,0 +1,323 @@
+//! Requests in plain form, read by bytes: single spaces between words, no comment, and a line feed at the end.
+//!
+//! None says nothing here: the line may still be a request, and is read in the general way.
+
+ghost use Rattle.std.specs.Prelude.{◌≡◌, ◌++◌, ◌+◌, ◌≤◌, [], Some};
+ghost use Rattle.std.specs.Option.{IfSome};
+ghost use Rattle.std.specs.List.{All};
+ghost use Rattle.trace_values.specs.Text.{IsName, is_name_byte as name_byte};
+ghost use Rattle.trace_values.specs.Limits.{max_cells};
+ghost use Rattle.trace_values.specs.Values.{Known};
+ghost use Rattle.trace_values.specs.Index.{named, IsInRange};
+ghost use Rattle.trace_text.specs.declared.keyword.Keyword.TheVariants.{Access};
+ghost use Rattle.trace_text.specs.Lines.{Cell, ReducerName, Mark, a_strand, a_value, OfNumber, if_there, spelling, HasKeyword};
+ghost use Rattle.trace_text.specs.Plain.{HasNumber, HasNext, HasTwo, HasIndex, HasEnd, HasOperands, HasRequest};
+
+use crate::keyword::Keyword;
+use crate::place::STRAND;
+use access_table::Kind;
+use std::alloc::Allocator;
+use trace_values::{Act, NAME_LEN, Named, Names, Version};
+
+/// A request in plain form.
+#[derive(Clone, Copy)]
+pub struct Plain<'b> {
+    /// The strand's number.
+    pub strand: u32,
+    /// What it asks for.
+    pub act: Act,
+    /// The line that the mark names, if there is one.
+    pub mark: Option<u32>,
+    /// What stands behind the line.
+    pub rest: &'b [u8],
+}
+
+/// The value of a digit.
+#[inline(always)]
+fn digit_of(byte: u8) -> u64
+    requires { 48 ≤ byte }
+    ensures { result + 48 ≡ byte }
+{
+    u64::from(byte - b'0')
+}
+
+/// The number of at most 19 digits at the head of the bytes, and what stands behind it.
+#[inline(always)]
+fn head_number(bytes: &[u8]) -> Option<(u64, &[u8])>
+    ensures { IfSome result (λ r. HasNumber bytes.now r.0 r.1.now) }
+{
+    let mut value: u64 = 0;
+    let mut rest = bytes;
+    while let [digit, after @ ..] = rest {
+        let byte = *digit;
+        if byte < b'0' || byte > b'9' {
+            break;
+        }
+        if value >= 1_000_000_000_000_000_000 {
+            return None;
+        }
+        value = value * 10 + digit_of(byte);
+        rest = after;
+    }
+    if rest.len() == bytes.len() {
+        None
+    } else {
+        Some((value, rest))
+    }
+}
+
+/// The strand behind a space.
+#[inline(always)]
+fn strand(bytes: &[u8]) -> Option<(u32, &[u8])>
+    ensures { (known : Known) → IfSome result (λ r. HasNext known a_strand bytes.now (OfNumber r.0) r.1.now) }
+{
+    let [b' ', digits @ ..] = bytes else {
+        return None;
+    };
+    match head_number(digits) {
+        Some((number, rest)) if number <= STRAND => Some((number as u32, rest)),
+        _ => None,
+    }
+}
+
+/// The value behind a space.
+#[inline(always)]
+fn value(bytes: &[u8]) -> Option<(u64, &[u8])>
+    ensures { (known : Known) → IfSome result (λ r. HasNext known a_value bytes.now (OfNumber r.0) r.1.now) }
+{
+    let [b' ', digits @ ..] = bytes else {
+        return None;
+    };
+    let (value, rest) = head_number(digits)?;
+    Some((value, rest))
+}
+
+/// The mark behind a space, if there is one, and the line feed.
+#[inline(always)]
+fn mark(bytes: &[u8]) -> Option<(Option<u32>, &[u8])>
+    ensures { (known : Known) → IfSome result (λ r. HasEnd known [] (Some Mark) bytes.now (if_there r.0) r.1.now) }
+{
+    if let [b'\n', rest @ ..] = bytes {
+        return Some((None, rest));
+    }
+    let [b' ', b'@', digits @ ..] = bytes else {
+        return None;
+    };
+    match head_number(digits) {
+        Some((line, [b'\n', rest @ ..])) if 1 <= line && line <= STRAND => {
+            Some((Some(line as u32), rest))
+        }
+        _ => None,
+    }
+}
+
+fn is_name_byte(byte: u8) -> bool
+    ensures { result ≡ name_byte byte }
+{
+    byte.is_ascii_lowercase() || byte.is_ascii_digit() || byte == b'_'
+}
+
+/// The name at the head of the bytes, and what stands behind it.
+#[inline(always)]
+fn head_name(bytes: &[u8]) -> Option<(&[u8], &[u8])>
+    ensures { IfSome result (λ r. (bytes.now ≡ r.0.now ++ r.1.now) × IsName r.0.now) }
+{
+    let mut length = 0;
+    while length < bytes.len() && is_name_byte(bytes[length]) {
+        length += 1;
+    }
+    let (name, rest) = bytes.split_at(length);
+    match name {
+        [first, ..] if first.is_ascii_lowercase() && length <= NAME_LEN => Some((name, rest)),
+        _ => None,
+    }
+}
+
+/// What a name stands for.
+#[inline(always)]
+fn find<A: Allocator + Copy>(names: &Names<'_, A>, name: &[u8]) -> Option<Named>
+    ensures { IfSome result (λ found. (Some found ≡ named names.now name.now) × All IsInRange names.now.mems) }
+{
+    match str::from_utf8(name) {
+        Ok(name) => names.find(name),
+        Err(_) => None,
+    }
+}
+
+/// The cell of an array whose index stands in brackets at the head of the bytes.
+#[inline(always)]
+fn element(first: u32, cells: u32, bytes: &[u8]) -> Option<(u32, &[u8])>
+    requires { first + cells ≤ max_cells }
+    ensures { IfSome result (λ r. HasIndex bytes.now first cells r.0 r.1.now) }
+{
+    let [b'[', digits @ ..] = bytes else {
+        return None;
+    };
+    match head_number(digits) {
+        Some((index, [b']', rest @ ..])) if index < u64::from(cells) => {
+            Some((first + index as u32, rest))
+        }
+        _ => None,
+    }
+}
+
+/// The cell behind a space.
+#[inline(always)]
+fn cell<'b, A: Allocator + Copy>(names: &Names<'_, A>, bytes: &'b [u8]) -> Option<(u32, &'b [u8])>
+    ensures { IfSome result (λ r. HasNext names.now Cell bytes.now (OfNumber r.0) r.1.now) }
+{
+    let [b' ', behind @ ..] = bytes else {
+        return None;
+    };
+    let (name, rest) = head_name(behind)?;
+    match find(names, name) {
+        Some(Named::Single(cell)) => Some((cell, rest)),
+        Some(Named::Array { first, cells }) => element(first, cells, rest),
+        _ => None,
+    }
+}
+
+/// The reducer behind a space.
+#[inline(always)]
+fn reducer<'b, A: Allocator + Copy>(
+    names: &Names<'_, A>,
+    bytes: &'b [u8],
+) -> Option<(u32, &'b [u8])>
+    ensures { IfSome result (λ r. HasNext names.now ReducerName bytes.now (OfNumber r.0) r.1.now) }
+{
+    let [b' ', behind @ ..] = bytes else {
+        return None;
+    };
+    let (name, rest) = head_name(behind)?;
+    match find(names, name) {
+        Some(Named::Reducer(reducer)) => Some((reducer, rest)),
+        _ => None,
+    }
+}
+
+/// The keyword of a request at the head of the bytes.
+#[inline(always)]
+fn keyword(version: Version, bytes: &[u8]) -> Option<(Keyword, &[u8])>
+    ensures { IfSome result (λ r. HasKeyword version r.0 × (bytes.now ≡ spelling r.0 ++ r.1.now)) }
+{
+    match bytes {
+        [b's', b'p', b'a', b'w', b'n', rest @ ..] => Some((Keyword::Spawn, rest)),
+        [b's', b'y', b'n', b'c', rest @ ..] => Some((Keyword::Sync, rest)),
+        [b'c', b'a', b'l', b'l', rest @ ..] => Some((Keyword::Call, rest)),
+        [b'r', b'e', b't', b'u', b'r', b'n', rest @ ..] => Some((Keyword::Return, rest)),
+        [b'r', b'e', b'a', b'd', rest @ ..] => Some((Keyword::Access(Kind::Read), rest)),
+        [b'w', b'r', b'i', b't', b'e', rest @ ..] => Some((Keyword::Access(Kind::Write), rest)),
+        [b'u', b'p', b'd', b'a', b't', b'e', rest @ ..] => {
+            Some((Keyword::Access(Kind::Update), rest))
+        }
+        [b'p', b'u', b't', rest @ ..] => Some((Keyword::Access(Kind::Put), rest)),
+        [b'g', b'e', b't', rest @ ..] => Some((Keyword::Access(Kind::Get), rest)),
+        [b'b', b'u', b'm', b'p', rest @ ..] if version == Version::Two => {
+            Some((Keyword::Access(Kind::Bump), rest))
+        }
+        _ => None,
+    }
+}
+
+/// The cell and the value, each behind a space.
+#[inline(always)]
+fn cell_and_value<'b, A: Allocator + Copy>(
+    names: &Names<'_, A>,
+    bytes: &'b [u8],
+) -> Option<(u32, u64, &'b [u8])>
+    ensures { IfSome result (λ r. HasTwo names.now Cell bytes.now (OfNumber r.0) (OfNumber r.1) r.2.now) }
+{
+    let (cell, rest) = cell(names, bytes)?;
+    let (value, rest) = value(rest)?;
+    Some((cell, value, rest))
+}
+
+/// The reducer and the value, each behind a space.
+#[inline(always)]
+fn reducer_and_value<'b, A: Allocator + Copy>(
+    names: &Names<'_, A>,
+    bytes: &'b [u8],
+) -> Option<(u32, u64, &'b [u8])>
+    ensures { IfSome result (λ r. HasTwo names.now ReducerName bytes.now (OfNumber r.0) (OfNumber r.1) r.2.now) }
+{
+    let (reducer, rest) = reducer(names, bytes)?;
+    let (value, rest) = value(rest)?;
+    Some((reducer, value, rest))
+}
+
+/// What an access of this kind asks for, by its operands.
+#[inline(always)]
+fn access<'b, A: Allocator + Copy>(
+    names: &Names<'_, A>,
+    kind: Kind,
+    bytes: &'b [u8],
+) -> Option<(Act, &'b [u8])>
+    ensures { IfSome result (λ r. HasOperands names.now (Access kind) bytes.now r.0 r.1.now) }
+{
+    match kind {
+        Kind::Read => {
+            let (cell, rest) = cell(names, bytes)?;
+            Some((Act::Read(cell), rest))
+        }
+        Kind::Write => {
+            let (cell, value, rest) = cell_and_value(names, bytes)?;
+            Some((Act::Write(cell, value), rest))
+        }
+        Kind::Bump => {
+            let (cell, value, rest) = cell_and_value(names, bytes)?;
+            Some((Act::Bump(cell, value), rest))
+        }
+        Kind::Get => {
+            let (reducer, rest) = reducer(names, bytes)?;
+            Some((Act::Get(reducer), rest))
+        }
+        Kind::Put => {
+            let (reducer, value, rest) = reducer_and_value(names, bytes)?;
+            Some((Act::Put(reducer, value), rest))
+        }
+        Kind::Update => {
+            let (reducer, value, rest) = reducer_and_value(names, bytes)?;
+            Some((Act::Update(reducer, value), rest))
+        }
+    }
+}
+
+/// What a keyword asks for, by the operands behind the strand.
+#[inline(always)]
+fn act<'b, A: Allocator + Copy>(
+    names: &Names<'_, A>,
+    keyword: Keyword,
+    bytes: &'b [u8],
+) -> Option<(Act, &'b [u8])>
+    ensures { IfSome result (λ r. HasOperands names.now keyword bytes.now r.0 r.1.now) }
+{
+    match keyword {
+        Keyword::Spawn => Some((Act::Spawn, bytes)),
+        Keyword::Sync => Some((Act::Sync, bytes)),
+        Keyword::Call => Some((Act::Call, bytes)),
+        Keyword::Return => Some((Act::Return, bytes)),
+        Keyword::Access(kind) => access(names, kind, bytes),
+        Keyword::Mem => None,
+        Keyword::Reducer => None,
+    }
+}
+
+/// The request that the first line asks for, where it stands in plain form.
+#[inline(always)]
+pub fn plain_request<'b, A: Allocator + Copy>(
+    names: &Names<'_, A>,
+    bytes: &'b [u8],
+) -> Option<Plain<'b>>
+    ensures { IfSome result (λ plain. HasRequest names.now bytes.now plain.strand plain.act plain.mark plain.rest.now) }
+{
+    let (keyword, rest) = keyword(names.version(), bytes)?;
+    let (strand, rest) = strand(rest)?;
+    let (act, rest) = act(names, keyword, rest)?;
+    let (mark, rest) = mark(rest)?;
+    Some(Plain {
+        strand,
+        act,
+        mark,
+        rest,
+    })
+}
