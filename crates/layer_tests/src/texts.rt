@@ -300,6 +300,87 @@ fn printed(rt: HostRuntime) -> Result<(), Fail> {
     )
 }
 
+/// Checks that all these texts are printed so.
+fn print_alike(rt: &impl Abort, alloc: Global, texts: &[&[u8]], plain: &[u8]) -> Result<(), Fail> {
+    for text in texts {
+        prints_once(rt, alloc, text, plain)?;
+    }
+    Ok(())
+}
+
+#[test]
+fn plain_and_other_forms(rt: HostRuntime) -> Result<(), Fail> {
+    let alloc = rt.alloc();
+    print_alike(
+        &rt,
+        alloc,
+        &[
+            b"cilk 2\nmem x\nmem a 4\nreducer h sum\nspawn 0\nread 1 a[3]\nwrite 12 x 18446744073709551615 @4294967295\nbump 4294967295 x 5\nupdate 3 h 7 @2\nput 3 h 8\nget 4 h\ncall 6\nsync 5\nreturn 10\n",
+            b"cilk 2\nmem x\nmem a 4\nreducer h sum\nspawn  0\nread 1  a[3]\nwrite 12 x 18446744073709551615  @4294967295\nbump 4294967295 x  5\nupdate 3 h 7 @2 \nput 3  h 8\nget 4 h \n call 6\nsync 5 \nreturn  10\n",
+            b"cilk 2\nmem x\nmem a 4\nreducer h sum\nspawn\t0\nread\t1 a[3]\nwrite 12\tx 18446744073709551615 @4294967295\t\nbump 4294967295 x\t5\nupdate 3 h 7\t@2\nput 3 h 8\t\nget 4\th\n\tcall 6\nsync 5\t\nreturn\t10\n",
+            b"cilk 2\nmem x\nmem a 4\nreducer h sum\nspawn 0#\nread 1 a[3]#3\nwrite 12 x 18446744073709551615 @4294967295#0\nbump 4294967295 x 5#5\nupdate 3 h 7 @2 # @3\nput 3 h 8 # 8\nget 4 h#h\ncall 6 #\nsync 5 # 5\nreturn 10#0\n",
+            b"cilk 2\r\nmem x\r\nmem a 4\r\nreducer h sum\r\nspawn 0\r\nread 1 a[3]\r\nwrite 12 x 18446744073709551615 @4294967295\r\nbump 4294967295 x 5\r\nupdate 3 h 7 @2\r\nput 3 h 8\r\nget 4 h\r\ncall 6\r\nsync 5\r\nreturn 10\r\n",
+            b"cilk 2\nmem x\nmem a 4\nreducer h sum\nspawn 00000000000000000000\nread 00000000000000000001 a[00000000000000000003]\nwrite 012 x 0000000000000000000018446744073709551615 @04294967295\nbump 004294967295 x 000000000000000000005\nupdate 03 h 07 @02\nput 3 h 008\nget 04 h\ncall 06\nsync 05\nreturn 010",
+        ],
+        b"cilk 2\nmem x\nmem a 4\nreducer h sum\nspawn 0\nread 1 a[3]\nwrite 12 x 18446744073709551615 @4294967295\nbump 4294967295 x 5\nupdate 3 h 7 @2\nput 3 h 8\nget 4 h\ncall 6\nsync 5\nreturn 10\n",
+    )
+}
+
+#[test]
+fn nearly_plain_faults(rt: HostRuntime) {
+    check_faults(
+        &rt,
+        rt.alloc(),
+        &[
+            (b"cilk 1\nmem x\nread 0 x\nread0 x\n", 4, Cause::BadWord),
+            (b"cilk 1\nmem x\nread 0 x\nreads 0 x\n", 4, Cause::BadWord),
+            (b"cilk 1\nmem x\nread 0 x\nread 0 x@1\n", 4, Cause::BadWord),
+            (b"cilk 1\nmem x\nread 0 x\nread 0 x 1\n", 4, Cause::BadWord),
+            (
+                b"cilk 1\nmem x\nread 0 x\nread 0 x @\n",
+                4,
+                Cause::BadNumber,
+            ),
+            (
+                b"cilk 1\nmem x\nread 0 x\nread 0 x @1x\n",
+                4,
+                Cause::BadNumber,
+            ),
+            (b"cilk 1\nmem x\nread 0 x\nread 0x x\n", 4, Cause::BadNumber),
+            (
+                b"cilk 1\nmem x\nread 0 x\nread 0 xx\n",
+                4,
+                Cause::UnknownName,
+            ),
+            (
+                b"cilk 1\nmem xx\nread 0 xx\nread 0 x\n",
+                4,
+                Cause::UnknownName,
+            ),
+            (
+                b"cilk 1\nmem a 2\nread 0 a[1]\nread 0 a[1]]\n",
+                4,
+                Cause::BadNumber,
+            ),
+            (
+                b"cilk 1\nmem a 2\nread 0 a[1]\nread 0 a[]\n",
+                4,
+                Cause::BadWord,
+            ),
+            (
+                b"cilk 1\nmem x\nwrite 0 x 5\nwrite 0 x 99999999999999999999\n",
+                4,
+                Cause::BadNumber,
+            ),
+            (
+                b"cilk 1\nreducer h sum\nget 0 h\nget 0 h\x0b\n",
+                4,
+                Cause::NotText,
+            ),
+        ],
+    );
+}
+
 /// Checks what a cell of a trace is called.
 fn is_called(
     rt: &impl Abort,
