@@ -181,10 +181,10 @@ def exponent(sizes, costs):
     return math.log(costs[-1] / costs[0]) / math.log(sizes[-1] / sizes[0])
 
 
-def machine():
+def machine(runs=RUNS):
     with open("/proc/cpuinfo") as text:
         model = re.search(r"model name\s*: (.*)", text.read())
-    print(f"{os.cpu_count()} processors ({model[1] if model else 'unknown'}), load {os.getloadavg()[0]:.1f}, least of {RUNS} runs")
+    print(f"{os.cpu_count()} processors ({model[1] if model else 'unknown'}), load {os.getloadavg()[0]:.1f}, least of {runs} runs")
 
 
 def row(*cells):
