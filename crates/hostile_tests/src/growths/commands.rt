@@ -106,7 +106,7 @@ fn replayed(alloc: Global, heap: &Heap) -> Ended {
     Ended { answer, output }
 }
 
-fn ended(alloc: Global, heap: &Heap, command: Command) -> Ended {
+fn perform(alloc: Global, heap: &Heap, command: Command) -> Ended {
     match command {
         Command::Judge => judged(alloc, heap),
         Command::Elide => elided(alloc, heap),
@@ -116,7 +116,7 @@ fn ended(alloc: Global, heap: &Heap, command: Command) -> Ended {
 
 /// The command tells what it tells where no growth is refused.
 fn is_told(rt: &impl Abort, alloc: Global, heap: &Heap, command: Command) {
-    let ended = ended(alloc, heap, command);
+    let ended = perform(alloc, heap, command);
     assert!(rt; ended.tells(command.told()), "{command:?}");
 }
 
@@ -129,7 +129,7 @@ pub(super) fn make(
     command: Command,
 ) -> bool {
     heap.refuse(number);
-    let first = ended(alloc, heap, command);
+    let first = perform(alloc, heap, command);
     if !heap.has_refused() {
         assert!(rt; first.tells(command.told()), "{command:?}");
         return false;
