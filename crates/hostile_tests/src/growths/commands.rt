@@ -9,8 +9,7 @@ use text_commands::{CliFault, Watched, elide_text, judge_stream, replay_text};
 const MOST: u32 = 1_000_000;
 
 /// Three requests, of which the second takes memory. The strand of the third has ended, unless the second is refused.
-const SPAWNING: &[u8] =
-    b"cilk 1\nmem x\nreducer h sum\nwrite 0 x 5\nspawn 0\nread 0 x\n";
+const SPAWNING: &[u8] = b"cilk 1\nmem x\nreducer h sum\nwrite 0 x 5\nspawn 0\nread 0 x\n";
 
 /// The exit status of a command, and what it writes.
 #[derive(Clone, Copy)]
