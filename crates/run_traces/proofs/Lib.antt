@@ -1,0 +1,4 @@
+pub mod Elements
+pub mod Marked
+pub mod Asking
+pub mod Fitted
