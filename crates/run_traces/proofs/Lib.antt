@@ -2,3 +2,5 @@ pub mod Elements
 pub mod Marked
 pub mod Asking
 pub mod Fitted
+pub mod Declared
+pub mod Written

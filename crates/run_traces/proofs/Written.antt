@@ -1,0 +1,6 @@
+-- The plain text of the trace of a run means that trace.
+use Rattle.run_traces.specs.Laws.{MeaningLaw}
+use Rattle.run_traces.proofs.Declared.{declared_of_text}
+
+pub meaning_law : MeaningLaw
+meaning_law text program means entries run = let h = declared_of_text text program means in ?
