@@ -4,3 +4,5 @@ pub mod Asking
 pub mod Fitted
 pub mod Declared
 pub mod Written
+pub mod Sayings
+pub mod Rows
