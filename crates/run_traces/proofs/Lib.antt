@@ -6,3 +6,4 @@ pub mod Declared
 pub mod Written
 pub mod Sayings
 pub mod Rows
+pub mod Printed
