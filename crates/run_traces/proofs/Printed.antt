@@ -18,6 +18,7 @@ use Rattle.trace_text.specs.Lines.{spelling, asks}
 use Rattle.trace_text.specs.Shapes.{has_cell, name_found, name_of_cell}
 use Rattle.trace_text.specs.Printing.{Entry as Line, OfMemory, OfReducer, OfRequest, entry_text, operand_text, name_of_reducer, plain_text, lines_from, entries as lines_in}
 use Rattle.trace_text.proofs.Printed.{request_text}
+use Rattle.race_gate.specs.declared.answer.Answer.{Answer}
 use Rattle.race_gate.specs.declared.answer.Entry.{Entry}
 use Rattle.race_gate.specs.Shapes.{Shape}
 use Rattle.program_text.specs.Drafts.{Contents}
@@ -177,3 +178,14 @@ request_steps known request strand word old first second third new e f g h i j =
     (h ∙ (ap (λ (n : ℕ). first ++ 32 ∷ decimal n) f ∙ ap (λ (t : List ℕ). t ++ 32 ∷ decimal request.strand) (g ∙ ap (λ (w : List ℕ). old ++ w) e)))) in
     parts ∙ (turned old (spelling (asks request.act)) (decimal request.strand) (operand_text known request.act) mark
     ∙ ap (λ (t : List ℕ). old ++ t) (sym (request_text known (record { at = 0; request = request; marked = true }))))
+
+-- ---- the entries of a slice
+
+abbrev pub no_entry : Entry
+no_entry = record {
+  request = record { strand = 0; line = 0; act = Act.Spawn };
+  answer = Answer.Split (record { child = 0; next = 0; join = 0; first = false });
+}
+
+pub drop_entry : (entries : List Entry) (i : ℕ) → i < length entries → drop i entries ≡ get_or entries i no_entry ∷ drop (i + 1) entries
+drop_entry entries i l = rw (add-one, drop-cons entries i no_entry) refl
