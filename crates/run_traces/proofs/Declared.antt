@@ -1,7 +1,7 @@
 -- What a program declares: names that are new, cells that are numbered, and no limit is passed.
-use Rattle.std.proofs.Common.{◌≡◌, ℕ, suc, ◌+◌, ◌<◌, ◌≤◌, ◌∷◌, ◌++◌, [], List, Bool, true, false, cond, length, map, arith, refl, sym, ap, ◌∙◌, subst, append_assoc, zero-add}
-use Rattle.std.specs.Prelude.{Option, Some, None, option_map, unwrap_or, is_some}
-use Rattle.std.specs.List.{AllByRecursion, find, position_from}
+use Rattle.std.proofs.Common.{◌≡◌, ℕ, ◌+◌, ◌<◌, ◌≤◌, ◌∷◌, ◌++◌, [], List, Bool, true, false, cond, length, map, arith, refl, sym, ap, ◌∙◌, subst, append_assoc, zero-add}
+use Rattle.std.specs.Prelude.{Option, Some, None, unwrap_or, is_some}
+use Rattle.std.specs.List.{AllByRecursion, position_from}
 use Rattle.std.specs.Str.{bytes_eq}
 use Rattle.std.specs.Cmp.Lexicographic.{bytes_decides}
 use Rattle.std.proofs.lemmas.List.{append-nil, map_push, length_push}
@@ -19,9 +19,9 @@ use Rattle.trace_text.specs.Lines.{OfName, OfMonoid}
 use Rattle.trace_text.proofs.Kept.{cells_cons}
 use Rattle.program_lines.specs.declared.keyword.Keyword.TheVariants as word
 use Rattle.program_lines.specs.Scopes.{Scope}
-use Rattle.program_lines.specs.Places.{Place, Common, FreshName, Plain}
-use Rattle.program_lines.specs.Table.{Placed, placed, WordsMean, Says}
-use Rattle.program_lines.specs.Grammar.{Item, Blank, Declared, Reduces, Begins, Does, Decides, Otherwise, Ends, ItemMeans}
+use Rattle.program_lines.specs.Places.{Common, FreshName, Plain}
+use Rattle.program_lines.specs.Table.{Placed, placed, WordsMean}
+use Rattle.program_lines.specs.Grammar.{Item, Blank, Declared, Reduces, Begins, Does, Decides, Otherwise, Ends}
 use Rattle.program_text.specs.declared.open_function.Part.{Part}
 use Rattle.program_text.specs.Drafts.{Open, Draft, Contents, scope_of}
 use Rattle.program_text.specs.Grammar.{LineMeans, LinesMean, LinesOfProgram, TextMeans, extended, ended, ended_by, nothing}
@@ -104,9 +104,11 @@ pub one_more_memory : (names : List (List ℕ)) (first : ℕ) (mems : List Mem) 
 one_more_memory names first [] mem h all e total f k =
     let none : total ≡ first = omega (arith, f) in
     (subst (λ (n : ℕ). IsMemory names n mem) none (subst (λ (ns : List (List ℕ)). IsMemory ns total mem) (e ∙ append-nil names) k), tt)
-one_more_memory names first (x ∷ mems) mem h all e total f k =
-    (h.0, one_more_memory (names ++ x.name ∷ []) (first + x.cells) mems mem h.1 all (e ∙ sym (append_assoc names (x.name ∷ []) (map name_of mems))) total
-    (omega (arith, f, cells_cons x mems)) k)
+one_more_memory names first (x ∷ mems) mem h all e total f k = (
+  h.0,
+  one_more_memory (names ++ x.name ∷ []) (first + x.cells) mems mem h.1 all (e ∙ sym (append_assoc names (x.name ∷ []) (map name_of mems))) total
+      (omega (arith, f, cells_cons x mems)) k,
+)
 
 -- ---- reducers
 

@@ -1,14 +1,13 @@
 -- What a run asks, a line of a trace can say.
-use Rattle.std.proofs.Common.{◌≡◌, ℕ, suc, ◌+◌, ◌*◌, ◌<◌, ◌≤◌, ◌^◌, inl, inr, true, false, List, [], ◌∷◌, ◌++◌, Option, Some, None, length, map, reverse, refl, sym, ap, ◌∙◌, subst, arith}
-use Rattle.std.specs.List.{All, AllByRecursion}
+use Rattle.std.proofs.Common.{ℕ, ◌+◌, ◌*◌, ◌≤◌, inl, inr, true, false, List, [], ◌∷◌, ◌++◌, Option, Some, None, length, reverse, refl, sym, subst, arith}
+use Rattle.std.specs.List.{AllByRecursion}
 use Rattle.std.proofs.lemmas.List.{length-map, length-reverse, reverse-reverse}
 use Rattle.std.proofs.lemmas.Grind.{reverse_onto}
-use Rattle.std.proofs.lemmas.List.Elements.{All-head, All-tail, All-from_recursion, recursion_from_All}
+use Rattle.std.proofs.lemmas.List.Elements.{All-head, All-tail, All-from_recursion}
 use Rattle.trace_values.specs.declared.value.Act.{Act}
-use Rattle.trace_values.specs.declared.value.Request.{Request}
 use Rattle.trace_values.specs.declared.value.Reducer.{Reducer}
 use Rattle.trace_values.specs.Declarations.{cells_of}
-use Rattle.trace_values.specs.Limits.{max_strand, max_lines}
+use Rattle.trace_values.specs.Limits.{max_lines}
 use Rattle.trace_values.specs.Values.{Known}
 use Rattle.control_history.specs.History.{Event, split, same, joined, waits, call, resumed, ended, ended_joined, finished, History}
 use Rattle.control_history.specs.Strands.{unused}
@@ -17,12 +16,9 @@ use Rattle.control_history.proofs.Range.{ranges}
 use Rattle.race_gate.specs.declared.answer.Entry.{Entry}
 use Rattle.race_gate.specs.Entries.{Entries, event_of, with_event, control_part}
 use Rattle.race_gate.specs.Shapes.{Shape, IsInRange, most_entries}
-use Rattle.race_gate.specs.Legal.{IsLegal}
 use Rattle.race_gate.proofs.Races.{legal-part}
 use Rattle.program_text.specs.Codes.{Code}
-use Rattle.program_text.specs.Drafts.{Contents}
 use Rattle.program_text.specs.Sound.{IsSound}
-use Rattle.program_text.specs.Grammar.{TextMeans}
 use Rattle.program_text.proofs.Whole.{whole_of_text}
 use Rattle.program_steps.specs.Exchanges.{Exchange}
 use Rattle.program_runs.specs.Frames.{Targets, HasFrame, frame_in, next_frame, exchange_of, said_by}
@@ -30,8 +26,8 @@ use Rattle.program_runs.specs.Runs.{IsRun, IsRunWith}
 use Rattle.program_runs.specs.Numbers.{IsNumbered, AreNumbered}
 use Rattle.program_runs.proofs.Histories.{said_here, run_shorter}
 use Rattle.program_runs.proofs.Numbering.{frame_there, numbers_law}
-use Rattle.run_traces.specs.Fitting.{IsSayable, IsFitting, AreFitting}
-use Rattle.run_traces.specs.Laws.{shape_known, IsRunOf, FittingLaw}
+use Rattle.run_traces.specs.Fitting.{IsSayable, IsFitting}
+use Rattle.run_traces.specs.Laws.{shape_known, FittingLaw}
 use Rattle.run_traces.proofs.Elements.{append_all}
 use Rattle.run_traces.proofs.Marked.{IsMarkedCode, marked_of_text}
 use Rattle.run_traces.proofs.Asking.{HasAct, IsAsked, spawned_asked}
@@ -128,6 +124,6 @@ fitting_law text program means entries run =
     let sound : IsSound shape.cells (length shape.monoids) program.functions =
     subst (λ (n : ℕ). IsSound (cells_of program.known.mems) n program.functions) (sym (length-map program.known.reducers (λ (x : Reducer). x.monoid))) (whole_of_text text program means).sound in
     let all = fitted program.known program.functions (marked_of_text text program means) is.main is.targets (reverse entries) is.run
-        (numbers_law program.functions shape sound (reverse entries) is) (omega (arith, length-reverse entries, run.few)) in
+    (numbers_law program.functions shape sound (reverse entries) is) (omega (arith, length-reverse entries, run.few)) in
     All-from_recursion (FitEntry program.known) entries
     (subst (λ (es : List Entry). AllByRecursion (FitEntry program.known) es) (reverse-reverse entries) (turned_all (FitEntry program.known) (reverse entries) all))

@@ -1,5 +1,5 @@
 -- Each statement and each `end` of a program that a text means stands on a line of the text, and `bump` in version 2 alone.
-use Rattle.std.proofs.Common.{◌≡◌, ℕ, ◌+◌, ◌≤◌, ◌∷◌, ◌++◌, [], List, Option, Some, None, arith, refl, sym, ap, subst}
+use Rattle.std.proofs.Common.{◌≡◌, ℕ, ◌+◌, ◌≤◌, ◌∷◌, ◌++◌, [], List, Option, Some, None, arith, refl, sym, subst}
 use Rattle.std.specs.Prelude.{slice_get, option_map}
 use Rattle.std.specs.List.{AllByRecursion}
 use Rattle.trace_values.specs.declared.value.Version.{Version}
@@ -11,7 +11,7 @@ use Rattle.program_lines.specs.declared.statement.Statement.TheVariants.{Bump, I
 use Rattle.program_lines.specs.Grammar.{Item, Blank, Declared, Reduces, Begins, Does, Decides, Otherwise, Ends, ItemMeans, line_of}
 use Rattle.program_text.specs.declared.open_function.Part.{Part}
 use Rattle.program_text.specs.Codes.{Code}
-use Rattle.program_text.specs.Drafts.{Open, Draft, Contents, held, scope_of, with_register, with_statement, with_choice, with_else, divided_by, with_part_ended, with_end, ended_at, ending, code_of}
+use Rattle.program_text.specs.Drafts.{Open, Draft, Contents, scope_of, with_register, with_statement, with_choice, with_else, divided_by, with_end, ended_at, ending, code_of}
 use Rattle.program_text.specs.Grammar.{LineMeans, LinesMean, LinesOfProgram, TextMeans, extended, ended, ended_by, nothing}
 use Rattle.run_traces.proofs.Elements.{get_all, set_all, append_all}
 

@@ -1,6 +1,6 @@
 -- What is printed of the trace of a run.
-use Rattle.std.proofs.Common.{◌≡◌, ℕ, ◌+◌, ◌-◌, ◌∷◌, ◌++◌, [], List, Bool, true, false, cond, map, refl, sym, ap, ◌∙◌, append_assoc, suc, ◌<◌, get_or, drop, drop-cons, add-one}
-use Rattle.std.specs.Prelude.{Some, None, codes, flat_map, slice_index_or, length}
+use Rattle.std.proofs.Common.{◌≡◌, ℕ, ◌+◌, ◌∷◌, ◌++◌, [], List, Bool, true, false, cond, map, refl, sym, ap, ◌∙◌, append_assoc, suc, ◌<◌, get_or, drop, drop-cons, add-one}
+use Rattle.std.specs.Prelude.{Some, codes, flat_map, slice_index_or, length}
 use Rattle.std.specs.List.{find}
 use Rattle.std.specs.Fmt.{decimal}
 use Rattle.std.proofs.lemmas.List.{append-nil}
@@ -24,7 +24,7 @@ use Rattle.race_gate.specs.Shapes.{Shape}
 use Rattle.program_text.specs.Drafts.{Contents}
 use Rattle.run_traces.specs.Traces.{mems_from, reducers_from, requests_from, behind_declarations, known_in_trace, trace_contents}
 use Rattle.run_traces.specs.Texts.{lines_text, line_of_request, mems_text, reducers_text, requests_text}
-use Rattle.run_traces.specs.Laws.{shape_known, RequestsLaw, ShapeLaw}
+use Rattle.run_traces.specs.Laws.{RequestsLaw, ShapeLaw}
 use Rattle.run_traces.proofs.Rows.{lines_of, lines_row}
 use Rattle.run_traces.proofs.Written.{cells_from}
 

@@ -1,5 +1,5 @@
 -- The lines of a run's trace follow one another, with no blank line between them.
-use Rattle.std.proofs.Common.{◌≡◌, ℕ, ◌+◌, ◌-◌, ◌≤◌, ◌∷◌, ◌++◌, [], List, length, map, arith, refl, sym, ap, ◌∙◌, subst, replicate, append_assoc}
+use Rattle.std.proofs.Common.{◌≡◌, ℕ, ◌+◌, ◌-◌, ◌≤◌, ◌∷◌, ◌++◌, [], List, length, map, arith, refl, ap, ◌∙◌, subst, replicate, append_assoc}
 use Rattle.trace_values.specs.declared.value.Mem.{Mem}
 use Rattle.trace_values.specs.declared.value.Reducer.{Reducer}
 use Rattle.trace_values.specs.Values.{Known}
@@ -7,7 +7,7 @@ use Rattle.race_gate.specs.declared.answer.Entry.{Entry}
 use Rattle.trace_text.specs.Printing.{Entry as Line, OfMemory, OfReducer, OfRequest, line_of, entry_text, declarations, entries as lines_in, lines_from}
 use Rattle.trace_text.proofs.PlainLines.{AreLater, memory_first}
 use Rattle.program_text.specs.Drafts.{Contents}
-use Rattle.run_traces.specs.Traces.{mems_from, reducers_from, requests_from, behind_declarations, known_in_trace, trace_contents}
+use Rattle.run_traces.specs.Traces.{mems_from, reducers_from, requests_from, behind_declarations, trace_contents}
 
 abbrev AreInRow : ℕ → List Line → Type 0
 AreInRow at [] = Unit {0}

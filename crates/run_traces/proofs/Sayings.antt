@@ -1,5 +1,5 @@
 -- Words that name the cells and reducers that are declared, and lines that say what a run asks.
-use Rattle.std.proofs.Common.{◌≡◌, ℕ, zero, suc, ◌+◌, ◌-◌, ◌<◌, ◌≤◌, ◌∷◌, ◌++◌, [], List, Bool, true, false, cond, length, map, arith, refl, sym, ap, ◌∙◌, subst, inl, inr, zero-add}
+use Rattle.std.proofs.Common.{◌≡◌, ℕ, zero, suc, ◌+◌, ◌-◌, ◌<◌, ◌≤◌, ◌∷◌, ◌++◌, [], List, Bool, true, false, cond, length, arith, refl, ap, ◌∙◌, subst, inl, inr, zero-add}
 use Rattle.std.specs.Prelude.{Option, Some, None, IsTrue, codes}
 use Rattle.std.specs.List.{find, position_from}
 use Rattle.std.specs.Str.{bytes_eq}
@@ -17,7 +17,7 @@ use Rattle.trace_values.specs.Values.{Known, monoid_spelling}
 use Rattle.trace_values.specs.Names.{memory_named, reducer_named, element_word, CellMeans, IsFresh, HasMonoid}
 use Rattle.trace_values.specs.Declarations.{cells_of}
 use Rattle.trace_text.specs.declared.keyword.Keyword.TheVariants.{Mem as MemWord, Reducer as ReducerWord}
-use Rattle.trace_text.specs.Lines.{Place, FreshName, Number, Cell, ReducerName, MonoidWord, Mark, a_strand, a_value, OfName, OfNumber, OfMonoid, WordMeans, Says, spelling, asks, operands, if_there}
+use Rattle.trace_text.specs.Lines.{FreshName, Number, Cell, ReducerName, MonoidWord, Mark, a_strand, a_value, OfName, OfNumber, OfMonoid, WordMeans, Says, asks, operands, if_there}
 use Rattle.trace_text.specs.Shapes.{is_numbered, has_cell}
 use Rattle.trace_text.proofs.CellNames.{cell_found}
 use Rattle.trace_text.proofs.PlainWords.{decimal_number}
@@ -36,15 +36,25 @@ says_memory known name None is fresh h =
 says_memory known name (Some n) is fresh h =
     let some = h n refl in
     let low : 1 ≤ n = some.0 in
-    let high : n ≤ max_cells = some.1 in
-    (codes "mem" ∷ name ∷ decimal n ∷ [], ((FreshName, name) ∷ (Number 1 max_cells, decimal n) ∷ [], (name ∷ decimal n ∷ [], refl, tt, refl),
-    ((refl, is, fresh), ((decimal_number n (omega (arith, high)), low, high), tt))))
+    let high : n ≤ max_cells = some.1 in (
+      codes "mem" ∷ name ∷ decimal n ∷ [],
+      (
+        (FreshName, name) ∷ (Number 1 max_cells, decimal n) ∷ [],
+        (name ∷ decimal n ∷ [], refl, tt, refl),
+        ((refl, is, fresh), ((decimal_number n (omega (arith, high)), low, high), tt)),
+      ),
+    )
 
 pub says_reducer : (known : Known) (name : List ℕ) (monoid : Monoid) → IsName name → IsFresh known name → HasMonoid known.version monoid
     → (ws : List (List ℕ)) × Says known ws ReducerWord (OfName name ∷ OfMonoid monoid ∷ [])
-says_reducer known name monoid is fresh has =
-    (codes "reducer" ∷ name ∷ monoid_spelling monoid ∷ [], ((FreshName, name) ∷ (MonoidWord, monoid_spelling monoid) ∷ [], (name ∷ monoid_spelling monoid ∷ [], refl, tt, refl),
-    ((refl, is, fresh), ((has, refl), tt))))
+says_reducer known name monoid is fresh has = (
+  codes "reducer" ∷ name ∷ monoid_spelling monoid ∷ [],
+  (
+    (FreshName, name) ∷ (MonoidWord, monoid_spelling monoid) ∷ [],
+    (name ∷ monoid_spelling monoid ∷ [], refl, tt, refl),
+    ((refl, is, fresh), ((has, refl), tt)),
+  ),
+)
 
 -- ---- cells
 
@@ -119,10 +129,13 @@ found_reducer version names (r ∷ reducers) from zero h l =
 found_reducer version names (r ∷ reducers) from (suc i) h l =
     let later = found_reducer version (names ++ r.name ∷ []) reducers (from + 1) i h.1 (omega (arith, l)) in
     let word = later.0 in
-    let same : from + 1 + i ≡ from + suc i = omega arith in
-    (word, later.1, new_before names (r.name ∷ []) word later.2,
-    ap (λ (b : Bool). cond b (Some from) (position_from (λ (x : Reducer). bytes_eq word x.name) (from + 1) reducers)) (new_behind names (r.name ∷ []) word later.2).0
-    ∙ (later.3 ∙ ap Some same))
+    let same : from + 1 + i ≡ from + suc i = omega arith in (
+      word,
+      later.1,
+      new_before names (r.name ∷ []) word later.2,
+      ap (λ (b : Bool). cond b (Some from) (position_from (λ (x : Reducer). bytes_eq word x.name) (from + 1) reducers)) (new_behind names (r.name ∷ []) word later.2).0
+          ∙ (later.3 ∙ ap Some same),
+    )
 
 pub reducer_found : (version : Version) (reducers : List Reducer) (reducer : ℕ) → AreReducers version [] reducers → reducer < length reducers
     → (word : List ℕ) × IsName word × (reducer_named reducers word ≡ Some reducer)
@@ -157,26 +170,56 @@ module _ (known : Known) (numbered : IsTrue (is_numbered 0 known.mems)) (memorie
   says_request Act.Return s =
       (codes "return" ∷ decimal strand ∷ mark_word ∷ [], ((a_strand, decimal strand) ∷ (Mark, mark_word) ∷ [], (decimal strand ∷ mark_word ∷ [], refl, tt, refl), (strand_means, (mark_means, tt))))
   says_request (Act.Read cell) s =
-      let w = cell_named known.mems cell numbered memories s in
-      (codes "read" ∷ decimal strand ∷ w.0 ∷ mark_word ∷ [], ((a_strand, decimal strand) ∷ (Cell, w.0) ∷ (Mark, mark_word) ∷ [],
-      (decimal strand ∷ w.0 ∷ mark_word ∷ [], refl, tt, refl), (strand_means, (w.1, (mark_means, tt)))))
+      let w = cell_named known.mems cell numbered memories s in (
+        codes "read" ∷ decimal strand ∷ w.0 ∷ mark_word ∷ [],
+        (
+          (a_strand, decimal strand) ∷ (Cell, w.0) ∷ (Mark, mark_word) ∷ [],
+          (decimal strand ∷ w.0 ∷ mark_word ∷ [], refl, tt, refl),
+          (strand_means, (w.1, (mark_means, tt))),
+        ),
+      )
   says_request (Act.Write cell value) s =
-      let w = cell_named known.mems cell numbered memories s.0 in
-      (codes "write" ∷ decimal strand ∷ w.0 ∷ decimal value ∷ mark_word ∷ [], ((a_strand, decimal strand) ∷ (Cell, w.0) ∷ (a_value, decimal value) ∷ (Mark, mark_word) ∷ [],
-      (decimal strand ∷ w.0 ∷ decimal value ∷ mark_word ∷ [], refl, tt, refl), (strand_means, (w.1, (value_means value s.1, (mark_means, tt))))))
+      let w = cell_named known.mems cell numbered memories s.0 in (
+        codes "write" ∷ decimal strand ∷ w.0 ∷ decimal value ∷ mark_word ∷ [],
+        (
+          (a_strand, decimal strand) ∷ (Cell, w.0) ∷ (a_value, decimal value) ∷ (Mark, mark_word) ∷ [],
+          (decimal strand ∷ w.0 ∷ decimal value ∷ mark_word ∷ [], refl, tt, refl),
+          (strand_means, (w.1, (value_means value s.1, (mark_means, tt)))),
+        ),
+      )
   says_request (Act.Bump cell value) s =
-      let w = cell_named known.mems cell numbered memories s.0 in
-      (codes "bump" ∷ decimal strand ∷ w.0 ∷ decimal value ∷ mark_word ∷ [], ((a_strand, decimal strand) ∷ (Cell, w.0) ∷ (a_value, decimal value) ∷ (Mark, mark_word) ∷ [],
-      (decimal strand ∷ w.0 ∷ decimal value ∷ mark_word ∷ [], refl, s.2, refl), (strand_means, (w.1, (value_means value s.1, (mark_means, tt))))))
+      let w = cell_named known.mems cell numbered memories s.0 in (
+        codes "bump" ∷ decimal strand ∷ w.0 ∷ decimal value ∷ mark_word ∷ [],
+        (
+          (a_strand, decimal strand) ∷ (Cell, w.0) ∷ (a_value, decimal value) ∷ (Mark, mark_word) ∷ [],
+          (decimal strand ∷ w.0 ∷ decimal value ∷ mark_word ∷ [], refl, s.2, refl),
+          (strand_means, (w.1, (value_means value s.1, (mark_means, tt)))),
+        ),
+      )
   says_request (Act.Update reducer value) s =
-      let w = reducer_found known.version known.reducers reducer reducers s.0 in
-      (codes "update" ∷ decimal strand ∷ w.0 ∷ decimal value ∷ mark_word ∷ [], ((a_strand, decimal strand) ∷ (ReducerName, w.0) ∷ (a_value, decimal value) ∷ (Mark, mark_word) ∷ [],
-      (decimal strand ∷ w.0 ∷ decimal value ∷ mark_word ∷ [], refl, tt, refl), (strand_means, ((w.1, w.2), (value_means value s.1, (mark_means, tt))))))
+      let w = reducer_found known.version known.reducers reducer reducers s.0 in (
+        codes "update" ∷ decimal strand ∷ w.0 ∷ decimal value ∷ mark_word ∷ [],
+        (
+          (a_strand, decimal strand) ∷ (ReducerName, w.0) ∷ (a_value, decimal value) ∷ (Mark, mark_word) ∷ [],
+          (decimal strand ∷ w.0 ∷ decimal value ∷ mark_word ∷ [], refl, tt, refl),
+          (strand_means, ((w.1, w.2), (value_means value s.1, (mark_means, tt)))),
+        ),
+      )
   says_request (Act.Put reducer value) s =
-      let w = reducer_found known.version known.reducers reducer reducers s.0 in
-      (codes "put" ∷ decimal strand ∷ w.0 ∷ decimal value ∷ mark_word ∷ [], ((a_strand, decimal strand) ∷ (ReducerName, w.0) ∷ (a_value, decimal value) ∷ (Mark, mark_word) ∷ [],
-      (decimal strand ∷ w.0 ∷ decimal value ∷ mark_word ∷ [], refl, tt, refl), (strand_means, ((w.1, w.2), (value_means value s.1, (mark_means, tt))))))
+      let w = reducer_found known.version known.reducers reducer reducers s.0 in (
+        codes "put" ∷ decimal strand ∷ w.0 ∷ decimal value ∷ mark_word ∷ [],
+        (
+          (a_strand, decimal strand) ∷ (ReducerName, w.0) ∷ (a_value, decimal value) ∷ (Mark, mark_word) ∷ [],
+          (decimal strand ∷ w.0 ∷ decimal value ∷ mark_word ∷ [], refl, tt, refl),
+          (strand_means, ((w.1, w.2), (value_means value s.1, (mark_means, tt)))),
+        ),
+      )
   says_request (Act.Get reducer) s =
-      let w = reducer_found known.version known.reducers reducer reducers s in
-      (codes "get" ∷ decimal strand ∷ w.0 ∷ mark_word ∷ [], ((a_strand, decimal strand) ∷ (ReducerName, w.0) ∷ (Mark, mark_word) ∷ [],
-      (decimal strand ∷ w.0 ∷ mark_word ∷ [], refl, tt, refl), (strand_means, ((w.1, w.2), (mark_means, tt)))))
+      let w = reducer_found known.version known.reducers reducer reducers s in (
+        codes "get" ∷ decimal strand ∷ w.0 ∷ mark_word ∷ [],
+        (
+          (a_strand, decimal strand) ∷ (ReducerName, w.0) ∷ (Mark, mark_word) ∷ [],
+          (decimal strand ∷ w.0 ∷ mark_word ∷ [], refl, tt, refl),
+          (strand_means, ((w.1, w.2), (mark_means, tt))),
+        ),
+      )

@@ -1,6 +1,6 @@
 -- The plain text of the trace of a run means that trace.
 use Rattle.std.proofs.Common.{◌≡◌, ℕ, ◌+◌, ◌≤◌, ◌<◌, ◌∷◌, ◌++◌, [], List, Bool, true, false, cond, length, map, arith, refl, sym, ap, ◌∙◌, subst, append_assoc}
-use Rattle.std.specs.Prelude.{Option, Some, None, IsTrue, unwrap_or, is_some}
+use Rattle.std.specs.Prelude.{Option, Some, None, unwrap_or, is_some}
 use Rattle.std.specs.List.{AllByRecursion}
 use Rattle.std.proofs.lemmas.List.{append-nil, map_push, length_push}
 use Rattle.std.proofs.lemmas.List.Elements.{recursion_from_All}
@@ -9,20 +9,19 @@ use Rattle.trace_values.specs.declared.value.Act.{Act}
 use Rattle.trace_values.specs.declared.value.Mem.{Mem}
 use Rattle.trace_values.specs.declared.value.Reducer.{Reducer}
 use Rattle.trace_values.specs.declared.value.TraceLine.{TraceLine}
-use Rattle.trace_values.specs.Text.{lines, IsTextLine}
+use Rattle.trace_values.specs.Text.{lines}
 use Rattle.trace_values.specs.Limits.{max_cells, max_reducers, max_requests, max_lines}
 use Rattle.trace_values.specs.Values.{Known, Contents}
 use Rattle.trace_values.specs.Declarations.{cells_of, memory_at}
 use Rattle.trace_text.specs.declared.keyword.Keyword.TheVariants.{Mem as MemWord, Reducer as ReducerWord}
 use Rattle.trace_text.specs.Lines.{OfName, OfNumber, OfMonoid, asks, operands, if_there}
-use Rattle.trace_text.specs.Grammar.{Declared, Reduces, Asked, LineMeans, LinesMean, LinesOfTrace, TextMeans, extended, nothing}
+use Rattle.trace_text.specs.Grammar.{Declared, Reduces, Asked, LineMeans, LinesMean, LinesOfTrace, extended, nothing}
 use Rattle.trace_text.specs.Printing.{Entry as Line, OfMemory, OfReducer, OfRequest, entry_text, length_of, plain_line, plain_lines, plain_text, lines_from, entries as lines_in}
 use Rattle.trace_text.proofs.Kept.{IsKept, kept_extended, kept_nothing, cells_push, cells_cons}
 use Rattle.trace_text.proofs.PlainWords.{AreText, lines_ended}
 use Rattle.trace_text.proofs.PlainPlaces.{says_plain}
 use Rattle.trace_text.proofs.PlainLines.{plain_header}
 use Rattle.race_gate.specs.declared.answer.Entry.{Entry}
-use Rattle.program_text.specs.Drafts.{Contents as Program}
 use Rattle.run_traces.specs.Traces.{mems_from, reducers_from, requests_from, behind_declarations, known_in_trace, trace_contents}
 use Rattle.run_traces.specs.Fitting.{IsSayable, IsFitting}
 use Rattle.run_traces.specs.Laws.{MeaningLaw}
@@ -70,7 +69,7 @@ module _ (version : Version) where
       let few : cells_of done + mem.cells ≤ max_cells = h.4 in
       let count : unwrap_or (length_of mem) 1 ≡ mem.cells = count_is mem.array mem.cells h.5 in
       let says = says_memory known mem.name (length_of mem) h.0 (no_memory done mem.name h.1, refl)
-          (λ n e. let same : mem.cells ≡ n = count_in mem.array mem.cells n e in (omega (arith, low, same), omega (arith, few, same))) in
+      (λ n e. let same : mem.cells ≡ n = count_in mem.array mem.cells n e in (omega (arith, low, same), omega (arith, few, same))) in
       let plain = says_plain known kept.numbered kept.not_empty says.0 MemWord (OfName mem.name ∷ if_there (length_of mem)) says.1 in
       subst (λ (text : List ℕ). LineMeans at (with_mems done) text (Declared mem.name (length_of mem))) (memory_text known printed mem.name (length_of mem))
       (l, plain.0, plain.1, refl, omega (arith, few, count))
@@ -97,14 +96,13 @@ module _ (version : Version) where
       let m = memory_line printed at done mem (omega (arith, e, l)) kept h.0 in
       let next : extended at (with_mems done) item ≡ with_mems (done ++ line ∷ []) = ap (λ (x : Mem). with_mems (done ++ x ∷ [])) (memory_is at done mem h.0) in
       let names : map name_of (done ++ line ∷ []) ≡ map name_of done ++ mem.name ∷ [] = map_push name_of done line in
-      let cells : cells_of (done ++ line ∷ []) ≡ cells_of done + mem.cells = cells_push done line in
-      (
+      let cells : cells_of (done ++ line ∷ []) ≡ cells_of done + mem.cells = cells_push done line in (
         item,
         m,
         subst (λ (c : Contents). LinesMean (at + 1) c (map (entry_text printed) (map OfMemory (mems_from (at + 1) rest) ++ more)) contents) (sym next)
-        (mems_mean printed contents more (at + 1) after (done ++ line ∷ []) rest all (omega (arith, e)) (f ∙ sym (append_assoc done (line ∷ []) (mems_from (at + 1) rest))) l
-        (subst IsKept next (kept_extended at (with_mems done) (entry_text printed (OfMemory line)) kept item m))
-        (subst (λ (ns : List (List ℕ)). AreMemories ns (cells_of (done ++ line ∷ [])) rest) (sym names) (subst (λ (n : ℕ). AreMemories (map name_of done ++ mem.name ∷ []) n rest) (sym cells) h.1)) then),
+            (mems_mean printed contents more (at + 1) after (done ++ line ∷ []) rest all (omega (arith, e)) (f ∙ sym (append_assoc done (line ∷ []) (mems_from (at + 1) rest))) l
+            (subst IsKept next (kept_extended at (with_mems done) (entry_text printed (OfMemory line)) kept item m))
+            (subst (λ (ns : List (List ℕ)). AreMemories ns (cells_of (done ++ line ∷ [])) rest) (sym names) (subst (λ (n : ℕ). AreMemories (map name_of done ++ mem.name ∷ []) n rest) (sym cells) h.1)) then),
       )
 
   -- ---- the line of a reducer
@@ -133,13 +131,12 @@ module _ (version : Version) where
         let line : Reducer = record reducer { line = at } in
         let item = Reduces reducer.name reducer.monoid in
         let m = reducer_line printed at done reducer (omega (arith, e, l)) kept h.0 apart.0 (omega (arith, few)) in
-        let names : map reducer_name (done ++ line ∷ []) ≡ map reducer_name done ++ reducer.name ∷ [] = map_push reducer_name done line in
-        (
+        let names : map reducer_name (done ++ line ∷ []) ≡ map reducer_name done ++ reducer.name ∷ [] = map_push reducer_name done line in (
           item,
           m,
           reducers_mean printed contents more (at + 1) after (done ++ line ∷ []) rest all (omega (arith, e)) (f ∙ sym (append_assoc done (line ∷ []) (reducers_from (at + 1) rest))) l
-          (kept_extended at (with_reducers mems done) (entry_text printed (OfReducer line)) kept item m)
-          (subst (λ (ns : List (List ℕ)). AreReducers version ns rest) (sym names) h.1) apart.1 (omega (arith, few, length_push done line)) then,
+              (kept_extended at (with_reducers mems done) (entry_text printed (OfReducer line)) kept item m)
+              (subst (λ (ns : List (List ℕ)). AreReducers version ns rest) (sym names) h.1) apart.1 (omega (arith, few, length_push done line)) then,
         )
 
 -- ---- the line of a request
@@ -158,12 +155,11 @@ module _ (known : Known) (memories : AreMemories [] 0 known.mems) (reducers : Ar
   requests_mean at done all [] f l few kept fit = ap (asked known) (f ∙ append-nil done)
   requests_mean at done all (entry ∷ rest) f l few kept fit =
       let line : TraceLine = record { at = at; request = entry.request; marked = true } in
-      let m = request_line at done entry (omega (arith, l)) kept fit.0 (omega (arith, few)) in
-      (
+      let m = request_line at done entry (omega (arith, l)) kept fit.0 (omega (arith, few)) in (
         Asked line,
         m,
         requests_mean (at + 1) (done ++ line ∷ []) all rest (f ∙ sym (append_assoc done (line ∷ []) (requests_from (at + 1) rest))) (omega (arith, l)) (omega (arith, few, length_push done line))
-        (kept_extended at (asked known done) (entry_text known (OfRequest line)) kept (Asked line) m) fit.1,
+            (kept_extended at (asked known done) (entry_text known (OfRequest line)) kept (Asked line) m) fit.1,
       )
 
 -- ---- the declarations on other lines

@@ -1,14 +1,12 @@
 -- What the trace of a run is.
 use Rattle.std.specs.Prelude.{ℕ, ◌≡◌, ◌≤◌, List, length, map, reverse}
-use Rattle.trace_values.specs.Limits.{max_requests}
 use Rattle.trace_values.specs.Declarations.{cells_of}
-use Rattle.trace_values.specs.Values.{Known, Contents as TraceContents}
+use Rattle.trace_values.specs.Values.{Known}
 use Rattle.trace_text.specs.Grammar.{TextMeans as TraceMeans}
 use Rattle.trace_text.specs.Printing.{plain_text}
 use Rattle.program_text.specs.Drafts.{Contents}
 use Rattle.program_text.specs.Grammar.{TextMeans}
 use Rattle.race_gate.specs.declared.answer.Entry.{Entry}
-use Rattle.race_gate.specs.Entries.{Entries}
 use Rattle.race_gate.specs.Shapes.{Shape, most_entries}
 use Rattle.program_runs.specs.Runs.{IsRun}
 use Rattle.run_traces.specs.Traces.{trace_contents}

@@ -1,8 +1,7 @@
 -- The trace of a run: what its text is to mean.
-use Rattle.std.specs.Prelude.{ℕ, ◌+◌, true, List, [], ◌∷◌, length, map}
+use Rattle.std.specs.Prelude.{ℕ, ◌+◌, true, List, [], ◌∷◌, length}
 use Rattle.trace_values.specs.declared.value.Mem.{Mem}
 use Rattle.trace_values.specs.declared.value.Reducer.{Reducer}
-use Rattle.trace_values.specs.declared.value.Request.{Request}
 use Rattle.trace_values.specs.declared.value.TraceLine.{TraceLine}
 use Rattle.trace_values.specs.Values.{Known, Contents as TraceContents}
 use Rattle.program_text.specs.Drafts.{Contents}
