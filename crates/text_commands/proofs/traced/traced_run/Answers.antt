@@ -1,9 +1,5 @@
-use Rattle.std.proofs.Common.{rules, arith, ◌≡◌, List, subst, sym}
-use Rattle.race_gate.specs.declared.answer.Entry.{Entry}
-use Rattle.trace_text.specs.Printing.{plain_text}
-use Rattle.program_text.specs.Programs.{contents}
-use Rattle.run_traces.specs.Traces.{trace_contents}
-use Rattle.text_commands.proofs.CleanReports.{tells_run, traced_tells}
+use Rattle.std.proofs.Common.{rules, arith}
+use Rattle.text_commands.proofs.CleanReports.{traced_tells}
 use Rattle.text_commands.proofs.traced.traced_run.Goals as goal
 
 pub returns-clause-ok : goal.returns-clause-ok
