@@ -1,0 +1,5 @@
+pub mod Arrows
+pub mod Walks
+pub mod Told
+pub mod Drawn
+pub mod Laws
