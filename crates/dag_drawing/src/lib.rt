@@ -8,6 +8,8 @@
 
 mod drawing;
 pub mod laws;
+#[cfg(test)]
+mod tests;
 mod text;
 mod walk;
 
