@@ -1,6 +1,5 @@
 -- What is drawn is what the walk over the entries found.
-use Rattle.std.proofs.Common.{◌≡◌, ◌⊎◌, inl, inr, ◌↔◌, ℕ, zero, suc, ◌+◌, ◌<◌, ◌≤◌, Bool, true, false, cond, List, [], ◌∷◌, length, get_or, filter, Contains, Option, Some, None, refl, sym, ap, ◌∙◌, subst, arith}
-use Rattle.std.specs.List.Sorted.{IsStrictlyIncreasing}
+use Rattle.std.proofs.Common.{◌≡◌, ◌⊎◌, inl, inr, ℕ, zero, suc, ◌+◌, ◌<◌, ◌≤◌, Bool, true, false, cond, List, [], ◌∷◌, length, get_or, filter, Option, refl, sym, ap, ◌∙◌, subst, arith}
 use Rattle.control_history.specs.History.{History}
 use Rattle.control_history.specs.Strands.{Status, absent, reserved, running, over, status, Begun, unused}
 use Rattle.control_history.proofs.Members.{Present, contains_present}

@@ -1,5 +1,5 @@
 -- The edges of the dag, told apart by their kinds, and as a list.
-use Rattle.std.proofs.Common.{◌≡◌, ◌⊎◌, inl, inr, ◌↔◌, ℕ, List, [], ◌∷◌, ◌++◌, Bool, Option, Some, None, refl, sym, subst}
+use Rattle.std.proofs.Common.{◌≡◌, ◌⊎◌, inl, inr, ℕ, List, [], ◌∷◌, ◌++◌, Bool, Option, Some, None, refl, sym, subst}
 use Rattle.control_history.specs.History.{Event, split, same, joined, waits, call, resumed, ended, ended_joined, finished, History}
 use Rattle.control_history.specs.Blocks.{stack, enclosing}
 use Rattle.control_history.specs.Dag.{Forks, Arrives, Edge as EdgeOfDag}

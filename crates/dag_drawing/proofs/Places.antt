@@ -1,14 +1,14 @@
 -- Which strands have begun, and the blocks round them, after one more event.
-use Rattle.std.proofs.Common.{◌≡◌, ◌≢◌, ◌⊎◌, inl, inr, ℕ, suc, ◌+◌, ◌-◌, ◌<◌, ◌≤◌, Bool, true, false, List, [], ◌∷◌, ◌++◌, length, get_or, set, Option, Some, None, refl, sym, ap, ◌∙◌, subst, arith}
+use Rattle.std.proofs.Common.{◌≡◌, ◌≢◌, ◌⊎◌, inl, inr, ℕ, suc, ◌+◌, ◌-◌, ◌<◌, ◌≤◌, Bool, true, false, List, [], ◌∷◌, ◌++◌, length, get_or, set, Option, Some, None, refl, sym, ap, ◌∙◌, arith}
 use Rattle.std.proofs.Math.ListN.{get_or-append}
 use Rattle.std.proofs.Math.Seq.{get_or-append_right}
 use Rattle.std.proofs.lemmas.List.{length-append, length-set, get_or-set_other}
 use Rattle.std.proofs.lemmas.Grind.{get_or-set_at}
 use Rattle.control_history.specs.Updated.{updated}
-use Rattle.control_history.specs.History.{Event, split, same, joined, waits, call, resumed, ended, ended_joined, finished, History}
-use Rattle.control_history.specs.Strands.{Status, absent, running, over, status, Running, Begun, unused}
-use Rattle.control_history.specs.Blocks.{Stack, stack, enclosing}
-use Rattle.control_history.specs.Legal.{Allowed, open_split, next_split, sync_same, sync_joined, sync_waits, function_call, called_return, child_return, last_return, root_return, Legal, start, then as later}
+use Rattle.control_history.specs.History.{split, same, joined, waits, call, resumed, ended, ended_joined, finished, History}
+use Rattle.control_history.specs.Strands.{absent, running, over, status, Running, unused}
+use Rattle.control_history.specs.Blocks.{stack, enclosing}
+use Rattle.control_history.specs.Legal.{Allowed, open_split, next_split, Legal, start, then as later}
 use Rattle.control_history.proofs.Updates.{same_or_not, updated_at, updated_case}
 use Rattle.control_history.proofs.Places.{place, join_of, enclosing_is, place_called, place_resumed, below_or_beyond, running_below, Seen, at_child, at_next, at_join, at_spawner, elsewhere}
 use Rattle.control_history.proofs.Range.{Numbered, numbered, block_below, ranges}

@@ -1,6 +1,4 @@
 use Rattle.std.proofs.Common.{ap, ◌∙◌, arith, rules}
-use Rattle.std.specs.List.Sorted.{IsPermutation, IsStableByKey}
-use Rattle.std.specs.Ordering.{nat_cmp}
 use Rattle.std.proofs.lemmas.List.Sorted.{IsNonDecreasingBy-from_sort_by_key, answers_always}
 use Rattle.dag_drawing.specs.Drawn.{marked_from, strand_of}
 use Rattle.dag_drawing.proofs.Drawn.{are_strands, are_edges}

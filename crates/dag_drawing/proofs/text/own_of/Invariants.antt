@@ -1,4 +1,4 @@
-use Rattle.std.proofs.Common.{◌≡◌, ◌++◌, ◌+◌, drop}
+use Rattle.std.proofs.Common.{◌≡◌, ◌+◌, drop}
 use Rattle.dag_drawing.specs.Texts.{count_own}
 use Rattle.dag_drawing.proofs.text.own_of.Given as goal
 

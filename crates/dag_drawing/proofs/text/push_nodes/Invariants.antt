@@ -1,4 +1,4 @@
-use Rattle.std.proofs.Common.{◌≡◌, ◌++◌, ◌+◌, drop}
+use Rattle.std.proofs.Common.{◌≡◌, ◌++◌, drop}
 use Rattle.dag_drawing.specs.Texts.{nodes_text}
 use Rattle.dag_drawing.proofs.text.push_nodes.Given as goal
 
