@@ -3,3 +3,4 @@ pub mod Climbing
 pub mod Numbers
 pub mod Parted
 pub mod Asked
+mod Framed

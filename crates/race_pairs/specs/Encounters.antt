@@ -1,0 +1,1 @@
+-- How the strands of a refused access and its witness came about.

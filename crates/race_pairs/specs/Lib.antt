@@ -1,0 +1,5 @@
+pub mod Refusals
+pub mod Firsts
+pub mod Pairs
+pub mod Places
+pub mod Encounters
