@@ -3,4 +3,5 @@ pub mod Climbing
 pub mod Numbers
 pub mod Parted
 pub mod Asked
-mod Framed
+pub mod Framed
+pub mod Outstanding

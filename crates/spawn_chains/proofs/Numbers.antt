@@ -198,7 +198,7 @@ spawn_in told number some d found answer =
 
 -- The makers after one more of the entries in a slice.
 
-number_next : (told : List Entry) (i : ℕ) → i < length told → suc (length (reverse (take i told))) ≡ i + 1
+pub number_next : (told : List Entry) (i : ℕ) → i < length told → suc (length (reverse (take i told))) ≡ i + 1
 number_next told i below = omega (arith, length-reverse (take i told), length-take-le i told (omega arith))
 
 legal_next : (told : List Entry) (i : ℕ) (d : Entry) → i < length told → Legal (control_part (reverse told)) →
