@@ -1,5 +1,5 @@
 -- What one entry tells of a refusal.
-use Rattle.std.specs.Prelude.{ℕ, suc, List, [], ◌∷◌, Option, Some, None, slice_get, unwrap_or, option_and_then}
+use Rattle.std.specs.Prelude.{◌≡◌, ℕ, suc, List, [], ◌∷◌, Option, Some, None, slice_get, unwrap_or, option_and_then}
 use Rattle.std.specs.Option.{option_map}
 use Rattle.access_table.specs.declared.kind.Kind.{Kind}
 use Rattle.access_table.specs.declared.kind.Rule.{Rule}
@@ -54,3 +54,7 @@ refusal_at told number = option_and_then refusal_told (entry_at told number)
 -- and its lines
 abbrev pub lines_at : List Entry → ℕ → Option Lines
 lines_at told number = option_map (lines_of told) (refusal_at told number)
+
+-- the entry with this number is a refusal with these lines
+abbrev pub HasLines : List Entry → ℕ → Lines → Type 0
+HasLines told number lines = lines_at told number ≡ Some lines

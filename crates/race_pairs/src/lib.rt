@@ -9,13 +9,13 @@
 
 mod encounter;
 mod onward;
-mod places;
+mod place_list;
 mod refusal;
 mod tally;
 #[cfg(test)]
 mod tests;
 
 pub use encounter::Encounter;
-pub use places::places;
+pub use place_list::places;
 pub use refusal::{Lines, Reason, Refusal, entry_at, line_at, refusal_of};
 pub use tally::{Pair, pairs};

@@ -1,6 +1,7 @@
 //! The pairs of lines that raced, counted.
 
-ghost use Rattle.std.specs.Prelude.{◌≡◌, ◌+◌, IfOk, OnOk};
+ghost use Rattle.std.specs.Prelude.{◌≡◌, ◌<◌, length, IfOk, OnOk};
+ghost use Rattle.race_pairs.specs.Pairs.{ArePairs};
 
 use crate::refusal::{Lines, lines_of, refusal_at};
 use race_gate::Entry;
@@ -28,10 +29,18 @@ pub struct Tally<A: Allocator> {
 }
 
 impl<A: Allocator + Copy> Tally<A> {
-    /// Counts one more refusal with these lines.
-    fn count(&mut self, lines: Lines, number: usize, witness: usize) -> Result<(), AllocError> {
-        let at = self.places.get(&lines).copied();
-        if let Some(place) = at {
+    /// Counts the entry behind so many others, where it is a refusal.
+    fn enter(&mut self, entries: &[Entry], before: usize) -> Result<(), AllocError>
+        requires within { before < length entries.now }
+        ensures { OnOk result (0 ≡ 1) }
+    {
+        let number = before + 1;
+        let Some(refusal) = refusal_at(entries, number) else {
+            return Ok(());
+        };
+        let lines = lines_of(entries, refusal);
+        let known = self.places.get(&lines).copied();
+        if let Some(place) = known {
             self.pairs[place].times += 1;
             return Ok(());
         }
@@ -39,18 +48,10 @@ impl<A: Allocator + Copy> Tally<A> {
         self.pairs.push(Pair {
             lines,
             first: number,
-            witness,
+            witness: refusal.witness,
             times: 1,
         })?;
         Ok(())
-    }
-
-    /// Counts the entry with the next number, where it is a refusal.
-    fn enter(&mut self, entries: &[Entry], number: usize) -> Result<(), AllocError> {
-        match refusal_at(entries, number) {
-            Some(refusal) => self.count(lines_of(entries, refusal), number, refusal.witness),
-            None => Ok(()),
-        }
     }
 }
 
@@ -59,13 +60,15 @@ impl<A: Allocator + Copy> Tally<A> {
 pub fn pairs<A: Allocator + Copy>(
     alloc: A,
     entries: &[Entry],
-) -> Result<Vec<Pair, A>, AllocError> {
+) -> Result<Vec<Pair, A>, AllocError>
+    ensures { IfOk result (λ pairs. ArePairs entries.now pairs.items) }
+{
     let mut tally = Tally {
         pairs: Vec::new(alloc),
         places: HashMap::new(alloc),
     };
     for before in 0..entries.len() {
-        tally.enter(entries, before + 1)?;
+        tally.enter(entries, before)?;
     }
     let Tally { pairs, places: _ } = tally;
     Ok(pairs)

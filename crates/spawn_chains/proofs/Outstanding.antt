@@ -1,7 +1,7 @@
 -- A spawn that is outstanding at a strand: the other one of the strands that it began is parallel to it.
-use Rattle.std.proofs.Common.{◌≡◌, ◌≢◌, ◌⊎◌, inl, inr, ℕ, zero, suc, ◌+◌, ◌<◌, ◌≤◌, true, false, List, [], ◌∷◌, ◌++◌, length, get_or, Option, Some, None, refl, sym, ap, ◌∙◌, subst, append_assoc, arith}
+use Rattle.std.proofs.Common.{◌≡◌, ◌≢◌, ◌⊎◌, inl, inr, ℕ, zero, suc, ◌<◌, true, false, List, [], ◌∷◌, ◌++◌, get_or, Option, Some, None, refl, sym, ap, ◌∙◌, subst, append_assoc, arith}
 use Rattle.std.specs.Prelude.{MatchOption, IfSome}
-use Rattle.addresses.specs.Address.{Word, child, next, join, Address, reaches, parallel, IsPrefix}
+use Rattle.addresses.specs.Address.{Word, child, next, join, Address, parallel, IsPrefix}
 use Rattle.addresses.proofs.Extensions.{parallel-append}
 use Rattle.addresses.proofs.Blocks.{prefix-reaches}
 use Rattle.sp_labels.specs.declared.answer.Spawned.{Spawned}

@@ -1,7 +1,6 @@
-use Rattle.std.proofs.Common.{List, ℕ, inl, inr, length, reverse, ap, sym, ◌∙◌, subst, arith}
-use Rattle.spawn_chains.specs.Makers.{IsLineage}
+use Rattle.std.proofs.Common.{inl, inr, reverse, ◌∙◌}
 use Rattle.spawn_chains.proofs.Parted.{lineage_of, begun_within, some_spawn}
-use Rattle.spawn_chains.proofs.Outstanding.{some_maker, outstanding_told, climbed_first, climbed_second, swapped}
+use Rattle.spawn_chains.proofs.Outstanding.{some_maker, outstanding_told, swapped}
 use Rattle.spawn_chains.proofs.lineage.Lineage.outstanding.Goals as goal
 use Rattle.spawn_chains.proofs.lineage.Lineage.outstanding.Goals.{then-two-spawned, else-two-spawned}
 
