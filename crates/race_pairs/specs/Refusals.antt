@@ -1,5 +1,5 @@
 -- What one entry tells of a refusal.
-use Rattle.std.specs.Prelude.{◌≡◌, ℕ, suc, List, [], ◌∷◌, Option, Some, None, slice_get, unwrap_or, option_and_then}
+use Rattle.std.specs.Prelude.{◌≡◌, ℕ, zero, suc, List, [], ◌∷◌, Option, Some, None, slice_get, unwrap_or, option_and_then}
 use Rattle.std.specs.Option.{option_map}
 use Rattle.access_table.specs.declared.kind.Kind.{Kind}
 use Rattle.access_table.specs.declared.kind.Rule.{Rule}
@@ -36,7 +36,7 @@ refusal_told entry = option_and_then (refusal_asked entry.request.line entry.ans
 
 -- the entry with this number, from 1 on, of entries that stand oldest first
 abbrev pub entry_at : List Entry → ℕ → Option Entry
-entry_at told 0 = None
+entry_at told zero = None
 entry_at told (suc before) = slice_get told before
 
 -- the line of the entry with this number, and 0 where there is none

@@ -1,5 +1,11 @@
 //! How the strands of a refused access and its witness came about.
 
+ghost use Rattle.std.specs.Prelude.{◌≡◌, reverse, IfOk, MatchOption};
+ghost use Rattle.race_gate.specs.Shapes.{Shape};
+ghost use Rattle.race_gate.specs.Legal.{IsLegal};
+ghost use Rattle.spawn_chains.specs.Makers.{IsLineage};
+ghost use Rattle.race_pairs.specs.Encounters.{chain_at, strand_at, strands_of, PartAt, GoesOn, IsOpenAt};
+
 use crate::onward::toward;
 use crate::refusal::{Reason, entry_at};
 use crate::tally::Pair;
@@ -27,18 +33,30 @@ fn chain_at<A: Allocator>(
     alloc: A,
     entries: &[Entry],
     number: usize,
-) -> Result<Vec<usize, A>, AllocError> {
+) -> Result<Vec<usize, A>, AllocError>
+    ensures { IfOk result (λ chain. chain.items ≡ chain_at entries.now number) }
+{
     match entry_at(entries, number) {
         Some(entry) => chain(alloc, &entries[..number - 1], entry.request.strand),
         None => Ok(Vec::new(alloc)),
     }
 }
 
+/// The strand of the entry with this number.
+fn strand_at(entries: &[Entry], number: usize) -> Option<u32>
+    ensures { result ≡ strand_at entries.now number }
+{
+    let entry = entry_at(entries, number)?;
+    Some(entry.request.strand)
+}
+
 /// The strands of the refused access and of its witness.
-fn strands_of(entries: &[Entry], pair: Pair) -> Option<(u32, u32)> {
-    let refused = entry_at(entries, pair.first)?;
-    let witness = entry_at(entries, pair.witness)?;
-    Some((refused.request.strand, witness.request.strand))
+fn strands_of(entries: &[Entry], pair: Pair) -> Option<(u32, u32)>
+    ensures { result ≡ strands_of entries.now pair }
+{
+    let refused = strand_at(entries, pair.first)?;
+    let witness = strand_at(entries, pair.witness)?;
+    Some((refused, witness))
 }
 
 /// The spawn at which the two strands part.
@@ -46,7 +64,11 @@ fn parting_of<A: Allocator>(
     lineage: &Lineage<A>,
     entries: &[Entry],
     pair: Pair,
-) -> Option<Parting> {
+) -> Option<Parting>
+    requires lineage { IsLineage lineage.now (reverse entries.now) }
+    requires legal { (shape : Shape) × IsLegal shape (reverse entries.now) }
+    ensures { PartAt entries.now pair result }
+{
     let (refused, witness) = strands_of(entries, pair)?;
     lineage.parting(entries, refused, witness)
 }
@@ -56,12 +78,18 @@ fn outstanding_of<A: Allocator>(
     lineage: &Lineage<A>,
     entries: &[Entry],
     pair: Pair,
-) -> Option<OpenSpawn> {
-    if pair.lines.reason != Reason::ViewRead {
-        return None;
+) -> Option<OpenSpawn>
+    requires lineage { IsLineage lineage.now (reverse entries.now) }
+    requires legal { (shape : Shape) × IsLegal shape (reverse entries.now) }
+    ensures { IsOpenAt entries.now pair result }
+{
+    match pair.lines.reason {
+        Reason::ViewRead => {
+            let (refused, witness) = strands_of(entries, pair)?;
+            lineage.outstanding(entries, witness, refused)
+        }
+        _ => None,
     }
-    let (refused, witness) = strands_of(entries, pair)?;
-    lineage.outstanding(entries, witness, refused)
 }
 
 /// Where the strand that goes on behind the spawn comes to.
@@ -71,14 +99,20 @@ fn onward_of(
     pair: Pair,
     chain: &[usize],
     witness_chain: &[usize],
-) -> Option<usize> {
+) -> Option<usize>
+    requires part { PartAt entries.now pair parting }
+    requires chain { chain.now ≡ chain_at entries.now pair.first }
+    requires witness_chain { witness_chain.now ≡ chain_at entries.now pair.witness }
+    ensures { GoesOn entries.now pair parting result }
+{
     let parting = parting?;
-    let (refused, _) = strands_of(entries, pair)?;
-    Some(if parting.by_next == refused {
-        toward(parting.entry, pair.first, chain)
+    let refused = strand_at(entries, pair.first)?;
+    let (access, frames) = if parting.by_next == refused {
+        (pair.first, chain)
     } else {
-        toward(parting.entry, pair.witness, witness_chain)
-    })
+        (pair.witness, witness_chain)
+    };
+    Some(toward(parting.entry, access, frames))
 }
 
 impl<A: Allocator + Copy> Encounter<A> {
@@ -89,7 +123,15 @@ impl<A: Allocator + Copy> Encounter<A> {
         lineage: &Lineage<A>,
         entries: &[Entry],
         pair: &Pair,
-    ) -> Result<Encounter<A>, AllocError> {
+    ) -> Result<Encounter<A>, AllocError>
+        requires lineage { IsLineage lineage.now (reverse entries.now) }
+        requires legal { (shape : Shape) × IsLegal shape (reverse entries.now) }
+        ensures chain { IfOk result (λ encounter. encounter.chain.items ≡ chain_at entries.now pair.now.first) }
+        ensures witness_chain { IfOk result (λ encounter. encounter.witness_chain.items ≡ chain_at entries.now pair.now.witness) }
+        ensures parting { IfOk result (λ encounter. PartAt entries.now pair.now encounter.parting) }
+        ensures onward { IfOk result (λ encounter. GoesOn entries.now pair.now encounter.parting encounter.onward) }
+        ensures outstanding { IfOk result (λ encounter. IsOpenAt entries.now pair.now encounter.outstanding) }
+    {
         let parting = parting_of(lineage, entries, *pair);
         let outstanding = outstanding_of(lineage, entries, *pair);
         let chain = chain_at(alloc, entries, pair.first)?;

@@ -1,6 +1,6 @@
 //! The pairs of lines that raced, counted.
 
-ghost use Rattle.std.specs.Prelude.{◌≡◌, ◌<◌, length, IfOk, OnOk};
+ghost use Rattle.std.specs.Prelude.{◌≡◌, ◌<◌, ℕ, length, IfOk, OnOk};
 ghost use Rattle.race_pairs.specs.Pairs.{ArePairs};
 
 use crate::refusal::{Lines, lines_of, refusal_at};
@@ -32,7 +32,7 @@ impl<A: Allocator + Copy> Tally<A> {
     /// Counts the entry behind so many others, where it is a refusal.
     fn enter(&mut self, entries: &[Entry], before: usize) -> Result<(), AllocError>
         requires within { before < length entries.now }
-        ensures { OnOk result (0 ≡ 1) }
+        ensures { OnOk result (◌≡◌ {A = ℕ} 0 1) }
     {
         let number = before + 1;
         let Some(refusal) = refusal_at(entries, number) else {
