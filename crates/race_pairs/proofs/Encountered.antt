@@ -1,0 +1,1 @@
+-- How the strands of a pair came about.

@@ -1,0 +1,1 @@
+-- The places of a pair as the entries go on.
