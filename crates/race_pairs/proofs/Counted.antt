@@ -59,7 +59,7 @@ firsts_at pairs k d lt = get_or-map (λ (pair : Pair). pair.first) pairs k d d.f
 is_first : (told : List Entry) (last : ℕ) (pairs : List Pair) → ArePairsUpTo told last pairs → (k : ℕ) (d : Pair) → k < length pairs →
     ((get_or pairs k d).first ≤ last) × IsFirst (HasLines told) (get_or pairs k d).first
 is_first told last pairs up k d lt =
-    let within : k < length (map (λ (pair : Pair). pair.first) pairs) = omega (arith, length-map (λ (pair : Pair). pair.first) pairs) in
+    let within : k < length (map (λ (pair : Pair). pair.first) pairs) = omega (arith, length-map pairs (λ (pair : Pair). pair.first)) in
     (up.firsts.each (get_or pairs k d).first).0
     (subst (Contains (map (λ (pair : Pair). pair.first) pairs)) (firsts_at pairs k d lt) (Contains-get_or (map (λ (pair : Pair). pair.first) pairs) k d.first within))
 
@@ -78,7 +78,7 @@ apart told last pairs up i j d li lj e = go (below_or_beyond i j) (below_or_beyo
 
     less : (m n : ℕ) → m < n → m < length pairs → n < length pairs → (get_or pairs m d).first < (get_or pairs n d).first
     less m n lt lm ln =
-        let within : n < length firsts = omega (arith, length-map (λ (pair : Pair). pair.first) pairs) in
+        let within : n < length firsts = omega (arith, length-map pairs (λ (pair : Pair). pair.first)) in
         let rises = up.firsts.rise m n d.first lt within in
         let at_m = firsts_at pairs m d lm in
         let at_n = firsts_at pairs n d ln in omega arith
@@ -87,6 +87,11 @@ apart told last pairs up i j d li lj e = go (below_or_beyond i j) (below_or_beyo
     go (inl lt) other = absurd (let up = less i j lt li lj in omega arith)
     go (inr ge) (inl lt) = absurd (let up = less j i lt lj li in omega arith)
     go (inr ge) (inr le) = omega arith
+
+any_default : (xs : List Pair) (i : ℕ) (d e : Pair) → i < length xs → get_or xs i d ≡ get_or xs i e
+any_default [] i d e lt = absurd (omega arith)
+any_default (x ∷ xs) zero d e lt = refl
+any_default (x ∷ xs) (suc i) d e lt = let less : i < length xs = omega arith in any_default xs i d e less
 
 pub up_hit : (told : List Entry) (last : ℕ) (pairs : List Pair) (place : ℕ) (d : Pair) → place < length pairs → HasLines told (suc last) (get_or pairs place d).lines →
     ArePairsUpTo told last pairs → (more : Pair) → more ≡ record (get_or pairs place d) { times = suc (get_or pairs place d).times } →
@@ -115,11 +120,6 @@ up_hit told last pairs place d within has up more is = record {
         subst (IsPair told (suc last)) (sym (get_or-set_other pairs place k more e there))
         (pair_missed told last (get_or pairs k e) (λ h. there (apart told last pairs up k place e below within
           (single_lines told (suc last) _ _ h (subst (λ (pair : Pair). HasLines told (suc last) pair.lines) (any_default pairs place d e within) has)))) (up.each k e below))
-
-    any_default : (xs : List Pair) (i : ℕ) (d e : Pair) → i < length xs → get_or xs i d ≡ get_or xs i e
-    any_default [] i d e lt = absurd (omega arith)
-    any_default (x ∷ xs) zero d e lt = refl
-    any_default (x ∷ xs) (suc i) d e lt = let less : i < length xs = omega arith in any_default xs i d e less
 
 pub up_new : (told : List Entry) (last : ℕ) (pairs : List Pair) (refusal : Refusal) → refusal_at told (suc last) ≡ Some refusal →
     ((number : ℕ) → number ≤ last → HasLines told number (lines_of told refusal) → ⊥) → ArePairsUpTo told last pairs → (more : Pair) →
@@ -153,3 +153,122 @@ up_new told last pairs refusal refused never up more is = record {
       refusal = refusal; refused = refused; has_lines = refl; has_witness = refl;
       counts = hit (tells_never (HasLines told) (lines_of told refusal) last never) has;
     }
+
+-- The pairs and their index.
+
+unchanged_to : (number last : ℕ) → number ≤ suc last → (number ≤ last) ⊎ (number ≡ suc last)
+unchanged_to number last le = go (below_or_beyond number (suc last))
+  where
+    go : (number < suc last) ⊎ (suc last ≤ number) → (number ≤ last) ⊎ (number ≡ suc last)
+    go (inl lt) = inl (omega arith)
+    go (inr ge) = inr (omega arith)
+
+pub tally_none : (same : Lines → Lines → Bool) (told : List Entry) (last : ℕ) (pairs : List Pair) (index : List (Lines × ℕ)) → refusal_at told (suc last) ≡ None →
+    IsTally same told last pairs index → IsTally same told (suc last) pairs index
+tally_none same told last pairs index none t = record {
+  tallied = up_none told last pairs (no_lines told (suc last) none) t.tallied;
+  known = t.known;
+  unknown = λ lines e number le h. elim (unchanged_to number last le) [
+    | inl old ↦ t.unknown lines e number old h
+    | inr new ↦ no_lines told (suc last) none lines (subst (λ (n : ℕ). HasLines told n lines) new h)
+  ];
+}
+
+pub tally_hit : (same : Lines → Lines → Bool) (told : List Entry) (last : ℕ) (pairs : List Pair) (index : List (Lines × ℕ)) (refusal : Refusal) →
+    refusal_at told (suc last) ≡ Some refusal → (lines : Lines) → lines ≡ lines_of told refusal → (place : ℕ) → lookup (same lines) index ≡ Some place →
+    (d more : Pair) → more ≡ record (get_or pairs place d) { times = suc (get_or pairs place d).times } →
+    IsTally same told last pairs index → IsTally same told (suc last) (set pairs place more) index
+tally_hit same told last pairs index refusal refused lines is place found d more grown t = record {
+  tallied = up_hit told last pairs place d at.0 (subst (HasLines told (suc last)) (sym (at.1 d)) has) t.tallied more grown;
+  known = λ other place' e. (let old = t.known other place' e in
+      let within : place' < length (set pairs place more) = omega (arith, old.0, length-set pairs place more) in
+      (within, λ d'. lines_stay place' d' (same_or_not place' place) ∙ old.1 d'));
+  unknown = λ other e number le h. elim (unchanged_to number last le) [
+    | inl old ↦ t.unknown other e number old h
+    | inr new ↦ absurd (let alike : other ≡ lines = single_lines told (suc last) other lines (subst (λ (n : ℕ). HasLines told n other) new h) has in
+        let there : lookup (same other) index ≡ Some place = ap (λ (x : Lines). lookup (same x) index) alike ∙ found in
+        none_some place (sym e ∙ there))
+  ];
+}
+  where
+    none_some : (x : ℕ) → None ≡ Some x → ⊥
+    none_some x e = cc
+
+    at : (place < length pairs) × ((d' : Pair) → (get_or pairs place d').lines ≡ lines)
+    at = t.known lines place found
+
+    has : HasLines told (suc last) lines
+    has = told_lines told (suc last) refusal refused ∙ ap Some (sym is)
+
+    lines_stay : (place' : ℕ) (d' : Pair) → (place' ≡ place) ⊎ (place' ≢ place) → (get_or (set pairs place more) place' d').lines ≡ (get_or pairs place' d').lines
+    lines_stay place' d' (inl here) =
+        ap (λ (n : ℕ). (get_or (set pairs place more) n d').lines) here ∙
+        (ap (λ (pair : Pair). pair.lines) (get_or-set_same pairs place more d' at.0 ∙ grown) ∙
+        (at.1 d ∙ (sym (at.1 d') ∙ ap (λ (n : ℕ). (get_or pairs n d').lines) (sym here))))
+    lines_stay place' d' (inr there) = ap (λ (pair : Pair). pair.lines) (get_or-set_other pairs place place' more d' there)
+
+pub tally_new : (same : Lines → Lines → Bool) → ((one other : Lines) → same one other ≡ true → one ≡ other) → ((one : Lines) → same one one ≡ true) →
+    (told : List Entry) (last : ℕ) (pairs longer : List Pair) (index indexed : List (Lines × ℕ)) (refusal : Refusal) →
+    refusal_at told (suc last) ≡ Some refusal → (lines : Lines) → lines ≡ lines_of told refusal → lookup (same lines) index ≡ None →
+    ((key : Lines) → lookup (same key) indexed ≡ cond (same lines key) (Some (length pairs)) (lookup (same key) index)) →
+    longer ≡ pairs ++ (record { lines = lines; first = suc last; witness = refusal.witness; times = 1 } ∷ []) →
+    IsTally same told last pairs index → IsTally same told (suc last) longer indexed
+tally_new same decides self told last pairs longer index indexed refusal refused lines is missing indexes grown t = record {
+  tallied = subst (ArePairsUpTo told (suc last)) (sym grown)
+      (up_new told last pairs refusal refused
+      (λ number le h. t.unknown lines missing number le (subst (HasLines told number) (sym is) h)) t.tallied more
+      (ap (λ (x : Lines). record { lines = x; first = suc last; witness = refusal.witness; times = 1 }) is));
+  known = λ key place e. known_at key place (sym (indexes key) ∙ e) (cases_Bool (same lines key));
+  unknown = λ key e number le h. unknown_at key (sym (indexes key) ∙ e) number h (unchanged_to number last le) (cases_Bool (same lines key));
+}
+  where
+    more : Pair
+    more = record { lines = lines; first = suc last; witness = refusal.witness; times = 1 }
+
+    has : HasLines told (suc last) lines
+    has = told_lines told (suc last) refusal refused ∙ ap Some (sym is)
+
+    known_at : (key : Lines) (place : ℕ) → cond (same lines key) (Some (length pairs)) (lookup (same key) index) ≡ Some place →
+        (same lines key ≡ true) ⊎ (same lines key ≡ false) → (place < length longer) × ((d : Pair) → (get_or longer place d).lines ≡ key)
+    known_at key place e (inl yes) =
+        let there : Some (length pairs) ≡ Some place = ap (λ (b : Bool). cond b (Some (length pairs)) (lookup (same key) index)) (sym yes) ∙ e in
+        let place_is : length pairs ≡ place = cc in
+        let len : length longer ≡ length pairs + 1 = ap length grown ∙ length_push pairs more in
+        let within : place < length longer = omega arith in
+        (within, λ d. (ap (λ (xs : List Pair). (get_or xs place d).lines) grown ∙
+            (ap (λ (n : ℕ). (get_or (pairs ++ (more ∷ [])) n d).lines) (sym place_is) ∙
+            (ap (λ (pair : Pair). pair.lines) (get_or-append_seam pairs more [] d) ∙ decides lines key yes))))
+    known_at key place e (inr no) =
+        let old = t.known key place (ap (λ (b : Bool). cond b (Some (length pairs)) (lookup (same key) index)) (sym no) ∙ e) in
+        let len : length longer ≡ length pairs + 1 = ap length grown ∙ length_push pairs more in
+        let lt = old.0 in
+        let within : place < length longer = omega arith in
+        (within, λ d. (ap (λ (xs : List Pair). (get_or xs place d).lines) grown ∙
+            (ap (λ (pair : Pair). pair.lines) (get_or-append pairs (more ∷ []) d place lt) ∙ old.1 d)))
+
+    unknown_at : (key : Lines) → cond (same lines key) (Some (length pairs)) (lookup (same key) index) ≡ None → (number : ℕ) → HasLines told number key →
+        (number ≤ last) ⊎ (number ≡ suc last) → (same lines key ≡ true) ⊎ (same lines key ≡ false) → ⊥
+    unknown_at key e number h at (inl yes) =
+        let there : Some (length pairs) ≡ None = ap (λ (b : Bool). cond b (Some (length pairs)) (lookup (same key) index)) (sym yes) ∙ e in cc
+    unknown_at key e number h (inl old) (inr no) =
+        t.unknown key (ap (λ (b : Bool). cond b (Some (length pairs)) (lookup (same key) index)) (sym no) ∙ e) number old h
+    unknown_at key e number h (inr new) (inr no) =
+        let alike : lines ≡ key = single_lines told (suc last) lines key has (subst (λ (n : ℕ). HasLines told n key) new h) in
+        false≢true (sym no ∙ (ap (same lines) (sym alike) ∙ self lines))
+
+pub tally_first : (same : Lines → Lines → Bool) (told : List Entry) (pairs : List Pair) (index : List (Lines × ℕ)) → pairs ≡ [] → index ≡ [] →
+    IsTally same told 0 pairs index
+tally_first same told pairs index e f = subst (λ (xs : List Pair). IsTally same told 0 xs index) (sym e)
+    (subst (λ (xs : List (Lines × ℕ)). IsTally same told 0 [] xs) (sym f) (record {
+      tallied = record { firsts = firsts_none (HasLines told) (λ key h. cc); each = λ k d lt. absurd (omega arith) };
+      known = λ lines place g. absurd (cc);
+      unknown = λ lines g number le h. (let is : number ≡ 0 = omega arith in no_zero lines (subst (λ (n : ℕ). HasLines told n lines) is h));
+    }))
+  where
+    no_zero : (lines : Lines) → HasLines told 0 lines → ⊥
+    no_zero lines h = cc
+
+pub times_within : (same : Lines → Lines → Bool) (told : List Entry) (last : ℕ) (pairs : List Pair) (index : List (Lines × ℕ)) → IsTally same told last pairs index →
+    (place : ℕ) (d : Pair) → place < length pairs → (get_or pairs place d).times ≤ last
+times_within same told last pairs index t place d lt =
+    tells_within (HasLines told) (get_or pairs place d).lines last (get_or pairs place d).times (t.tallied.each place d lt).counts

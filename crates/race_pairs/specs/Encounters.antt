@@ -33,11 +33,15 @@ PartAt told pair parting =
     MatchOption (strands_of told pair) (parting ≡ None)
     (λ strands. IfSome parting (IsParting (reverse told) strands.0 strands.1) × (IsSome parting ↔ IsParallel (control_part (reverse told)) strands.0 strands.1))
 
--- of these numbers this is the least above a bound, or another one where none is above it
+-- of these numbers this is the least above a bound, where one is above it
+abbrev pub IsLeast : ℕ → List ℕ → Option ℕ → Type 0
+IsLeast bound numbers least =
+    MatchOption least (All (λ number. number ≤ bound) numbers)
+    (λ found. Contains numbers found × (bound < found) × All (λ number. bound < number → found ≤ number) numbers)
+
+-- it is the least of these numbers above a bound, or another one where none is above it
 abbrev pub IsToward : ℕ → ℕ → List ℕ → ℕ → Type 0
-IsToward bound other numbers found =
-    (All (λ number. number ≤ bound) numbers × (found ≡ other)) ⊎
-    (Contains numbers found × (bound < found) × All (λ number. bound < number → found ≤ number) numbers)
+IsToward bound other numbers found = (IsLeast bound numbers None × (found ≡ other)) ⊎ IsLeast bound numbers (Some found)
 
 -- Where the two strands part, this is the first frame behind the spawn of the access whose strand its next strand reaches, or this access.
 abbrev pub GoesOn : List Entry → Pair → Option Parting → Option ℕ → Type 0

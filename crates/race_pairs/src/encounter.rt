@@ -107,12 +107,10 @@ fn onward_of(
 {
     let parting = parting?;
     let refused = strand_at(entries, pair.first)?;
-    let (access, frames) = if parting.by_next == refused {
-        (pair.first, chain)
-    } else {
-        (pair.witness, witness_chain)
-    };
-    Some(toward(parting.entry, access, frames))
+    if parting.by_next == refused {
+        return Some(toward(parting.entry, pair.first, chain));
+    }
+    Some(toward(parting.entry, pair.witness, witness_chain))
 }
 
 impl<A: Allocator + Copy> Encounter<A> {
