@@ -79,13 +79,13 @@ apart told last pairs up i j d li lj e = go (below_or_beyond i j) (below_or_beyo
     less : (m n : ℕ) → m < n → m < length pairs → n < length pairs → (get_or pairs m d).first < (get_or pairs n d).first
     less m n lt lm ln =
         let within : n < length firsts = omega (arith, length-map pairs (λ (pair : Pair). pair.first)) in
-        let rises = up.firsts.rise m n d.first lt within in
+        let rises : get_or firsts m d.first < get_or firsts n d.first = up.firsts.rise m n d.first lt within in
         let at_m = firsts_at pairs m d lm in
         let at_n = firsts_at pairs n d ln in omega arith
 
     go : (i < j) ⊎ (j ≤ i) → (j < i) ⊎ (i ≤ j) → i ≡ j
-    go (inl lt) other = absurd (let up = less i j lt li lj in omega arith)
-    go (inr ge) (inl lt) = absurd (let up = less j i lt lj li in omega arith)
+    go (inl lt) other = absurd (let rises = less i j lt li lj in omega (arith, same))
+    go (inr ge) (inl lt) = absurd (let rises = less j i lt lj li in omega (arith, same))
     go (inr ge) (inr le) = omega arith
 
 any_default : (xs : List Pair) (i : ℕ) (d e : Pair) → i < length xs → get_or xs i d ≡ get_or xs i e
@@ -230,16 +230,16 @@ tally_new same decides self told last pairs longer index indexed refusal refused
 
     known_at : (key : Lines) (place : ℕ) → cond (same lines key) (Some (length pairs)) (lookup (same key) index) ≡ Some place →
         (same lines key ≡ true) ⊎ (same lines key ≡ false) → (place < length longer) × ((d : Pair) → (get_or longer place d).lines ≡ key)
-    known_at key place e (inl yes) =
-        let there : Some (length pairs) ≡ Some place = ap (λ (b : Bool). cond b (Some (length pairs)) (lookup (same key) index)) (sym yes) ∙ e in
+    known_at key place e (inl alike_here) =
+        let there : Some (length pairs) ≡ Some place = ap (λ (b : Bool). cond b (Some (length pairs)) (lookup (same key) index)) (sym alike_here) ∙ e in
         let place_is : length pairs ≡ place = cc in
         let len : length longer ≡ length pairs + 1 = ap length grown ∙ length_push pairs more in
         let within : place < length longer = omega arith in
         (within, λ d. (ap (λ (xs : List Pair). (get_or xs place d).lines) grown ∙
             (ap (λ (n : ℕ). (get_or (pairs ++ (more ∷ [])) n d).lines) (sym place_is) ∙
-            (ap (λ (pair : Pair). pair.lines) (get_or-append_seam pairs more [] d) ∙ decides lines key yes))))
-    known_at key place e (inr no) =
-        let old = t.known key place (ap (λ (b : Bool). cond b (Some (length pairs)) (lookup (same key) index)) (sym no) ∙ e) in
+            (ap (λ (pair : Pair). pair.lines) (get_or-append_seam pairs more [] d) ∙ decides lines key alike_here))))
+    known_at key place e (inr differs) =
+        let old = t.known key place (ap (λ (b : Bool). cond b (Some (length pairs)) (lookup (same key) index)) (sym differs) ∙ e) in
         let len : length longer ≡ length pairs + 1 = ap length grown ∙ length_push pairs more in
         let lt = old.0 in
         let within : place < length longer = omega arith in
@@ -248,13 +248,13 @@ tally_new same decides self told last pairs longer index indexed refusal refused
 
     unknown_at : (key : Lines) → cond (same lines key) (Some (length pairs)) (lookup (same key) index) ≡ None → (number : ℕ) → HasLines told number key →
         (number ≤ last) ⊎ (number ≡ suc last) → (same lines key ≡ true) ⊎ (same lines key ≡ false) → ⊥
-    unknown_at key e number h at (inl yes) =
-        let there : Some (length pairs) ≡ None = ap (λ (b : Bool). cond b (Some (length pairs)) (lookup (same key) index)) (sym yes) ∙ e in cc
-    unknown_at key e number h (inl old) (inr no) =
-        t.unknown key (ap (λ (b : Bool). cond b (Some (length pairs)) (lookup (same key) index)) (sym no) ∙ e) number old h
-    unknown_at key e number h (inr new) (inr no) =
+    unknown_at key e number h at (inl alike_here) =
+        let there : Some (length pairs) ≡ None = ap (λ (b : Bool). cond b (Some (length pairs)) (lookup (same key) index)) (sym alike_here) ∙ e in cc
+    unknown_at key e number h (inl old) (inr differs) =
+        t.unknown key (ap (λ (b : Bool). cond b (Some (length pairs)) (lookup (same key) index)) (sym differs) ∙ e) number old h
+    unknown_at key e number h (inr new) (inr differs) =
         let alike : lines ≡ key = single_lines told (suc last) lines key has (subst (λ (n : ℕ). HasLines told n key) new h) in
-        false≢true (sym no ∙ (ap (same lines) (sym alike) ∙ self lines))
+        false≢true (sym differs ∙ (ap (same lines) (sym alike) ∙ self lines))
 
 pub tally_first : (same : Lines → Lines → Bool) (told : List Entry) (pairs : List Pair) (index : List (Lines × ℕ)) → pairs ≡ [] → index ≡ [] →
     IsTally same told 0 pairs index

@@ -3,7 +3,7 @@
 ghost use Rattle.std.specs.Prelude.{◌<◌, suc, length, IfOk, OnOk};
 ghost use Rattle.race_pairs.specs.Pairs.{ArePairs};
 ghost use Rattle.race_pairs.specs.Tallies.{IsTally};
-ghost use Rattle.race_pairs.specs.contracts.refusal.LinesPartialEq.{block};
+ghost use Rattle.race_pairs.specs.contracts.refusal.LinesPartialEq.TheImpl.{eq-value};
 
 use crate::refusal::{Lines, lines_of, refusal_at};
 use race_gate::Entry;
@@ -34,8 +34,8 @@ impl<A: Allocator + Copy> Tally<A> {
     /// Counts the entry behind so many others, where it is a refusal.
     fn enter(&mut self, entries: &[Entry], before: usize) -> Result<(), AllocError>
         requires within { before < length entries.now }
-        requires tally { IsTally block.ghosts.eq entries.now before self.old.pairs.items self.old.places.entries }
-        ensures { OnOk result (IsTally block.ghosts.eq entries.now (suc before) self.new.pairs.items self.new.places.entries) }
+        requires tally { IsTally eq-value.it entries.now before self.old.pairs.items self.old.places.entries }
+        ensures { OnOk result (IsTally eq-value.it entries.now (suc before) self.new.pairs.items self.new.places.entries) }
     {
         let number = before + 1;
         let Some(refusal) = refusal_at(entries, number) else {
