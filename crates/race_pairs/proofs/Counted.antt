@@ -272,3 +272,24 @@ pub times_within : (same : Lines → Lines → Bool) (told : List Entry) (last :
     (place : ℕ) (d : Pair) → place < length pairs → (get_or pairs place d).times ≤ last
 times_within same told last pairs index t place d lt =
     tells_within (HasLines told) (get_or pairs place d).lines last (get_or pairs place d).times (t.tallied.each place d lt).counts
+
+-- As the code has it.
+
+pub refusal_next : (told : List Entry) (before : ℕ) (found wanted : Option Refusal) → found ≡ refusal_at told (before + 1) → found ≡ wanted →
+    refusal_at told (suc before) ≡ wanted
+refusal_next told before found wanted e f =
+    let one : suc before ≡ before + 1 = omega arith in
+    ap (refusal_at told) one ∙ (sym e ∙ f)
+
+pub one_time_more : (read pair : Pair) → read ≡ pair →
+    ◌≡◌ {A = Pair} (record { lines = read.lines; first = read.first; witness = read.witness; times = read.times + 1 }) (record pair { times = suc pair.times })
+one_time_more read pair e =
+    let one : pair.times + 1 ≡ suc pair.times = omega arith in
+    ap (λ (p : Pair). record { lines = p.lines; first = p.first; witness = p.witness; times = p.times + 1 }) e ∙
+    ap (λ (n : ℕ). record { lines = pair.lines; first = pair.first; witness = pair.witness; times = n }) one
+
+pub first_time : (lines : Lines) (before witness : ℕ) →
+    ◌≡◌ {A = Pair} (record { lines = lines; first = before + 1; witness = witness; times = 1 }) (record { lines = lines; first = suc before; witness = witness; times = 1 })
+first_time lines before witness =
+    let one : before + 1 ≡ suc before = omega arith in
+    ap (λ (n : ℕ). record { lines = lines; first = n; witness = witness; times = 1 }) one

@@ -1,5 +1,5 @@
 -- The places of a pair as the entries go on.
-use Rattle.std.proofs.Common.{◌≡◌, ◌≢◌, ◌⊎◌, inl, inr, ℕ, suc, ◌+◌, ◌<◌, ◌≤◌, Bool, true, false, cond, eqb, List, [], ◌∷◌, ◌++◌, Some, refl, sym, ap, ◌∙◌, subst, arith}
+use Rattle.std.proofs.Common.{◌≡◌, ◌≢◌, ◌⊎◌, inl, inr, ℕ, suc, ◌+◌, ◌<◌, ◌≤◌, Bool, true, false, not, cond, eqb, List, [], ◌∷◌, ◌++◌, Some, refl, sym, ap, ◌∙◌, subst, arith}
 use Rattle.std.specs.List.{AllZip, list_any}
 use Rattle.std.proofs.lemmas.Bool.{cases_Bool, false≢true}
 use Rattle.std.proofs.lemmas.Bool.Decides.{eqb_tells}
@@ -34,16 +34,16 @@ reached number last le = go (below_or_beyond number (suc last))
 
 pub placed_none : (told : List Entry) (lines : Lines) (last : ℕ) (places seen : List ℕ) → ((place : ℕ) → HasPlace told lines (suc last) place → ⊥) →
     Placed told lines last places seen → Placed told lines (suc last) places seen
-placed_none told lines last places seen not p = record {
+placed_none told lines last places seen never_here p = record {
   placed = record {
     numbers = p.placed.numbers;
-    firsts = firsts_same (HasPlace told lines) last p.placed.numbers (λ first. not first.0 first.1) p.placed.firsts;
+    firsts = firsts_same (HasPlace told lines) last p.placed.numbers (λ first. never_here first.0 first.1) p.placed.firsts;
     each = p.placed.each;
   };
   has = λ place e. (let old = p.has place e in let le = old.1 in let more : old.0 ≤ suc last = omega arith in (old.0, more, old.2));
   misses = λ place e number le h. elim (reached number last le) [
     | inl old ↦ p.misses place e number old h
-    | inr new ↦ not place (subst (λ (n : ℕ). HasPlace told lines n place) new h)
+    | inr new ↦ never_here place (subst (λ (n : ℕ). HasPlace told lines n place) new h)
   ];
 }
 
@@ -113,3 +113,39 @@ placed_first told lines places seen e f = subst (λ (xs : List ℕ). Placed told
   where
     never : (place : ℕ) → HasPlace told lines 0 place → ⊥
     never place h = let at = h.1 in cc
+
+-- As the code has it.
+
+one_more : (before : ℕ) → before + 1 ≡ suc before
+one_more before = omega arith
+
+pub next_none : (told : List Entry) (lines : Lines) (before : ℕ) (places seen : List ℕ) → ((place : ℕ) → HasPlace told lines (before + 1) place → ⊥) →
+    Placed told lines before places seen → Placed told lines (before + 1) places seen
+next_none told lines before places seen never_here p =
+    subst (λ (n : ℕ). Placed told lines n places seen) (sym (one_more before))
+    (placed_none told lines before places seen (λ place h. never_here place (subst (λ (n : ℕ). HasPlace told lines n place) (sym (one_more before)) h)) p)
+
+not_false : (b c : Bool) → c ≡ not b → c ≡ false → b ≡ true
+not_false true c e f = refl
+not_false false c e f = absurd (false≢true (sym f ∙ e))
+
+not_true : (b c : Bool) → c ≡ not b → c ≡ true → b ≡ false
+not_true true c e f = absurd (false≢true (sym e ∙ f))
+not_true false c e f = refl
+
+pub next_old : (told : List Entry) (lines : Lines) (before : ℕ) (places seen more : List ℕ) (place : ℕ) → HasPlace told lines (before + 1) place →
+    ((other : ℕ) → list_any (eqb other) more ≡ cond (eqb place other) true (list_any (eqb other) seen)) → Placed told lines before places seen →
+    (added : Bool) → added ≡ not (list_any (eqb place) seen) → added ≡ false → Placed told lines (before + 1) places more
+next_old told lines before places seen more place at grown p added e f =
+    subst (λ (n : ℕ). Placed told lines n places more) (sym (one_more before))
+    (placed_old told lines before places seen more place (subst (λ (n : ℕ). HasPlace told lines n place) (one_more before) at) grown p
+    (not_false (list_any (eqb place) seen) added e f))
+
+pub next_new : (told : List Entry) (lines : Lines) (before : ℕ) (places longer seen more : List ℕ) (place : ℕ) → HasPlace told lines (before + 1) place →
+    ((other : ℕ) → list_any (eqb other) more ≡ cond (eqb place other) true (list_any (eqb other) seen)) → Placed told lines before places seen →
+    (added : Bool) → added ≡ not (list_any (eqb place) seen) → added ≡ true → longer ≡ places ++ (place ∷ []) → Placed told lines (before + 1) longer more
+next_new told lines before places longer seen more place at grown p added e f is =
+    subst (λ (n : ℕ). Placed told lines n longer more) (sym (one_more before))
+    (subst (λ (xs : List ℕ). Placed told lines (suc before) xs more) (sym is)
+    (placed_new told lines before places seen more place (subst (λ (n : ℕ). HasPlace told lines n place) (one_more before) at) grown p
+    (not_true (list_any (eqb place) seen) added e f)))

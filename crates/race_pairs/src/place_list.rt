@@ -33,9 +33,10 @@ pub fn places<A: Allocator + Copy>(
     let mut places = Vec::new(alloc);
     let mut seen = HashSet::new(alloc);
     for before in 0..entries.len() {
-        if let Some(place) = place_at(entries, before + 1, pair.lines)
-            && seen.insert(place)?
-        {
+        let Some(place) = place_at(entries, before + 1, pair.lines) else {
+            continue;
+        };
+        if seen.insert(place)? {
             places.push(place)?;
         }
     }
