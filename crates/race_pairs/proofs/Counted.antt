@@ -37,13 +37,21 @@ first_of_pair told last pair p = told_lines told pair.first p.refusal p.refused 
 
 pair_missed : (told : List Entry) (last : ℕ) (pair : Pair) → (HasLines told (suc last) pair.lines → ⊥) → IsPair told last pair → IsPair told (suc last) pair
 pair_missed told last pair not p = record {
-  refusal = p.refusal; refused = p.refused; has_lines = p.has_lines; has_witness = p.has_witness; counts = miss p.counts not;
+  refusal = p.refusal;
+  refused = p.refused;
+  has_lines = p.has_lines;
+  has_witness = p.has_witness;
+  counts = miss p.counts not;
 }
 
 pair_hit : (told : List Entry) (last : ℕ) (pair : Pair) → HasLines told (suc last) pair.lines → IsPair told last pair →
     IsPair told (suc last) (record pair { times = suc pair.times })
 pair_hit told last pair has p = record {
-  refusal = p.refusal; refused = p.refused; has_lines = p.has_lines; has_witness = p.has_witness; counts = hit p.counts has;
+  refusal = p.refusal;
+  refused = p.refused;
+  has_lines = p.has_lines;
+  has_witness = p.has_witness;
+  counts = hit p.counts has;
 }
 
 pub up_none : (told : List Entry) (last : ℕ) (pairs : List Pair) → ((lines : Lines) → HasLines told (suc last) lines → ⊥) → ArePairsUpTo told last pairs →
@@ -119,7 +127,7 @@ up_hit told last pairs place d within has up more is = record {
     at k e below (inr there) =
         subst (IsPair told (suc last)) (sym (get_or-set_other pairs place k more e there))
         (pair_missed told last (get_or pairs k e) (λ h. there (apart told last pairs up k place e below within
-          (single_lines told (suc last) _ _ h (subst (λ (pair : Pair). HasLines told (suc last) pair.lines) (any_default pairs place d e within) has)))) (up.each k e below))
+        (single_lines told (suc last) _ _ h (subst (λ (pair : Pair). HasLines told (suc last) pair.lines) (any_default pairs place d e within) has)))) (up.each k e below))
 
 pub up_new : (told : List Entry) (last : ℕ) (pairs : List Pair) (refusal : Refusal) → refusal_at told (suc last) ≡ Some refusal →
     ((number : ℕ) → number ≤ last → HasLines told number (lines_of told refusal) → ⊥) → ArePairsUpTo told last pairs → (more : Pair) →
@@ -150,7 +158,10 @@ up_new told last pairs refusal refused never up more is = record {
 
     new : IsPair told (suc last) (record { lines = lines_of told refusal; first = suc last; witness = refusal.witness; times = 1 })
     new = record {
-      refusal = refusal; refused = refused; has_lines = refl; has_witness = refl;
+      refusal = refusal;
+      refused = refused;
+      has_lines = refl;
+      has_witness = refl;
       counts = hit (tells_never (HasLines told) (lines_of told refusal) last never) has;
     }
 
@@ -234,17 +245,21 @@ tally_new same decides self told last pairs longer index indexed refusal refused
         let there : Some (length pairs) ≡ Some place = ap (λ (b : Bool). cond b (Some (length pairs)) (lookup (same key) index)) (sym alike_here) ∙ e in
         let place_is : length pairs ≡ place = cc in
         let len : length longer ≡ length pairs + 1 = ap length grown ∙ length_push pairs more in
-        let within : place < length longer = omega arith in
-        (within, λ d. (ap (λ (xs : List Pair). (get_or xs place d).lines) grown ∙
-            (ap (λ (n : ℕ). (get_or (pairs ++ (more ∷ [])) n d).lines) (sym place_is) ∙
-            (ap (λ (pair : Pair). pair.lines) (get_or-append_seam pairs more [] d) ∙ decides lines key alike_here))))
+        let within : place < length longer = omega arith in (
+          within,
+          λ d. (ap (λ (xs : List Pair). (get_or xs place d).lines) grown ∙
+              (ap (λ (n : ℕ). (get_or (pairs ++ (more ∷ [])) n d).lines) (sym place_is) ∙
+              (ap (λ (pair : Pair). pair.lines) (get_or-append_seam pairs more [] d) ∙ decides lines key alike_here))),
+        )
     known_at key place e (inr differs) =
         let old = t.known key place (ap (λ (b : Bool). cond b (Some (length pairs)) (lookup (same key) index)) (sym differs) ∙ e) in
         let len : length longer ≡ length pairs + 1 = ap length grown ∙ length_push pairs more in
         let lt = old.0 in
-        let within : place < length longer = omega arith in
-        (within, λ d. (ap (λ (xs : List Pair). (get_or xs place d).lines) grown ∙
-            (ap (λ (pair : Pair). pair.lines) (get_or-append pairs (more ∷ []) d place lt) ∙ old.1 d)))
+        let within : place < length longer = omega arith in (
+          within,
+          λ d. (ap (λ (xs : List Pair). (get_or xs place d).lines) grown ∙
+              (ap (λ (pair : Pair). pair.lines) (get_or-append pairs (more ∷ []) d place lt) ∙ old.1 d)),
+        )
 
     unknown_at : (key : Lines) → cond (same lines key) (Some (length pairs)) (lookup (same key) index) ≡ None → (number : ℕ) → HasLines told number key →
         (number ≤ last) ⊎ (number ≡ suc last) → (same lines key ≡ true) ⊎ (same lines key ≡ false) → ⊥

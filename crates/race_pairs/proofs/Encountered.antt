@@ -98,7 +98,7 @@ no_parting : (told : List Entry) (pair : Pair) (parting : Parting) → strands_o
 no_parting told pair parting e part =
     some_none (subst (λ (o : Option (ℕ × ℕ)). MatchOption o (Some parting ≡ None)
     (λ strands. IfSome (Some parting) (IsParting (reverse told) strands.0 strands.1) ×
-      (IsSome (Some parting) ↔ IsParallel (control_part (reverse told)) strands.0 strands.1))) e part)
+    (IsSome (Some parting) ↔ IsParallel (control_part (reverse told)) strands.0 strands.1))) e part)
   where
     some_none : Some parting ≡ None → ⊥
     some_none e = cc
@@ -117,7 +117,7 @@ witness_side told pair parting refused e differ part = go (strand_at told pair.w
         let both : strands_of told pair ≡ Some (refused, witness) = rw (e, f) refl in
         let told_at = subst (λ (o : Option (ℕ × ℕ)). MatchOption o (Some parting ≡ None)
         (λ strands. IfSome (Some parting) (IsParting (reverse told) strands.0 strands.1) ×
-          (IsSome (Some parting) ↔ IsParallel (control_part (reverse told)) strands.0 strands.1))) both part in
+        (IsSome (Some parting) ↔ IsParallel (control_part (reverse told)) strands.0 strands.1))) both part in
         elim told_at.0.sides [
           | inl t ↦ f ∙ ap Some (sym t.1)
           | inr t ↦ absurd (differ t.1)
@@ -131,6 +131,11 @@ goes_first told pair parting refused found chain e same is toward =
 pub goes_witness : (told : List Entry) (pair : Pair) (parting : Parting) (refused found : ℕ) (chain : List ℕ) → strand_at told pair.first ≡ Some refused →
     parting.by_next ≢ refused → chain ≡ chain_at told pair.witness → PartAt told pair (Some parting) → IsToward parting.entry pair.witness chain found →
     GoesOn told pair (Some parting) (Some found)
-goes_witness told pair parting refused found chain e differ is part toward =
-    (found, pair.witness, refl, inr refl, witness_side told pair parting refused e differ part,
-    subst (λ (xs : List ℕ). IsToward parting.entry pair.witness xs found) is toward)
+goes_witness told pair parting refused found chain e differ is part toward = (
+  found,
+  pair.witness,
+  refl,
+  inr refl,
+  witness_side told pair parting refused e differ part,
+  subst (λ (xs : List ℕ). IsToward parting.entry pair.witness xs found) is toward,
+)

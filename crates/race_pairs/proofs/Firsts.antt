@@ -10,15 +10,19 @@ module _ {K : Type 0} (tells : ℕ → K → Type 0) where
   pub firsts_none : ((key : K) → tells 0 key → ⊥) → AreFirsts tells 0 []
   firsts_none never = record {
     rise = λ i j d lt within. absurd (omega arith);
-    each = λ number. (λ c. absurd (let lt = c.1 in omega arith),
-        λ t. absurd (let is : number ≡ 0 = (let le = t.0 in omega arith) in never t.1.0 (subst (λ (n : ℕ). tells n t.1.0) is t.1.1)));
+    each = λ number. (
+      λ c. absurd (let lt = c.1 in omega arith),
+      λ t. absurd (let is : number ≡ 0 = (let le = t.0 in omega arith) in never t.1.0 (subst (λ (n : ℕ). tells n t.1.0) is t.1.1)),
+    );
   }
 
   pub firsts_same : (last : ℕ) (numbers : List ℕ) → (IsFirst tells (suc last) → ⊥) → AreFirsts tells last numbers → AreFirsts tells (suc last) numbers
   firsts_same last numbers not f = record {
     rise = f.rise;
-    each = λ number. (λ c. (let t = (f.each number).0 c in let le = t.0 in let more : number ≤ suc last = omega arith in (more, t.1)),
-        λ t. (f.each number).1 (go number t.0 t.1 (below_or_beyond number (suc last)), t.1));
+    each = λ number. (
+      λ c. (let t = (f.each number).0 c in let le = t.0 in let more : number ≤ suc last = omega arith in (more, t.1)),
+      λ t. (f.each number).1 (go number t.0 t.1 (below_or_beyond number (suc last)), t.1),
+    );
   }
     where
       go : (number : ℕ) → number ≤ suc last → IsFirst tells number → (number < suc last) ⊎ (suc last ≤ number) → number ≤ last

@@ -49,59 +49,59 @@ placed_none told lines last places seen never_here p = record {
 
 -- what the set has and misses with one place more
 module _ (told : List Entry) (lines : Lines) (last : ℕ) (places seen more : List ℕ) (place : ℕ) (at : HasPlace told lines (suc last) place)
-  (grown : (other : ℕ) → list_any (eqb other) more ≡ cond (eqb place other) true (list_any (eqb other) seen))
-  (p : Placed told lines last places seen)
+    (grown : (other : ℕ) → list_any (eqb other) more ≡ cond (eqb place other) true (list_any (eqb other) seen))
+    (p : Placed told lines last places seen)
   where
-  has_more : (other : ℕ) → list_any (eqb other) more ≡ true → (number : ℕ) × (number ≤ suc last) × HasPlace told lines number other
-  has_more other e = go (eqb_tells place other)
-    where
-      go : ((eqb place other ≡ true) × (place ≡ other)) ⊎ ((eqb place other ≡ false) × (place ≢ other)) →
-          (number : ℕ) × (number ≤ suc last) × HasPlace told lines number other
-      go (inl t) = let le : suc last ≤ suc last = omega arith in (suc last, le, subst (HasPlace told lines (suc last)) t.1 at)
-      go (inr t) =
-          let old = p.has other (ap (λ (b : Bool). cond b true (list_any (eqb other) seen)) (sym t.0) ∙ (sym (grown other) ∙ e)) in
-          let le = old.1 in let wider : old.0 ≤ suc last = omega arith in (old.0, wider, old.2)
+    has_more : (other : ℕ) → list_any (eqb other) more ≡ true → (number : ℕ) × (number ≤ suc last) × HasPlace told lines number other
+    has_more other e = go (eqb_tells place other)
+      where
+        go : ((eqb place other ≡ true) × (place ≡ other)) ⊎ ((eqb place other ≡ false) × (place ≢ other)) →
+            (number : ℕ) × (number ≤ suc last) × HasPlace told lines number other
+        go (inl t) = let le : suc last ≤ suc last = omega arith in (suc last, le, subst (HasPlace told lines (suc last)) t.1 at)
+        go (inr t) =
+            let old = p.has other (ap (λ (b : Bool). cond b true (list_any (eqb other) seen)) (sym t.0) ∙ (sym (grown other) ∙ e)) in
+            let le = old.1 in let wider : old.0 ≤ suc last = omega arith in (old.0, wider, old.2)
 
-  misses_more : (other : ℕ) → list_any (eqb other) more ≡ false → (number : ℕ) → number ≤ suc last → HasPlace told lines number other → ⊥
-  misses_more other e number le h = go (eqb_tells place other) (reached number last le)
-    where
-      go : ((eqb place other ≡ true) × (place ≡ other)) ⊎ ((eqb place other ≡ false) × (place ≢ other)) → (number ≤ last) ⊎ (number ≡ suc last) → ⊥
-      go (inl t) where_is =
-          let there : true ≡ false = ap (λ (b : Bool). cond b true (list_any (eqb other) seen)) (sym t.0) ∙ (sym (grown other) ∙ e) in
-          false≢true (sym there)
-      go (inr t) (inl old) =
-          p.misses other (ap (λ (b : Bool). cond b true (list_any (eqb other) seen)) (sym t.0) ∙ (sym (grown other) ∙ e)) number old h
-      go (inr t) (inr new) = t.1 (single_place told lines (suc last) place other at (subst (λ (n : ℕ). HasPlace told lines n other) new h))
+    misses_more : (other : ℕ) → list_any (eqb other) more ≡ false → (number : ℕ) → number ≤ suc last → HasPlace told lines number other → ⊥
+    misses_more other e number le h = go (eqb_tells place other) (reached number last le)
+      where
+        go : ((eqb place other ≡ true) × (place ≡ other)) ⊎ ((eqb place other ≡ false) × (place ≢ other)) → (number ≤ last) ⊎ (number ≡ suc last) → ⊥
+        go (inl t) where_is =
+            let there : true ≡ false = ap (λ (b : Bool). cond b true (list_any (eqb other) seen)) (sym t.0) ∙ (sym (grown other) ∙ e) in
+            false≢true (sym there)
+        go (inr t) (inl old) =
+            p.misses other (ap (λ (b : Bool). cond b true (list_any (eqb other) seen)) (sym t.0) ∙ (sym (grown other) ∙ e)) number old h
+        go (inr t) (inr new) = t.1 (single_place told lines (suc last) place other at (subst (λ (n : ℕ). HasPlace told lines n other) new h))
 
-  pub placed_old : list_any (eqb place) seen ≡ true → Placed told lines (suc last) places more
-  placed_old known = record {
-    placed = record {
-      numbers = p.placed.numbers;
-      firsts = firsts_same (HasPlace told lines) last p.placed.numbers not_first p.placed.firsts;
-      each = p.placed.each;
-    };
-    has = has_more;
-    misses = misses_more;
-  }
-    where
-      not_first : IsFirst (HasPlace told lines) (suc last) → ⊥
-      not_first first =
-          let old = p.has place known in
-          let le = old.1 in
-          let lt : old.0 < suc last = omega arith in
-          first.2 old.0 lt (subst (HasPlace told lines old.0) (single_place told lines (suc last) place first.0 at first.1) old.2)
+    pub placed_old : list_any (eqb place) seen ≡ true → Placed told lines (suc last) places more
+    placed_old known = record {
+      placed = record {
+        numbers = p.placed.numbers;
+        firsts = firsts_same (HasPlace told lines) last p.placed.numbers not_first p.placed.firsts;
+        each = p.placed.each;
+      };
+      has = has_more;
+      misses = misses_more;
+    }
+      where
+        not_first : IsFirst (HasPlace told lines) (suc last) → ⊥
+        not_first first =
+            let old = p.has place known in
+            let le = old.1 in
+            let lt : old.0 < suc last = omega arith in
+            first.2 old.0 lt (subst (HasPlace told lines old.0) (single_place told lines (suc last) place first.0 at first.1) old.2)
 
-  pub placed_new : list_any (eqb place) seen ≡ false → Placed told lines (suc last) (places ++ (place ∷ [])) more
-  placed_new missing = record {
-    placed = record {
-      numbers = p.placed.numbers ++ (suc last ∷ []);
-      firsts = firsts_more (HasPlace told lines) last p.placed.numbers
-          (place, at, λ earlier lt h. (let le : earlier ≤ last = omega arith in p.misses place missing earlier le h)) p.placed.firsts;
-      each = AllZip-push (HasPlace told lines) p.placed.numbers places (suc last) place p.placed.each at;
-    };
-    has = has_more;
-    misses = misses_more;
-  }
+    pub placed_new : list_any (eqb place) seen ≡ false → Placed told lines (suc last) (places ++ (place ∷ [])) more
+    placed_new missing = record {
+      placed = record {
+        numbers = p.placed.numbers ++ (suc last ∷ []);
+        firsts = firsts_more (HasPlace told lines) last p.placed.numbers
+            (place, at, λ earlier lt h. (let le : earlier ≤ last = omega arith in p.misses place missing earlier le h)) p.placed.firsts;
+        each = AllZip-push (HasPlace told lines) p.placed.numbers places (suc last) place p.placed.each at;
+      };
+      has = has_more;
+      misses = misses_more;
+    }
 
 pub placed_first : (told : List Entry) (lines : Lines) (places seen : List ℕ) → places ≡ [] → seen ≡ [] → Placed told lines 0 places seen
 placed_first told lines places seen e f = subst (λ (xs : List ℕ). Placed told lines 0 xs seen) (sym e)

@@ -48,7 +48,7 @@ abbrev pub GoesOn : List Entry → Pair → Option Parting → Option ℕ → Ty
 GoesOn told pair parting onward =
     MatchOption parting (onward ≡ None)
     (λ parting. (found access : ℕ) × (onward ≡ Some found) × ((access ≡ pair.first) ⊎ (access ≡ pair.witness)) ×
-      (strand_at told access ≡ Some parting.by_next) × IsToward parting.entry access (chain_at told access) found)
+    (strand_at told access ≡ Some parting.by_next) × IsToward parting.entry access (chain_at told access) found)
 
 -- of a pair with this reason the spawn is outstanding at one of the two strands and not at the other, where it is a view-read race
 abbrev pub IsOpenBy : Reason → List Entry → Pair → Option OpenSpawn → Type 0

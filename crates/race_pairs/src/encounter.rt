@@ -60,11 +60,7 @@ fn strands_of(entries: &[Entry], pair: Pair) -> Option<(u32, u32)>
 }
 
 /// The spawn at which the two strands part.
-fn parting_of<A: Allocator>(
-    lineage: &Lineage<A>,
-    entries: &[Entry],
-    pair: Pair,
-) -> Option<Parting>
+fn parting_of<A: Allocator>(lineage: &Lineage<A>, entries: &[Entry], pair: Pair) -> Option<Parting>
     requires lineage { IsLineage lineage.now (reverse entries.now) }
     requires legal { (shape : Shape) × IsLegal shape (reverse entries.now) }
     ensures { PartAt entries.now pair result }

@@ -60,10 +60,7 @@ impl<A: Allocator + Copy> Tally<A> {
 
 /// The pairs of lines that raced, of entries that are given from the oldest on, each once, in the order of their first refusals. Its
 /// time is linear in the entries but for a map of the pairs. Errors where there is no memory.
-pub fn pairs<A: Allocator + Copy>(
-    alloc: A,
-    entries: &[Entry],
-) -> Result<Vec<Pair, A>, AllocError>
+pub fn pairs<A: Allocator + Copy>(alloc: A, entries: &[Entry]) -> Result<Vec<Pair, A>, AllocError>
     ensures { IfOk result (λ pairs. ArePairs entries.now pairs.items) }
 {
     let mut tally = Tally {

@@ -43,6 +43,6 @@ returns g c =
     c.lines_of-lines.result c.lines_of-lines.ensures
     (sym c.get.ensures.value ∙ (sym c.copied-known.ensures ∙ c.in_default-known.is))
     (λ key. c.in_ok-insert.ensures.updates.0 key ∙
-      ap (λ (n : ℕ). cond (eq-value.it c.lines_of-lines.result key) (Some n) (lookup (eq-value.it key) c.args.self.now.places.entries)) len)
+    ap (λ (n : ℕ). cond (eq-value.it c.lines_of-lines.result key) (Some n) (lookup (eq-value.it key) c.args.self.now.places.entries)) len)
     (c.in_ok-push.ensures.items ∙ ap (λ (pair : Pair). c.args.self.now.pairs.items ++ (pair ∷ [])) (first_time c.lines_of-lines.result c.args.before c.in-Some.refusal.witness))
     c.requires.tally
