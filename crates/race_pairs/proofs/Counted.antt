@@ -1,6 +1,6 @@
 -- The pairs of lines as the entries go on.
 use Rattle.std.proofs.Common.{◌≡◌, ◌≢◌, ◌⊎◌, inl, inr, ℕ, zero, suc, ◌+◌, ◌<◌, ◌≤◌, Bool, true, false, cond, List, [], ◌∷◌, ◌++◌, length, get_or, set, map, Option, Some, None, refl, sym, ap, ◌∙◌, subst, arith}
-use Rattle.std.specs.List.{All, Contains}
+use Rattle.std.specs.List.{Contains}
 use Rattle.std.specs.Option.{option_map}
 use Rattle.std.specs.Map.{lookup}
 use Rattle.std.proofs.Math.Seq.{map-set_same, get_or-append_seam}
@@ -15,7 +15,7 @@ use Rattle.race_pairs.specs.declared.refusal.Lines.{Lines}
 use Rattle.race_pairs.specs.declared.refusal.Refusal.{Refusal}
 use Rattle.race_pairs.specs.declared.tally.Pair.{Pair}
 use Rattle.race_pairs.specs.Refusals.{refusal_at, lines_of, lines_at, HasLines}
-use Rattle.race_pairs.specs.Firsts.{IsFirst, AreFirsts, Tells, hit, miss}
+use Rattle.race_pairs.specs.Firsts.{IsFirst, AreFirsts, hit, miss}
 use Rattle.race_pairs.specs.Pairs.{IsPair, ArePairsUpTo}
 use Rattle.race_pairs.specs.Tallies.{IsTally}
 use Rattle.race_pairs.proofs.Firsts.{firsts_none, firsts_same, firsts_more, one_first, tells_within, tells_never}

@@ -1,8 +1,8 @@
 -- How the strands of a pair came about.
-use Rattle.std.proofs.Common.{◌≡◌, ◌≢◌, ◌⊎◌, ◌↔◌, inl, inr, ℕ, zero, suc, ◌+◌, ◌<◌, ◌≤◌, min, List, [], ◌∷◌, ◌++◌, length, get_or, reverse, Option, Some, None, refl, sym, ap, ◌∙◌, subst, arith}
+use Rattle.std.proofs.Common.{◌≡◌, ◌≢◌, ◌⊎◌, ◌↔◌, inl, inr, ℕ, zero, suc, ◌<◌, ◌≤◌, min, List, [], ◌∷◌, ◌++◌, get_or, reverse, Option, Some, None, refl, sym, ap, ◌∙◌, subst, arith}
 use Rattle.std.specs.Prelude.{slice_get, IfSome, IsSome, MatchOption, unwrap_or}
 use Rattle.std.specs.Option.{option_map}
-use Rattle.std.specs.List.{All, Contains}
+use Rattle.std.specs.List.{Contains}
 use Rattle.std.proofs.lemmas.Option.{slice_get_within, get_or_from_slice_get}
 use Rattle.std.proofs.lemmas.List.Elements.{All-push, All-nil, Contains-append_left, Contains-push}
 use Rattle.control_history.specs.Strands.{Begun}
@@ -16,7 +16,6 @@ use Rattle.spawn_chains.specs.declared.lineage.Parting.{Parting}
 use Rattle.spawn_chains.specs.Partings.{IsParting}
 use Rattle.spawn_chains.proofs.Asked.{told_begun}
 use Rattle.race_pairs.specs.declared.tally.Pair.{Pair}
-use Rattle.race_pairs.specs.Refusals.{entry_at}
 use Rattle.race_pairs.specs.Encounters.{chain_at, strand_at, strands_of, PartAt, IsLeast, IsToward, GoesOn}
 
 -- Strands.

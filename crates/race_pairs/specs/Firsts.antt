@@ -1,5 +1,5 @@
 -- First occurrences, and how often something occurs, among numbered things that tell keys.
-use Rattle.std.specs.Prelude.{◌≡◌, ◌↔◌, ◌<◌, ◌≤◌, ℕ, suc, List}
+use Rattle.std.specs.Prelude.{◌↔◌, ◌<◌, ◌≤◌, ℕ, suc, List}
 use Rattle.std.specs.List.{AllPairs, Contains}
 
 -- the thing with this number tells a key that none with a lower number tells

@@ -1,4 +1,4 @@
-use Rattle.std.proofs.Common.{subst, arith}
+use Rattle.std.proofs.Common.{subst}
 use Rattle.race_pairs.specs.Encounters.{IsLeast}
 use Rattle.race_pairs.proofs.Encountered.{least_nearer}
 use Rattle.race_pairs.proofs.onward.nearer.Goals as goal

@@ -1,5 +1,4 @@
 use Rattle.std.proofs.Common.{◌≡◌, refl, sym, ◌∙◌, rules}
-use Rattle.race_pairs.specs.Refusals.{refusal_at}
 use Rattle.race_pairs.proofs.place_list.place_at.Goals as goal
 
 pub returns-then-eq : goal.returns-then-eq
