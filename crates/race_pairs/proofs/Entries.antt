@@ -1,9 +1,9 @@
 -- Entries by their numbers.
-use Rattle.std.proofs.Common.{◌≡◌, ℕ, zero, suc, ◌-◌, ◌<◌, ◌≤◌, List, length, get_or, Option, Some, None, refl, sym, ap, ◌∙◌, arith}
+use Rattle.std.proofs.Common.{◌≡◌, ℕ, suc, ◌-◌, ◌<◌, ◌≤◌, List, length, get_or, Option, Some, None, refl, sym, ap, ◌∙◌, arith}
 use Rattle.std.specs.Prelude.{slice_get, IfSome, MatchOption}
 use Rattle.std.specs.Option.{option_copied}
 use Rattle.std.specs.List.{HoldsAt}
-use Rattle.std.proofs.lemmas.Option.{slice_get_past, slice_get_read, slice_get_within}
+use Rattle.std.proofs.lemmas.Option.{slice_get_past, slice_get_read}
 use denote.Ref.{Bor}
 use Rattle.race_gate.specs.declared.answer.Entry.{Entry}
 use Rattle.race_pairs.specs.Refusals.{entry_at}
@@ -24,8 +24,3 @@ pub entry_more : (told : List Entry) (number : ℕ) → (number ≡ 0 → ⊥) �
 entry_more told number some found at_some within =
     let one : suc (number - 1) ≡ number = omega arith in
     got told (number - 1) found at_some within ∙ ap (entry_at told) one
-
--- the number of an entry that is there
-pub number_within : (told : List Entry) (number : ℕ) (entry : Entry) → entry_at told number ≡ Some entry → (0 < number) × (number ≤ length told)
-number_within told zero entry e = absurd (cc)
-number_within told (suc before) entry e = let lt = slice_get_within told before entry e in (omega arith, omega arith)

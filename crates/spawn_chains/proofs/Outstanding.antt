@@ -184,13 +184,15 @@ way_back makers entries lineage earlier strand here way begun later spawner spaw
     let at_maker = maker_is makers entries lineage here way.known in
     let at_earlier = maker_is makers entries lineage earlier (known_of entries lineage.legal earlier begun) in
     let at_here = spot entries lineage.legal here way.known (omega (arith, at_maker)) spawner spawned
-    (subst (λ (n : ℕ). IsSpawn entries n spawner spawned) at_maker is) in
-    (record {
-      known = at_here.spawner_known;
-      leads = spawner_leads entries lineage.legal earlier strand here way begun (omega (arith, at_maker, at_earlier)) spawner spawned at_here;
-      begins = prefix_of_longer (address (control_part entries) spawner) (address (control_part entries) strand) at_here.word
-          (subst (λ (z : Address). IsPrefix z (address (control_part entries) strand)) at_here.own_at way.begins);
-    }, at_here.spawner_earlier)
+    (subst (λ (n : ℕ). IsSpawn entries n spawner spawned) at_maker is) in (
+      record {
+        known = at_here.spawner_known;
+        leads = spawner_leads entries lineage.legal earlier strand here way begun (omega (arith, at_maker, at_earlier)) spawner spawned at_here;
+        begins = prefix_of_longer (address (control_part entries) spawner) (address (control_part entries) strand) at_here.word
+            (subst (λ (z : Address). IsPrefix z (address (control_part entries) strand)) at_here.own_at way.begins);
+      },
+      at_here.spawner_earlier,
+    )
 
 -- the strand came by one of the two that run behind the spawn
 pub way_outstanding : (makers : List ℕ) (entries : Entries) → IsLineage makers entries → (earlier strand here : ℕ) → OnWay entries earlier strand here →

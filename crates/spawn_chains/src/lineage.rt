@@ -134,12 +134,7 @@ fn opposite(spawned: Spawned, strand: u32) -> Option<u32>
 
 /// A spawn that is outstanding at the strand and not at an earlier one, from which spawns and syncs lead to it; None where syncs alone
 /// do.
-fn open_behind(
-    makers: &[usize],
-    entries: &[Entry],
-    earlier: u32,
-    strand: u32,
-) -> Option<OpenSpawn>
+fn open_behind(makers: &[usize], entries: &[Entry], earlier: u32, strand: u32) -> Option<OpenSpawn>
     requires lineage { IsLineage makers.now (reverse entries.now) }
     requires earlier { Begun (control_part (reverse entries.now)) earlier }
     requires strand { Begun (control_part (reverse entries.now)) strand }
@@ -243,12 +238,13 @@ impl<A: Allocator> Lineage<A> {
         }
         let maker = makers[one as usize];
         let (spawner, spawned) = spawn_at(entries, maker);
-        let (side, parallel, ordered) =
-            if one == spawned.next || one == spawned.child && two != spawned.next {
-                (one, first, second)
-            } else {
-                (two, second, first)
-            };
+        let (side, parallel, ordered) = if one == spawned.next
+            || one == spawned.child && two != spawned.next
+        {
+            (one, first, second)
+        } else {
+            (two, second, first)
+        };
         let peer = opposite(spawned, side)?;
         Some(OpenSpawn {
             entry: maker,

@@ -10,16 +10,24 @@ back-preserved g c =
     let within : c.back.at ≤ length told = omega (arith, c.back.invariant.1) in
     let bound = c.back.invariant.1 in
     elim c.match-before_entry.branch [
-      | in-Same w ↦ rw (w.chain-is, w.here-is, w.left-is)
-          (same_follows told c.args.strand c.back.chain.items c.back.left c.back.at c.back.here w.in-Same.before no_entry c.back-test.true within
-          w.in-Same.ensures c.back.invariant.0, omega arith)
-      | in-Left w ↦ rw (w.chain-is, w.here-is, w.left-is)
-          (left_follows told c.args.strand c.back.chain.items c.back.left c.back.at c.back.here no_entry c.back-test.true within
-          w.in-Left.ensures c.back.invariant.0, omega arith)
-      | in-Opened+then-left-eq0+in_ok-push-in-Opened w ↦ rw (w.chain-is, w.here-is, w.left-is, w.in_ok-push-in-Opened.ensures.items)
-          (opened_found told c.args.strand c.back.chain.items c.back.left c.back.at c.back.here w.in-Opened.before no_entry c.back-test.true within
-          w.in-Opened.ensures w.if-left-eq0.true c.back.invariant.0, omega arith)
-      | in-Opened+else-left-eq0 w ↦ rw (w.chain-is, w.here-is, w.left-is)
-          (opened_left told c.args.strand c.back.chain.items c.back.left c.back.at c.back.here w.in-Opened.before no_entry c.back-test.true within
-          w.in-Opened.ensures w.if-left-eq0.false c.back.invariant.0, omega arith)
+      | in-Same w ↦ rw (w.chain-is, w.here-is, w.left-is) (
+        same_follows told c.args.strand c.back.chain.items c.back.left c.back.at c.back.here w.in-Same.before no_entry c.back-test.true within
+            w.in-Same.ensures c.back.invariant.0,
+        omega arith,
+      )
+      | in-Left w ↦ rw (w.chain-is, w.here-is, w.left-is) (
+        left_follows told c.args.strand c.back.chain.items c.back.left c.back.at c.back.here no_entry c.back-test.true within
+            w.in-Left.ensures c.back.invariant.0,
+        omega arith,
+      )
+      | in-Opened+then-left-eq0+in_ok-push-in-Opened w ↦ rw (w.chain-is, w.here-is, w.left-is, w.in_ok-push-in-Opened.ensures.items) (
+        opened_found told c.args.strand c.back.chain.items c.back.left c.back.at c.back.here w.in-Opened.before no_entry c.back-test.true within
+            w.in-Opened.ensures w.if-left-eq0.true c.back.invariant.0,
+        omega arith,
+      )
+      | in-Opened+else-left-eq0 w ↦ rw (w.chain-is, w.here-is, w.left-is) (
+        opened_left told c.args.strand c.back.chain.items c.back.left c.back.at c.back.here w.in-Opened.before no_entry c.back-test.true within
+            w.in-Opened.ensures w.if-left-eq0.false c.back.invariant.0,
+        omega arith,
+      )
     ]
