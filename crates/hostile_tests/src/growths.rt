@@ -15,6 +15,7 @@ macro_rules! entry {
     };
 }
 
+mod commands;
 mod gates;
 mod programs;
 mod strands;
@@ -55,10 +56,17 @@ enum Call {
     TellReplies,
     ParseProgram,
     Do(programs::Use),
+    Ask(commands::Command),
 }
 
 /// Makes the call where its growth of this number is refused, and checks what it answers. It says whether that was Memory.
-fn is_refused(rt: &impl Abort, heap: &Heap, call: Call, number: u64) -> Result<bool, Fail> {
+fn is_refused(
+    rt: &impl Abort,
+    alloc: Global,
+    heap: &Heap,
+    call: Call,
+    number: u64,
+) -> Result<bool, Fail> {
     match call {
         Call::NewList => Ok(strands::new_list(rt, heap, number)),
         Call::ReserveItems => strands::reserve_items(rt, heap, number),
@@ -81,6 +89,7 @@ fn is_refused(rt: &impl Abort, heap: &Heap, call: Call, number: u64) -> Result<b
         Call::TellReplies => Ok(gates::tell(rt, heap, number)),
         Call::ParseProgram => Ok(programs::parse(rt, heap, number)),
         Call::Do(done) => programs::make(rt, heap, number, done),
+        Call::Ask(command) => Ok(commands::make(rt, alloc, heap, number, command)),
     }
 }
 
@@ -111,7 +120,7 @@ fn wants_memory(rt: &impl Abort, heap: &Heap, fault: &TextFault) -> bool {
 fn check(rt: &impl Abort, alloc: Global, name: &str, call: Call) -> Result<(), Fail> {
     for number in 1..10_000u64 {
         let heap = Refusing::new(alloc);
-        if !is_refused(rt, &heap, call, number)? {
+        if !is_refused(rt, alloc, &heap, call, number)? {
             assert!(rt; number > 1, "{name} grows nothing");
             return Ok(());
         }
@@ -191,6 +200,19 @@ fn programs_and_what_is_done_with_them(rt: HostRuntime) -> Result<(), Fail> {
             ("Frame::reserve_call", Call::Do(programs::Use::ReserveCall)),
             ("elide", Call::Do(programs::Use::Elide)),
             ("replay", Call::Do(programs::Use::Replay)),
+        ],
+    )
+}
+
+#[test]
+fn commands_and_what_they_write(rt: HostRuntime) -> Result<(), Fail> {
+    check_all(
+        &rt,
+        rt.alloc(),
+        &[
+            ("judge_stream", Call::Ask(commands::Command::Judge)),
+            ("elide_text", Call::Ask(commands::Command::Elide)),
+            ("replay_text", Call::Ask(commands::Command::Replay)),
         ],
     )
 }

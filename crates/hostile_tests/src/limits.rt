@@ -1,6 +1,7 @@
 //! The limits of texts, histories and replays, at the limit and one past it.
 
 use crate::checks::equal;
+use crate::texts::found_of;
 use crate::worked::ENDLESS;
 use program_replay::{ReplayFault, replay};
 use program_text::{Cause, Program, TextFault};
@@ -8,7 +9,6 @@ use race_gate::{Answer, Entry, Gate, GateFault};
 use std::alloc::{AllocError, Global};
 use std::process::Abort;
 use std::test::Fail;
-use trace_text::Trace;
 use trace_values::{Act, Monoids, Request, Shape};
 
 /// A trace with so many lines behind its first.
@@ -18,15 +18,6 @@ fn with_lines(alloc: Global, line: &str, count: u32) -> Result<String, AllocErro
         text.push_str(line)?;
     }
     Ok(text)
-}
-
-/// What a trace's text means: so many requests, or a fault at a line.
-fn meant(alloc: Global, text: &[u8]) -> Option<Result<usize, (u32, Cause)>> {
-    match Trace::parse(alloc, text) {
-        Ok(trace) => Some(Ok(trace.lines.as_slice().len())),
-        Err(TextFault::At { line, why }) => Some(Err((line, why))),
-        Err(TextFault::Memory) => None,
-    }
 }
 
 /// The trace with so many of these lines means this.
@@ -41,7 +32,7 @@ fn check_lines(
     equal(
         rt,
         &(line, count),
-        &meant(alloc, text.as_bytes()),
+        &found_of(alloc, text.as_bytes()),
         &Some(wanted),
     );
     Ok(())

@@ -102,14 +102,6 @@ fn check_fault(
     Ok(())
 }
 
-/// The command has written this text, and where there is none, it has ended as it is never to end.
-fn check_told(rt: &impl Abort, outcome: &Outcome<Vec<u8>>, wanted: Option<&str>) {
-    match wanted {
-        Some(text) => equal(rt, &text, &outcome.output.as_slice(), &text.as_bytes()),
-        None => assert!(rt; false, "{:?}", outcome.answer),
-    }
-}
-
 /// The reader has failed behind so many reads, which is told, and nothing is written.
 fn is_unread(rt: &impl Abort, outcome: &Outcome<Vec<u8>>, left: u32) {
     assert!(rt;
@@ -120,6 +112,24 @@ fn is_unread(rt: &impl Abort, outcome: &Outcome<Vec<u8>>, left: u32) {
         outcome.read_failed && outcome.output.is_empty(),
         "at read {left}"
     );
+}
+
+/// The reader was interrupted, which is told as a failure, and nothing is written.
+fn is_interrupted(rt: &impl Abort, outcome: &Outcome<Vec<u8>>) {
+    is_unread(rt, outcome, 0);
+    equal(rt, &"reads", &outcome.reads, &1);
+}
+
+/// The text was too long, and nothing is written.
+fn check_too_long(rt: &impl Abort, outcome: &Outcome<Vec<u8>>) {
+    assert!(rt; matches!(outcome.answer, Err(CliFault::TooLong)));
+    assert!(rt; !outcome.read_failed && outcome.output.is_empty());
+}
+
+/// The reader, which gave a byte at each read, was asked as often as a reader may be.
+fn has_no_end(rt: &impl Abort, outcome: &Outcome<Vec<u8>>) {
+    check_too_long(rt, outcome);
+    equal(rt, &"reads", &outcome.reads, &67_108_865);
 }
 
 /// The writer, which went along with so many calls, has failed just where they are fewer than the text takes, and holds what they wrote.
@@ -247,6 +257,7 @@ fn control_and_values(rt: HostRuntime) -> Result<(), Fail> {
                 "1 split 1 2 3 / illegal unsynced / 2 value 0",
                 2,
             ),
+            ("read 4294967295 x", "illegal not-running", 2),
         ],
     )
 }

@@ -13,6 +13,8 @@ mod checks;
 #[cfg(test)]
 mod commands;
 #[cfg(test)]
+mod cores;
+#[cfg(test)]
 mod draws;
 #[cfg(test)]
 mod elisions;

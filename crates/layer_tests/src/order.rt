@@ -72,6 +72,21 @@ fn places_items_behind_others(rt: HostRuntime) -> Result<(), Fail> {
     Ok(())
 }
 
+/// A new list takes room for as many items as there may be, and not for one more.
+fn takes_most(rt: &impl Abort, list: &mut OrderList<Global>) {
+    reserves(rt, list, 3_000_000, Ok(()));
+    has_items(rt, list, 1, 3_000_000);
+    reserves(rt, list, 3_000_001, Err(OrderFault::Full));
+    has_items(rt, list, 1, 3_000_000);
+}
+
+#[test]
+fn has_room_for_so_many_items(rt: HostRuntime) -> Result<(), Fail> {
+    let mut list = OrderList::new(rt.alloc())?;
+    takes_most(&rt, &mut list);
+    Ok(())
+}
+
 /// A new list keeps its order while many items are placed behind its first one.
 fn places_many(rt: &impl Abort, list: &mut OrderList<Global>) {
     reserves(rt, list, 100_000, Ok(()));

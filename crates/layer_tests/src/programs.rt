@@ -501,6 +501,49 @@ fn limits_of_declarations(rt: HostRuntime) -> Result<(), Fail> {
     check_limits(&rt, alloc, &[(Much::Reducers, 256, 258)])
 }
 
+/// A name has 32 bytes at most, whatever it names.
+#[test]
+fn long_names(rt: HostRuntime) {
+    check_programs(
+        &rt,
+        rt.alloc(),
+        &[
+            b"cilk 1\nmem a2345678901234567890123456789012\nreducer b2345678901234567890123456789012 sum\nfunc main c2345678901234567890123456789012\nlet d2345678901234567890123456789012 = 0\nend\nfunc e2345678901234567890123456789012 z\nend\n",
+        ],
+    );
+    check_faults(
+        &rt,
+        rt.alloc(),
+        &[
+            (
+                b"cilk 1\nmem a23456789012345678901234567890123\n",
+                2,
+                Cause::BadWord,
+            ),
+            (
+                b"cilk 1\nreducer b23456789012345678901234567890123 sum\n",
+                2,
+                Cause::BadWord,
+            ),
+            (
+                b"cilk 1\nfunc main c23456789012345678901234567890123\nend\n",
+                2,
+                Cause::BadWord,
+            ),
+            (
+                b"cilk 1\nfunc main z\nlet d23456789012345678901234567890123 = 0\nend\n",
+                3,
+                Cause::BadWord,
+            ),
+            (
+                b"cilk 1\nfunc main z\nend\nfunc e23456789012345678901234567890123 z\nend\n",
+                4,
+                Cause::BadWord,
+            ),
+        ],
+    );
+}
+
 #[test]
 fn many_lines(rt: HostRuntime) -> Result<(), Fail> {
     check_limits(&rt, rt.alloc(), &[(Much::Lines, 3_999_997, 4_000_001)])

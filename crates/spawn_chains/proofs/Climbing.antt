@@ -1,5 +1,5 @@
 -- What climbing from two strands to what made them leaves: the climb passes no spawn at which the two part.
-use Rattle.std.proofs.Common.{◌≡◌, ◌⊎◌, ◌↔◌, inl, inr, ℕ, zero, suc, ◌+◌, ◌<◌, ◌≤◌, true, false, [], ◌∷◌, ◌++◌, length, refl, sym, ap, ◌∙◌, subst, append-nil, append_assoc, IsTrue, arith}
+use Rattle.std.proofs.Common.{◌≡◌, ◌⊎◌, ◌↔◌, inl, inr, ℕ, zero, suc, ◌<◌, ◌≤◌, true, false, [], ◌∷◌, ◌++◌, length, refl, sym, ap, ◌∙◌, subst, append-nil, append_assoc, IsTrue, arith}
 use Rattle.std.proofs.lemmas.Bool.{cases_Bool}
 use Rattle.addresses.specs.Address.{Word, child, next, join, Address, is_prefix, reaches, parallel, IsPrefix}
 use Rattle.addresses.proofs.Differences.{first_difference-longer}

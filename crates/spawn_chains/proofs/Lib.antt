@@ -3,3 +3,5 @@ pub mod Climbing
 pub mod Numbers
 pub mod Parted
 pub mod Asked
+pub mod Framed
+pub mod Outstanding

@@ -4,7 +4,6 @@ use Rattle.std.specs.Prelude.{MatchOption, if◌then◌else◌}
 use Rattle.std.proofs.Math.ListN.{get_or-append}
 use Rattle.std.proofs.Math.Seq.{get_or-append_seam, get_or-append_right}
 use Rattle.std.proofs.lemmas.List.{length-append, length-reverse, reverse-append, reverse-reverse, take-append-drop, take_more, length-take-le}
-use Rattle.addresses.specs.Address.{join}
 use Rattle.trace_values.specs.declared.value.Act.TheVariants.{Spawn}
 use Rattle.sp_labels.specs.declared.answer.Spawned.{Spawned}
 use Rattle.control_history.specs.History.{Event, split, same, joined, waits, call, resumed, ended, ended_joined, finished, History}
@@ -198,7 +197,7 @@ spawn_in told number some d found answer =
 
 -- The makers after one more of the entries in a slice.
 
-number_next : (told : List Entry) (i : ℕ) → i < length told → suc (length (reverse (take i told))) ≡ i + 1
+pub number_next : (told : List Entry) (i : ℕ) → i < length told → suc (length (reverse (take i told))) ≡ i + 1
 number_next told i below = omega (arith, length-reverse (take i told), length-take-le i told (omega arith))
 
 legal_next : (told : List Entry) (i : ℕ) (d : Entry) → i < length told → Legal (control_part (reverse told)) →

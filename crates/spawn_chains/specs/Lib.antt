@@ -1,3 +1,5 @@
 pub mod Makers
 pub mod Partings
 pub mod Climbs
+pub mod Frames
+pub mod OpenSpawns

@@ -6,8 +6,10 @@
 //! where no path leads from one strand to the other, and the spawn is such a one.
 #![tactic(auto)]
 
+mod frames;
 mod lineage;
 #[cfg(test)]
 mod tests;
 
-pub use lineage::{Lineage, Parting};
+pub use frames::chain;
+pub use lineage::{Lineage, OpenSpawn, Parting};

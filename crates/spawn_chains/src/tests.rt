@@ -1,6 +1,6 @@
 //! Worked histories: where the strands of two entries part.
 
-use crate::Lineage;
+use crate::{Lineage, chain};
 use Act::{Bump, Call, Return, Spawn, Sync};
 use race_gate::{Entry, Gate};
 use std::alloc::{AllocError, Global};
@@ -156,4 +156,94 @@ fn a_loop(rt: HostRuntime) -> Result<(), Fail> {
     let found = told(alloc, &gate, 52, 1)?;
     assert_eq!(rt; found, None);
     Ok(())
+}
+
+/// The numbers of the entries that enclose what the strand of the entry with this number does there.
+fn enclosing(alloc: Global, gate: &Gate<Global>, number: usize) -> Result<Vec<usize>, AllocError> {
+    let entries = gate.history();
+    if number == 0 || number > entries.len() {
+        return Ok(Vec::new(alloc));
+    }
+    chain(
+        alloc,
+        &entries[..number - 1],
+        entries[number - 1].request.strand,
+    )
+}
+
+/// Asks a gate for these acts, and then what encloses entries.
+fn encloses(
+    rt: &impl Abort,
+    alloc: Global,
+    acts: &[(u32, Act)],
+    cases: &[(usize, &[usize])],
+) -> Result<(), Fail> {
+    let mut gate = opening(alloc)?;
+    for (strand, act) in acts {
+        ask(rt, &mut gate, *strand, *act);
+    }
+    for (number, wanted) in cases {
+        let found = enclosing(alloc, &gate, *number)?;
+        assert_eq!(rt; found.as_slice(), *wanted, "{number}");
+    }
+    Ok(())
+}
+
+/// A call, in it a spawn, in the child a call that returns and another: what has returned encloses nothing, and a join stands where
+/// its block began.
+#[test]
+fn calls_and_spawns(rt: HostRuntime) -> Result<(), Fail> {
+    encloses(
+        &rt,
+        rt.alloc(),
+        &[
+            (0, ADDS),
+            (0, Call),
+            (0, Spawn),
+            (1, Call),
+            (1, ADDS),
+            (1, Return),
+            (1, Call),
+            (1, ADDS),
+            (2, ADDS),
+            (1, Return),
+            (1, Return),
+            (2, Sync),
+            (3, ADDS),
+            (3, Return),
+            (3, ADDS),
+        ],
+        &[
+            (1, &[]),
+            (2, &[]),
+            (3, &[2]),
+            (4, &[3, 2]),
+            (5, &[4, 3, 2]),
+            (8, &[7, 3, 2]),
+            (9, &[2]),
+            (11, &[3, 2]),
+            (13, &[2]),
+            (15, &[]),
+        ],
+    )
+}
+
+/// A spawn by a child, and its join: the outer spawn encloses both, and the inner one its own child alone.
+#[test]
+fn spawns_in_spawns(rt: HostRuntime) -> Result<(), Fail> {
+    encloses(
+        &rt,
+        rt.alloc(),
+        &[
+            (0, Spawn),
+            (1, Spawn),
+            (4, ADDS),
+            (5, ADDS),
+            (4, Return),
+            (5, Sync),
+            (6, ADDS),
+            (2, ADDS),
+        ],
+        &[(3, &[2, 1]), (4, &[1]), (7, &[1]), (8, &[])],
+    )
 }

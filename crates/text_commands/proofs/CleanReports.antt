@@ -27,6 +27,12 @@ use Rattle.race_report.specs.ReportText.{is_clean, memory_told, report_with}
 use Rattle.race_report.specs.Laws.{TellsSchedules}
 use Rattle.race_report.proofs.CleanRuns.{clean_told}
 use Rattle.race_report.proofs.Reversed.{all_reverses}
+use Rattle.trace_text.specs.Grammar.{TextMeans as TraceMeans}
+use Rattle.trace_text.specs.Printing.{plain_text}
+use Rattle.run_traces.specs.Traces.{trace_contents}
+use Rattle.run_traces.specs.Laws.{IsRunOf}
+use Rattle.race_gate.specs.Shapes.{most_entries}
+use Rattle.text_commands.specs.Traced.{TellsTraced}
 use Rattle.text_commands.specs.Statuses.{is_refused}
 use Rattle.text_commands.specs.Outcomes.{refusal_status}
 use Rattle.text_commands.specs.Elided.{monoids_of}
@@ -129,3 +135,18 @@ module _ (program : Contents) (limit : ℕ) (line : List ℕ) (status : ℕ) (t 
 
 pub clean_report_law : CleanReportLaw
 clean_report_law program limit line status t is = every_schedule program limit line status t (clean_status t.entries (sym t.status_is ∙ is))
+
+-- ---- with a trace
+
+-- a finished run with its report and its trace
+pub traced_tells : {A : Type 0} (program : Program A) (limit : ℕ) (entries : List Entry) (memory line trace : List ℕ) (status : ℕ) →
+    IsFinishedRun program.functions (shape_in program) (reverse entries) → length entries ≤ limit → length entries ≤ most_entries →
+    IsMemory (shape_in program).cells (reverse entries) memory → line ≡ run_line (contents program) entries memory → status ≡ refusal_status entries →
+    trace ≡ plain_text (trace_contents (contents program) entries) → (IsRunOf (contents program) entries → ∥ TraceMeans trace (trace_contents (contents program) entries) ∥₁) →
+    TellsTraced (contents program) limit line trace status
+unfolding tells_run
+traced_tells program limit entries memory line trace status run within few left line_is status_is trace_is means = record {
+  tells = tells_run program limit entries memory line status run within left line_is status_is;
+  trace_is = trace_is;
+  means = means (record { run = run.0; few = few });
+}

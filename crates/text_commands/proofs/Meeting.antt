@@ -48,6 +48,13 @@ pub requests_more : (lines : List TraceLine) (index : ℕ) (other : TraceLine) �
 requests_more lines index other below =
     ap (map (λ line. line.request)) (take_more lines index other below) ∙ map-append (λ (line : TraceLine). line.request) (take index lines) (get_or lines index other ∷ [])
 
+-- the request of one more line was pushed
+pub pushed_more : (lines : List TraceLine) (index : ℕ) (other : TraceLine) (old new : List Request) → index < length lines →
+    new ≡ old ++ (get_or lines index other).request ∷ [] → old ≡ map (λ line. line.request) (take index lines) →
+    new ≡ map (λ line. line.request) (take (index + 1) lines)
+pushed_more lines index other old new below pushed before =
+    pushed ∙ ap (λ l. l ++ (get_or lines index other).request ∷ []) before ∙ sym (requests_more lines index other below)
+
 module _ {A : Type 0} where
   -- the request of one more line was judged
   pub judged_more : (start : State) (lines : List TraceLine) (index : ℕ) (other : TraceLine) (replies : List Reply) (core : CoreState) (verdicts : Verdicts A) →

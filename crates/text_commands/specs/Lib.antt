@@ -10,6 +10,7 @@ pub mod Declarations
 pub mod Outcomes
 pub mod Replays
 pub mod Runs
+pub mod Traced
 pub mod Sources
 pub mod Performed
 pub mod Laws

@@ -1,7 +1,6 @@
 //! Judging the trace that a reader gives.
 
 ghost use Rattle.std.specs.Prelude.{◌≡◌, ◌↔◌, ◌≤◌, ◌≢◌, ◌++◌, ◌∷◌, ◌+◌, ◌<◌, ℕ, List, [], true, false, length, map, IfOk, IfErr, OnOk, IsErrOf, IsTrue, MatchResult};
-ghost use Rattle.std.specs.List.{All};
 ghost use Rattle.std.specs.Io.KnownBytes.{Appends};
 ghost use Rattle.trace_text.specs.Grammar.{TextMeans};
 ghost use Rattle.trace_values.specs.Limits.{max_requests};
@@ -12,7 +11,6 @@ ghost use Rattle.race_gate.specs.States.{State};
 ghost use Rattle.race_gate.specs.declared.answer.Reply.{Reply as SpecReply};
 ghost use Rattle.trace_values.specs.declared.value.Request.{Request as SpecRequest};
 ghost use Rattle.text_commands.specs.Watched.{held, has_failed, is_delivered, calls_of, IsCalledAtMost};
-ghost use Rattle.race_report.specs.VerdictText.{HasWords};
 ghost use Rattle.text_commands.specs.Meetings.{HasJudged, Tells, TellsTrace};
 ghost use Rattle.text_commands.specs.Statuses.{status_of_replies};
 ghost use Rattle.text_commands.specs.Streams.{most_reads, declared_shape, requests_of, IsJudgedBy, JudgesTrace, AreReplies, AnswersText, IsAnswered, IsFaultOf, HasCause};
@@ -28,16 +26,16 @@ use std::io::{Read, Write};
 use trace_text::Trace;
 use trace_values::{Request, Shape};
 
-/// The requests of a trace.
+/// The requests of a trace, for which room is taken at once.
 fn requests<A: Allocator + Copy>(alloc: A, trace: &Trace<A>) -> Result<Vec<Request, A>, AllocError>
     ensures { IfOk result (λ requests. requests.items ≡ map (λ line. line.request) trace.now.lines) }
 {
-    trace
-        .lines
-        .as_slice()
-        .iter()
-        .map(|line| line.request)
-        .collect(alloc)
+    let lines = trace.lines.as_slice();
+    let mut requests = Vec::with_capacity(alloc, lines.len())?;
+    for line in lines {
+        requests.push_reserved(line.request);
+    }
+    Ok(requests)
 }
 
 /// What a trace declares, and its requests.
@@ -65,7 +63,6 @@ fn reply_to_all<A: Allocator + Copy>(
     requires cells { shape.now.cells ≤ most_cells }
     requires reducers { length shape.now.monoids ≤ most_reducers }
     ensures judges { IfOk result (λ pair. IsJudgedBy (shape_of shape.now) limit requests.now pair.1.items pair.0) }
-    ensures words { IfOk result (λ pair. All HasWords pair.1.items) }
 {
     let mut gate = Gate::new(alloc, shape, limit)?;
     let replies = judge_all(&mut gate, alloc, requests)?;
@@ -81,7 +78,6 @@ pub fn judged<A: Allocator + Copy>(
     requires limit { limit ≤ most_entries }
     ensures judges { IfOk result (λ pair. JudgesTrace (contents trace) limit pair.1.items pair.0) }
     ensures count { IfOk result (λ pair. length pair.1.items ≤ max_requests) }
-    ensures words { IfOk result (λ pair. All HasWords pair.1.items) }
 {
     let asked = asked(alloc, &trace);
     drop(trace);

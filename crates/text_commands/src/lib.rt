@@ -31,6 +31,7 @@ mod replay;
 mod run;
 mod status;
 mod streams;
+mod traced;
 mod watched;
 mod words;
 
@@ -43,5 +44,6 @@ pub use replay::replay_text;
 pub use run::{Door, OpenDoor, run_text};
 pub use status::status_of;
 pub use streams::write_text;
+pub use traced::{Traced, traced_run};
 pub use watched::Watched;
 pub use words::{Job, read_args, read_words, usage};

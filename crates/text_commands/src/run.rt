@@ -30,7 +30,7 @@ use steal_workers::run;
 use trace_values::Request;
 
 /// The parts of a seat, one for each worker that there may be.
-const PARTS: u64 = 64;
+pub const PARTS: u64 = 64;
 
 /// What each request of a run passes before it comes to the gate.
 pub trait Door {
@@ -70,7 +70,7 @@ impl<'a, D: Door, L: Ledger> Ask<L> for Behind<'a, D, L> {
 }
 
 /// The fault of a run as one of the command.
-fn fault_of(fault: RunFault) -> CliFault
+pub fn fault_of(fault: RunFault) -> CliFault
     ensures { result ≡ fault_of_run fault }
 {
     match fault {
@@ -180,7 +180,7 @@ fn met(
 }
 
 /// A finished run of the program by so many workers, of at most `limit` entries.
-fn whole_run<L: Ledger + Send + Sync, D: Door + Sync, R: Threads + Wait + Sync>(
+pub fn whole_run<L: Ledger + Send + Sync, D: Door + Sync, R: Threads + Wait + Sync>(
     rt: &R,
     alloc: Global,
     program: &Program<Global>,
@@ -217,7 +217,7 @@ fn whole_run<L: Ledger + Send + Sync, D: Door + Sync, R: Threads + Wait + Sync>(
 }
 
 /// The report of a finished run and a line feed.
-fn report_line(
+pub fn report_line(
     alloc: Global,
     program: &Program<Global>,
     whole: &Whole,

@@ -24,6 +24,23 @@ impl Read for Breaking<'_> {
     }
 }
 
+/// Answers at the first read that it was interrupted, and then gives its text.
+#[derive(Drop)]
+pub(super) struct Interrupted<'a> {
+    pub(super) text: &'a [u8],
+    pub(super) was_asked: bool,
+}
+
+impl Read for Interrupted<'_> {
+    fn read(&mut self, buf: &mut [u8]) -> Result<usize> {
+        if self.was_asked {
+            return self.text.read(buf);
+        }
+        self.was_asked = true;
+        Err(Error::from(ErrorKind::Interrupted))
+    }
+}
+
 /// Takes a byte at each write. Behind `left` more it takes none, or answers an error.
 #[derive(Drop)]
 pub(super) struct Filling {

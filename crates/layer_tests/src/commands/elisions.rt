@@ -3,14 +3,17 @@
 ghost use Rattle.std.specs.Prelude.{◌≤◌};
 ghost use Rattle.race_gate.specs.Shapes.{most_entries};
 
-use super::devices::{Breaking, Filling};
+use super::devices::{Breaking, Filling, Interrupted, Spaces};
 use super::worked::{ENDLESS, FIB, LASTS, NO_TURNS, PAIR, SERIES, TURNS};
-use super::{MOST, Outcome, check_fault, check_told, check_written, has_filled, is_unread, lined};
+use super::{
+    MOST, Outcome, check_fault, check_written, has_filled, has_no_end, is_interrupted, is_unread,
+    lined,
+};
 use std::alloc::Global;
 use std::io::{Read, Write};
 use std::process::Abort;
 use std::test::Fail;
-use text_commands::{CliFault, Watched, elide_text};
+use text_commands::{Watched, elide_text};
 
 /// A program of 29 bytes whose elision has 15.
 const SHORT: &str = "cilk 1\nmem x\nfunc main z\nend\n";
@@ -183,40 +186,40 @@ fn a_program_that_cannot_be_read(rt: HostRuntime) {
     }
 }
 
-fn elided_filling(alloc: Global, left: u32) -> Outcome<Filling> {
+#[test]
+fn a_program_whose_reader_is_interrupted(rt: HostRuntime) {
+    let text = SHORT.as_bytes();
+    let was_asked = false;
+    let reader = Interrupted { text, was_asked };
+    let outcome = elided(rt.alloc(), reader, Vec::new(rt.alloc()), MOST);
+    is_interrupted(&rt, &outcome);
+}
+
+#[test]
+fn a_program_that_never_ends(rt: HostRuntime) {
+    let outcome = elided(rt.alloc(), Spaces, Vec::new(rt.alloc()), MOST);
+    has_no_end(&rt, &outcome);
+}
+
+fn elided_filling(alloc: Global, left: u32, answers_an_error: bool) -> Outcome<Filling> {
     let filling = Filling {
         held: Vec::new(alloc),
         left,
-        answers_an_error: true,
+        answers_an_error,
     };
     elided(alloc, SHORT.as_bytes(), filling, MOST)
 }
 
 /// A writer that goes along with so many calls fails just where they are too few.
-fn check_filling(rt: &impl Abort, alloc: Global, left: u32) {
-    let outcome = elided_filling(alloc, left);
+fn check_filling(rt: &impl Abort, alloc: Global, left: u32, answers_an_error: bool) {
+    let outcome = elided_filling(alloc, left, answers_an_error);
     has_filled(rt, &outcome, left, 16, LEFT_BY_SHORT);
 }
 
 #[test]
 fn an_elision_that_cannot_be_written(rt: HostRuntime) {
     for left in 0..17u32 {
-        check_filling(&rt, rt.alloc(), left);
+        check_filling(&rt, rt.alloc(), left, false);
+        check_filling(&rt, rt.alloc(), left, true);
     }
-}
-
-/// What is written by an elision to which memory was given or not, by how it ends.
-fn told_by(answer: &Result<u8, CliFault>) -> Option<&'static str> {
-    match answer {
-        Ok(0) => Some(LEFT_BY_SHORT),
-        // The writer takes memory too.
-        Err(CliFault::Memory | CliFault::Write) => Some(""),
-        _ => None,
-    }
-}
-
-#[test]
-fn memory_that_an_elision_wants_is_told(rt: HostRuntime) {
-    let outcome = elided(rt.alloc(), SHORT.as_bytes(), Vec::new(rt.alloc()), MOST);
-    check_told(&rt, &outcome, told_by(&outcome.answer));
 }

@@ -1,11 +1,13 @@
-//! Readers, writers and memory that fail while a trace is judged.
+//! Readers and writers that fail while a trace is judged.
 
-use super::devices::{Breaking, Filling, Spaces};
-use super::{MOST, Outcome, check_told, check_written, has_filled, is_unread, judged};
+use super::devices::{Breaking, Filling, Interrupted, Spaces};
+use super::{
+    MOST, Outcome, check_too_long, check_written, has_filled, has_no_end, is_interrupted,
+    is_unread, judged,
+};
 use std::alloc::Global;
 use std::io;
 use std::process::Abort;
-use text_commands::CliFault;
 
 const TRACE: &str = "cilk 1\nmem x\nread 0 x\n";
 
@@ -38,6 +40,15 @@ fn a_reader_that_fails(rt: HostRuntime) {
     }
 }
 
+#[test]
+fn a_reader_that_is_interrupted(rt: HostRuntime) {
+    let text = TRACE.as_bytes();
+    let was_asked = false;
+    let reader = Interrupted { text, was_asked };
+    let outcome = judged(rt.alloc(), reader, Vec::new(rt.alloc()), MOST);
+    is_interrupted(&rt, &outcome);
+}
+
 fn judged_filling(alloc: Global, left: u32, answers_an_error: bool) -> Outcome<Filling> {
     let filling = Filling {
         held: Vec::new(alloc),
@@ -61,17 +72,10 @@ fn a_writer_that_fails(rt: HostRuntime) {
     }
 }
 
-/// The reader was too long, and nothing is written.
-fn check_too_long(rt: &impl Abort, outcome: &Outcome<Vec<u8>>) {
-    assert!(rt; matches!(outcome.answer, Err(CliFault::TooLong)));
-    assert!(rt; !outcome.read_failed && outcome.output.is_empty());
-}
-
 #[test]
 fn a_reader_that_never_ends(rt: HostRuntime) {
     let outcome = judged(rt.alloc(), Spaces, Vec::new(rt.alloc()), MOST);
-    check_too_long(&rt, &outcome);
-    assert_eq!(rt; outcome.reads, 67_108_865);
+    has_no_end(&rt, &outcome);
 }
 
 #[test]
@@ -79,21 +83,4 @@ fn a_reader_that_gives_too_much(rt: HostRuntime) {
     let outcome = judged(rt.alloc(), io::repeat(b' '), Vec::new(rt.alloc()), MOST);
     check_too_long(&rt, &outcome);
     assert!(rt; outcome.reads < 1_000);
-}
-
-/// What is written by a judgement to which memory was given or not, by how it ends.
-fn told_by(answer: &Result<u8, CliFault>) -> Option<&'static str> {
-    match answer {
-        Ok(0) => Some(VERDICTS),
-        Ok(3) => Some("illegal memory\n"),
-        // The writer takes memory too.
-        Err(CliFault::Memory | CliFault::Write) => Some(""),
-        _ => None,
-    }
-}
-
-#[test]
-fn memory_that_is_wanting_is_told(rt: HostRuntime) {
-    let outcome = judged(rt.alloc(), TRACE.as_bytes(), Vec::new(rt.alloc()), MOST);
-    check_told(&rt, &outcome, told_by(&outcome.answer));
 }

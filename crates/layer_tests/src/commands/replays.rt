@@ -1,13 +1,16 @@
 //! Replays, from programs and traces that are read to lines that are written.
 
-use super::devices::{Breaking, Filling};
+use super::devices::{Breaking, Filling, Interrupted, Spaces};
 use super::worked::{ENDLESS, PAIR};
-use super::{Outcome, check_fault, check_told, check_written, has_filled, is_unread, lined};
+use super::{
+    Outcome, check_fault, check_too_long, check_written, has_filled, has_no_end, is_interrupted,
+    is_unread, lined,
+};
 use std::alloc::Global;
 use std::io::{Read, Write};
 use std::process::Abort;
 use std::test::Fail;
-use text_commands::{CliFault, Watched, replay_text};
+use text_commands::{Watched, replay_text};
 
 /// Its run in which the write comes first, without the last request.
 const MOST_OF_PAIR: &str =
@@ -241,45 +244,50 @@ fn texts_that_can_just_be_read(rt: HostRuntime) {
     check_written(&rt, &trace, 0, TOLD_OF_SHORT, "the trace");
 }
 
-fn replayed_filling(alloc: Global, left: u32) -> Outcome<Filling> {
+/// Either reader is interrupted at its first read.
+#[test]
+fn texts_whose_reader_is_interrupted(rt: HostRuntime) {
+    let (program, trace) = (SHORT.as_bytes(), SHORT_TRACE.as_bytes());
+    let was_asked = false;
+    let text = program;
+    let reader = Interrupted { text, was_asked };
+    let outcome = replayed(rt.alloc(), reader, trace, Vec::new(rt.alloc()));
+    is_interrupted(&rt, &outcome);
+    let text = trace;
+    let reader = Interrupted { text, was_asked };
+    let outcome = replayed(rt.alloc(), program, reader, Vec::new(rt.alloc()));
+    is_unread(&rt, &outcome, 0);
+}
+
+#[test]
+fn texts_that_never_end(rt: HostRuntime) {
+    let trace = SHORT_TRACE.as_bytes();
+    let outcome = replayed(rt.alloc(), Spaces, trace, Vec::new(rt.alloc()));
+    has_no_end(&rt, &outcome);
+    let program = SHORT.as_bytes();
+    let outcome = replayed(rt.alloc(), program, Spaces, Vec::new(rt.alloc()));
+    check_too_long(&rt, &outcome);
+}
+
+fn replayed_filling(alloc: Global, left: u32, answers_an_error: bool) -> Outcome<Filling> {
     let filling = Filling {
         held: Vec::new(alloc),
         left,
-        answers_an_error: true,
+        answers_an_error,
     };
     replayed(alloc, SHORT.as_bytes(), SHORT_TRACE.as_bytes(), filling)
 }
 
 /// A writer that goes along with so many calls fails just where they are too few.
-fn check_filling(rt: &impl Abort, alloc: Global, left: u32) {
-    let outcome = replayed_filling(alloc, left);
+fn check_filling(rt: &impl Abort, alloc: Global, left: u32, answers_an_error: bool) {
+    let outcome = replayed_filling(alloc, left, answers_an_error);
     has_filled(rt, &outcome, left, 12, TOLD_OF_SHORT);
 }
 
 #[test]
 fn a_replay_that_cannot_be_written(rt: HostRuntime) {
     for left in 0..13u32 {
-        check_filling(&rt, rt.alloc(), left);
+        check_filling(&rt, rt.alloc(), left, false);
+        check_filling(&rt, rt.alloc(), left, true);
     }
-}
-
-/// What is written of a replay to which memory was given or not, by how it ends.
-fn told_by(answer: &Result<u8, CliFault>) -> Option<&'static str> {
-    match answer {
-        Ok(0) => Some(TOLD_OF_SHORT),
-        // The writer takes memory too.
-        Err(CliFault::Memory | CliFault::Write) => Some(""),
-        _ => None,
-    }
-}
-
-#[test]
-fn memory_that_a_replay_wants_is_told(rt: HostRuntime) {
-    let outcome = replayed(
-        rt.alloc(),
-        SHORT.as_bytes(),
-        SHORT_TRACE.as_bytes(),
-        Vec::new(rt.alloc()),
-    );
-    check_told(&rt, &outcome, told_by(&outcome.answer));
 }

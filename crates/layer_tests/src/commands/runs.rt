@@ -3,16 +3,19 @@
 ghost use Rattle.std.specs.Prelude.{◌<◌, ◌≤◌};
 ghost use Rattle.race_gate.specs.Shapes.{most_entries};
 
-use super::devices::{Breaking, Filling};
+use super::devices::{Breaking, Filling, Interrupted, Spaces};
 use super::worked::{ENDLESS, FIB, LASTS, NO_TURNS, SERIES, TURNS};
-use super::{MOST, Outcome, check_fault, check_told, check_written, has_filled, is_unread, lined};
+use super::{
+    MOST, Outcome, check_fault, check_written, has_filled, has_no_end, is_interrupted, is_unread,
+    lined,
+};
 use std::alloc::Global;
 use std::io::{Read, Write};
 use std::process::Abort;
 use std::sync::Wait;
 use std::test::Fail;
 use std::thread::Threads;
-use text_commands::{CliFault, Door, OpenDoor, Watched, run_text};
+use text_commands::{Door, OpenDoor, Watched, run_text};
 
 const FIB_REPORT: &str =
     "{\"clean\":true,\"entries\":713,\"memory\":{\"x\":55},\"refusals\":[],\"schedules\":\"clean for every schedule\"}\n";
@@ -200,11 +203,33 @@ fn a_program_that_cannot_be_read(rt: HostRuntime) {
     check_written(&rt, &outcome, 0, TOLD_OF_SHORT, "a program");
 }
 
-fn ran_filling<R: Threads + Wait + Sync>(rt: &R, alloc: Global, left: u32) -> Outcome<Filling> {
+#[test]
+fn a_program_whose_reader_is_interrupted(rt: HostRuntime) {
+    let text = SHORT.as_bytes();
+    let was_asked = false;
+    let reader = Interrupted { text, was_asked };
+    let output = Vec::new(rt.alloc());
+    let outcome = ran_through(&rt, rt.alloc(), reader, 2, &OpenDoor, output, MOST);
+    is_interrupted(&rt, &outcome);
+}
+
+#[test]
+fn a_program_that_never_ends(rt: HostRuntime) {
+    let output = Vec::new(rt.alloc());
+    let outcome = ran_through(&rt, rt.alloc(), Spaces, 2, &OpenDoor, output, MOST);
+    has_no_end(&rt, &outcome);
+}
+
+fn ran_filling<R: Threads + Wait + Sync>(
+    rt: &R,
+    alloc: Global,
+    left: u32,
+    answers_an_error: bool,
+) -> Outcome<Filling> {
     let filling = Filling {
         held: Vec::new(alloc),
         left,
-        answers_an_error: true,
+        answers_an_error,
     };
     ran_through(rt, alloc, SHORT.as_bytes(), 2, &OpenDoor, filling, MOST)
 }
@@ -212,24 +237,9 @@ fn ran_filling<R: Threads + Wait + Sync>(rt: &R, alloc: Global, left: u32) -> Ou
 #[test]
 fn a_report_that_cannot_be_written(rt: HostRuntime) {
     for left in 0..94u32 {
-        let outcome = ran_filling(&rt, rt.alloc(), left);
+        let outcome = ran_filling(&rt, rt.alloc(), left, true);
+        has_filled(&rt, &outcome, left, 93, TOLD_OF_SHORT);
+        let outcome = ran_filling(&rt, rt.alloc(), left, false);
         has_filled(&rt, &outcome, left, 93, TOLD_OF_SHORT);
     }
-}
-
-/// What is written of a run to which memory was given or not, by how it ends.
-fn told_by(answer: &Result<u8, CliFault>) -> Option<&'static str> {
-    match answer {
-        Ok(0) => Some(TOLD_OF_SHORT),
-        // The writer takes memory too.
-        Err(CliFault::Memory | CliFault::Write) => Some(""),
-        _ => None,
-    }
-}
-
-#[test]
-fn memory_that_a_run_wants_is_told(rt: HostRuntime) {
-    let (text, output) = (SHORT.as_bytes(), Vec::new(rt.alloc()));
-    let outcome = ran_through(&rt, rt.alloc(), text, 2, &OpenDoor, output, MOST);
-    check_told(&rt, &outcome, told_by(&outcome.answer));
 }

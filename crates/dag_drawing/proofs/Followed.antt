@@ -1,0 +1,257 @@
+-- One more of the entries in a slice, and what it does to strands and edges.
+use Rattle.std.proofs.Common.{◌≡◌, ◌⊎◌, inl, inr, ℕ, ◌+◌, ◌<◌, Bool, true, List, [], ◌∷◌, ◌++◌, length, get_or, set, take, drop, reverse, Option, Some, None, refl, sym, ap, ◌∙◌, subst, arith}
+use Rattle.std.specs.Prelude.{MatchOption}
+use Rattle.std.proofs.lemmas.List.{reverse-append, take-append-drop, take_more}
+use Rattle.trace_values.specs.declared.value.Act.{Act}
+use Rattle.trace_values.specs.declared.value.Act.TheVariants.{Spawn, Sync, Call, Return, Read, Write, Bump, Update, Put, Get}
+use Rattle.sp_labels.specs.declared.answer.Spawned.{Spawned}
+use Rattle.control_history.specs.History.{Event, joined, ended_joined, History}
+use Rattle.control_history.specs.Strands.{Running, unused}
+use Rattle.control_history.specs.Blocks.{stack, enclosing}
+use Rattle.control_history.specs.Legal.{Allowed, sync_joined, last_return}
+use Rattle.control_history.proofs.Places.{running_below}
+use Rattle.control_history.proofs.Range.{ranges}
+use Rattle.race_gate.specs.declared.answer.Answer.{Answer}
+use Rattle.race_gate.specs.declared.answer.Answer.TheVariants.{Split, Same, Joined, Waits, Resumed, Ended, EndedJoined, Finished, Granted, Value, Refused, Unset}
+use Rattle.race_gate.specs.declared.answer.Entry.{Entry}
+use Rattle.race_gate.specs.Entries.{Entries, event_between, with_event, control_part}
+use Rattle.race_gate.specs.Shapes.{Shape}
+use Rattle.race_gate.specs.Legal.{Belongs, IsLegal}
+use Rattle.dag_drawing.specs.declared.drawing.Edge.{Edge}
+use Rattle.dag_drawing.specs.Arrows.{forks, arrival}
+use Rattle.dag_drawing.specs.Walks.{IsLegalHistory, marks_of, blocks_of, IsWalk}
+use Rattle.dag_drawing.proofs.Places.{walk_split, walk_waits, walk_ended, walk_joined, walk_ended_joined, walk_same, walk_call, walk_resumed, walk_finished, join_known}
+
+-- ---- entries in a slice
+
+so_far : (told : List Entry) (i : ℕ) (d : Entry) → i < length told → reverse (take (i + 1) told) ≡ get_or told i d ∷ reverse (take i told)
+so_far told i d below = ap (λ (xs : Entries). reverse xs) (take_more told i d below) ∙ reverse-append (take i told) (get_or told i d ∷ [])
+
+legal_earlier : (shape : Shape) (later entries : Entries) → IsLegal shape (later ++ entries) → IsLegal shape entries
+legal_earlier shape [] entries legal = legal
+legal_earlier shape (entry ∷ later) entries legal = legal_earlier shape later entries legal.0
+
+legal_next : (told : List Entry) (i : ℕ) (d : Entry) → i < length told → (legal : IsLegalHistory (reverse told)) →
+    IsLegal legal.0 (get_or told i d ∷ reverse (take i told))
+legal_next told i d below (shape, legal) =
+    let whole : reverse told ≡ reverse (drop (i + 1) told) ++ reverse (take (i + 1) told) =
+    ap (λ (xs : Entries). reverse xs) (sym (take-append-drop (i + 1) told)) ∙ reverse-append (take (i + 1) told) (drop (i + 1) told) in
+    subst (IsLegal shape) (so_far told i d below)
+    (legal_earlier shape (reverse (drop (i + 1) told)) (reverse (take (i + 1) told)) (subst (IsLegal shape) whole legal))
+
+pub strand_within : (told : List Entry) (i : ℕ) (d : Entry) → i < length told → IsLegalHistory (reverse told) →
+    (begun : List Bool) (blocks : List (Option ℕ)) (edges : List Edge) → IsWalk begun blocks edges (control_part (reverse (take i told))) →
+    (get_or told i d).request.strand < length blocks
+strand_within told i d below legal begun blocks edges walk =
+    let run = (legal_next told i d below legal).1.runs in
+    let known = running_below (control_part (reverse (take i told))) (ranges walk.legal) (get_or told i d).request.strand run in
+    omega (arith, known, walk.places)
+
+-- ---- one more entry, by its answer
+
+-- the walk after an act with this answer
+abbrev After : List Bool → List (Option ℕ) → List Edge → ℕ → Act → Answer → History → Type 0
+After begun blocks edges strand act answer h = IsWalk begun blocks edges (with_event (event_between strand act answer) h)
+
+-- what is known of an entry that may follow
+abbrev MayCome : ℕ → Act → Answer → History → Type 0
+MayCome strand act answer h = Running h strand × Belongs act answer × MatchOption (event_between strand act answer) (Unit {0}) (Allowed h)
+
+after_split : (begun : List Bool) (blocks : List (Option ℕ)) (edges : List Edge) (strand : ℕ) (act : Act) (spawned : Spawned) (h : History) →
+    IsWalk begun blocks edges h → MayCome strand act (Split spawned) h →
+    After (begun ++ marks_of spawned.first) (blocks ++ blocks_of spawned.first spawned.join (get_or blocks strand None))
+    (edges ++ forks strand spawned.child spawned.next) strand act (Split spawned) h
+after_split begun blocks edges strand Spawn spawned h walk (run, b, a) =
+    walk_split begun blocks edges h strand spawned.child spawned.next spawned.join spawned.first walk a
+after_split begun blocks edges strand act spawned h walk (run, b, a) = absurd b
+
+after_waits : (begun : List Bool) (blocks : List (Option ℕ)) (edges : List Edge) (strand : ℕ) (act : Act) (h : History) →
+    IsWalk begun blocks edges h → MayCome strand act Waits h →
+    After begun blocks (edges ++ arrival strand (get_or blocks strand None)) strand act Waits h
+after_waits begun blocks edges strand Sync h walk (run, b, a) = walk_waits begun blocks edges h strand walk run a
+after_waits begun blocks edges strand act h walk (run, b, a) = absurd b
+
+after_ended : (begun : List Bool) (blocks : List (Option ℕ)) (edges : List Edge) (strand : ℕ) (act : Act) (h : History) →
+    IsWalk begun blocks edges h → MayCome strand act Ended h →
+    After begun blocks (edges ++ arrival strand (get_or blocks strand None)) strand act Ended h
+after_ended begun blocks edges strand Return h walk (run, b, a) = walk_ended begun blocks edges h strand walk run a
+after_ended begun blocks edges strand act h walk (run, b, a) = absurd b
+
+joined_at : (h : History) (s j : ℕ) → Allowed h (joined s j) → enclosing (stack h s) ≡ Some j
+joined_at h s j (sync_joined run st none) = ap enclosing st
+
+returned_at : (h : History) (s j : ℕ) → Allowed h (ended_joined s j) → enclosing (stack h s) ≡ Some j
+returned_at h s j (last_return run st last) = ap enclosing st
+
+after_joined : (begun : List Bool) (blocks : List (Option ℕ)) (edges : List Edge) (strand : ℕ) (act : Act) (join : ℕ) (h : History) →
+    IsWalk begun blocks edges h → MayCome strand act (Joined join) h → (join < length begun) ×
+    After (set begun join true) blocks (edges ++ arrival strand (get_or blocks strand None)) strand act (Joined join) h
+after_joined begun blocks edges strand Sync join h walk (run, b, a) =
+    let known : join < unused h = join_known h strand join walk.legal (joined_at h strand join a) in
+    (omega (arith, known, walk.marks), walk_joined begun blocks edges h strand join walk run known a)
+after_joined begun blocks edges strand act join h walk (run, b, a) = absurd b
+
+after_returned : (begun : List Bool) (blocks : List (Option ℕ)) (edges : List Edge) (strand : ℕ) (act : Act) (join : ℕ) (h : History) →
+    IsWalk begun blocks edges h → MayCome strand act (EndedJoined join) h → (join < length begun) ×
+    After (set begun join true) blocks (edges ++ arrival strand (get_or blocks strand None)) strand act (EndedJoined join) h
+after_returned begun blocks edges strand Return join h walk (run, b, a) =
+    let known : join < unused h = join_known h strand join walk.legal (returned_at h strand join a) in
+    (omega (arith, known, walk.marks), walk_ended_joined begun blocks edges h strand join walk run known a)
+after_returned begun blocks edges strand act join h walk (run, b, a) = absurd b
+
+after_same : (begun : List Bool) (blocks : List (Option ℕ)) (edges : List Edge) (strand : ℕ) (act : Act) (h : History) →
+    IsWalk begun blocks edges h → MayCome strand act Same h → After begun blocks edges strand act Same h
+after_same begun blocks edges strand Sync h walk (run, b, a) = walk_same begun blocks edges h strand walk a
+after_same begun blocks edges strand Call h walk (run, b, a) = walk_call begun blocks edges h strand walk a
+after_same begun blocks edges strand act h walk (run, b, a) = absurd b
+
+after_resumed : (begun : List Bool) (blocks : List (Option ℕ)) (edges : List Edge) (strand : ℕ) (act : Act) (h : History) →
+    IsWalk begun blocks edges h → MayCome strand act Resumed h → After begun blocks edges strand act Resumed h
+after_resumed begun blocks edges strand Return h walk (run, b, a) = walk_resumed begun blocks edges h strand walk a
+after_resumed begun blocks edges strand act h walk (run, b, a) = absurd b
+
+after_finished : (begun : List Bool) (blocks : List (Option ℕ)) (edges : List Edge) (strand : ℕ) (act : Act) (h : History) →
+    IsWalk begun blocks edges h → MayCome strand act Finished h → After begun blocks edges strand act Finished h
+after_finished begun blocks edges strand Return h walk (run, b, a) = walk_finished begun blocks edges h strand walk run a
+after_finished begun blocks edges strand act h walk (run, b, a) = absurd b
+
+-- what an access is answered
+abbrev IsOfAccess : Answer → Type 0
+IsOfAccess Granted = Unit {0}
+IsOfAccess (Value value) = Unit {0}
+IsOfAccess (Refused rule witness) = Unit {0}
+IsOfAccess Unset = Unit {0}
+IsOfAccess answer = ⊥
+
+no_event : (strand : ℕ) (act : Act) (answer : Answer) → IsOfAccess answer → event_between strand act answer ≡ None
+no_event strand Spawn Granted of = refl
+no_event strand Spawn (Value value) of = refl
+no_event strand Spawn (Refused rule witness) of = refl
+no_event strand Spawn Unset of = refl
+no_event strand Spawn answer of = absurd of
+no_event strand Sync Granted of = refl
+no_event strand Sync (Value value) of = refl
+no_event strand Sync (Refused rule witness) of = refl
+no_event strand Sync Unset of = refl
+no_event strand Sync answer of = absurd of
+no_event strand Call Granted of = refl
+no_event strand Call (Value value) of = refl
+no_event strand Call (Refused rule witness) of = refl
+no_event strand Call Unset of = refl
+no_event strand Call answer of = absurd of
+no_event strand Return Granted of = refl
+no_event strand Return (Value value) of = refl
+no_event strand Return (Refused rule witness) of = refl
+no_event strand Return Unset of = refl
+no_event strand Return answer of = absurd of
+no_event strand (Read location) answer of = refl
+no_event strand (Write location value) answer of = refl
+no_event strand (Bump location value) answer of = refl
+no_event strand (Update reducer value) answer of = refl
+no_event strand (Put reducer value) answer of = refl
+no_event strand (Get reducer) answer of = refl
+
+after_access : (begun : List Bool) (blocks : List (Option ℕ)) (edges : List Edge) (strand : ℕ) (act : Act) (answer : Answer) (h : History) →
+    IsWalk begun blocks edges h → IsOfAccess answer → After begun blocks edges strand act answer h
+after_access begun blocks edges strand act answer h walk of =
+    subst (λ (o : Option Event). IsWalk begun blocks edges (with_event o h)) (sym (no_event strand act answer of)) walk
+
+-- the answer neither spawns nor ends a strand at a join
+abbrev pub IsQuiet : Answer → Type 0
+IsQuiet answer =
+    ((spawned : Spawned) → answer ≡ Split spawned → ⊥) × ((join : ℕ) → answer ≡ Joined join → ⊥) × (answer ≡ Waits → ⊥) × (answer ≡ Ended → ⊥) ×
+    ((join : ℕ) → answer ≡ EndedJoined join → ⊥)
+
+after_quiet : (begun : List Bool) (blocks : List (Option ℕ)) (edges : List Edge) (strand : ℕ) (act : Act) (answer : Answer) (h : History) →
+    IsWalk begun blocks edges h → MayCome strand act answer h → IsQuiet answer → After begun blocks edges strand act answer h
+after_quiet begun blocks edges strand act Same h walk may quiet = after_same begun blocks edges strand act h walk may
+after_quiet begun blocks edges strand act Resumed h walk may quiet = after_resumed begun blocks edges strand act h walk may
+after_quiet begun blocks edges strand act Finished h walk may quiet = after_finished begun blocks edges strand act h walk may
+after_quiet begun blocks edges strand act Granted h walk may quiet = after_access begun blocks edges strand act Granted h walk tt
+after_quiet begun blocks edges strand act (Value value) h walk may quiet = after_access begun blocks edges strand act (Value value) h walk tt
+after_quiet begun blocks edges strand act (Refused rule witness) h walk may quiet = after_access begun blocks edges strand act (Refused rule witness) h walk tt
+after_quiet begun blocks edges strand act Unset h walk may quiet = after_access begun blocks edges strand act Unset h walk tt
+after_quiet begun blocks edges strand act (Split spawned) h walk may quiet = absurd (quiet.0 spawned refl)
+after_quiet begun blocks edges strand act (Joined join) h walk may quiet = absurd (quiet.1 join refl)
+after_quiet begun blocks edges strand act Waits h walk may quiet = absurd (quiet.2 refl)
+after_quiet begun blocks edges strand act Ended h walk may quiet = absurd (quiet.3 refl)
+after_quiet begun blocks edges strand act (EndedJoined join) h walk may quiet = absurd (quiet.4 join refl)
+
+-- ---- one more of the entries in a slice
+
+abbrev At : List Entry → ℕ → History
+At told i = control_part (reverse (take i told))
+
+may_come : (told : List Entry) (i : ℕ) (d : Entry) → i < length told → IsLegalHistory (reverse told) → (answer : Answer) →
+    (get_or told i d).answer ≡ answer → MayCome (get_or told i d).request.strand (get_or told i d).request.act answer (At told i)
+may_come told i d below legal answer is =
+    let next = (legal_next told i d below legal).1 in
+    subst (λ (x : Answer). MayCome (get_or told i d).request.strand (get_or told i d).request.act x (At told i)) is (next.runs, next.belongs, next.allowed)
+
+-- the walk after the entry is the one after its act with its answer
+come : (told : List Entry) (i : ℕ) (d : Entry) → i < length told → (answer : Answer) → (get_or told i d).answer ≡ answer →
+    (begun old_begun : List Bool) (blocks old_blocks : List (Option ℕ)) (edges old_edges : List Edge) →
+    begun ≡ old_begun → blocks ≡ old_blocks → edges ≡ old_edges →
+    After old_begun old_blocks old_edges (get_or told i d).request.strand (get_or told i d).request.act answer (At told i) →
+    IsWalk begun blocks edges (At told (i + 1))
+come told i d below answer is begun old_begun blocks old_blocks edges old_edges e f g after =
+    let there : IsWalk old_begun old_blocks old_edges (At told (i + 1)) =
+    subst (λ (xs : Entries). IsWalk old_begun old_blocks old_edges (control_part xs)) (sym (so_far told i d below))
+    (subst (λ (x : Answer). After old_begun old_blocks old_edges (get_or told i d).request.strand (get_or told i d).request.act x (At told i)) (sym is) after) in
+    rw (e, f, g) there
+
+pub next_split : (told : List Entry) (i : ℕ) (d : Entry) → i < length told → IsLegalHistory (reverse told) →
+    (old_begun begun : List Bool) (old_blocks blocks : List (Option ℕ)) (old_edges edges : List Edge) → IsWalk old_begun old_blocks old_edges (At told i) →
+    (spawned : Spawned) → (get_or told i d).answer ≡ Split spawned → begun ≡ old_begun ++ marks_of spawned.first →
+    blocks ≡ old_blocks ++ blocks_of spawned.first spawned.join (get_or old_blocks (get_or told i d).request.strand None) →
+    edges ≡ old_edges ++ forks (get_or told i d).request.strand spawned.child spawned.next → IsWalk begun blocks edges (At told (i + 1))
+next_split told i d below legal old_begun begun old_blocks blocks old_edges edges walk spawned is e f g =
+    come told i d below (Split spawned) is begun _ blocks _ edges _ e f g
+    (after_split old_begun old_blocks old_edges (get_or told i d).request.strand (get_or told i d).request.act spawned (At told i) walk
+    (may_come told i d below legal (Split spawned) is))
+
+pub next_end : (told : List Entry) (i : ℕ) (d : Entry) → i < length told → IsLegalHistory (reverse told) →
+    (old_begun begun : List Bool) (old_blocks blocks : List (Option ℕ)) (old_edges edges : List Edge) → IsWalk old_begun old_blocks old_edges (At told i) →
+    ((get_or told i d).answer ≡ Waits) ⊎ ((get_or told i d).answer ≡ Ended) → begun ≡ old_begun → blocks ≡ old_blocks →
+    edges ≡ old_edges ++ arrival (get_or told i d).request.strand (get_or old_blocks (get_or told i d).request.strand None) →
+    IsWalk begun blocks edges (At told (i + 1))
+next_end told i d below legal old_begun begun old_blocks blocks old_edges edges walk (inl is) e f g =
+    come told i d below Waits is begun _ blocks _ edges _ e f g
+    (after_waits old_begun old_blocks old_edges (get_or told i d).request.strand (get_or told i d).request.act (At told i) walk
+    (may_come told i d below legal Waits is))
+next_end told i d below legal old_begun begun old_blocks blocks old_edges edges walk (inr is) e f g =
+    come told i d below Ended is begun _ blocks _ edges _ e f g
+    (after_ended old_begun old_blocks old_edges (get_or told i d).request.strand (get_or told i d).request.act (At told i) walk
+    (may_come told i d below legal Ended is))
+
+pub join_within : (told : List Entry) (i : ℕ) (d : Entry) → i < length told → IsLegalHistory (reverse told) →
+    (begun : List Bool) (blocks : List (Option ℕ)) (edges : List Edge) → IsWalk begun blocks edges (At told i) → (join : ℕ) →
+    ((get_or told i d).answer ≡ Joined join) ⊎ ((get_or told i d).answer ≡ EndedJoined join) → join < length begun
+join_within told i d below legal begun blocks edges walk join (inl is) =
+    (after_joined begun blocks edges (get_or told i d).request.strand (get_or told i d).request.act join (At told i) walk
+    (may_come told i d below legal (Joined join) is)).0
+join_within told i d below legal begun blocks edges walk join (inr is) =
+    (after_returned begun blocks edges (get_or told i d).request.strand (get_or told i d).request.act join (At told i) walk
+    (may_come told i d below legal (EndedJoined join) is)).0
+
+pub next_join : (told : List Entry) (i : ℕ) (d : Entry) → i < length told → IsLegalHistory (reverse told) →
+    (old_begun begun : List Bool) (old_blocks blocks : List (Option ℕ)) (old_edges edges : List Edge) → IsWalk old_begun old_blocks old_edges (At told i) →
+    (join : ℕ) → ((get_or told i d).answer ≡ Joined join) ⊎ ((get_or told i d).answer ≡ EndedJoined join) → begun ≡ set old_begun join true → blocks ≡ old_blocks →
+    edges ≡ old_edges ++ arrival (get_or told i d).request.strand (get_or old_blocks (get_or told i d).request.strand None) →
+    IsWalk begun blocks edges (At told (i + 1))
+next_join told i d below legal old_begun begun old_blocks blocks old_edges edges walk join (inl is) e f g =
+    come told i d below (Joined join) is begun _ blocks _ edges _ e f g
+    (after_joined old_begun old_blocks old_edges (get_or told i d).request.strand (get_or told i d).request.act join (At told i) walk
+    (may_come told i d below legal (Joined join) is)).1
+next_join told i d below legal old_begun begun old_blocks blocks old_edges edges walk join (inr is) e f g =
+    come told i d below (EndedJoined join) is begun _ blocks _ edges _ e f g
+    (after_returned old_begun old_blocks old_edges (get_or told i d).request.strand (get_or told i d).request.act join (At told i) walk
+    (may_come told i d below legal (EndedJoined join) is)).1
+
+pub next_quiet : (told : List Entry) (i : ℕ) (d : Entry) → i < length told → IsLegalHistory (reverse told) →
+    (begun : List Bool) (blocks : List (Option ℕ)) (edges : List Edge) → IsWalk begun blocks edges (At told i) →
+    IsQuiet (get_or told i d).answer → IsWalk begun blocks edges (At told (i + 1))
+next_quiet told i d below legal begun blocks edges walk quiet =
+    come told i d below (get_or told i d).answer refl begun begun blocks blocks edges edges refl refl refl
+    (after_quiet begun blocks edges (get_or told i d).request.strand (get_or told i d).request.act (get_or told i d).answer (At told i) walk
+    (may_come told i d below legal (get_or told i d).answer refl) quiet)

@@ -1,0 +1,4 @@
+pub mod EdgesByKind
+pub mod Places
+pub mod Followed
+pub mod Drawn

@@ -1,0 +1,155 @@
+//! What the entries of a history did to its dag.
+
+ghost use Rattle.std.specs.Prelude.{◌≡◌, ◌<◌, ◌++◌, ◌∷◌, ◌+◌, [], ℕ, true, false, Some, None, length, reverse, take, slice_index_or, slice_set, IfOk, OnOk};
+ghost use Rattle.race_gate.specs.Entries.{control_part};
+ghost use Rattle.dag_drawing.specs.Arrows.{forks, arrival};
+ghost use Rattle.dag_drawing.specs.Walks.{IsLegalHistory, marks_of, blocks_of, IsWalk};
+
+use crate::drawing::{Edge, EdgeKind};
+use race_gate::{Answer, Entry};
+use sp_labels::Spawned;
+use std::alloc::{AllocError, Global};
+
+/// What is known of strands and edges after some entries.
+pub struct Walk {
+    /// By the number of a strand or a reserved join, whether it has begun.
+    pub begun: Vec<bool>,
+    /// By that number, the join of the innermost block round the strand.
+    pub blocks: Vec<Option<u32>>,
+    /// The edges, and those that will lead to joins that have not begun.
+    pub edges: Vec<Edge>,
+}
+
+impl Drop for Walk {
+    fn drop(self) {
+        let Walk {
+            begun: _,
+            blocks: _,
+            edges: _,
+        } = self;
+    }
+}
+
+impl Walk {
+    /// What is known before the first entry.
+    fn new(alloc: Global) -> Result<Walk, AllocError>
+        ensures begun { IfOk result (λ walk. walk.begun.items ≡ true ∷ []) }
+        ensures blocks { IfOk result (λ walk. walk.blocks.items ≡ None ∷ []) }
+        ensures edges { IfOk result (λ walk. walk.edges.items ≡ []) }
+    {
+        let mut begun = Vec::new(alloc);
+        begun.push(true)?;
+        let mut blocks = Vec::new(alloc);
+        blocks.push(None)?;
+        Ok(Walk {
+            begun,
+            blocks,
+            edges: Vec::new(alloc),
+        })
+    }
+
+    /// Adds the strands of a spawn, and its join where it opens a block.
+    fn place(&mut self, strand: u32, spawned: Spawned) -> Result<(), AllocError>
+        requires { strand < length self.now.blocks.items }
+        ensures begun { OnOk result (self.new.begun.items ≡ self.old.begun.items ++ marks_of spawned.first) }
+        ensures blocks { OnOk result (self.new.blocks.items ≡ self.old.blocks.items ++ blocks_of spawned.first spawned.join (slice_index_or self.old.blocks.items strand None)) }
+        ensures edges { self.new.edges.items ≡ self.old.edges.items }
+    {
+        let outer = self.blocks[strand as usize];
+        self.begun.push(true)?;
+        self.begun.push(true)?;
+        self.blocks.push(Some(spawned.join))?;
+        self.blocks.push(Some(spawned.join))?;
+        if spawned.first {
+            self.begun.push(false)?;
+            self.blocks.push(outer)?;
+        }
+        Ok(())
+    }
+
+    /// Adds the edges of a spawn.
+    fn fork(&mut self, strand: u32, spawned: Spawned) -> Result<(), AllocError>
+        ensures begun { self.new.begun.items ≡ self.old.begun.items }
+        ensures blocks { self.new.blocks.items ≡ self.old.blocks.items }
+        ensures edges { OnOk result (self.new.edges.items ≡ self.old.edges.items ++ forks strand spawned.child spawned.next) }
+    {
+        self.edges.push(Edge {
+            kind: EdgeKind::Child,
+            from: strand,
+            to: spawned.child,
+        })?;
+        self.edges.push(Edge {
+            kind: EdgeKind::Next,
+            from: strand,
+            to: spawned.next,
+        })?;
+        Ok(())
+    }
+
+    /// Adds the edge from a strand that ends to the join of the block round it.
+    fn arrive(&mut self, strand: u32) -> Result<(), AllocError>
+        requires { strand < length self.now.blocks.items }
+        ensures begun { self.new.begun.items ≡ self.old.begun.items }
+        ensures blocks { self.new.blocks.items ≡ self.old.blocks.items }
+        ensures edges { OnOk result (self.new.edges.items ≡ self.old.edges.items ++ arrival strand (slice_index_or self.old.blocks.items strand None)) }
+    {
+        if let Some(join) = self.blocks[strand as usize] {
+            self.edges.push(Edge {
+                kind: EdgeKind::Join,
+                from: strand,
+                to: join,
+            })?;
+        }
+        Ok(())
+    }
+
+    /// Marks a join as begun.
+    fn begin(&mut self, join: u32)
+        requires { join < length self.now.begun.items }
+        ensures begun { self.new.begun.items ≡ slice_set self.old.begun.items join true }
+        ensures blocks { self.new.blocks.items ≡ self.old.blocks.items }
+        ensures edges { self.new.edges.items ≡ self.old.edges.items }
+    {
+        self.begun[join as usize] = true;
+    }
+
+    /// Follows the entry that stands behind so many others.
+    fn follow(&mut self, entries: &[Entry], before: usize) -> Result<(), AllocError>
+        requires legal { IsLegalHistory (reverse entries.now) }
+        requires within { before < length entries.now }
+        requires walk { IsWalk self.now.begun.items self.now.blocks.items self.now.edges.items (control_part (reverse (take before entries.now))) }
+        ensures { OnOk result (IsWalk self.new.begun.items self.new.blocks.items self.new.edges.items (control_part (reverse (take (before + 1) entries.now)))) }
+    {
+        let entry = entries[before];
+        let strand = entry.request.strand;
+        match entry.answer {
+            Answer::Split(spawned) => {
+                self.place(strand, spawned)?;
+                self.fork(strand, spawned)?;
+                Ok(())
+            }
+            Answer::Joined(join) | Answer::EndedJoined(join) => {
+                self.begin(join);
+                self.arrive(strand)?;
+                Ok(())
+            }
+            Answer::Waits | Answer::Ended => {
+                self.arrive(strand)?;
+                Ok(())
+            }
+            _ => Ok(()),
+        }
+    }
+}
+
+/// What is known after all entries.
+pub fn walked(alloc: Global, entries: &[Entry]) -> Result<Walk, AllocError>
+    requires { IsLegalHistory (reverse entries.now) }
+    ensures { IfOk result (λ walk. IsWalk walk.begun.items walk.blocks.items walk.edges.items (control_part (reverse entries.now))) }
+{
+    let mut walk = Walk::new(alloc)?;
+    for before in 0..entries.len() {
+        walk.follow(entries, before)?;
+    }
+    Ok(walk)
+}

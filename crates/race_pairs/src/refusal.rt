@@ -1,0 +1,120 @@
+//! What one entry tells of a refusal.
+
+ghost use Rattle.std.specs.Prelude.{◌≡◌};
+ghost use Rattle.race_pairs.specs.Refusals.{reason_by, refusal_asked, refusal_told, entry_at, line_at, lines_of, refusal_at, lines_at};
+
+use access_table::{Kind, Rule};
+use race_gate::{Answer, Entry};
+use trace_values::{Asked, access_asked};
+
+/// Why an access was refused.
+#[derive(Clone, Copy, Debug, PartialEq, Eq)]
+pub enum Reason {
+    /// It races with an earlier access of a logically parallel strand.
+    Race { earlier: Kind, refused: Kind },
+    /// It and an earlier one read a reducer on strands that have different peers.
+    ViewRead,
+    /// It gets a reducer before any put.
+    Unset,
+}
+
+/// The two lines that raced, and why.
+#[derive(Clone, Copy, Debug, PartialEq, Eq)]
+#[derive_where(Hash)]
+pub struct Lines {
+    #[derive_where(skip(Hash))]
+    pub reason: Reason,
+    /// The line of the refused access.
+    pub line: u32,
+    /// That of its witness, and 0 where there is none.
+    pub witness_line: u32,
+}
+
+/// What a refused entry tells.
+#[derive(Clone, Copy, Debug, PartialEq, Eq)]
+pub struct Refusal {
+    pub reason: Reason,
+    /// Its line.
+    pub line: u32,
+    /// The number of the cell or of the reducer.
+    pub place: u32,
+    /// The number of the entry of its witness, and 0 where there is none.
+    pub witness: usize,
+}
+
+/// Why an access of the one kind was refused for an earlier one of the other, by the rule that was answered.
+fn reason_by(rule: Rule, earlier: Kind, refused: Kind) -> Reason
+    ensures { result ≡ reason_by rule earlier refused }
+{
+    match rule {
+        Rule::View => Reason::ViewRead,
+        _ => Reason::Race { earlier, refused },
+    }
+}
+
+/// What an access on this line with this answer tells.
+fn refusal_asked(line: u32, answer: Answer, asked: Asked) -> Option<Refusal>
+    ensures { result ≡ refusal_asked line answer asked }
+{
+    match answer {
+        Answer::Refused { rule, witness } => Some(Refusal {
+            reason: reason_by(rule, witness.kind, asked.kind),
+            line,
+            place: asked.place,
+            witness: witness.entry as usize,
+        }),
+        Answer::Unset => Some(Refusal {
+            reason: Reason::Unset,
+            line,
+            place: asked.place,
+            witness: 0,
+        }),
+        _ => None,
+    }
+}
+
+/// The refusal that an entry tells, or None where it is none.
+pub fn refusal_of(entry: Entry) -> Option<Refusal>
+    ensures { result ≡ refusal_told entry }
+{
+    let asked = access_asked(entry.request.act)?;
+    refusal_asked(entry.request.line, entry.answer, asked)
+}
+
+/// The entry with this number, from 1 on, of entries that are given from the oldest on, or None where there is none.
+pub fn entry_at(entries: &[Entry], number: usize) -> Option<Entry>
+    ensures { result ≡ entry_at entries.now number }
+{
+    if number == 0 {
+        return None;
+    }
+    entries.get(number - 1).copied()
+}
+
+/// The line of the entry with this number, or 0 where there is none.
+pub fn line_at(entries: &[Entry], number: usize) -> u32
+    ensures { result ≡ line_at entries.now number }
+{
+    match entry_at(entries, number) {
+        Some(entry) => entry.request.line,
+        None => 0,
+    }
+}
+
+/// The lines of a refusal among the entries.
+pub(crate) fn lines_of(entries: &[Entry], refusal: Refusal) -> Lines
+    ensures { result ≡ lines_of entries.now refusal }
+{
+    Lines {
+        reason: refusal.reason,
+        line: refusal.line,
+        witness_line: line_at(entries, refusal.witness),
+    }
+}
+
+/// The refusal that the entry with this number tells.
+pub(crate) fn refusal_at(entries: &[Entry], number: usize) -> Option<Refusal>
+    ensures { result ≡ refusal_at entries.now number }
+{
+    refusal_of(entry_at(entries, number)?)
+}

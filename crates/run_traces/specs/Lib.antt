@@ -1,0 +1,4 @@
+pub mod Traces
+pub mod Fitting
+pub mod Texts
+pub mod Laws

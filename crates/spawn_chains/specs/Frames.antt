@@ -1,0 +1,33 @@
+-- The spawns and calls that enclose what a strand does.
+use Rattle.std.specs.Prelude.{ℕ, suc, true, false, List, [], ◌∷◌, length, Option, Some}
+use Rattle.control_history.specs.Updated.{updated}
+use Rattle.control_history.specs.History.{Event, split, call, resumed}
+use Rattle.race_gate.specs.Entries.{Entries, event_of}
+use Rattle.spawn_chains.specs.declared.frames.Origin.{Origin}
+use Rattle.spawn_chains.specs.declared.frames.Origin.TheVariants.{Same, Opened, Left}
+
+-- without the first
+abbrev pub behind : List ℕ → List ℕ
+behind [] = []
+behind (number ∷ numbers) = numbers
+
+-- The frames of strands after an event with this number: a child stands in one more than its spawner, its next and the block's join where the
+-- spawner stood, and a call goes into one more, which the called function's return leaves.
+abbrev pub with_frame : Option Event → ℕ → (ℕ → List ℕ) → ℕ → List ℕ
+with_frame (Some (split strand child next join true)) number frames =
+    updated (updated (updated frames child (number ∷ frames strand)) next (frames strand)) join (frames strand)
+with_frame (Some (split strand child next join false)) number frames = updated (updated frames child (number ∷ frames strand)) next (frames strand)
+with_frame (Some (call strand)) number frames = updated frames strand (number ∷ frames strand)
+with_frame (Some (resumed strand)) number frames = updated frames strand (behind (frames strand))
+with_frame event number frames = frames
+
+-- the numbers of the entries of the spawns and calls by which the strand's function was reached from the root, innermost first
+abbrev pub frames : Entries → ℕ → List ℕ
+frames [] = λ strand. []
+frames (entry ∷ entries) = with_frame (event_of entry) (suc (length entries)) (frames entries)
+
+-- a strand's frames after an entry with this number, by those before it
+abbrev pub frames_from : Origin → ℕ → ℕ → (ℕ → List ℕ) → List ℕ
+frames_from (Same before) strand number frames = frames before
+frames_from (Opened before) strand number frames = number ∷ frames before
+frames_from Left strand number frames = behind (frames strand)
