@@ -2,17 +2,19 @@
 //!
 //! [`read_args`] reads what the words of the command line ask for; [`perform`], or [`perform_alone`] for what starts no thread, does it,
 //! and carries in its contract what is written for what standard input and the files hold; [`exit_of`] gives the exit status. What is
-//! trusted here is that [`System`] gives the bytes of standard input, and of the file with the name that it is asked for.
+//! trusted here is that [`System`] gives the bytes of standard input, and of the file with the name that it is asked for, and that a file
+//! which it creates is empty and then holds what is written.
 #![tactic(auto)]
 
+ghost use Rattle.std.specs.Prelude.{None};
 ghost use Rattle.text_commands.specs.Sources.{unknown_sources};
 
 use std::fs::{self, File};
-use std::io;
+use std::io::{self, IsTerminal};
 use std::process::ExitCode;
 use text_commands::{CliFault, Host, Job, Watched, exit_of, perform, perform_alone, read_args};
 
-/// The system's standard input and files. No contract knows what they hold.
+/// The system's standard input and files. No contract knows what they hold, or whether one can be created.
 #[derive(Drop)]
 struct System<'a> {
     rt: &'a HostRuntime,
@@ -23,9 +25,17 @@ impl<'a> Host for System<'a> {
 
     type File = File;
 
+    type Created = File;
+
     ghost sources = { λ _. unknown_sources };
 
     ghost lacks = { λ _ _. ⊥ };
+
+    ghost blank = { λ _. None };
+
+    ghost made = { λ _ _. None };
+
+    ghost bars = { λ _ _. ⊥ };
 
     fn input(&mut self) -> Self::Input {
         self.rt.reader()
@@ -34,6 +44,16 @@ impl<'a> Host for System<'a> {
     fn open(&self, name: &str) -> io::Result<File> {
         fs::open(self.rt, name)
     }
+
+    fn create(&mut self, name: &str) -> io::Result<File> {
+        fs::create(self.rt, name)
+    }
+
+    fn is_terminal(&self) -> bool {
+        self.rt.stdout().is_terminal()
+    }
+
+    fn close(&mut self, _name: &str, _file: File) {}
 }
 
 /// Tells a fault in one line on standard error.
@@ -47,7 +67,9 @@ fn main(rt: HostRuntime) -> ExitCode {
     let mut host = Watched::new(System { rt: &rt });
     let mut output = Watched::new(io::writer(&rt));
     let answer = match read_args(&rt) {
-        Ok(job @ Job::Run { .. }) => perform(&rt, rt.alloc(), &mut host, &job, &mut output),
+        Ok(job @ (Job::Run { .. } | Job::Record { .. } | Job::Explain { .. })) => {
+            perform(&rt, rt.alloc(), &mut host, &job, &mut output)
+        }
         Ok(job) => perform_alone(rt.alloc(), &mut host, &job, &mut output),
         Err(fault) => Err(fault),
     };

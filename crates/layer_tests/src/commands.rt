@@ -4,9 +4,12 @@ ghost use Rattle.std.specs.Prelude.{◌≤◌};
 ghost use Rattle.race_gate.specs.Shapes.{most_entries};
 
 mod devices;
+mod drawings;
 mod elisions;
+mod explanations;
 mod failures;
 mod hosts;
+mod recorded;
 mod replays;
 mod runs;
 mod schedules;

@@ -5,7 +5,7 @@ use Rattle.std.proofs.lemmas.List.{take-append-drop}
 use Rattle.std.proofs.lemmas.Bool.{ne_eqb}
 use Rattle.std.specs.Io.KnownBytes.{Consumes, Appends}
 use Rattle.text_commands.specs.declared.fault.CliFault.{CliFault}
-use Rattle.text_commands.specs.declared.fault.CliFault.TheVariants.{Usage, Read, Write, TooLong, Trace, Program, Shape, Illegal, Limit, Stopped, Torn, Strange, Memory}
+use Rattle.text_commands.specs.declared.fault.CliFault.TheVariants.{Read, TooLong, Memory}
 use Rattle.text_commands.specs.Watched.{one_more, count_after, IsCalledAtMost}
 use Rattle.text_commands.specs.Streams.{TakesPiece, StopsPiece, StopsReading}
 
@@ -73,16 +73,7 @@ piece_cause first between last text Read taken stops = tt
 piece_cause first between last text Memory taken stops = tt
 piece_cause first between last text TooLong taken stops =
     record { text = text ++ stops.0; taken = consumes-more first between last text stops.0 taken stops.1; long = stops.2 }
-piece_cause first between last text (Usage words) taken stops = absurd stops
-piece_cause first between last text Write taken stops = absurd stops
-piece_cause first between last text (Trace fault) taken stops = absurd stops
-piece_cause first between last text (Program fault) taken stops = absurd stops
-piece_cause first between last text Shape taken stops = absurd stops
-piece_cause first between last text (Illegal number) taken stops = absurd stops
-piece_cause first between last text Stopped taken stops = absurd stops
-piece_cause first between last text Torn taken stops = absurd stops
-piece_cause first between last text Strange taken stops = absurd stops
-piece_cause first between last text Limit taken stops = absurd stops
+piece_cause first between last text fault taken stops = absurd stops
 
 -- a text and one more piece
 pub text-more : (first between last : Option (List ℕ)) (old new : List ℕ) (more : Bool) → Consumes first between old → TakesPiece between last old new more → Consumes first last new

@@ -2,7 +2,7 @@
 use Rattle.std.proofs.Common.{◌≡◌, ℕ, List, Option, ◌∙◌}
 use Rattle.race_gate.specs.declared.answer.Reply.{Reply}
 use Rattle.text_commands.specs.declared.fault.CliFault.{CliFault}
-use Rattle.text_commands.specs.declared.fault.CliFault.TheVariants.{Usage, Read, Write, TooLong, Trace, Program, Shape, Illegal, Limit, Stopped, Torn, Strange, Memory}
+use Rattle.text_commands.specs.declared.fault.CliFault.TheVariants.{Write}
 use Rattle.race_report.specs.VerdictText.{verdict_text}
 use Rattle.text_commands.specs.Streams.{AnswersText, IsRead, HasCause, StopsWriting}
 
@@ -20,15 +20,4 @@ writing_cause before behind wrote writes limit text lines replies Write read ans
   written = stops.2;
   prefix = stops.3 ∙ are;
 }
-writing_cause before behind wrote writes limit text lines replies (Usage words) read answers are stops = absurd stops
-writing_cause before behind wrote writes limit text lines replies Read read answers are stops = absurd stops
-writing_cause before behind wrote writes limit text lines replies TooLong read answers are stops = absurd stops
-writing_cause before behind wrote writes limit text lines replies (Trace fault) read answers are stops = absurd stops
-writing_cause before behind wrote writes limit text lines replies (Program fault) read answers are stops = absurd stops
-writing_cause before behind wrote writes limit text lines replies Shape read answers are stops = absurd stops
-writing_cause before behind wrote writes limit text lines replies (Illegal number) read answers are stops = absurd stops
-writing_cause before behind wrote writes limit text lines replies Stopped read answers are stops = absurd stops
-writing_cause before behind wrote writes limit text lines replies Torn read answers are stops = absurd stops
-writing_cause before behind wrote writes limit text lines replies Strange read answers are stops = absurd stops
-writing_cause before behind wrote writes limit text lines replies Limit read answers are stops = absurd stops
-writing_cause before behind wrote writes limit text lines replies Memory read answers are stops = absurd stops
+writing_cause before behind wrote writes limit text lines replies fault read answers are stops = absurd stops

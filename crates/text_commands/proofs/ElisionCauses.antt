@@ -3,7 +3,7 @@ use Rattle.std.proofs.Common.{ℕ, List, Option}
 use Rattle.program_text.specs.Drafts.{Contents}
 use Rattle.program_text.specs.Grammar.{TextMeans}
 use Rattle.text_commands.specs.declared.fault.CliFault.{CliFault}
-use Rattle.text_commands.specs.declared.fault.CliFault.TheVariants.{Usage, Read, Write, TooLong, Trace, Program, Shape, Illegal, Limit, Stopped, Torn, Strange, Memory}
+use Rattle.text_commands.specs.declared.fault.CliFault.TheVariants.{Write, Limit, Memory}
 use Rattle.text_commands.specs.Streams.{IsRead, StopsWriting}
 use Rattle.text_commands.specs.Elided.{ElidesText, StopsElision, HasElisionCause}
 
@@ -19,17 +19,7 @@ stopping_cause before behind wrote writes limit text contents Limit read means s
   more = stops;
 }
 stopping_cause before behind wrote writes limit text contents Memory read means stops = tt
-stopping_cause before behind wrote writes limit text contents (Usage words) read means stops = absurd stops
-stopping_cause before behind wrote writes limit text contents Read read means stops = absurd stops
-stopping_cause before behind wrote writes limit text contents Write read means stops = absurd stops
-stopping_cause before behind wrote writes limit text contents TooLong read means stops = absurd stops
-stopping_cause before behind wrote writes limit text contents (Trace fault) read means stops = absurd stops
-stopping_cause before behind wrote writes limit text contents (Program fault) read means stops = absurd stops
-stopping_cause before behind wrote writes limit text contents Shape read means stops = absurd stops
-stopping_cause before behind wrote writes limit text contents (Illegal number) read means stops = absurd stops
-stopping_cause before behind wrote writes limit text contents Stopped read means stops = absurd stops
-stopping_cause before behind wrote writes limit text contents Torn read means stops = absurd stops
-stopping_cause before behind wrote writes limit text contents Strange read means stops = absurd stops
+stopping_cause before behind wrote writes limit text contents fault read means stops = absurd stops
 
 -- only a part of its lines could be written
 pub cutting_cause : (before behind wrote writes : Option (List ℕ)) (limit : ℕ) (text lines : List ℕ) (fault : CliFault) →
@@ -45,15 +35,4 @@ cutting_cause before behind wrote writes limit text lines Write read elides stop
   written = stops.2;
   prefix = stops.3;
 }
-cutting_cause before behind wrote writes limit text lines (Usage words) read elides stops = absurd stops
-cutting_cause before behind wrote writes limit text lines Read read elides stops = absurd stops
-cutting_cause before behind wrote writes limit text lines TooLong read elides stops = absurd stops
-cutting_cause before behind wrote writes limit text lines (Trace fault) read elides stops = absurd stops
-cutting_cause before behind wrote writes limit text lines (Program fault) read elides stops = absurd stops
-cutting_cause before behind wrote writes limit text lines Shape read elides stops = absurd stops
-cutting_cause before behind wrote writes limit text lines (Illegal number) read elides stops = absurd stops
-cutting_cause before behind wrote writes limit text lines Stopped read elides stops = absurd stops
-cutting_cause before behind wrote writes limit text lines Torn read elides stops = absurd stops
-cutting_cause before behind wrote writes limit text lines Strange read elides stops = absurd stops
-cutting_cause before behind wrote writes limit text lines Limit read elides stops = absurd stops
-cutting_cause before behind wrote writes limit text lines Memory read elides stops = absurd stops
+cutting_cause before behind wrote writes limit text lines fault read elides stops = absurd stops

@@ -1,10 +1,13 @@
 mod Bytes
 mod Causes
 mod ElisionCauses
+mod ExplanationCauses
 mod Pairs
 mod Answering
 mod Meeting
+mod DrawingCauses
 mod ReplayCauses
 mod RunCauses
 mod CleanReports
 mod RunFaults
+mod TracedCauses

@@ -5,7 +5,7 @@ use Rattle.program_text.specs.Drafts.{Contents}
 use Rattle.race_gate.specs.declared.fault.GateFault.{GateFault}
 use Rattle.race_gate.specs.declared.fault.GateFault.TheVariants.{Stopped as GateStopped, Limit as GateLimit, NotRunning, BadName, Unsynced, Memory as GateMemory}
 use Rattle.text_commands.specs.declared.fault.CliFault.{CliFault}
-use Rattle.text_commands.specs.declared.fault.CliFault.TheVariants.{Usage, Read, Write, TooLong, Trace, Program, Shape, Illegal, Limit, Stopped, Torn, Strange, Memory}
+use Rattle.text_commands.specs.declared.fault.CliFault.TheVariants.{Read, Write, TooLong, Shape, Illegal, Limit, Memory}
 use Rattle.text_commands.specs.Declarations.{DeclareSame}
 use Rattle.text_commands.specs.Streams.{StopsWriting}
 use Rattle.text_commands.specs.Replays.{Reading, AreRead, StopsGate, fault_of_request, ReplaysContents, StopsReplay, StopsReader, HasReplayCause}
@@ -35,15 +35,7 @@ replay_stops program trace wrote writes contents trace_contents (Illegal number)
     record { contents = contents; trace_contents = trace_contents; read = read; stops = stops }
 replay_stops program trace wrote writes contents trace_contents Limit read stops = record { contents = contents; trace_contents = trace_contents; read = read; stops = stops }
 replay_stops program trace wrote writes contents trace_contents Memory read stops = tt
-replay_stops program trace wrote writes contents trace_contents (Usage words) read stops = absurd stops
-replay_stops program trace wrote writes contents trace_contents Stopped read stops = absurd stops
-replay_stops program trace wrote writes contents trace_contents Torn read stops = absurd stops
-replay_stops program trace wrote writes contents trace_contents Strange read stops = absurd stops
-replay_stops program trace wrote writes contents trace_contents Read read stops = absurd stops
-replay_stops program trace wrote writes contents trace_contents Write read stops = absurd stops
-replay_stops program trace wrote writes contents trace_contents TooLong read stops = absurd stops
-replay_stops program trace wrote writes contents trace_contents (Trace fault) read stops = absurd stops
-replay_stops program trace wrote writes contents trace_contents (Program fault) read stops = absurd stops
+replay_stops program trace wrote writes contents trace_contents fault read stops = absurd stops
 
 -- only a part of its line could be written
 pub replay_cut : (program trace : Reading) (wrote writes : Option (List ℕ)) (contents : Contents) (trace_contents : TraceContents) (line : List ℕ) (status : ℕ) (fault : CliFault) →
@@ -61,31 +53,11 @@ replay_cut program trace wrote writes contents trace_contents line status Write 
   written = stops.2;
   prefix = stops.3;
 }
-replay_cut program trace wrote writes contents trace_contents line status (Usage words) read replays stops = absurd stops
-replay_cut program trace wrote writes contents trace_contents line status Read read replays stops = absurd stops
-replay_cut program trace wrote writes contents trace_contents line status TooLong read replays stops = absurd stops
-replay_cut program trace wrote writes contents trace_contents line status (Trace fault) read replays stops = absurd stops
-replay_cut program trace wrote writes contents trace_contents line status (Program fault) read replays stops = absurd stops
-replay_cut program trace wrote writes contents trace_contents line status Shape read replays stops = absurd stops
-replay_cut program trace wrote writes contents trace_contents line status (Illegal number) read replays stops = absurd stops
-replay_cut program trace wrote writes contents trace_contents line status Stopped read replays stops = absurd stops
-replay_cut program trace wrote writes contents trace_contents line status Torn read replays stops = absurd stops
-replay_cut program trace wrote writes contents trace_contents line status Strange read replays stops = absurd stops
-replay_cut program trace wrote writes contents trace_contents line status Limit read replays stops = absurd stops
-replay_cut program trace wrote writes contents trace_contents line status Memory read replays stops = absurd stops
+replay_cut program trace wrote writes contents trace_contents line status fault read replays stops = absurd stops
 
 -- the trace is not read to its end
 pub trace_unread : (program trace : Reading) (wrote writes : Option (List ℕ)) (fault : CliFault) → StopsReader trace fault → HasReplayCause program trace wrote writes fault
 trace_unread program trace wrote writes Read stops = tt
 trace_unread program trace wrote writes TooLong stops = inr stops
 trace_unread program trace wrote writes Memory stops = tt
-trace_unread program trace wrote writes (Usage words) stops = absurd stops
-trace_unread program trace wrote writes Write stops = absurd stops
-trace_unread program trace wrote writes (Trace fault) stops = absurd stops
-trace_unread program trace wrote writes (Program fault) stops = absurd stops
-trace_unread program trace wrote writes Shape stops = absurd stops
-trace_unread program trace wrote writes (Illegal number) stops = absurd stops
-trace_unread program trace wrote writes Stopped stops = absurd stops
-trace_unread program trace wrote writes Torn stops = absurd stops
-trace_unread program trace wrote writes Strange stops = absurd stops
-trace_unread program trace wrote writes Limit stops = absurd stops
+trace_unread program trace wrote writes fault stops = absurd stops

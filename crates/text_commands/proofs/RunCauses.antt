@@ -4,7 +4,7 @@ use Rattle.std.specs.List.{list_any}
 use Rattle.race_gate.specs.declared.answer.Entry.{Entry}
 use Rattle.program_text.specs.Drafts.{Contents}
 use Rattle.text_commands.specs.declared.fault.CliFault.{CliFault}
-use Rattle.text_commands.specs.declared.fault.CliFault.TheVariants.{Usage, Read, Write, TooLong, Trace, Program, Shape, Illegal, Limit, Stopped, Torn, Strange, Memory}
+use Rattle.text_commands.specs.declared.fault.CliFault.TheVariants.{Write, Limit, Stopped, Torn, Strange, Memory}
 use Rattle.text_commands.specs.Statuses.{is_refused}
 use Rattle.text_commands.specs.Streams.{StopsWriting}
 use Rattle.text_commands.specs.Replays.{Reading}
@@ -18,14 +18,7 @@ run_stops reader wrote writes limit program Stopped read stops = record { progra
 run_stops reader wrote writes limit program Torn read stops = record { program = program; read = read; stops = stops }
 run_stops reader wrote writes limit program Strange read stops = record { program = program; read = read; stops = stops }
 run_stops reader wrote writes limit program Memory read stops = tt
-run_stops reader wrote writes limit program (Usage words) read stops = absurd stops
-run_stops reader wrote writes limit program Read read stops = absurd stops
-run_stops reader wrote writes limit program Write read stops = absurd stops
-run_stops reader wrote writes limit program TooLong read stops = absurd stops
-run_stops reader wrote writes limit program (Trace fault) read stops = absurd stops
-run_stops reader wrote writes limit program (Program fault) read stops = absurd stops
-run_stops reader wrote writes limit program Shape read stops = absurd stops
-run_stops reader wrote writes limit program (Illegal number) read stops = absurd stops
+run_stops reader wrote writes limit program fault read stops = absurd stops
 
 -- at most 1 is the status of a run
 few_by_tests : (refused : Bool) → (if refused then 1 else 0) ≤ 4
@@ -39,18 +32,7 @@ ran_status reader wrote writes limit status ran =
 -- writing alone has failed
 pub write_alone : (wrote writes : Option (List ℕ)) (text : List ℕ) (fault : CliFault) → StopsWriting wrote writes text fault → fault ≡ Write
 write_alone wrote writes text Write stops = refl
-write_alone wrote writes text (Usage words) stops = absurd stops
-write_alone wrote writes text Read stops = absurd stops
-write_alone wrote writes text TooLong stops = absurd stops
-write_alone wrote writes text (Trace fault) stops = absurd stops
-write_alone wrote writes text (Program fault) stops = absurd stops
-write_alone wrote writes text Shape stops = absurd stops
-write_alone wrote writes text (Illegal number) stops = absurd stops
-write_alone wrote writes text Limit stops = absurd stops
-write_alone wrote writes text Stopped stops = absurd stops
-write_alone wrote writes text Torn stops = absurd stops
-write_alone wrote writes text Strange stops = absurd stops
-write_alone wrote writes text Memory stops = absurd stops
+write_alone wrote writes text fault stops = absurd stops
 
 -- only a part of its line could be written
 pub run_cut : (reader : Reading) (wrote writes : Option (List ℕ)) (limit : ℕ) (program : Contents) (line : List ℕ) (status : ℕ) (fault : CliFault) →
@@ -66,15 +48,4 @@ run_cut reader wrote writes limit program line status Write read tells stops = r
   written = stops.2;
   prefix = stops.3;
 }
-run_cut reader wrote writes limit program line status (Usage words) read tells stops = absurd stops
-run_cut reader wrote writes limit program line status Read read tells stops = absurd stops
-run_cut reader wrote writes limit program line status TooLong read tells stops = absurd stops
-run_cut reader wrote writes limit program line status (Trace fault) read tells stops = absurd stops
-run_cut reader wrote writes limit program line status (Program fault) read tells stops = absurd stops
-run_cut reader wrote writes limit program line status Shape read tells stops = absurd stops
-run_cut reader wrote writes limit program line status (Illegal number) read tells stops = absurd stops
-run_cut reader wrote writes limit program line status Limit read tells stops = absurd stops
-run_cut reader wrote writes limit program line status Stopped read tells stops = absurd stops
-run_cut reader wrote writes limit program line status Torn read tells stops = absurd stops
-run_cut reader wrote writes limit program line status Strange read tells stops = absurd stops
-run_cut reader wrote writes limit program line status Memory read tells stops = absurd stops
+run_cut reader wrote writes limit program line status fault read tells stops = absurd stops

@@ -4,14 +4,15 @@ use Rattle.std.specs.String.{string_bytes}
 use Rattle.trace_values.specs.declared.fault.TextFault.{TextFault}
 use Rattle.trace_values.specs.declared.fault.TextFault.TheVariants.{Memory as TextMemory}
 use Rattle.text_commands.specs.declared.fault.CliFault.{CliFault}
-use Rattle.text_commands.specs.declared.fault.CliFault.TheVariants.{Usage, Trace, Program, Limit, Stopped, Torn, Strange, Memory}
+use Rattle.text_commands.specs.declared.fault.CliFault.TheVariants.{Usage, Trace, Program, Limit, TooManyStrands, Stopped, Torn, Strange, Memory}
 
--- the exit status: 3 for want of memory, 4 where the limit was passed or a run did not come to its end, and else 2
+-- the exit status: 3 for want of memory, 4 where the limit was passed, there is too much to draw or a run did not come to its end, and else 2
 abbrev pub status_of_fault : CliFault → ℕ
 status_of_fault Memory = 3
 status_of_fault (Trace TextMemory) = 3
 status_of_fault (Program TextMemory) = 3
 status_of_fault Limit = 4
+status_of_fault TooManyStrands = 4
 status_of_fault Stopped = 4
 status_of_fault Torn = 4
 status_of_fault Strange = 4

@@ -2,12 +2,15 @@
 use Rattle.std.specs.Prelude.{◌<◌, ◌≤◌}
 use Rattle.race_gate.specs.Shapes.{most_entries}
 use Rattle.text_commands.specs.declared.words.Job.{Job}
-use Rattle.text_commands.specs.declared.words.Job.TheVariants.{Judge, Elide, Run, Replay, Show}
+use Rattle.text_commands.specs.declared.words.Job.TheVariants.{Judge, Elide, Run, Record, Explain, Replay, Draw, Show}
 
 -- the numbers of the job are in their ranges
 abbrev pub IsInRange : Job → Type 0
-IsInRange (Judge limit) = limit ≤ most_entries
+IsInRange (Judge file limit) = limit ≤ most_entries
 IsInRange (Elide file limit) = limit ≤ most_entries
 IsInRange (Run file workers limit) = (0 < workers) × (workers ≤ 64) × (limit ≤ most_entries)
+IsInRange (Record file workers limit trace) = (0 < workers) × (workers ≤ 64) × (limit ≤ most_entries)
+IsInRange (Explain file workers limit color) = (0 < workers) × (workers ≤ 64) × (limit ≤ most_entries)
 IsInRange (Replay file trace) = Unit {0}
+IsInRange (Draw file) = Unit {0}
 IsInRange (Show text) = Unit {0}

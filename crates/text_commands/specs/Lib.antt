@@ -9,8 +9,10 @@ pub mod Elided
 pub mod Declarations
 pub mod Outcomes
 pub mod Replays
+pub mod Drawings
 pub mod Runs
 pub mod Traced
+pub mod Explanations
 pub mod Sources
 pub mod Performed
 pub mod Laws

@@ -63,7 +63,7 @@ fn push_cells<A: Allocator>(
 }
 
 /// Adds the lines of all cells.
-fn push_memory<A: Allocator>(
+pub(crate) fn push_memory<A: Allocator>(
     text: &mut Vec<u8, A>,
     mems: &[Mem],
     values: &[u64],

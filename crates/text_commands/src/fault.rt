@@ -20,6 +20,9 @@ pub enum CliFault {
     /// The output can't be written.
     #[error("write")]
     Write,
+    /// The file of a trace can't be created or written.
+    #[error("cannot write OUT")]
+    Unwritten,
     /// The input has more than 67,108,864 bytes.
     #[error("too long")]
     TooLong,
@@ -38,6 +41,9 @@ pub enum CliFault {
     /// There are more requests than the limit.
     #[error("limit")]
     Limit,
+    /// More than 10,000 strands have begun, which are too many to draw.
+    #[error("too many strands to draw: 10000 at most")]
+    TooManyStrands,
     /// The gate was stopped.
     #[error("stopped")]
     Stopped,
@@ -53,7 +59,8 @@ pub enum CliFault {
 }
 
 impl CliFault {
-    /// The exit status of the program: 3 for want of memory, 4 where the limit was passed or a run did not come to its end, and else 2.
+    /// The exit status of the program: 3 for want of memory, 4 where the limit was passed, there is too much to draw or a run did not come
+    /// to its end, and else 2.
     pub fn status(&self) -> u8
         ensures { result ≡ status_of_fault self.now }
     {
@@ -61,7 +68,11 @@ impl CliFault {
             CliFault::Memory
             | CliFault::Trace(TextFault::Memory)
             | CliFault::Program(TextFault::Memory) => 3,
-            CliFault::Limit | CliFault::Stopped | CliFault::Torn | CliFault::Strange => 4,
+            CliFault::Limit
+            | CliFault::TooManyStrands
+            | CliFault::Stopped
+            | CliFault::Torn
+            | CliFault::Strange => 4,
             _ => 2,
         }
     }

@@ -11,7 +11,9 @@ pub const ABOUT: &str =
 pub const PROGRAM: &str =
     "`run` and `elide` take a program in a small language of spawn and sync: 'cilkcheck run --help' has the language.
 `judge` takes a trace, the requests of a program's strands in some order: 'cilkcheck judge --help' has its lines.
-`replay` takes both.
+`replay` takes both. `run --trace OUT` writes the trace of a run, so that it can be kept, judged again and replayed.
+`explain` takes a program, and tells a person of its races: both lines, what led there, and what would order them.
+`draw` takes a trace, and draws its strands and their races.
 
 A trace in which a function spawns a child, and both write the cell x:
 
@@ -27,10 +29,11 @@ The third request is refused: it races with the write of entry 2.
 Exit status:
   0  no access was refused
   1  an access was refused: a race, or a get of a reducer that nothing was put into
-  2  wrong words, an input that can't be read, is too long or has a fault, output that failed, an illegal request, or a
-     program and a trace with different declarations
+  2  wrong words, an input that can't be read, is too long or has a fault, output that failed, a trace's file that
+     can't be written, an illegal request, or a program and a trace with different declarations
   3  no memory
-  4  the limit was passed; a replay is strange or unfinished; a run is strange, torn or stopped
+  4  the limit was passed; more than 10000 strands are to be drawn; a replay is strange or unfinished; a run is strange,
+     torn or stopped
 
 At a fault one line stands on standard error, and nothing on standard output. Of a text it is `program line L: CAUSE` or
 `trace line L: CAUSE`, by the first line with a fault, and on it by the first of these causes:
@@ -46,11 +49,12 @@ At a fault one line stands on standard error, and nothing on standard output. Of
   TooMany      more than there may be, as 16 registers in a function, 64 nested `if`s, or 1000000 cells";
 
 pub const JUDGE: &str =
-    "Judges the requests of a trace on standard input, and writes a verdict line for each";
+    "Judges the requests of a trace, in a file or on standard input, and writes a verdict line for each";
 
 /// What stands behind the help of `judge`.
 pub const TRACE: &str =
-    "Input: a line `cilk 1` or `cilk 2`, declarations, and a request on each line. `#` begins a comment.
+    "Input, of FILE or else of standard input: a line `cilk 1` or `cilk 2`, declarations, and a request on each line. `#` begins a
+comment. `@K` behind a request names the program's line that makes it, as in traces that 'cilkcheck run FILE --trace OUT' writes.
   mem NAME, mem NAME LENGTH          a cell NAME; an array of cells NAME[0], NAME[1] and so on
   reducer NAME MONOID                MONOID is sum, min, max or last; in `cilk 2` also digits
   spawn S, call S, sync S, return S  S is the number of a strand; the root function begins as strand 0
@@ -98,6 +102,16 @@ For example:
 
     {\"clean\":true,\"entries\":7,\"memory\":{\"x\":7},\"refusals\":[],\"schedules\":\"clean for every schedule\"}
 
+A run by many workers may be another the next time. `--trace OUT` also writes the trace of this one into the file OUT, each
+request with its line in the program:
+
+    cilkcheck run seven --trace seven.trace
+    cilkcheck replay seven seven.trace
+    cilkcheck judge seven.trace
+
+Then `replay` tells `replayed 7`, and `judge` the answer to each of the 7 requests. OUT is made, or emptied where it is there,
+once the run is done; before the report is written it has the trace. Where there is no run to be told, it stays as it was.
+
 Output: one JSON object in a line, with the keys
   clean      whether nothing was refused
   entries    the number of requests
@@ -107,8 +121,8 @@ Output: one JSON object in a line, with the keys
              at `view-read` the first put or get of the reducer, which has other peers; at `unset` there is none
   schedules  of a clean run alone: that each run of the program is clean and leaves the same memory
 
-Exit status: 0 where nothing was refused, 1 where an access was, 2 for a fault of the input, 3 for want of memory,
-4 where the limit was passed, or the run is strange, torn or stopped.";
+Exit status: 0 where nothing was refused, 1 where an access was, 2 for a fault of the input or where OUT can't be written,
+3 for want of memory, 4 where the limit was passed, or the run is strange, torn or stopped.";
 
 /// The language of programs, which stands behind the help of `elide` and of `run`.
 pub const LANGUAGE: &str =
@@ -134,9 +148,83 @@ pub const REPLAY: &str =
 /// What stands behind the help of `replay`.
 pub const OUTCOME: &str =
     "The trace declares what the program does, and `@K` names the program's line of a request, as `write 1 x 7 @9`.
+'cilkcheck run FILE --trace OUT' writes such a trace of its run.
 
 Output: `replayed N` where the N entries are a finished run, `unfinished` where they are a run that is not finished, or
 `strange N` where entry N is the first that is no request of the program's.
 
 Exit status: 0 where nothing was refused, 1 where an access was, 2 for a fault of the input, declarations that differ or an
 illegal request, 3 for want of memory, 4 where the entries are no finished run or the limit was passed.";
+
+pub const EXPLAIN: &str =
+    "Runs a program by many workers, and explains its races to a person, with the lines of its text";
+
+/// What stands before the help of `explain`.
+pub const EXPLANATION: &str =
+    "Runs a program by many workers, and explains its races to a person, with the lines of its text
+
+For example:
+
+    printf 'cilk 1\\nmem x\\nfunc main z\\nspawn f 1\\nwrite x 2\\nsync\\nend\\nfunc f v\\nwrite x v\\nend\\n' > both
+    cilkcheck explain both --workers 1
+
+    race: write-write on x, 1 time
+      --> both:9
+       |
+     5 | write x 2
+       | --------- this write, in `main`
+       |
+     9 | write x v
+       | ^^^^^^^^^ this write, in `f`, may run before it or after it
+       = spawned at line 4, in `main`: spawn f 1
+       |
+     4 | spawn f 1
+       | --------- here they part: what is spawned comes to line 9, while `main` goes on to line 5
+       = help: a `sync` in `main` before line 5 would order them
+
+    1 refusal at 1 pair of lines, among 8 requests
+
+Each pair of lines is told once, of more than 20 pairs the first 20. Of a run in which nothing was refused it says so, and
+that no schedule has a race, and then the memory, a cell a line. Where the limit ends the run it tells the races until then.
+Of a text with a fault it shows the line, and what is wanted there.
+
+Exit status: 0 where nothing was refused, 1 where an access was, 2 for a fault of the input, 3 for want of memory, 4 where
+the limit was passed.";
+
+pub const DRAW: &str =
+    "Judges the requests of a trace, and draws the dag of its strands with their races, for Graphviz";
+
+/// What stands before the help of `draw`.
+pub const DRAWING: &str =
+    "Judges the requests of a trace, and draws the dag of its strands with their races, for Graphviz.
+
+For example, with a trace in which a function spawns a child, and both write the cell x:
+
+    printf 'cilk 1\\nmem x\\nspawn 0\\nwrite 1 x 5\\nwrite 2 x 6\\n' > both.trace
+    cilkcheck draw both.trace
+
+    digraph trace {
+      0 [label=\"0\\l\"];
+      1 [label=\"1\\l2 write x\\l\"];
+      2 [label=\"2\\l3 write x refused\\l\"];
+      0 -> 1 [label=\"child\"];
+      0 -> 2 [label=\"next\"];
+      1 -> 2 [label=\"write-write on x\", color=red, fontcolor=red, constraint=false];
+    }
+
+Graphviz makes a picture of it:
+
+    cilkcheck draw both.trace | dot -Tsvg > dag.svg
+
+Output, in Graphviz's language:
+  a node for each strand that has begun: its number, and then its accesses, each with the number of its entry
+  a black edge for each edge of the dag: `child` and `next` from a strand that spawns, `join` to the strand behind a sync
+  a red edge for each race, from the strand of the earlier access to that of the refused one, with its rule and name
+Of a race on a cell no path of black edges leads from one strand to the other, so the two may run at the same time.";
+
+/// What stands behind the help of `draw`.
+pub const STRANDS: &str =
+    "'cilkcheck judge --help' has the lines of a trace. At most 10000 strands are drawn.
+
+Exit status: 0 where nothing was refused, 1 where an access was, 2 for a fault of the input or an illegal request,
+3 for want of memory, 4 where the limit was passed or there are more strands.";

@@ -39,7 +39,7 @@ fn requests<A: Allocator + Copy>(alloc: A, trace: &Trace<A>) -> Result<Vec<Reque
 }
 
 /// What a trace declares, and its requests.
-fn asked<A: Allocator + Copy>(
+pub fn asked<A: Allocator + Copy>(
     alloc: A,
     trace: &Trace<A>,
 ) -> Result<(Shape<A>, Vec<Request, A>), AllocError>
@@ -53,7 +53,7 @@ fn asked<A: Allocator + Copy>(
 }
 
 /// A fresh gate that has judged these requests, and its replies.
-fn reply_to_all<A: Allocator + Copy>(
+pub fn reply_to_all<A: Allocator + Copy>(
     alloc: A,
     shape: &Shape<A>,
     requests: &[Request],

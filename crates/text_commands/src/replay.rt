@@ -22,7 +22,7 @@ use std::io::{Read, Write};
 use trace_text::Trace;
 
 /// The most entries of a history.
-const MOST_ENTRIES: u32 = 1_000_000;
+pub const MOST_ENTRIES: u32 = 1_000_000;
 
 /// The fault of a command for an illegal request of this number.
 fn fault_of_request(number: u32, fault: GateFault) -> CliFault
@@ -36,7 +36,7 @@ fn fault_of_request(number: u32, fault: GateFault) -> CliFault
 }
 
 /// Sees to it that each reply is an answer. The first that is none decides which fault it is.
-fn check_replies(replies: &[Reply]) -> Result<(), CliFault>
+pub fn check_replies(replies: &[Reply]) -> Result<(), CliFault>
     requires { length replies.now ≤ max_requests }
     ensures { MatchResult result (λ _. All IsDone replies.now) (StopsReplies replies.now) }
 {

@@ -179,6 +179,81 @@ fn met(
     }
 }
 
+/// A run that did not come to its end.
+#[derive(Drop)]
+pub struct Cut {
+    /// Why.
+    pub fault: RunFault,
+    /// The gate that the workers left, where they brought no logs.
+    pub gate: Option<Gate<Global>>,
+}
+
+/// The finished run that the workers brought back, of at most `limit` entries.
+fn gathered<L: Ledger>(
+    alloc: Global,
+    program: &Program<Global>,
+    locked: LockedGate<L>,
+    logs: Vec<WorkerLog<L>>,
+    limit: u32,
+) -> Result<Whole, RunFault>
+    ensures run { IfOk result (λ whole. IsFinishedRun program.now.functions (shape_in program.now) (reverse whole.entries.items)) }
+    ensures memory { IfOk result (λ whole. IsMemory (shape_in program.now).cells (reverse whole.entries.items) whole.memory.items) }
+    ensures clean { IfOk result (λ whole. IsTrue whole.clean ↔ IsClean (reverse whole.entries.items)) }
+    ensures within { IfOk result (λ whole. length whole.entries.items ≤ limit) }
+    ensures fault { IfErr result (λ fault. IsRunFault (contents program.now) limit (fault_of_run fault)) }
+{
+    let whole = gather(alloc, program, locked, logs)?;
+    if whole.entries.len() > limit as usize {
+        return Err(RunFault::Limit);
+    }
+    Ok(whole)
+}
+
+/// A finished run of the program by so many workers, of at most `limit` entries, or what there is of a run without its end.
+pub fn some_run<L: Ledger + Send + Sync, D: Door + Sync, R: Threads + Wait + Sync>(
+    rt: &R,
+    alloc: Global,
+    program: &Program<Global>,
+    workers: usize,
+    door: &D,
+    limit: u32,
+    blank: Blank,
+) -> Result<Whole, Cut>
+    requires workers { (0 < workers) × (workers ≤ 64) }
+    requires limit { limit ≤ most_entries }
+    requires name { blank.name ≡ L.name }
+    requires all { blank.parts ≡ L.parts }
+    requires parts { blank.parts ≡ 64 }
+    ensures run { IfOk result (λ whole. IsFinishedRun program.now.functions (shape_in program.now) (reverse whole.entries.items)) }
+    ensures memory { IfOk result (λ whole. IsMemory (shape_in program.now).cells (reverse whole.entries.items) whole.memory.items) }
+    ensures clean { IfOk result (λ whole. IsTrue whole.clean ↔ IsClean (reverse whole.entries.items)) }
+    ensures within { IfOk result (λ whole. length whole.entries.items ≤ limit) }
+    ensures fault { IfErr result (λ cut. IsRunFault (contents program.now) limit (fault_of_run cut.fault)) }
+{
+    let Ok(gate) = fresh_gate(alloc, program, limit) else {
+        return Err(Cut {
+            fault: RunFault::Memory,
+            gate: None,
+        });
+    };
+    let (locked, seat) = LockedGate::<L>::new(gate, blank, PARTS);
+    let logs = match run_through(rt, alloc, program, workers, door, &locked, seat) {
+        Ok(logs) => logs,
+        Err(fault) => {
+            let gate = locked.into_gate();
+            let fault = met(alloc, program, &gate, limit, fault);
+            return Err(Cut {
+                fault,
+                gate: Some(gate),
+            });
+        }
+    };
+    match gathered(alloc, program, locked, logs, limit) {
+        Ok(whole) => Ok(whole),
+        Err(fault) => Err(Cut { fault, gate: None }),
+    }
+}
+
 /// A finished run of the program by so many workers, of at most `limit` entries.
 pub fn whole_run<L: Ledger + Send + Sync, D: Door + Sync, R: Threads + Wait + Sync>(
     rt: &R,
@@ -200,20 +275,10 @@ pub fn whole_run<L: Ledger + Send + Sync, D: Door + Sync, R: Threads + Wait + Sy
     ensures within { IfOk result (λ whole. length whole.entries.items ≤ limit) }
     ensures fault { IfErr result (λ fault. IsRunFault (contents program.now) limit (fault_of_run fault)) }
 {
-    let gate = fresh_gate(alloc, program, limit)?;
-    let (locked, seat) = LockedGate::<L>::new(gate, blank, PARTS);
-    let logs = match run_through(rt, alloc, program, workers, door, &locked, seat) {
-        Ok(logs) => logs,
-        Err(fault) => {
-            let gate = locked.into_gate();
-            return Err(met(alloc, program, &gate, limit, fault));
-        }
-    };
-    let whole = gather(alloc, program, locked, logs)?;
-    if whole.entries.len() > limit as usize {
-        return Err(RunFault::Limit);
+    match some_run::<L, D, R>(rt, alloc, program, workers, door, limit, blank) {
+        Ok(whole) => Ok(whole),
+        Err(cut) => Err(cut.fault),
     }
-    Ok(whole)
 }
 
 /// The report of a finished run and a line feed.

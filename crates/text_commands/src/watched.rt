@@ -96,6 +96,33 @@ impl<H: Host> Watched<H> {
         }
     }
 
+    /// The file with this name, made or emptied, to be written. It answers [`CliFault::Unwritten`] where it can't be created.
+    pub fn create(&mut self, name: &str) -> Result<Watched<H::Created>, CliFault>
+        ensures blank { IfOk result (λ file. H.Created.contents (held file) ≡ H.blank (held self.old)) }
+        ensures fresh { IfOk result (λ file. has_failed file ≡ false) }
+        ensures fault { IfErr result (λ fault. fault ≡ CliFault.Unwritten) }
+        ensures failed { has_failed self.new ≡ has_failed self.old }
+        ensures barred { H.bars (held self.old) name.now → IsErr result }
+    {
+        match self.inner.create(name) {
+            Ok(file) => Ok(Watched::new(file)),
+            Err(_) => Err(CliFault::Unwritten),
+        }
+    }
+
+    /// Lets a file go that was created with this name.
+    pub fn close(&mut self, name: &str, file: Watched<H::Created>)
+        ensures made { H.made (held self.new) name.now ≡ H.Created.contents (held file) }
+        ensures failed { has_failed self.new ≡ has_failed self.old }
+    {
+        self.inner.close(name, file.into_inner());
+    }
+
+    /// Whether what is written to standard output is seen on a terminal.
+    pub fn is_terminal(&self) -> bool {
+        self.inner.is_terminal()
+    }
+
     /// Is shown a reader. Where that has failed, it has failed too.
     pub fn note<R>(&mut self, reader: &Watched<R>)
         ensures failed { has_failed self.new ≡ (has_failed self.old || has_failed reader.now) }

@@ -21,11 +21,23 @@ const MOST_WORKERS: usize = 64;
 
 const WORKERS: usize = 2;
 
+/// When words are painted.
+#[derive(Clone, Copy, Debug, PartialEq, Eq)]
+pub enum Color {
+    /// Where a terminal shows them.
+    Auto,
+    /// In each case.
+    Always,
+    /// In none.
+    Never,
+}
+
 /// What the words of the command line ask for.
 #[derive(Debug, Drop)]
 pub enum Job {
-    /// To judge a trace, with this limit on the entries of its history.
+    /// To judge the trace in this file, or on standard input where there is none, with this limit on the entries of its history.
     Judge {
+        file: Option<String>,
         limit: u32,
     },
     /// To write the elision of the program in this file, with this limit on its requests.
@@ -39,10 +51,28 @@ pub enum Job {
         workers: usize,
         limit: u32,
     },
+    /// To run it so, and to write the trace of the run into the file `trace`.
+    Record {
+        file: String,
+        workers: usize,
+        limit: u32,
+        trace: String,
+    },
+    /// To run the program in this file by so many workers, with this limit on the entries of its history, and to tell a person of the run.
+    Explain {
+        file: String,
+        workers: usize,
+        limit: u32,
+        color: Color,
+    },
     /// To replay the trace in the second file as a run of the program in the first.
     Replay {
         file: String,
         trace: String,
+    },
+    /// To draw the trace in this file.
+    Draw {
+        file: String,
     },
     /// To show a text: the help or the version.
     Show {
@@ -66,12 +96,35 @@ fn workers<'a>(alloc: Global) -> Arg<'a> {
         .help("The workers, from 1 to 64 [default: 2]")
 }
 
+/// The argument that says when words are painted.
+fn painting<'a>(alloc: Global) -> Arg<'a> {
+    Arg::new(alloc, "color")
+        .long("color")
+        .value_name("WHEN")
+        .help("When words are painted: auto, always or never [default: auto]")
+}
+
 /// The argument that names a program's file.
 fn file<'a>(alloc: Global) -> Arg<'a> {
     Arg::new(alloc, "file")
         .value_name("FILE")
         .required(true)
         .help("The program")
+}
+
+/// The argument that names the file of the trace that is judged.
+fn judged<'a>(alloc: Global) -> Arg<'a> {
+    Arg::new(alloc, "file")
+        .value_name("FILE")
+        .help("The trace [default: standard input]")
+}
+
+/// The argument that names the file that a run's trace is written into.
+fn out<'a>(alloc: Global) -> Arg<'a> {
+    Arg::new(alloc, "trace")
+        .long("trace")
+        .value_name("OUT")
+        .help("A file, made or emptied, that the trace of the run is written into")
 }
 
 /// The argument that names a trace's file.
@@ -92,7 +145,9 @@ fn judge_command<'a>(alloc: Global) -> Result<Command<'a>, AllocError> {
         alloc,
         "The most entries of the history, from 0 to 1000000 [default: 1000000]",
     );
-    described(alloc, "judge", help::JUDGE, help::TRACE).arg(limit)
+    described(alloc, "judge", help::JUDGE, help::TRACE)
+        .arg(judged(alloc))?
+        .arg(limit)
 }
 
 fn elide_command<'a>(alloc: Global) -> Result<Command<'a>, AllocError> {
@@ -115,12 +170,32 @@ fn run_command<'a>(alloc: Global) -> Result<Command<'a>, AllocError> {
         .long_about(help::REPORT)
         .arg(file(alloc))?
         .arg(workers(alloc))?
-        .arg(limit)
+        .arg(limit)?
+        .arg(out(alloc))
+}
+
+fn explain_command<'a>(alloc: Global) -> Result<Command<'a>, AllocError> {
+    let limit = limit(
+        alloc,
+        "The most entries of the history, from 0 to 1000000 [default: 1000000]",
+    );
+    described(alloc, "explain", help::EXPLAIN, help::LANGUAGE)
+        .long_about(help::EXPLANATION)
+        .arg(file(alloc))?
+        .arg(workers(alloc))?
+        .arg(limit)?
+        .arg(painting(alloc))
 }
 
 fn replay_command<'a>(alloc: Global) -> Result<Command<'a>, AllocError> {
     described(alloc, "replay", help::REPLAY, help::OUTCOME)
         .arg(file(alloc))?
+        .arg(trace(alloc))
+}
+
+fn draw_command<'a>(alloc: Global) -> Result<Command<'a>, AllocError> {
+    described(alloc, "draw", help::DRAW, help::STRANDS)
+        .long_about(help::DRAWING)
         .arg(trace(alloc))
 }
 
@@ -144,7 +219,9 @@ fn commands<'a>(alloc: Global) -> Result<Command<'a>, AllocError> {
     let judging = with(program(alloc)?, judge_command(alloc))?;
     let eliding = with(judging, elide_command(alloc))?;
     let running = with(eliding, run_command(alloc))?;
-    with(running, replay_command(alloc))
+    let explaining = with(running, explain_command(alloc))?;
+    let replaying = with(explaining, replay_command(alloc))?;
+    with(replaying, draw_command(alloc))
 }
 
 /// A usage fault with this text, which stands in one line; or want of memory.
@@ -228,12 +305,27 @@ fn file_of(alloc: Global, matches: &ArgMatches<'_>, argument: &str) -> Result<St
     Ok(String::from_str(alloc, name)?)
 }
 
+/// The name of a file that the words of a command may give.
+fn given_file(
+    alloc: Global,
+    matches: &ArgMatches<'_>,
+    argument: &str,
+) -> Result<Option<String>, CliFault>
+    ensures fault { IfErr result IsUsageFault }
+{
+    let Some(name) = matches.get_str(argument) else {
+        return Ok(None);
+    };
+    Ok(Some(String::from_str(alloc, name)?))
+}
+
 fn judge_job(alloc: Global, matches: &ArgMatches<'_>) -> Result<Job, CliFault>
     ensures job { IfOk result IsInRange }
     ensures fault { IfErr result IsUsageFault }
 {
+    let file = given_file(alloc, matches, "file")?;
     let limit = limit_of(alloc, matches)?;
-    Ok(Job::Judge { limit })
+    Ok(Job::Judge { file, limit })
 }
 
 fn elide_job(alloc: Global, matches: &ArgMatches<'_>) -> Result<Job, CliFault>
@@ -252,10 +344,49 @@ fn run_job(alloc: Global, matches: &ArgMatches<'_>) -> Result<Job, CliFault>
     let file = file_of(alloc, matches, "file")?;
     let workers = workers_of(alloc, matches)?;
     let limit = limit_of(alloc, matches)?;
-    Ok(Job::Run {
+    match given_file(alloc, matches, "trace")? {
+        None => Ok(Job::Run {
+            file,
+            workers,
+            limit,
+        }),
+        Some(trace) => Ok(Job::Record {
+            file,
+            workers,
+            limit,
+            trace,
+        }),
+    }
+}
+
+/// When the words of a command want words to be painted.
+fn color_of(alloc: Global, matches: &ArgMatches<'_>) -> Result<Color, CliFault>
+    ensures fault { IfErr result IsUsageFault }
+{
+    match matches.get_str("color") {
+        None | Some("auto") => Ok(Color::Auto),
+        Some("always") => Ok(Color::Always),
+        Some("never") => Ok(Color::Never),
+        Some(_) => Err(usage(
+            alloc,
+            "invalid value for '--color <WHEN>': auto, always or never is wanted",
+        )),
+    }
+}
+
+fn explain_job(alloc: Global, matches: &ArgMatches<'_>) -> Result<Job, CliFault>
+    ensures job { IfOk result IsInRange }
+    ensures fault { IfErr result IsUsageFault }
+{
+    let file = file_of(alloc, matches, "file")?;
+    let workers = workers_of(alloc, matches)?;
+    let limit = limit_of(alloc, matches)?;
+    let color = color_of(alloc, matches)?;
+    Ok(Job::Explain {
         file,
         workers,
         limit,
+        color,
     })
 }
 
@@ -268,6 +399,14 @@ fn replay_job(alloc: Global, matches: &ArgMatches<'_>) -> Result<Job, CliFault>
     Ok(Job::Replay { file, trace })
 }
 
+fn draw_job(alloc: Global, matches: &ArgMatches<'_>) -> Result<Job, CliFault>
+    ensures job { IfOk result IsInRange }
+    ensures fault { IfErr result IsUsageFault }
+{
+    let file = file_of(alloc, matches, "trace")?;
+    Ok(Job::Draw { file })
+}
+
 /// What the words that were matched ask for.
 fn job_of(alloc: Global, matches: &ArgMatches<'_>) -> Result<Job, CliFault>
     ensures job { IfOk result IsInRange }
@@ -277,7 +416,9 @@ fn job_of(alloc: Global, matches: &ArgMatches<'_>) -> Result<Job, CliFault>
         Some(("judge", matches)) => judge_job(alloc, matches),
         Some(("elide", matches)) => elide_job(alloc, matches),
         Some(("run", matches)) => run_job(alloc, matches),
+        Some(("explain", matches)) => explain_job(alloc, matches),
         Some(("replay", matches)) => replay_job(alloc, matches),
+        Some(("draw", matches)) => draw_job(alloc, matches),
         _ => Err(usage(alloc, "no command is given; see 'cilkcheck --help'")),
     }
 }

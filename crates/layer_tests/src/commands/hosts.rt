@@ -1,11 +1,11 @@
 //! Jobs over a standard input and files that are texts in memory.
 
-ghost use Rattle.std.specs.Prelude.{◌<◌, ◌≤◌, IfOk};
+ghost use Rattle.std.specs.Prelude.{◌<◌, ◌≤◌, ⊤, None, IfOk};
 ghost use Rattle.text_commands.specs.Jobs.{IsInRange};
 ghost use Rattle.text_commands.specs.Performed.{IsAlone};
 ghost use Rattle.text_commands.specs.Sources.{unknown_sources};
 
-use super::devices::Breaking;
+use super::devices::{Breaking, Filling};
 use super::worked::FIB;
 use super::{MOST, Outcome, check_fault, check_written, lined};
 use std::alloc::Global;
@@ -54,9 +54,17 @@ impl<'a> Host for Texts<'a> {
 
     type File = Breaking<'a>;
 
+    type Created = Filling;
+
     ghost sources = { λ _. unknown_sources };
 
     ghost lacks = { λ _ _. ⊥ };
+
+    ghost blank = { λ _. None };
+
+    ghost made = { λ _ _. None };
+
+    ghost bars = { λ _ _. ⊤ };
 
     fn input(&mut self) -> Breaking<'a> {
         reader(self.input)
@@ -70,6 +78,16 @@ impl<'a> Host for Texts<'a> {
         }
         Err(Error::from(ErrorKind::NotFound))
     }
+
+    fn create(&mut self, _name: &str) -> io::Result<Filling> {
+        Err(Error::from(ErrorKind::PermissionDenied))
+    }
+
+    fn is_terminal(&self) -> bool {
+        false
+    }
+
+    fn close(&mut self, _name: &str, _file: Filling) {}
 }
 
 /// Does a job over these texts.
@@ -205,6 +223,14 @@ fn replay_job(alloc: Global, file: &str, trace: &str) -> Result<Job, Fail>
     Ok(Job::Replay { file, trace })
 }
 
+fn draw_job(alloc: Global, trace: &str) -> Result<Job, Fail>
+    ensures ranges { IfOk result IsInRange }
+    ensures alone { IfOk result IsAlone }
+{
+    let file = String::from_str(alloc, trace)?;
+    Ok(Job::Draw { file })
+}
+
 #[test]
 fn a_trace_on_standard_input(rt: HostRuntime) -> Result<(), Fail> {
     let text = lined(rt.alloc(), JOINED, "; ")?;
@@ -212,7 +238,10 @@ fn a_trace_on_standard_input(rt: HostRuntime) -> Result<(), Fail> {
         input: text.as_str(),
         files: &[],
     };
-    let job = Job::Judge { limit: MOST };
+    let job = Job::Judge {
+        file: None,
+        limit: MOST,
+    };
     check_either(&rt, rt.alloc(), texts, &job, VERDICTS, 0)
 }
 
@@ -244,6 +273,20 @@ fn a_program_and_a_trace_in_two_files(rt: HostRuntime) -> Result<(), Fail> {
 }
 
 #[test]
+fn a_trace_in_a_file(rt: HostRuntime) -> Result<(), Fail> {
+    let texts = Texts {
+        input: "",
+        files: &[
+            ("other", PAIR_LINES),
+            ("trace", "cilk 1\nmem x\nread 0 x\n"),
+        ],
+    };
+    let job = draw_job(rt.alloc(), "trace")?;
+    let wanted = "digraph trace { /   0 [label=\"0\\l1 read x\\l\"]; / }";
+    check_either(&rt, rt.alloc(), texts, &job, wanted, 0)
+}
+
+#[test]
 fn a_text_that_is_shown(rt: HostRuntime) -> Result<(), Fail> {
     let texts = Texts {
         input: "",
@@ -262,6 +305,7 @@ fn files_that_are_not_there(rt: HostRuntime) -> Result<(), Fail> {
     check_lacking_either(&rt, rt.alloc(), texts, &elide_job(rt.alloc(), "gone")?)?;
     check_lacking(&rt, rt.alloc(), texts, &run_job(rt.alloc(), "gone", 1)?)?;
     check_lacking(&rt, rt.alloc(), texts, &run_job(rt.alloc(), "gone", 2)?)?;
+    check_lacking_either(&rt, rt.alloc(), texts, &draw_job(rt.alloc(), "gone")?)?;
     let job = replay_job(rt.alloc(), "gone", "there")?;
     check_lacking_either(&rt, rt.alloc(), texts, &job)?;
     let job = replay_job(rt.alloc(), "there", "gone")?;

@@ -2,12 +2,12 @@ use Rattle.std.proofs.Common.{rules, arith}
 use Rattle.std.proofs.lemmas.Grind.{common_steps}
 use Rattle.std.proofs.lemmas.Result.{err_from_is_err_and}
 use Rattle.text_commands.proofs.RunFaults.{gathered_fault, beyond_limit}
-use Rattle.text_commands.proofs.run.whole_run.Goals as goal
+use Rattle.text_commands.proofs.run.gathered.Goals as goal
 
 pub returns-in_err-whole-clause-fault : goal.returns-in_err-whole-clause-fault
 returns-in_err-whole-clause-fault g c =
-    let gone = err_from_is_err_and c.from_residual-in_err-whole.result c.from_residual-in_err-whole.ensures.1 in
-    rw (gone.1, gone.2) (gathered_fault c.args.program.now c.args.limit c.in-Ok.logs.items c.in_err-whole.field-0.0 c.in_err-whole.ensures.faults)
+    let gone = err_from_is_err_and c.from_residual.result c.from_residual.ensures.1 in
+    rw (gone.1, gone.2) (gathered_fault c.args.program.now c.args.limit c.args.logs.items c.in_err-whole.field-0.0 c.in_err-whole.ensures.faults)
 
 pub returns-then-len-limit-clause-fault : goal.returns-then-len-limit-clause-fault
 returns-then-len-limit-clause-fault g c =

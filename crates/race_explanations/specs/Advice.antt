@@ -1,0 +1,116 @@
+-- Where two strands part, and what would order them.
+use Rattle.std.specs.Prelude.{ℕ, ◌==◌, List, [], ◌∷◌, ◌++◌, codes, Option, Some, None, decimal, if◌then◌else◌}
+use Rattle.source_quotes.specs.Quotes.{noted, gutter}
+use Rattle.spawn_chains.specs.declared.lineage.Parting.{Parting}
+use Rattle.spawn_chains.specs.declared.lineage.OpenSpawn.{OpenSpawn}
+use Rattle.race_pairs.specs.Refusals.{line_at}
+use Rattle.race_pairs.specs.declared.tally.Pair.{Pair}
+use Rattle.race_explanations.specs.Settings.{Setting}
+use Rattle.race_explanations.specs.Names.{function_at, strand_at}
+use Rattle.race_explanations.specs.Paths.{marked_line}
+
+-- ---- words
+
+abbrev pub parts_words : List ℕ
+parts_words = codes " here they part: what is spawned comes to line "
+
+abbrev pub rounds_words : List ℕ
+rounds_words = codes "help: rounds of one `pfor` are never ordered: give each a cell of its own, or use a reducer\n"
+
+abbrev pub outstanding_words : List ℕ
+outstanding_words = codes " this spawn is outstanding at line "
+
+abbrev pub elsewhere_words : List ℕ
+elsewhere_words = codes ", and not at line "
+
+abbrev pub move_words : List ℕ
+move_words = codes "help: move what stands on line "
+
+abbrev pub behind_words : List ℕ
+behind_words = codes " behind the `sync` of "
+
+abbrev pub ended_words : List ℕ
+ended_words = codes ", where this spawn has ended\n"
+
+abbrev pub put_words : List ℕ
+put_words = codes "help: a `put` into it has to come first in the serial order\n"
+
+abbrev pub sync_words : List ℕ
+sync_words = codes "help: a `sync` in "
+
+abbrev pub before_words : List ℕ
+before_words = codes " before line "
+
+abbrev pub order_words : List ℕ
+order_words = codes " would order them\n"
+
+abbrev pub onward_words : List ℕ
+onward_words = codes " goes on to line "
+
+abbrev pub while_words : List ℕ
+while_words = codes ", while "
+
+-- ---- texts
+
+-- what stands between two quotes
+abbrev pub between : Setting → List ℕ
+between setting = gutter setting.look ++ codes "\n"
+
+-- the line of the one of a pair's two entries which is on this strand: the refused one, or else its witness
+abbrev pub line_on : Setting → Pair → ℕ → ℕ
+line_on setting pair strand =
+    if strand == strand_at setting.entries pair.first then pair.lines.line else pair.lines.witness_line
+
+-- the line of a spawn and a sign below it
+abbrev pub spawn_line : Setting → ℕ → List ℕ
+spawn_line setting entry_number = between setting ++ marked_line setting (line_at setting.entries entry_number) 45
+
+-- a function in a sentence
+abbrev pub function_word : Setting → ℕ → List ℕ
+function_word setting line = codes "`" ++ function_at setting.program.functions line ++ codes "`"
+
+-- That two strands part at a spawn: whither the child comes, and how its spawner goes on.
+abbrev pub parts_text : Setting → Pair → Parting → ℕ → List ℕ
+parts_text setting pair parting onward =
+    spawn_line setting parting.entry ++ (parts_words ++ decimal (line_on setting pair parting.by_child)) ++
+    while_words ++ function_word setting (line_at setting.entries parting.entry) ++
+    ((onward_words ++ decimal onward) ++ codes "\n")
+
+-- That a sync before a line would order two strands.
+abbrev pub missing_text : Setting → ℕ → ℕ → List ℕ
+missing_text setting line onward =
+    noted setting.look ++ sync_words ++ function_word setting line ++ (before_words ++ decimal onward) ++ order_words
+
+-- What would order two strands that part at a spawn on one line, behind which the spawner goes on to another.
+abbrev pub sync_text : Setting → ℕ → ℕ → List ℕ
+sync_text setting line onward =
+    if line == onward
+    then noted setting.look ++ rounds_words
+    else missing_text setting line onward
+
+abbrev pub parting_text : Setting → Pair → Option Parting → ℕ → List ℕ
+parting_text setting pair (Some parting) onward = parts_text setting pair parting onward ++ sync_text setting (line_at setting.entries parting.entry) onward
+parting_text setting pair None onward = []
+
+-- at which of two lines a spawn is outstanding
+abbrev pub open_words : ℕ → ℕ → List ℕ
+open_words at not_at = (outstanding_words ++ decimal at) ++ (elsewhere_words ++ decimal not_at) ++ codes "\n"
+
+-- That a spawn is outstanding at one of two reads and not at the other.
+abbrev pub open_text : Setting → Pair → OpenSpawn → List ℕ
+open_text setting pair spawn =
+    spawn_line setting spawn.entry ++ open_words (line_on setting pair spawn.parallel) (line_on setting pair spawn.ordered)
+
+-- What makes a read the same in every run.
+abbrev pub move_text : Setting → Pair → OpenSpawn → List ℕ
+move_text setting pair spawn =
+    noted setting.look ++ (move_words ++ decimal (line_on setting pair spawn.parallel)) ++
+    behind_words ++ function_word setting (line_at setting.entries spawn.entry) ++ ended_words
+
+abbrev pub outstanding_text : Setting → Pair → Option OpenSpawn → List ℕ
+outstanding_text setting pair (Some spawn) = open_text setting pair spawn ++ move_text setting pair spawn
+outstanding_text setting pair None = []
+
+-- What makes a get find something.
+abbrev pub put_text : Setting → List ℕ
+put_text setting = noted setting.look ++ put_words

@@ -1,0 +1,65 @@
+-- What is told of the entries of a run.
+use Rattle.std.specs.Prelude.{ℕ, ◌≡◌, ◌+◌, ◌-◌, nat_lt, Bool, List, [], ◌∷◌, ◌++◌, codes, length, take, filter, is_some, decimal, if◌then◌else◌}
+use Rattle.std.specs.Global.{Global}
+use Rattle.program_text.specs.Drafts.{Contents}
+use Rattle.race_gate.specs.declared.answer.Entry.{Entry}
+use Rattle.source_quotes.specs.Quotes.{look_of, counted}
+use Rattle.race_pairs.specs.Refusals.{refusal_told}
+use Rattle.race_pairs.specs.Pairs.{ArePairs}
+use Rattle.race_pairs.specs.Places.{ArePlaces}
+use Rattle.race_pairs.specs.Encounters.{chain_at, PartAt, GoesOn, IsOpenAt}
+use Rattle.race_pairs.specs.declared.tally.Pair.{Pair}
+use Rattle.race_pairs.specs.declared.encounter.Encounter.{Encounter}
+use Rattle.race_explanations.specs.Settings.{Setting}
+use Rattle.race_explanations.specs.Messages.{message}
+
+-- How the strands of a pair's first refusal and its witness came about.
+pub record IsEncounter (entries : List Entry) (pair : Pair) (encounter : Encounter Global) : Type 0 where
+  pub chain : encounter.chain.items ≡ chain_at entries pair.first
+  pub witness_chain : encounter.witness_chain.items ≡ chain_at entries pair.witness
+  pub parting : PartAt entries pair encounter.parting
+  pub onward : GoesOn entries pair encounter.parting encounter.onward
+  pub outstanding : IsOpenAt entries pair encounter.outstanding
+
+-- The text tells of the pair: with the cells or reducers on which it raced, what led to its first refusal and to the witness of that, and
+-- where the two part.
+pub record Tells (setting : Setting) (pair : Pair) (text : List ℕ) : Type 0 where
+  pub places : List ℕ
+  pub encounter : Encounter Global
+  pub are_places : ArePlaces setting.entries pair.lines places
+  pub is_encounter : IsEncounter setting.entries pair encounter
+  pub text_is : text ≡ message setting pair places encounter
+
+-- The text tells of each pair, in their order.
+pub data AllTold (setting : Setting) : List Pair → List ℕ → Type 0 where
+  none : AllTold setting [] []
+  more : {pairs : List Pair} {text : List ℕ} (pair : Pair) (part : List ℕ) → AllTold setting pairs text → Tells setting pair part →
+      AllTold setting (pairs ++ pair ∷ []) (text ++ part)
+
+abbrev pub is_refusal : Entry → Bool
+is_refusal entry = is_some (refusal_told entry)
+
+-- how many entries are refusals
+abbrev pub refusals_among : List Entry → ℕ
+refusals_among entries = length (filter is_refusal entries)
+
+-- how many pairs are left out, behind the first twenty
+abbrev pub pairs_left_out : ℕ → List ℕ
+pairs_left_out count = if nat_lt 20 count then codes "and " ++ counted (count - 20) (codes "more pair") ++ codes " of lines\n" else []
+
+-- at how many pairs of lines, and among how many requests
+abbrev pub among : ℕ → ℕ → List ℕ
+among count requests = codes " at " ++ counted count (codes "pair") ++ codes " of lines, among " ++ counted requests (codes "request") ++ codes "\n"
+
+-- what is told at the end: how many refusals there were
+abbrev pub summary : List Entry → ℕ → List ℕ
+summary entries count = counted (refusals_among entries) (codes "refusal") ++ among count (length entries)
+
+-- The text tells of the entries of a run, the oldest first: of each of the first twenty pairs of lines that raced, how many more there are, and how
+-- many refusals there were.
+pub record IsExplanation (is_painted : Bool) (file : List ℕ) (source : List (List ℕ)) (program : Contents) (entries : List Entry) (text : List ℕ) : Type 0 where
+  pub pairs : List Pair
+  pub are_pairs : ArePairs entries pairs
+  pub told : List ℕ
+  pub all_told : AllTold (record { look = look_of is_painted source; file = file; source = source; program = program; entries = entries }) (take 20 pairs) told
+  pub text_is : text ≡ told ++ pairs_left_out (length pairs) ++ summary entries (length pairs)

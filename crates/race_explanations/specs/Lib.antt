@@ -1,0 +1,7 @@
+pub mod Settings
+pub mod Names
+pub mod Titles
+pub mod Paths
+pub mod Advice
+pub mod Messages
+pub mod Explained

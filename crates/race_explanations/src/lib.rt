@@ -1,0 +1,20 @@
+//! The races of a run explained for a person: what raced, both lines quoted from the program's text with the spawns and calls that led
+//! there, the spawn where the two part, and what would order them.
+//!
+//! [`explanation`] tells the entries of a run. Its contract says that its text tells each pair of lines that raced once, in the order
+//! of their first refusals, with what a witness of the refusal is and the spawn where its strand and the refused one part, as the crates
+//! `race_pairs` and `spawn_chains` define these; and the text is a function of these values, letter by letter, in `specs/`.
+#![tactic(auto)]
+
+mod advice;
+mod message;
+mod paths;
+mod scene;
+#[cfg(test)]
+mod tests;
+mod title;
+mod told;
+mod words;
+
+pub use scene::Scene;
+pub use told::explanation;

@@ -1,0 +1,21 @@
+//! Lines of a source text quoted for a person: a [`Source`] knows the lines of a text, and a quote shows one of them with its number, and
+//! below it a sign under the statement, as compilers show the place of an error.
+//!
+//! Each call says in its contract which text it adds, letter by letter: `specs/Quotes` is the form of a quote, `specs/Lines` the lines of a
+//! text as its reader counts them. [`fault_message`] shows why a text means nothing: the line as it stands in the text, the meaning of
+//! the cause, and what the first word of the line wants.
+#![tactic(auto)]
+
+mod fault;
+mod hint;
+mod look;
+mod source;
+#[cfg(test)]
+mod tests;
+
+pub use fault::fault_message;
+pub use look::{
+    Look, Paint, push_count, push_gutter, push_marked, push_noted, push_painted, push_place,
+    push_quote, push_sign, statement_of,
+};
+pub use source::Source;

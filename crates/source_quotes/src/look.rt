@@ -1,0 +1,275 @@
+//! How quotes look, and the parts that they are made of.
+
+ghost use Rattle.std.specs.Prelude.{◌≡◌, ◌≤◌, ◌++◌, OnOk, length, decimal, replicate, codes, take, drop};
+ghost use Rattle.source_quotes.specs.Lines.{line_in, blanks, end_from, statement_length};
+ghost use Rattle.source_quotes.specs.Quotes.{look_of, paint_code, before_paint, behind_paint, painted, numbered, gutter, quote, sign, marked, pointer, place, noted, counted};
+
+use crate::source::Source;
+use itoa::Buffer;
+use race_report::{push_number, push_words};
+use std::alloc::{AllocError, Allocator};
+
+/// What words are painted in, on a terminal.
+#[derive(Clone, Copy, Debug, PartialEq, Eq)]
+pub enum Paint {
+    /// What is wrong.
+    Red,
+    /// What stands at the left.
+    Blue,
+    /// What is to be read first.
+    Bold,
+}
+
+/// How quotes look.
+#[derive(Clone, Copy, Debug, PartialEq, Eq)]
+pub struct Look {
+    /// Whether words are painted, for a terminal.
+    pub is_painted: bool,
+    /// How wide the column of numbers is.
+    pub width: usize,
+}
+
+impl Look {
+    /// The look of quotes from a source.
+    pub fn of<A: Allocator>(is_painted: bool, source: &Source<'_, A>) -> Look
+        ensures { result ≡ look_of is_painted source.now }
+    {
+        Look {
+            is_painted,
+            width: Buffer::new().format(source.count()).len(),
+        }
+    }
+}
+
+/// What a terminal is told, behind an escape, before painted words.
+fn code_of(paint: Paint) -> &'static str
+    ensures { result.now ≡ paint_code paint }
+{
+    match paint {
+        Paint::Red => "[1;31m",
+        Paint::Blue => "[1;34m",
+        Paint::Bold => "[1m",
+    }
+}
+
+/// Adds what stands before painted words.
+fn push_before<A: Allocator>(
+    text: &mut Vec<u8, A>,
+    look: Look,
+    paint: Paint,
+) -> Result<(), AllocError>
+    ensures { OnOk result (text.new.items ≡ text.old.items ++ before_paint look.is_painted paint) }
+{
+    if !look.is_painted {
+        return Ok(());
+    }
+    text.push(27)?;
+    push_words(text, code_of(paint))
+}
+
+/// Adds what stands behind painted words.
+fn push_behind<A: Allocator>(text: &mut Vec<u8, A>, look: Look) -> Result<(), AllocError>
+    ensures { OnOk result (text.new.items ≡ text.old.items ++ behind_paint look.is_painted) }
+{
+    if !look.is_painted {
+        return Ok(());
+    }
+    text.push(27)?;
+    push_words(text, "[0m")
+}
+
+/// Adds words in a paint.
+pub fn push_painted<A: Allocator>(
+    text: &mut Vec<u8, A>,
+    look: Look,
+    paint: Paint,
+    words: &str,
+) -> Result<(), AllocError>
+    ensures { OnOk result (text.new.items ≡ text.old.items ++ painted look paint words.now) }
+{
+    push_before(text, look, paint)?;
+    push_words(text, words)?;
+    push_behind(text, look)
+}
+
+/// Adds a byte so many times.
+fn push_repeated<A: Allocator>(
+    text: &mut Vec<u8, A>,
+    count: usize,
+    byte: u8,
+) -> Result<(), AllocError>
+    ensures { OnOk result (text.new.items ≡ text.old.items ++ replicate count byte) }
+{
+    for _ in 0..count {
+        text.push(byte)?;
+    }
+    Ok(())
+}
+
+/// Adds the number of a line at the left.
+fn push_numbered<A: Allocator>(
+    text: &mut Vec<u8, A>,
+    look: Look,
+    number: u32,
+) -> Result<(), AllocError>
+    ensures { OnOk result (text.new.items ≡ text.old.items ++ numbered look number) }
+{
+    let mut buffer = Buffer::new();
+    let digits = buffer.format(number);
+    push_repeated(text, look.width.saturating_sub(digits.len()), b' ')?;
+    push_before(text, look, Paint::Blue)?;
+    push_words(text, digits)?;
+    push_words(text, " |")?;
+    push_behind(text, look)
+}
+
+/// Adds the left of what is no line of the source.
+pub fn push_gutter<A: Allocator>(text: &mut Vec<u8, A>, look: Look) -> Result<(), AllocError>
+    ensures { OnOk result (text.new.items ≡ text.old.items ++ gutter look) }
+{
+    push_repeated(text, look.width, b' ')?;
+    push_painted(text, look, Paint::Blue, " |")
+}
+
+/// Adds what stands before a note beside the source.
+pub fn push_noted<A: Allocator>(text: &mut Vec<u8, A>, look: Look) -> Result<(), AllocError>
+    ensures { OnOk result (text.new.items ≡ text.old.items ++ noted look) }
+{
+    push_repeated(text, look.width, b' ')?;
+    push_painted(text, look, Paint::Blue, " =")?;
+    push_words(text, " ")
+}
+
+/// Adds the line of the source with this number.
+pub fn push_quote<A: Allocator, B: Allocator>(
+    text: &mut Vec<u8, A>,
+    look: Look,
+    source: &Source<'_, B>,
+    number: u32,
+) -> Result<(), AllocError>
+    ensures { OnOk result (text.new.items ≡ text.old.items ++ quote look source.now number) }
+{
+    push_numbered(text, look, number)?;
+    push_words(text, " ")?;
+    text.extend_from_slice(source.line(number))?;
+    push_words(text, "\n")
+}
+
+/// How many blanks stand at the beginning of a line.
+fn blanks_of(line: &[u8]) -> usize
+    ensures count { result ≡ blanks line.now }
+    ensures within { result ≤ length line.now }
+{
+    for (at, byte) in line.iter().enumerate() {
+        if *byte != b' ' && *byte != b'\t' {
+            return at;
+        }
+    }
+    line.len()
+}
+
+/// Where a statement ends, without the blanks and the comment behind it.
+fn end_of(line: &[u8]) -> usize
+    ensures end { result ≡ end_from 0 0 line.now }
+    ensures within { result ≤ length line.now }
+{
+    let mut end = 0;
+    for (at, byte) in line.iter().enumerate() {
+        if *byte == b'#' {
+            return end;
+        }
+        if *byte != b' ' && *byte != b'\t' {
+            end = at + 1;
+        }
+    }
+    end
+}
+
+/// The statement on a line, without the blanks before it and what is behind it.
+pub fn statement_of(line: &[u8]) -> &[u8]
+    ensures { result.now ≡ take (statement_length line.now) (drop (blanks line.now) line.now) }
+{
+    let (_, behind) = line.split_at(blanks_of(line));
+    let (statement, _) = behind.split_at(end_of(behind));
+    statement
+}
+
+/// Adds, below a line, this sign under its statement. What the sign says may follow.
+pub fn push_sign<A: Allocator>(
+    text: &mut Vec<u8, A>,
+    look: Look,
+    line: &[u8],
+    mark: u8,
+) -> Result<(), AllocError>
+    ensures { OnOk result (text.new.items ≡ text.old.items ++ sign look line.now mark) }
+{
+    let (front, statement) = line.split_at(blanks_of(line));
+    push_gutter(text, look)?;
+    push_words(text, " ")?;
+    text.extend_from_slice(front)?;
+    push_before(text, look, Paint::Red)?;
+    push_repeated(text, end_of(statement), mark)?;
+    push_behind(text, look)
+}
+
+/// Adds the line of the source with this number, and this sign below its statement.
+pub fn push_marked<A: Allocator, B: Allocator>(
+    text: &mut Vec<u8, A>,
+    look: Look,
+    source: &Source<'_, B>,
+    number: u32,
+    mark: u8,
+) -> Result<(), AllocError>
+    ensures { OnOk result (text.new.items ≡ text.old.items ++ marked look source.now number mark) }
+{
+    push_quote(text, look, source, number)?;
+    push_sign(text, look, source.line(number), mark)
+}
+
+/// Adds how many there are, and of what, which is one word.
+pub fn push_count<A: Allocator>(
+    text: &mut Vec<u8, A>,
+    count: usize,
+    word: &str,
+) -> Result<(), AllocError>
+    ensures { OnOk result (text.new.items ≡ text.old.items ++ counted count word.now) }
+{
+    push_number(text, "", count as u64)?;
+    push_words(text, " ")?;
+    push_words(text, word)?;
+    if count == 1 {
+        return Ok(());
+    }
+    push_words(text, "s")
+}
+
+/// Adds the name of a file and a line of it.
+fn push_pointer<A: Allocator>(
+    text: &mut Vec<u8, A>,
+    look: Look,
+    file: &str,
+    number: u32,
+) -> Result<(), AllocError>
+    ensures { OnOk result (text.new.items ≡ text.old.items ++ pointer look file.now number) }
+{
+    push_repeated(text, look.width, b' ')?;
+    push_painted(text, look, Paint::Blue, "-->")?;
+    push_words(text, " ")?;
+    push_words(text, file)?;
+    push_number(text, ":", u64::from(number))
+}
+
+/// Adds where in a file it is: its name and a line, and an empty line at the left.
+pub fn push_place<A: Allocator>(
+    text: &mut Vec<u8, A>,
+    look: Look,
+    file: &str,
+    number: u32,
+) -> Result<(), AllocError>
+    ensures { OnOk result (text.new.items ≡ text.old.items ++ place look file.now number) }
+{
+    push_pointer(text, look, file, number)?;
+    push_words(text, "\n")?;
+    push_gutter(text, look)?;
+    push_words(text, "\n")
+}
