@@ -4,9 +4,11 @@ use Rattle.source_quotes.specs.Quotes.{noted, gutter}
 use Rattle.spawn_chains.specs.declared.lineage.Parting.{Parting}
 use Rattle.spawn_chains.specs.declared.lineage.OpenSpawn.{OpenSpawn}
 use Rattle.race_pairs.specs.Refusals.{line_at}
+use Rattle.race_pairs.specs.Encounters.{strand_at}
+use Rattle.race_pairs.specs.declared.refusal.Lines.{Lines}
 use Rattle.race_pairs.specs.declared.tally.Pair.{Pair}
 use Rattle.race_explanations.specs.Settings.{Setting}
-use Rattle.race_explanations.specs.Names.{function_at, strand_at}
+use Rattle.race_explanations.specs.Names.{function_at}
 use Rattle.race_explanations.specs.Paths.{marked_line}
 
 -- ---- words
@@ -57,9 +59,12 @@ abbrev pub between : Setting → List ℕ
 between setting = gutter setting.look ++ codes "\n"
 
 -- the line of the one of a pair's two entries which is on this strand: the refused one, or else its witness
+abbrev pub line_by : Lines → ℕ → Option ℕ → ℕ
+line_by lines strand (Some refused) = if refused == strand then lines.line else lines.witness_line
+line_by lines strand None = lines.witness_line
+
 abbrev pub line_on : Setting → Pair → ℕ → ℕ
-line_on setting pair strand =
-    if strand == strand_at setting.entries pair.first then pair.lines.line else pair.lines.witness_line
+line_on setting pair strand = line_by pair.lines strand (strand_at setting.entries pair.first)
 
 -- the line of a spawn and a sign below it
 abbrev pub spawn_line : Setting → ℕ → List ℕ

@@ -47,11 +47,3 @@ way_at entries number = way_of_entry (entry_at entries number)
 -- the statement on a line, without the blanks before it and what is behind it
 abbrev pub statement : List ℕ → List ℕ
 statement line = take (statement_length line) (drop (blanks line) line)
-
--- the strand of an entry
-abbrev pub strand_of_entry : Option Entry → ℕ
-strand_of_entry (Some entry) = entry.request.strand
-strand_of_entry None = 0
-
-abbrev pub strand_at : List Entry → ℕ → ℕ
-strand_at entries number = strand_of_entry (entry_at entries number)

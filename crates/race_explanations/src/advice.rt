@@ -5,8 +5,8 @@ ghost use Rattle.race_explanations.specs.Advice.{parts_words, rounds_words, outs
 
 use crate::paths::push_marked;
 use crate::scene::Scene;
-use crate::words::{function_at, push_told, strand_at};
-use race_pairs::{Pair, line_at};
+use crate::words::{function_at, push_told};
+use race_pairs::{Pair, line_at, strand_at};
 use race_report::push_words;
 use source_quotes::{push_gutter, push_noted};
 use spawn_chains::{OpenSpawn, Parting};
@@ -118,10 +118,9 @@ pub(crate) fn push_between<A: Allocator>(
 fn line_on<A: Allocator>(scene: &Scene<'_, '_, A>, pair: &Pair, strand: u32) -> u32
     ensures { result ≡ line_on scene.now pair.now strand }
 {
-    if strand == strand_at(scene.entries, pair.first) {
-        pair.lines.line
-    } else {
-        pair.lines.witness_line
+    match strand_at(scene.entries, pair.first) {
+        Some(refused) if refused == strand => pair.lines.line,
+        _ => pair.lines.witness_line,
     }
 }
 

@@ -2,7 +2,7 @@
 
 ghost use Rattle.std.specs.Prelude.{◌≡◌, ◌++◌, OnOk, decimal};
 ghost use Rattle.program_text.specs.Programs.{contents};
-ghost use Rattle.race_explanations.specs.Names.{function_at, word_at, way_at, strand_at, statement};
+ghost use Rattle.race_explanations.specs.Names.{function_at, word_at, way_at, statement};
 
 use access_table::word;
 use program_text::Program;
@@ -50,16 +50,6 @@ pub(crate) fn way_at(entries: &[Entry], number: usize) -> &'static str
             _ => "called",
         },
         None => "",
-    }
-}
-
-/// The strand of the entry with this number.
-pub(crate) fn strand_at(entries: &[Entry], number: usize) -> u32
-    ensures { result ≡ strand_at entries.now number }
-{
-    match entry_at(entries, number) {
-        Some(entry) => entry.request.strand,
-        None => 0,
     }
 }
 

@@ -42,8 +42,8 @@ fn chain_at<A: Allocator>(
     }
 }
 
-/// The strand of the entry with this number.
-fn strand_at(entries: &[Entry], number: usize) -> Option<u32>
+/// The strand of the entry with this number, from 1 on; none where there is no such entry.
+pub fn strand_at(entries: &[Entry], number: usize) -> Option<u32>
     ensures { result ≡ strand_at entries.now number }
 {
     let entry = entry_at(entries, number)?;

@@ -15,7 +15,7 @@ mod tally;
 #[cfg(test)]
 mod tests;
 
-pub use encounter::Encounter;
+pub use encounter::{Encounter, strand_at};
 pub use place_list::places;
 pub use refusal::{Lines, Reason, Refusal, entry_at, line_at, refusal_of};
 pub use tally::{Pair, pairs};

@@ -1,6 +1,6 @@
 //! Worked histories: which lines raced, and how the strands came about.
 
-use crate::{Encounter, Lines, Pair, Reason, line_at, pairs, places};
+use crate::{Encounter, Lines, Pair, Reason, line_at, pairs, places, strand_at};
 use Act::{Call, Get, Put, Read, Return, Spawn, Write};
 use access_table::Kind;
 use race_gate::{Entry, Gate};
@@ -212,5 +212,7 @@ fn lines(entries: &[Entry]) -> [u32; 4] {
 fn numbers(rt: HostRuntime) -> Result<(), Fail> {
     let gate = asked(&rt, rt.alloc(), &[(0, 3, Spawn), (2, 8, Write(0, 1))])?;
     assert_eq!(rt; lines(gate.history()), [0, 3, 8, 0]);
+    assert_eq!(rt; strand_at(gate.history(), 2), Some(2));
+    assert_eq!(rt; strand_at(gate.history(), 3), None);
     Ok(())
 }

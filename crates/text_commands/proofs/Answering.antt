@@ -1,45 +1,78 @@
--- Replies to the requests of a trace.
-use Rattle.std.proofs.Common.{◌≡◌, ℕ, suc, ◌+◌, ◌<◌, List, [], ◌∷◌, ◌++◌, length, take, drop, get_or, refl, ap, sym, subst, ◌∙◌, append_assoc, arith}
+-- The requests of a trace answered one after another.
+use Rattle.std.proofs.Common.{◌≡◌, ℕ, suc, ◌+◌, ◌<◌, ◌≤◌, List, [], ◌∷◌, ◌++◌, length, map, take, drop, get_or, refl, ap, sym, subst, ◌∙◌, arith}
 use Rattle.std.specs.List.{All}
-use Rattle.std.proofs.lemmas.List.{take_more, take-append-drop, length-take-le}
-use Rattle.std.proofs.lemmas.List.Elements.{All-more}
-use Rattle.std.proofs.Math.Seq.{take-length}
+use Rattle.std.proofs.lemmas.List.{take_all, length-map, length-take-le, map-append}
+use Rattle.std.proofs.lemmas.List.Elements.{All-nil, All-push}
+use Rattle.std.proofs.Math.Seq.{split_at}
 use Rattle.trace_values.specs.declared.value.Request.{Request}
+use Rattle.trace_values.specs.declared.value.TraceLine.{TraceLine}
+use Rattle.trace_values.specs.Values.{Contents}
 use Rattle.race_gate.specs.declared.answer.Receipt.{Receipt}
 use Rattle.race_gate.specs.declared.answer.Reply.{Reply}
-use Rattle.race_gate.specs.declared.answer.Reply.TheVariants.{Done, Illegal}
+use Rattle.race_gate.specs.declared.answer.Reply.TheVariants.{Done}
 use Rattle.race_gate.specs.declared.fault.GateFault.{GateFault}
-use Rattle.race_gate.specs.States.{State}
-use Rattle.race_gate.specs.Replies.{JudgesAll}
-use Rattle.text_commands.specs.Replays.{IsDone, IsFirstIllegal}
+use Rattle.race_gate.specs.Faults.{IsFirstFault}
+use Rattle.race_gate.specs.Judged.{IsJudged}
+use Rattle.race_gate.specs.Replies.{Judges}
+use Rattle.race_gate.specs.Shapes.{Shape, most_entries}
+use Rattle.race_gate.specs.States.{State, opening}
+use Rattle.race_gate.proofs.Lists.{JudgesAll-more}
+use Rattle.text_commands.specs.declared.fault.CliFault.{CliFault}
+use Rattle.text_commands.specs.Streams.{declared_shape, IsJudgedBy}
+use Rattle.text_commands.specs.Replays.{IsDone, AnswersAll, StopsGate, fault_of_request}
+use Rattle.text_commands.proofs.Meeting.{requests_more}
 
--- one reply to each request
-pub replies_counted : (old new : State) (requests : List Request) (replies : List Reply) → JudgesAll old requests replies new → length replies ≡ length requests
-replies_counted old new [] [] all = refl
-replies_counted old new [] (reply ∷ replies) wrong = absurd wrong
-replies_counted old new (request ∷ requests) [] wrong = absurd wrong
-replies_counted old new (request ∷ requests) (reply ∷ replies) all = ap suc (replies_counted all.0 new requests replies all.2)
+-- a gate without entries has answered no request
+pub none_answered : (shape : Shape) (gate : State) → gate ≡ opening shape most_entries → IsJudged gate.shape gate.history →
+    (replies : List Reply) × IsJudgedBy shape most_entries [] replies gate × All IsDone replies
+none_answered shape gate opens judged = ([], record { judges = opens; judged = judged }, All-nil IsDone)
 
-pub all_done : (replies : List Reply) (index : ℕ) → index ≡ length replies → All IsDone (take index replies) → All IsDone replies
-all_done replies index end done = subst (λ (l : List Reply). All IsDone l) (ap (λ n. take n replies) end ∙ take-length replies) done
+module _ (lines : List TraceLine) (index : ℕ) (other : TraceLine) (below : index < length lines) where
+  -- one more was answered
+  pub answered_more : (shape : Shape) (old new : State) (receipt : Receipt) → Judges old (get_or lines index other).request (Done receipt) new → IsJudged new.shape new.history →
+      ((replies : List Reply) × IsJudgedBy shape most_entries (map (λ line. line.request) (take index lines)) replies old × All IsDone replies) →
+      (replies : List Reply) × IsJudgedBy shape most_entries (map (λ line. line.request) (take (index + 1) lines)) replies new × All IsDone replies
+  answered_more shape old new receipt judges judged before = (
+    before.0 ++ Done receipt ∷ [],
+    record {
+      judges = JudgesAll-more _ _ _ _ _ _ _ _ _ (requests_more lines index other below) refl before.1.judges judges;
+      judged = judged;
+    },
+    All-push IsDone before.0 (Done receipt) before.2 tt,
+  )
 
-module _ (replies : List Reply) (index : ℕ) (other : Reply) (below : index < length replies) (done : All IsDone (take index replies)) where
-  -- one more answer
-  pub done_more : (receipt : Receipt) → get_or replies index other ≡ Done receipt → All IsDone (take (index + 1) replies)
-  done_more receipt is = All-more IsDone replies index other below done (subst IsDone (sym is) tt)
+  parted : map (λ line. line.request) lines ≡ map (λ line. line.request) (take index lines) ++ (get_or lines index other).request ∷ map (λ line. line.request) (drop (suc index) lines)
+  parted =
+      ap (map (λ line. line.request)) (split_at lines index other below) ∙
+      map-append (λ (line : TraceLine). line.request) (take index lines) (get_or lines index other ∷ drop (suc index) lines)
 
-  parted : (reply : Reply) → get_or replies index other ≡ reply → replies ≡ take index replies ++ reply ∷ drop (index + 1) replies
-  parted reply is =
-      sym (take-append-drop (index + 1) replies) ∙ ap (λ l. l ++ drop (index + 1) replies) (take_more replies index other below) ∙
-      append_assoc (take index replies) (get_or replies index other ∷ []) (drop (index + 1) replies) ∙
-      ap (λ r. take index replies ++ r ∷ drop (index + 1) replies) is
-
-  -- the first that is none
-  pub first_illegal : (fault : GateFault) (number : ℕ) → get_or replies index other ≡ Illegal fault → number ≡ index + 1 → IsFirstIllegal replies number fault
-  first_illegal fault number is place = record {
-    earlier = take index replies;
-    later = drop (index + 1) replies;
-    all = parted (Illegal fault) is;
-    done = done;
-    place = let count = length-take-le index replies (omega arith) in omega arith;
+  -- the first that is not answered stops the gate
+  pub answers_end : (trace : Contents) (shape : Shape) (gate : State) (number : ℕ) (cause : GateFault) (fault : CliFault) → trace.lines ≡ lines → shape ≡ declared_shape trace →
+      ((replies : List Reply) × IsJudgedBy shape most_entries (map (λ line. line.request) (take index lines)) replies gate × All IsDone replies) →
+      IsFirstFault gate (get_or lines index other).request cause → number ≡ index + 1 → fault ≡ fault_of_request number cause → StopsGate trace fault
+  answers_end trace shape gate number cause fault same declared before first place named = record {
+    earlier = map (λ line. line.request) (take index lines);
+    request = (get_or lines index other).request;
+    later = map (λ line. line.request) (drop (suc index) lines);
+    asked = ap (map (λ line. line.request)) same ∙ parted;
+    replies = before.0;
+    gate = gate;
+    judges = subst (λ (those : Shape). IsJudgedBy those most_entries (map (λ line. line.request) (take index lines)) before.0 gate) declared before.1;
+    done = before.2;
+    cause = cause;
+    first = first;
+    named =
+        let count : length (map (λ (line : TraceLine). line.request) (take index lines)) ≡ index = length-map (take index lines) (λ line. line.request) ∙ length-take-le index lines (omega (arith, below)) in
+        named ∙ ap (λ n. fault_of_request n cause) (place ∙ (omega (arith, count)));
   }
+
+-- all were answered
+pub answers_all : (trace : Contents) (lines : List TraceLine) (index : ℕ) (shape : Shape) (gate : State) → trace.lines ≡ lines → shape ≡ declared_shape trace → length lines ≤ index →
+    ((replies : List Reply) × IsJudgedBy shape most_entries (map (λ line. line.request) (take index lines)) replies gate × All IsDone replies) → AnswersAll trace gate
+answers_all trace lines index shape gate same declared end before = record {
+  replies = before.0;
+  judges = subst (λ (those : List Request). IsJudgedBy (declared_shape trace) most_entries those before.0 gate)
+      (ap (map (λ line. line.request)) (take_all index lines end ∙ sym same))
+      (subst (λ (those : Shape). IsJudgedBy those most_entries (map (λ line. line.request) (take index lines)) before.0 gate) declared before.1);
+  done = before.2;
+}

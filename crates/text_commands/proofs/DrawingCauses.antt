@@ -1,43 +1,15 @@
 -- What each step of drawing a trace says of the whole.
-use Rattle.std.proofs.Common.{◌≡◌, ◌⊎◌, ◌∙◌, ℕ, List, Option, inl, inr, reverse, ap, sym, subst}
+use Rattle.std.proofs.Common.{◌≡◌, ◌∙◌, ℕ, List, Option, ap}
 use Rattle.trace_values.specs.declared.value.Mem.{Mem}
 use Rattle.trace_values.specs.declared.value.Reducer.{Reducer}
 use Rattle.trace_values.specs.Values.{Contents}
-use Rattle.race_gate.specs.declared.answer.Entry.{Entry}
-use Rattle.race_gate.specs.declared.fault.GateFault.{GateFault}
-use Rattle.race_gate.specs.declared.fault.GateFault.TheVariants.{Limit as GateLimit, Memory as GateMemory}
-use Rattle.race_gate.specs.Entries.{Entries, control_part}
-use Rattle.race_gate.specs.States.{State}
 use Rattle.dag_drawing.specs.declared.drawing.Drawing.{Drawing}
-use Rattle.dag_drawing.specs.Drawn.{HasMoreStrands}
 use Rattle.dag_drawing.specs.Texts.{drawing_text}
 use Rattle.text_commands.specs.declared.fault.CliFault.{CliFault}
 use Rattle.text_commands.specs.declared.fault.CliFault.TheVariants.{Write, Illegal, Limit, TooManyStrands, Memory}
 use Rattle.text_commands.specs.Streams.{StopsWriting}
-use Rattle.text_commands.specs.Replays.{Reading, AnswersAll, StopsGate, fault_of_request}
-use Rattle.text_commands.specs.Drawings.{most_strands, DrawsContents, StopsEntries, StopsDrawing, IsTraceRead, HasDrawingCause}
-
-request_stops : (trace : Contents) (number : ℕ) (cause : GateFault) → StopsGate trace (fault_of_request number cause) → StopsDrawing trace (fault_of_request number cause)
-request_stops trace number GateLimit stops = stops
-request_stops trace number GateMemory stops = tt
-request_stops trace number cause stops = stops
-
--- not all requests were answered
-pub gate_stops : (trace : Contents) (fault : CliFault) → (fault ≡ Memory) ⊎ StopsGate trace fault → StopsDrawing trace fault
-gate_stops trace fault (inl is) = subst (StopsDrawing trace) (sym is) tt
-gate_stops trace fault (inr stops) =
-    subst (StopsDrawing trace) (sym stops.stops.named) (request_stops trace stops.stops.number stops.stops.cause (subst (StopsGate trace) stops.stops.named stops))
-
--- all were, and the entries are not drawn
-pub entries_stop : (trace : Contents) (gate : State) (entries : List Entry) (fault : CliFault) → AnswersAll trace gate → reverse entries ≡ gate.history → StopsEntries entries fault →
-    StopsDrawing trace fault
-entries_stop trace gate entries TooManyStrands answers history stops = record {
-  gate = gate;
-  answers = answers;
-  more = subst (λ (those : Entries). HasMoreStrands most_strands (control_part those)) history stops;
-}
-entries_stop trace gate entries Memory answers history stops = tt
-entries_stop trace gate entries fault answers history stops = absurd stops
+use Rattle.text_commands.specs.Replays.{Reading}
+use Rattle.text_commands.specs.Drawings.{DrawsContents, StopsDrawing, IsTraceRead, HasDrawingCause}
 
 -- the text is by the names of the trace
 pub text_named : (trace : Contents) (mems : List Mem) (reducers : List Reducer) (drawing : Drawing) (text : List ℕ) → mems ≡ trace.known.mems → reducers ≡ trace.known.reducers →

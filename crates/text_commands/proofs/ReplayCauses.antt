@@ -1,5 +1,5 @@
 -- What each step of replaying a trace says of the whole.
-use Rattle.std.proofs.Common.{◌≡◌, ◌⊎◌, ℕ, List, Option, inl, inr, sym, subst}
+use Rattle.std.proofs.Common.{◌≡◌, ◌⊎◌, ℕ, suc, List, Option, length, inl, inr, sym, subst}
 use Rattle.trace_values.specs.Values.{Contents as TraceContents}
 use Rattle.program_text.specs.Drafts.{Contents}
 use Rattle.race_gate.specs.declared.fault.GateFault.{GateFault}
@@ -24,8 +24,8 @@ pub gate_cause : (program : Contents) (trace : TraceContents) (fault : CliFault)
     (fault ≡ Memory) ⊎ StopsGate trace fault → StopsReplay program trace fault
 gate_cause program trace fault same (inl is) = subst (StopsReplay program trace) (sym is) tt
 gate_cause program trace fault same (inr stops) =
-    subst (StopsReplay program trace) (sym stops.stops.named)
-    (request_cause program trace stops.stops.number stops.stops.cause same (subst (StopsGate trace) stops.stops.named stops))
+    subst (StopsReplay program trace) (sym stops.named)
+    (request_cause program trace (suc (length stops.earlier)) stops.cause same (subst (StopsGate trace) stops.named stops))
 
 -- both texts were read, and there is no replay
 pub replay_stops : (program trace : Reading) (wrote writes : Option (List ℕ)) (contents : Contents) (trace_contents : TraceContents) (fault : CliFault) →

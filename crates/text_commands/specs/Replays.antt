@@ -4,6 +4,7 @@ use Rattle.std.specs.List.{All}
 use Rattle.std.specs.Io.KnownBytes.{Appends}
 use Rattle.trace_text.specs.Grammar.{TextMeans as TraceMeans}
 use Rattle.trace_values.specs.Declarations.{cells_of}
+use Rattle.trace_values.specs.declared.value.Request.{Request}
 use Rattle.trace_values.specs.Values.{Contents as TraceContents}
 use Rattle.program_text.specs.Drafts.{Contents}
 use Rattle.program_text.specs.Grammar.{TextMeans}
@@ -12,6 +13,7 @@ use Rattle.race_gate.specs.declared.answer.Reply.{Reply}
 use Rattle.race_gate.specs.declared.answer.Reply.TheVariants.{Done, Illegal as IllegalReply}
 use Rattle.race_gate.specs.declared.fault.GateFault.{GateFault}
 use Rattle.race_gate.specs.declared.fault.GateFault.TheVariants.{Limit as GateLimit, Memory as GateMemory}
+use Rattle.race_gate.specs.Faults.{IsFirstFault}
 use Rattle.race_gate.specs.Shapes.{Shape, most_entries}
 use Rattle.race_gate.specs.States.{State}
 use Rattle.text_commands.specs.declared.fault.CliFault.{CliFault}
@@ -20,7 +22,7 @@ use Rattle.text_commands.specs.declared.outcome.Outcome.{Outcome}
 use Rattle.text_commands.specs.Declarations.{DeclareSame}
 use Rattle.text_commands.specs.Elided.{IsFaultyProgram, monoids_of}
 use Rattle.text_commands.specs.Outcomes.{IsSo, line_of, status_of}
-use Rattle.text_commands.specs.Streams.{IsFaulty, IsRead, JudgesTrace, StopsReading}
+use Rattle.text_commands.specs.Streams.{declared_shape, requests_of, IsJudgedBy, JudgesTrace, IsFaulty, IsRead, StopsReading}
 
 -- ---- the gate that judges the requests of a trace
 
@@ -34,33 +36,25 @@ pub record AnswersAll (trace : TraceContents) (gate : State) : Type 0 where
   pub judges : JudgesTrace trace most_entries replies gate
   pub done : All IsDone replies
 
--- The reply of this number, the first having 1, is the first illegal one, and this is its fault.
-pub record IsFirstIllegal (replies : List Reply) (number : ℕ) (fault : GateFault) : Type 0 where
-  pub earlier : List Reply
-  pub later : List Reply
-  pub all : replies ≡ earlier ++ IllegalReply fault ∷ later
-  pub done : All IsDone earlier
-  pub place : number ≡ suc (length earlier)
-
 -- the fault of a command for an illegal request of this number
 abbrev pub fault_of_request : ℕ → GateFault → CliFault
 fault_of_request number GateLimit = Limit
 fault_of_request number GateMemory = Memory
 fault_of_request number fault = Illegal number
 
--- The first illegal reply has this fault.
-pub record StopsReplies (replies : List Reply) (fault : CliFault) : Type 0 where
-  pub number : ℕ
-  pub cause : GateFault
-  pub first : IsFirstIllegal replies number cause
-  pub named : fault ≡ fault_of_request number cause
-
--- Not all requests were answered.
+-- All requests before this one were answered, and it is not, by its first fault; the first request has the number 1.
 pub record StopsGate (trace : TraceContents) (fault : CliFault) : Type 0 where
+  pub earlier : List Request
+  pub request : Request
+  pub later : List Request
+  pub asked : requests_of trace ≡ earlier ++ request ∷ later
   pub replies : List Reply
   pub gate : State
-  pub judges : JudgesTrace trace most_entries replies gate
-  pub stops : StopsReplies replies fault
+  pub judges : IsJudgedBy (declared_shape trace) most_entries earlier replies gate
+  pub done : All IsDone replies
+  pub cause : GateFault
+  pub first : IsFirstFault gate request cause
+  pub named : fault ≡ fault_of_request (suc (length earlier)) cause
 
 -- ---- the replay of a trace
 

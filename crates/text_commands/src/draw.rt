@@ -10,27 +10,15 @@ ghost use Rattle.text_commands.specs.Replays.{reading, AnswersAll, StopsGate};
 ghost use Rattle.text_commands.specs.Drawings.{StopsEntries, DrawsContents, StopsDrawing, IsDrawn, HasDrawingCause};
 
 use crate::fault::CliFault;
-use crate::judge::{asked, reply_to_all};
 use crate::outcome::refusal_status;
-use crate::replay::{MOST_ENTRIES, check_replies};
+use crate::replay::answered;
 use crate::streams::{parse_trace, read_text, write_text};
 use crate::watched::Watched;
 use dag_drawing::{Drawing, draw, text_of};
-use race_gate::{Entry, Gate};
+use race_gate::Entry;
 use std::alloc::Global;
 use std::io::{Read, Write};
 use trace_text::Trace;
-
-/// A gate that has answered all requests of a trace.
-fn answered(alloc: Global, trace: &Trace<Global>) -> Result<Gate<Global>, CliFault>
-    ensures ok { IfOk result (AnswersAll (contents trace.now)) }
-    ensures fault { IfErr result (λ fault. (fault ≡ CliFault.Memory) ⊎ StopsGate (contents trace.now) fault) }
-{
-    let (shape, requests) = asked(alloc, trace)?;
-    let (gate, replies) = reply_to_all(alloc, &shape, requests.as_slice(), MOST_ENTRIES)?;
-    check_replies(replies.as_slice())?;
-    Ok(gate)
-}
 
 /// The drawing of entries, given from the oldest on.
 fn drawing_of(alloc: Global, entries: &[Entry]) -> Result<Drawing, CliFault>

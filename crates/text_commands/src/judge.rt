@@ -26,65 +26,6 @@ use std::io::{Read, Write};
 use trace_text::Trace;
 use trace_values::{Request, Shape};
 
-/// The requests of a trace, for which room is taken at once.
-fn requests<A: Allocator + Copy>(alloc: A, trace: &Trace<A>) -> Result<Vec<Request, A>, AllocError>
-    ensures { IfOk result (λ requests. requests.items ≡ map (λ line. line.request) trace.now.lines) }
-{
-    let lines = trace.lines.as_slice();
-    let mut requests = Vec::with_capacity(alloc, lines.len())?;
-    for line in lines {
-        requests.push_reserved(line.request);
-    }
-    Ok(requests)
-}
-
-/// What a trace declares, and its requests.
-pub fn asked<A: Allocator + Copy>(
-    alloc: A,
-    trace: &Trace<A>,
-) -> Result<(Shape<A>, Vec<Request, A>), AllocError>
-    ensures shape { IfOk result (λ asked. shape_of asked.0 ≡ declared_shape (contents trace.now)) }
-    ensures requests { IfOk result (λ asked. asked.1.items ≡ requests_of (contents trace.now)) }
-    ensures cells { IfOk result (λ asked. asked.0.cells ≤ most_cells) }
-    ensures reducers { IfOk result (λ asked. length asked.0.monoids ≤ most_reducers) }
-{
-    let shape = trace.shape(alloc)?;
-    Ok((shape, requests(alloc, trace)?))
-}
-
-/// A fresh gate that has judged these requests, and its replies.
-pub fn reply_to_all<A: Allocator + Copy>(
-    alloc: A,
-    shape: &Shape<A>,
-    requests: &[Request],
-    limit: u32,
-) -> Result<(Gate<A>, Vec<Reply, A>), AllocError>
-    requires limit { limit ≤ most_entries }
-    requires cells { shape.now.cells ≤ most_cells }
-    requires reducers { length shape.now.monoids ≤ most_reducers }
-    ensures judges { IfOk result (λ pair. IsJudgedBy (shape_of shape.now) limit requests.now pair.1.items pair.0) }
-{
-    let mut gate = Gate::new(alloc, shape, limit)?;
-    let replies = judge_all(&mut gate, alloc, requests)?;
-    Ok((gate, replies))
-}
-
-/// A gate that has judged the requests of a trace, which is let go, and its replies.
-pub fn judged<A: Allocator + Copy>(
-    alloc: A,
-    trace: Trace<A>,
-    limit: u32,
-) -> Result<(Gate<A>, Vec<Reply, A>), AllocError>
-    requires limit { limit ≤ most_entries }
-    ensures judges { IfOk result (λ pair. JudgesTrace (contents trace) limit pair.1.items pair.0) }
-    ensures count { IfOk result (λ pair. length pair.1.items ≤ max_requests) }
-{
-    let asked = asked(alloc, &trace);
-    drop(trace);
-    let (shape, requests) = asked?;
-    reply_to_all(alloc, &shape, requests.as_slice(), limit)
-}
-
 /// What is told of the replies to requests: their verdict lines, and what the exit status wants to know of them.
 #[derive(Drop)]
 struct Verdicts<A: Allocator> {

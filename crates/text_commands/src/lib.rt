@@ -12,16 +12,16 @@
 //! spawn is a call, and which makes no more requests than the limit. At the fault Limit an evaluation, if there is one, makes more. Of
 //! the other faults the same holds as of a trace. [`run_text`] carries that of `run`: at a status the bytes that were read mean a program,
 //! and what was written is the report of some finished run of it within the limit, which is its serial elision and speaks for every
-//! schedule where nothing was refused; [`laws::clean_report_law`] draws from this alone what status 0 means. [`run_traced_text`] carries that
-//! of `run --trace`: the report and the text of the trace that were written are those of one and the same run. [`replay_text`] carries that
-//! of `replay`: at a status the bytes that were read mean a program and a trace which declare the same, a gate answered each request of the
-//! trace, and what was written tells of the gate's entries that they are a finished run, a run that is not finished, or which of them is
-//! the first strange one. [`explain_text`] carries that of `explain`: at status 0, 1 or 4 the bytes that were read mean a program, and what
-//! was written tells a person of a run of it, which is finished and clean, finished with races, or cut by the limit; at 2 they mean none,
-//! and the first fault is told. [`draw_text`] carries that of `draw`: at a status the bytes that were read mean a trace, a gate answered each
-//! request of it, and what was written is the drawing of that gate's history: its nodes are the strands that have begun, its black edges
-//! those of the dag, its red ones the refusals with their witnesses. [`read_words`] gives a job with its numbers in their ranges; which
-//! words give which job is shown by tests.
+//! schedule where nothing was refused; [`laws::clean_report_law`] draws from this alone what status 0 means. [`run_traced_text`] carries
+//! that of `run --trace`: the report and the text of the trace that were written are those of one and the same run. [`replay_text`]
+//! carries that of `replay`: at a status the bytes that were read mean a program and a trace which declare the same, a gate answered each
+//! request of the trace, and what was written tells of the gate's entries that they are a finished run, a run that is not finished, or
+//! which of them is the first strange one. [`explain_text`] carries that of `explain`: at status 0, 1 or 4 the bytes that were read mean
+//! a program, and what was written tells a person of a run of it, which is finished and clean, finished with races, or cut by the limit;
+//! at 2 they mean none, and the first fault is told. [`draw_text`] carries that of `draw`: at a status the bytes that were read mean a
+//! trace, a gate answered each request of it, and what was written is the drawing of that gate's history: its nodes are the strands that
+//! have begun, its black edges those of the dag, its red ones the refusals with their witnesses. [`read_words`] gives a job with its
+//! numbers in their ranges; which words give which job is shown by tests.
 #![tactic(auto)]
 
 mod declarations;

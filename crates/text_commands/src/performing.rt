@@ -297,7 +297,8 @@ fn show<W: Write>(text: &String, output: &mut Watched<W>) -> Result<u8, CliFault
     Ok(0)
 }
 
-/// Does a job that starts no thread, and waits for none: all but [`Job::Run`], [`Job::Record`] and [`Job::Explain`]. It is [`perform`] for these.
+/// Does a job that starts no thread, and waits for none: all but [`Job::Run`], [`Job::Record`] and [`Job::Explain`]. It is [`perform`] for
+/// these.
 pub fn perform_alone<H: Host, W: Write>(
     alloc: Global,
     host: &mut Watched<H>,
@@ -333,9 +334,9 @@ pub fn perform_alone<H: Host, W: Write>(
 
 /// Does a job, and answers its exit status, which is 0 to 4: what [`judge_stream`], [`elide_text`], [`run_text`],
 /// [`explain_text`], [`replay_text`] or [`draw_text`] does with standard input or the files of its names, or writes the text that is to be
-/// shown. What is written is delivered then. All files of a job that are read are opened before one is read. A run that is recorded is done as
-/// [`run_traced_text`](crate::run_traced_text) does it; the file of its trace is created once the run is done, and has the trace before the
-/// report is written.
+/// shown. What is written is delivered then. All files of a job that are read are opened before one is read. A run that is recorded is done
+/// as [`run_traced_text`](crate::run_traced_text) does it; the file of its trace is created once the run is done, and has the trace before
+/// the report is written.
 ///
 /// It answers [`CliFault::Read`] exactly where the host has failed, by a file that can't be opened or a reader that fails, and
 /// [`CliFault::Write`] exactly where the writer has; [`CliFault::Unwritten`] where the file of a trace can't be created or written, and

@@ -1,22 +1,19 @@
 //! Replaying the trace that a reader gives as a run of a program.
 
-ghost use Rattle.std.specs.Prelude.{◌≡◌, ◌↔◌, ◌≤◌, ◌≢◌, ◌+◌, ◌||◌, ◌⊎◌, true, false, length, IfOk, IfErr, OnOk, IsErrOf, IsTrue, MatchResult};
-ghost use Rattle.std.specs.List.{All};
-ghost use Rattle.trace_values.specs.Limits.{max_requests};
+ghost use Rattle.std.specs.Prelude.{◌≡◌, ◌↔◌, ◌≢◌, ◌||◌, ◌⊎◌, true, false, IfOk, IfErr, OnOk, IsErrOf, IsTrue};
 ghost use Rattle.trace_text.specs.Traces.{contents as trace_contents};
 ghost use Rattle.program_text.specs.Programs.{contents};
 ghost use Rattle.text_commands.specs.Watched.{held, has_failed, is_delivered, calls_of, IsCalledAtMost};
 ghost use Rattle.text_commands.specs.Streams.{most_reads};
-ghost use Rattle.text_commands.specs.Replays.{IsDone, fault_of_request as request_fault_spec, StopsReplies, AnswersAll, StopsGate, ReplaysContents, StopsReplay, reading, IsReplayed, HasReplayCause};
+ghost use Rattle.text_commands.specs.Replays.{fault_of_request as request_fault_spec, AnswersAll, StopsGate, ReplaysContents, StopsReplay, reading, IsReplayed, HasReplayCause};
 
 use crate::declarations::declare_same;
 use crate::fault::CliFault;
-use crate::judge::judged;
 use crate::outcome::{outcome_line, outcome_of, outcome_status};
 use crate::streams::{parse_program, parse_trace, read_text, write_text};
 use crate::watched::Watched;
 use program_text::Program;
-use race_gate::{Gate, GateFault, Reply};
+use race_gate::{Gate, GateFault};
 use std::alloc::Allocator;
 use std::io::{Read, Write};
 use trace_text::Trace;
@@ -35,29 +32,21 @@ fn fault_of_request(number: u32, fault: GateFault) -> CliFault
     }
 }
 
-/// Sees to it that each reply is an answer. The first that is none decides which fault it is.
-pub fn check_replies(replies: &[Reply]) -> Result<(), CliFault>
-    requires { length replies.now ≤ max_requests }
-    ensures { MatchResult result (λ _. All IsDone replies.now) (StopsReplies replies.now) }
+/// A gate that has answered all requests of a trace. The first that it does not answer decides which fault it is.
+pub fn answered<A: Allocator + Copy>(alloc: A, trace: &Trace<A>) -> Result<Gate<A>, CliFault>
+    ensures ok { IfOk result (AnswersAll (trace_contents trace.now)) }
+    ensures fault { IfErr result (λ fault. (fault ≡ CliFault.Memory) ⊎ StopsGate (trace_contents trace.now) fault) }
 {
+    let shape = trace.shape(alloc)?;
+    let mut gate = Gate::new(alloc, &shape, MOST_ENTRIES)?;
     let mut number = 0;
-    for reply in replies {
+    for line in trace.lines.as_slice() {
         number += 1;
-        match reply {
-            Reply::Done(_) => {}
-            Reply::Illegal(fault) => return Err(fault_of_request(number, *fault)),
+        match gate.judge(line.request) {
+            Ok(_) => {}
+            Err(fault) => return Err(fault_of_request(number, fault)),
         }
     }
-    Ok(())
-}
-
-/// A gate that has answered all requests of a trace.
-fn answered<A: Allocator + Copy>(alloc: A, trace: Trace<A>) -> Result<Gate<A>, CliFault>
-    ensures ok { IfOk result (AnswersAll (trace_contents trace)) }
-    ensures fault { IfErr result (λ fault. (fault ≡ CliFault.Memory) ⊎ StopsGate (trace_contents trace) fault) }
-{
-    let (gate, replies) = judged(alloc, trace, MOST_ENTRIES)?;
-    check_replies(replies.as_slice())?;
     Ok(gate)
 }
 
@@ -73,7 +62,8 @@ fn replayed<A: Allocator + Copy>(
     if !declare_same(&program, &trace) {
         return Err(CliFault::Shape);
     }
-    let gate = answered(alloc, trace)?;
+    let gate = answered(alloc, &trace)?;
+    drop(trace);
     let entries = gate.history();
     let outcome = outcome_of(alloc, &program, entries)?;
     let line = outcome_line(alloc, outcome)?;

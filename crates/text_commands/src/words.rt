@@ -337,6 +337,19 @@ fn elide_job(alloc: Global, matches: &ArgMatches<'_>) -> Result<Job, CliFault>
     Ok(Job::Elide { file, limit })
 }
 
+/// The file that the trace of a run is written into, where one is named. It is none that holds the program, which would be lost.
+fn out_of(alloc: Global, matches: &ArgMatches<'_>, file: &str) -> Result<Option<String>, CliFault>
+    ensures fault { IfErr result IsUsageFault }
+{
+    match matches.get_str("trace") {
+        Some(name) if name == file => Err(usage(
+            alloc,
+            "the trace would be written over the program: name another file with '--trace <OUT>'",
+        )),
+        _ => given_file(alloc, matches, "trace"),
+    }
+}
+
 fn run_job(alloc: Global, matches: &ArgMatches<'_>) -> Result<Job, CliFault>
     ensures job { IfOk result IsInRange }
     ensures fault { IfErr result IsUsageFault }
@@ -344,7 +357,7 @@ fn run_job(alloc: Global, matches: &ArgMatches<'_>) -> Result<Job, CliFault>
     let file = file_of(alloc, matches, "file")?;
     let workers = workers_of(alloc, matches)?;
     let limit = limit_of(alloc, matches)?;
-    match given_file(alloc, matches, "trace")? {
+    match out_of(alloc, matches, file.as_str())? {
         None => Ok(Job::Run {
             file,
             workers,

@@ -1,0 +1,101 @@
+//! Readers and writers that fail, or never end.
+
+use std::io::{Error, ErrorKind, Read, Result, Write};
+
+/// Gives a byte at each read, and answers an error at the read behind `left` more.
+#[derive(Drop)]
+pub struct Breaking<'a> {
+    /// What it gives.
+    pub text: &'a [u8],
+    /// How many reads give something.
+    pub left: u32,
+}
+
+impl Read for Breaking<'_> {
+    fn read(&mut self, buf: &mut [u8]) -> Result<usize> {
+        if self.left == 0 {
+            return Err(Error::from(ErrorKind::Other));
+        }
+        self.left -= 1;
+        let (Some((byte, rest)), Some(place)) = (self.text.split_first(), buf.first_mut()) else {
+            return Ok(0);
+        };
+        *place = *byte;
+        self.text = rest;
+        Ok(1)
+    }
+}
+
+/// Answers at the first read that it was interrupted, and then gives its text.
+#[derive(Drop)]
+pub struct Interrupted<'a> {
+    /// What it gives.
+    pub text: &'a [u8],
+    /// Whether it was interrupted.
+    pub was_asked: bool,
+}
+
+impl Read for Interrupted<'_> {
+    fn read(&mut self, buf: &mut [u8]) -> Result<usize> {
+        if self.was_asked {
+            return self.text.read(buf);
+        }
+        self.was_asked = true;
+        Err(Error::from(ErrorKind::Interrupted))
+    }
+}
+
+/// Takes a byte at each write. Behind `left` more it takes none, or answers an error.
+#[derive(Drop)]
+pub struct Filling {
+    /// What it has taken.
+    pub held: Vec<u8>,
+    /// How many writes it takes.
+    pub left: u32,
+    /// Whether it answers an error behind them.
+    pub answers_an_error: bool,
+}
+
+impl Write for Filling {
+    fn write(&mut self, buf: &[u8]) -> Result<usize> {
+        if self.left == 0 {
+            return if self.answers_an_error {
+                Err(Error::from(ErrorKind::Other))
+            } else {
+                Ok(0)
+            };
+        }
+        self.left -= 1;
+        match buf.first() {
+            Some(byte) => {
+                self.held.push(*byte)?;
+                Ok(1)
+            }
+            None => Ok(0),
+        }
+    }
+
+    fn flush(&mut self) -> Result<()> {
+        if self.left == 0 {
+            return Err(Error::from(ErrorKind::Other));
+        }
+        self.left -= 1;
+        Ok(())
+    }
+}
+
+/// Gives one space at each read, and never ends.
+#[derive(Drop)]
+pub struct Spaces;
+
+impl Read for Spaces {
+    fn read(&mut self, buf: &mut [u8]) -> Result<usize> {
+        match buf.first_mut() {
+            Some(place) => {
+                *place = b' ';
+                Ok(1)
+            }
+            None => Ok(0),
+        }
+    }
+}

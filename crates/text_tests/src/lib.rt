@@ -1,0 +1,19 @@
+//! The tests of the table of accesses and of the texts of traces and programs, and nothing else.
+//!
+//! They make public calls alone, so they stand above the crates that they test: each layer is proved once, and not a second time with its
+//! tests, and the tests of a layer are proved as soon as it is.
+#![tactic(auto)]
+
+#[cfg(test)]
+mod checks;
+#[cfg(test)]
+mod kinds;
+#[cfg(test)]
+mod lines;
+#[cfg(test)]
+mod printing;
+#[cfg(test)]
+mod programs;
+pub mod registers;
+#[cfg(test)]
+mod texts;
