@@ -121,6 +121,22 @@ impl<A: Allocator + Clone> Core<A> {
         self.memory.as_slice()
     }
 
+    /// What the cells hold, as [`Core::memory`], taken out of the core.
+    pub(crate) fn into_memory(self) -> Vec<u64, A>
+        ensures { result.items ≡ self.memory }
+    {
+        let Core {
+            shape: _,
+            limit: _,
+            stopped: _,
+            entries: _,
+            finished: _,
+            memory,
+            tracks: _,
+        } = self;
+        memory
+    }
+
     /// Whether the root function has returned.
     pub fn is_finished(&self) -> bool
         ensures { result ≡ self.now.finished }

@@ -1,8 +1,9 @@
 //! The verdict lines: a line for each reply of a gate.
 
-ghost use Rattle.std.specs.Prelude.{◌≡◌, ◌++◌, ℕ, List, IfOk, OnOk, IsSome, decimal, unwrap_or};
+ghost use Rattle.std.specs.Prelude.{◌≡◌, ◌++◌, ◌+◌, ◌≤◌, ℕ, [], List, IfOk, OnOk, IsOk, IsSome, codes, decimal, length, unwrap_or, vec_capacity};
 ghost use Rattle.std.specs.List.{All};
 ghost use Rattle.race_report.specs.VerdictText.{refusal_word, HasWord, HasWords, answer_word, answer_numbers, answer_text, fault_word as word_of_fault, numbers_text, line_of, verdict_text};
+ghost use Rattle.race_report.specs.Rooms.{HasRoom, number_room, line_room};
 
 use access_table::{Kind, rule_word};
 use itoa::Buffer;
@@ -13,7 +14,8 @@ use trace_values::{Act, access_asked};
 /// The word of the rule that an act and an earlier access of this kind come under.
 pub(crate) fn rule_of_refusal(act: Act, witness: Kind) -> &'static str
     requires { IsSome (refusal_word act witness) }
-    ensures { refusal_word act witness ≡ Some result.now }
+    ensures word { refusal_word act witness ≡ Some result.now }
+    ensures short { length result.now ≤ 16 }
 {
     let Some(asked) = access_asked(act) else {
         unreachable!()
@@ -26,7 +28,8 @@ pub(crate) fn rule_of_refusal(act: Act, witness: Kind) -> &'static str
 
 /// The word of a fault.
 fn fault_word(fault: GateFault) -> &'static str
-    ensures { result.now ≡ word_of_fault fault }
+    ensures word { result.now ≡ word_of_fault fault }
+    ensures short { length result.now ≤ 16 }
 {
     match fault {
         GateFault::Stopped => "stopped",
@@ -38,23 +41,42 @@ fn fault_word(fault: GateFault) -> &'static str
     }
 }
 
-/// Adds words to a text.
+/// Adds words to a text. It fails only where the text has no room for them.
 pub fn push_words<A: Allocator>(text: &mut Vec<u8, A>, words: &str) -> Result<(), AllocError>
-    ensures { OnOk result (text.new.items ≡ text.old.items ++ words.now) }
+    ensures added { OnOk result (text.new.items ≡ text.old.items ++ words.now) }
+    ensures capacity { vec_capacity text.old ≤ vec_capacity text.new }
+    ensures room { (more : ℕ) → HasRoom (length words.now + more) text.old → IsOk result × HasRoom more text.new }
 {
     text.extend_from_slice(words.as_bytes())
 }
 
-/// Adds a number to a text, behind what stands before it.
+/// Adds a number to a text, behind what stands before it. It fails only where the text has no room for that and 20 digits.
 pub fn push_number<A: Allocator>(
     text: &mut Vec<u8, A>,
     before: &str,
     number: u64,
 ) -> Result<(), AllocError>
-    ensures { OnOk result (text.new.items ≡ text.old.items ++ before.now ++ decimal number) }
+    ensures added { OnOk result (text.new.items ≡ text.old.items ++ before.now ++ decimal number) }
+    ensures capacity { vec_capacity text.old ≤ vec_capacity text.new }
+    ensures room { (more : ℕ) → HasRoom (length before.now + number_room + more) text.old → IsOk result × HasRoom more text.new }
 {
     push_words(text, before)?;
     push_words(text, Buffer::new().format(number))
+}
+
+/// Adds the words of a refusal: that, and the rule.
+fn push_refusal<A: Allocator>(
+    text: &mut Vec<u8, A>,
+    act: Act,
+    witness: Kind,
+) -> Result<(), AllocError>
+    requires { IsSome (refusal_word act witness) }
+    ensures added { OnOk result (text.new.items ≡ text.old.items ++ codes "refused " ++ unwrap_or (refusal_word act witness) []) }
+    ensures capacity { vec_capacity text.old ≤ vec_capacity text.new }
+    ensures room { (more : ℕ) → HasRoom (24 + more) text.old → IsOk result × HasRoom more text.new }
+{
+    push_words(text, "refused ")?;
+    push_words(text, rule_of_refusal(act, witness))
 }
 
 /// Adds the word of an answer to an act.
@@ -64,7 +86,9 @@ fn push_word<A: Allocator>(
     answer: Answer,
 ) -> Result<(), AllocError>
     requires { HasWord act answer }
-    ensures { OnOk result (text.new.items ≡ text.old.items ++ answer_word act answer) }
+    ensures added { OnOk result (text.new.items ≡ text.old.items ++ answer_word act answer) }
+    ensures capacity { vec_capacity text.old ≤ vec_capacity text.new }
+    ensures room { (more : ℕ) → HasRoom (24 + more) text.old → IsOk result × HasRoom more text.new }
 {
     let word = match answer {
         Answer::Split(_) => "split",
@@ -77,10 +101,7 @@ fn push_word<A: Allocator>(
         Answer::Finished => "finished",
         Answer::Granted => "granted",
         Answer::Value(_) => "value",
-        Answer::Refused { witness, .. } => {
-            push_words(text, "refused ")?;
-            rule_of_refusal(act, witness.kind)
-        }
+        Answer::Refused { witness, .. } => return push_refusal(text, act, witness.kind),
         Answer::Unset => "refused unset",
     };
     push_words(text, word)
@@ -88,7 +109,9 @@ fn push_word<A: Allocator>(
 
 /// Adds the numbers of an answer, each behind a space.
 fn push_numbers<A: Allocator>(text: &mut Vec<u8, A>, answer: Answer) -> Result<(), AllocError>
-    ensures { OnOk result (text.new.items ≡ text.old.items ++ numbers_text (answer_numbers answer)) }
+    ensures added { OnOk result (text.new.items ≡ text.old.items ++ numbers_text (answer_numbers answer)) }
+    ensures capacity { vec_capacity text.old ≤ vec_capacity text.new }
+    ensures room { (more : ℕ) → HasRoom (63 + more) text.old → IsOk result × HasRoom more text.new }
 {
     match answer {
         Answer::Split(spawned) => {
@@ -110,16 +133,20 @@ fn push_answer<A: Allocator>(
     answer: Answer,
 ) -> Result<(), AllocError>
     requires { HasWord act answer }
-    ensures { OnOk result (text.new.items ≡ text.old.items ++ answer_text act answer) }
+    ensures added { OnOk result (text.new.items ≡ text.old.items ++ answer_text act answer) }
+    ensures capacity { vec_capacity text.old ≤ vec_capacity text.new }
+    ensures room { (more : ℕ) → HasRoom (87 + more) text.old → IsOk result × HasRoom more text.new }
 {
     push_word(text, act, answer)?;
     push_numbers(text, answer)
 }
 
-/// Adds the verdict line of a reply, as [`verdict_lines`] writes it.
+/// Adds the verdict line of a reply, as [`verdict_lines`] writes it. It fails only where the text has no room for 128 bytes.
 pub fn push_verdict<A: Allocator>(text: &mut Vec<u8, A>, reply: &Reply) -> Result<(), AllocError>
     requires { HasWords reply.now }
-    ensures { OnOk result (text.new.items ≡ text.old.items ++ line_of reply.now) }
+    ensures added { OnOk result (text.new.items ≡ text.old.items ++ line_of reply.now) }
+    ensures capacity { vec_capacity text.old ≤ vec_capacity text.new }
+    ensures room { HasRoom line_room text.old → IsOk result }
 {
     match reply {
         Reply::Done(receipt) => {
