@@ -1,18 +1,24 @@
 //! The program `cilkcheck`: a race detector for spawn-sync programs.
 //!
-//! [`read_args`] reads what the words of the command line ask for; [`perform`], or [`perform_alone`] for what starts no thread, does it,
-//! and carries in its contract what is written for what standard input and the files hold; [`exit_of`] gives the exit status. What is
-//! trusted here is that [`System`] gives the bytes of standard input, and of the file with the name that it is asked for, and that a file
-//! which it creates is empty and then holds what is written.
+//! [`read_args`] reads what the words of the command line ask for; [`check_names`] refuses what would write over a program; [`perform`], or
+//! [`perform_alone`] for what starts no thread, does the job, and carries in its contract what is written for what standard input and the
+//! files hold; [`exit_of`] gives the exit status. What is trusted here is that [`System`] gives the bytes of standard input, and of the file
+//! with the name that it is asked for, that a file which it creates is empty and then holds what is written, and that it tells two names of
+//! one file.
 #![tactic(auto)]
 
-ghost use Rattle.std.specs.Prelude.{None};
+ghost use Rattle.std.specs.Prelude.{⊤, None, IfOk};
+ghost use Rattle.text_commands.specs.Jobs.{IsInRange};
+ghost use Rattle.text_commands.specs.Names.{SparesProgram};
 ghost use Rattle.text_commands.specs.Sources.{unknown_sources};
 
 use std::fs::{self, File};
 use std::io::{self, IsTerminal};
+use std::os::unix::fs::MetadataExt;
 use std::process::ExitCode;
-use text_commands::{CliFault, Host, Job, Watched, exit_of, perform, perform_alone, read_args};
+use text_commands::{
+    CliFault, Host, Job, Watched, check_names, exit_of, perform, perform_alone, read_args,
+};
 
 /// The system's standard input and files. No contract knows what they hold, or whether one can be created.
 #[derive(Drop)]
@@ -37,6 +43,8 @@ impl<'a> Host for System<'a> {
 
     ghost bars = { λ _ _. ⊥ };
 
+    ghost says_one = { λ _ _ _ _. ⊤ };
+
     fn input(&mut self) -> Self::Input {
         self.rt.reader()
     }
@@ -47,6 +55,17 @@ impl<'a> Host for System<'a> {
 
     fn create(&mut self, name: &str) -> io::Result<File> {
         fs::create(self.rt, name)
+    }
+
+    /// By the device and the number that the system gives a file. Where it tells nothing of a name, the two are not known to be one, and
+    /// neither are two names of a terminal or a pipe, which keeps nothing that could be lost.
+    fn is_one_file(&self, first: &str, second: &str) -> bool {
+        match (fs::metadata(self.rt, first), fs::metadata(self.rt, second)) {
+            (Ok(first), Ok(second)) => {
+                first.is_file() && first.dev() == second.dev() && first.ino() == second.ino()
+            }
+            _ => false,
+        }
     }
 
     fn is_terminal(&self) -> bool {
@@ -63,10 +82,20 @@ fn tell(rt: &HostRuntime, answer: &Result<u8, CliFault>) {
     }
 }
 
+/// What the words of the command line ask for: a job whose trace is not written over its program.
+fn job_of(rt: &HostRuntime, host: &Watched<System<'_>>) -> Result<Job, CliFault>
+    ensures ranges { IfOk result IsInRange }
+    ensures spared { IfOk result (SparesProgram (λ _ _ _. ⊤)) }
+{
+    let job = read_args(rt)?;
+    check_names(rt.alloc(), host, &job)?;
+    Ok(job)
+}
+
 fn main(rt: HostRuntime) -> ExitCode {
     let mut host = Watched::new(System { rt: &rt });
     let mut output = Watched::new(io::writer(&rt));
-    let answer = match read_args(&rt) {
+    let answer = match job_of(&rt, &host) {
         Ok(job @ (Job::Run { .. } | Job::Record { .. } | Job::Explain { .. })) => {
             perform(&rt, rt.alloc(), &mut host, &job, &mut output)
         }

@@ -1,5 +1,5 @@
 -- What an answer does to a frame, case by case.
-use Rattle.std.proofs.Common.{◌≡◌, ℕ, ◌<◌, false, List, Option, Some, None, refl, sym, ap, ◌∙◌, subst, length}
+use Rattle.std.proofs.Common.{◌≡◌, ℕ, false, List, Some, None, refl, sym, ◌∙◌, subst}
 use Rattle.std.proofs.Common.{Result, Ok, Err}
 use Rattle.std.specs.Prelude.{OnOk, OnErr, IfErr, IsTrue}
 use Rattle.std.proofs.lemmas.Option.{slice_get_within}
@@ -14,14 +14,14 @@ use Rattle.race_gate.specs.declared.answer.Answer.TheVariants.{Same}
 use Rattle.program_steps.specs.Values.{Registers, value_of}
 use Rattle.program_steps.specs.Answers.{IsReturned}
 use Rattle.program_steps.specs.Requests.{answered}
-use Rattle.program_steps.specs.Activations.{left, end_line_of, statement_of, is_plain, IsInPlace}
+use Rattle.program_steps.specs.Activations.{left, statement_of, is_plain, IsInPlace}
 use Rattle.frame_steps.specs.declared.frame.FrameFault.{FrameFault}
 use Rattle.frame_steps.specs.declared.phase.Phase.TheVariants.{Running, Wanting}
 use Rattle.frame_steps.specs.Joins.{join_after}
 use Rattle.frame_steps.specs.States.{State}
 use Rattle.frame_steps.specs.Frames.{Stands, MayAnswer, IsAnswered, IsCalled, IsLeft, began_by}
 use Rattle.frame_steps.proofs.Standings.{called_there}
-use Rattle.frame_steps.proofs.Histories.{leave_stands, leave_belongs, leave_after, leave_returned, call_stands, call_belongs, call_same, wants_call, call_after, answer_stands, answer_belongs, answer_after, answer_strange}
+use Rattle.frame_steps.proofs.Histories.{leave_stands, leave_belongs, leave_after, leave_returned, call_stands, call_belongs, wants_call, call_after, answer_stands, answer_belongs, answer_after}
 
 module _ {T : Type 0} (functions : List Code) where
   -- an answer that does not belong

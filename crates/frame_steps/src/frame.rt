@@ -16,7 +16,7 @@ ghost use Rattle.frame_steps.specs.Frames.{DialogueOf, Stands, Wants, IsAfter, C
 
 use crate::phase::Phase;
 use program_steps::{Activation, Target, Want, answered, value_of};
-use program_text::{Program, REGISTERS, Statement};
+use program_text::{Program, Statement};
 use race_gate::Answer;
 use std::alloc::{AllocError, Allocator};
 use std::marker::Model;
@@ -72,6 +72,19 @@ impl<A: Allocator> Frame<A> {
             phase: Phase::Running,
             has_room: false,
         }
+    }
+
+    /// Begins another function in this one's place, in the room that it has. Takes no memory.
+    pub fn restart<B: Allocator>(&mut self, program: &Program<B>, function: u32, argument: u64)
+        requires { function < length program.now.functions }
+        ensures stands { Stands program.now.functions self.new }
+        ensures running { self.new.phase ≡ Phase.Running }
+        ensures begun { IsAfter program.now.functions function argument [] self.new }
+    {
+        self.top = Activation::begin(function, argument);
+        self.callers.clear();
+        self.phase = Phase::Running;
+        self.has_room = false;
     }
 
     /// Whether the function has ended. What was said is a dialogue, and a whole one then.
@@ -201,32 +214,27 @@ impl<A: Allocator> Frame<A> {
                 }
                 _ => Err(FrameFault::Strange),
             },
-            Some(statement) => match answered(self.top.registers, statement, answer) {
-                Some(registers) => {
-                    self.go_on(program, registers, answer);
+            Some(statement) => {
+                if answered(&mut self.top.registers, statement, answer) {
+                    self.go_on(program, answer);
                     Ok(())
+                } else {
+                    Err(FrameFault::Strange)
                 }
-                None => Err(FrameFault::Strange),
-            },
+            }
         }
     }
 
     /// Goes behind the statement that was answered.
-    fn go_on<B: Allocator>(
-        &mut self,
-        program: &Program<B>,
-        registers: [u64; REGISTERS],
-        answer: &Answer,
-    )
+    fn go_on<B: Allocator>(&mut self, program: &Program<B>, answer: &Answer)
         requires place { IsInPlace program.now.functions self.old.top }
         ensures place { IsInPlace program.now.functions self.new.top }
         ensures function { self.new.top.function ≡ self.old.top.function }
-        ensures registers { self.new.top.registers ≡ registers }
+        ensures registers { self.new.top.registers ≡ self.old.top.registers }
         ensures join { self.new.top.join ≡ join_after answer.now self.old.top.join }
         ensures behind { (statement : Statement) → statement_of program.now.functions self.old.top ≡ Some statement → IsTrue (is_plain statement) → left program.now.functions self.old.top ≡ Step statement (left program.now.functions self.new.top) }
         ensures rest { (self.new.callers ≡ self.old.callers) × (self.new.phase ≡ Phase.Running) × (self.new.has_room ≡ self.old.has_room) }
     {
-        self.top.registers = registers;
         self.top.join = join_after(self.top.join, answer);
         self.top.step(program);
         self.phase = Phase::Running;

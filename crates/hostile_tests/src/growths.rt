@@ -37,8 +37,10 @@ type Heap = Refusing<Global>;
 enum Call {
     NewList,
     ReserveItems,
+    HintItems,
     NewStrands,
     ReserveStrands,
+    HintSpawns,
     Spawn,
     CallFunction,
     NewBranches,
@@ -70,8 +72,10 @@ fn is_refused(
     match call {
         Call::NewList => Ok(strands::new_list(rt, heap, number)),
         Call::ReserveItems => strands::reserve_items(rt, heap, number),
+        Call::HintItems => strands::hint_items(rt, heap, number),
         Call::NewStrands => Ok(strands::new_strands(rt, heap, number)),
         Call::ReserveStrands => strands::reserve_strands(rt, heap, number),
+        Call::HintSpawns => strands::hint_spawns(rt, heap, number),
         Call::Spawn => strands::spawn(rt, heap, number),
         Call::CallFunction => strands::call_function(rt, heap, number),
         Call::NewBranches => Ok(strands::new_branches(rt, heap, number)),
@@ -145,8 +149,10 @@ fn strands_and_what_is_kept_of_them(rt: HostRuntime) -> Result<(), Fail> {
         &[
             ("OrderList::new", Call::NewList),
             ("OrderList::reserve", Call::ReserveItems),
+            ("OrderList::make_room", Call::HintItems),
             ("Strands::new", Call::NewStrands),
             ("Strands::reserve_event", Call::ReserveStrands),
+            ("Strands::make_room", Call::HintSpawns),
             ("Strands::spawn", Call::Spawn),
             ("Strands::call", Call::CallFunction),
             ("Branches::new", Call::NewBranches),

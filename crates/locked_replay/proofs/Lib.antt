@@ -1,5 +1,7 @@
 mod Numbered
-mod SortedSame
+mod Marks
+mod Marking
+mod Theirs
 mod Reversed
 mod Agreeing
 pub mod Wholes

@@ -1,21 +1,11 @@
--- The receipts of a longer history.
-use Rattle.std.proofs.Common.{◌≡◌, ℕ, zero, suc, ◌+◌, ◌<◌, List, [], ◌∷◌, ◌++◌, length, take, get_or, refl, ap, sym, arith, ◌∙◌}
-use Rattle.std.proofs.lemmas.List.{take_more, length-take-le}
+-- The receipts of entries by their numbers.
+use Rattle.std.proofs.Common.{◌≡◌, ℕ, zero, suc, ◌+◌, ◌<◌, ◌≤◌, ◌==◌, cond, ◌⊎◌, inl, inr, List, [], ◌∷◌, length, get_or, refl, ap, arith, ◌∙◌}
+use Rattle.std.specs.List.{sum_by}
+use Rattle.std.proofs.lemmas.Bool.Decides.{nat_tests}
+use Rattle.std.proofs.lemmas.List.Sums.{sum_by-cons}
 use Rattle.race_gate.specs.declared.answer.Receipt.{Receipt}
 use Rattle.race_gate.specs.declared.answer.Entry.{Entry}
 use Rattle.locked_replay.specs.Receipts.{numbered, receipt_of}
-
-pub numbered-append : (n : ℕ) (xs ys : List Entry) → numbered n (xs ++ ys) ≡ numbered n xs ++ numbered (n + length xs) ys
-numbered-append n [] ys = ap (λ k. numbered k ys) (omega arith)
-numbered-append n (x ∷ xs) ys = let h = numbered-append (n + 1) xs ys in let e : (n + 1) + length xs ≡ n + length (x ∷ xs) = omega arith in ap (λ l. receipt_of n x ∷ l) (h ∙ ap (λ k. numbered (n + 1) xs ++ numbered k ys) e)
-
--- a loop's step: the receipt and the entry at i belong together
-pub receipts_more : (rs : List Receipt) (es : List Entry) (i : ℕ) (d : Receipt) (e : Entry) → i < length rs → i < length es → take i rs ≡ numbered 1 (take i es) → get_or rs i d ≡ receipt_of (i + 1) (get_or es i e)
-    → take (i + 1) rs ≡ numbered 1 (take (i + 1) es)
-receipts_more rs es i d e in-receipts in-entries before here =
-    let n : 1 + length (take i es) ≡ i + 1 = omega (arith, length-take-le i es (omega arith)) in
-    let new : numbered 1 (take (i + 1) es) ≡ numbered 1 (take i es) ++ receipt_of (i + 1) (get_or es i e) ∷ [] = ap (numbered 1) (take_more es i e in-entries) ∙ numbered-append 1 (take i es) (get_or es i e ∷ []) ∙ ap (λ k. numbered 1 (take i es) ++ receipt_of k (get_or es i e) ∷ []) n in
-    take_more rs i d in-receipts ∙ (λ j. before j ++ here j ∷ []) ∙ sym new
 
 pub length-numbered : (n : ℕ) (es : List Entry) → length (numbered n es) ≡ length es
 length-numbered n [] = refl
@@ -26,5 +16,34 @@ numbered_at n [] i d e low = absurd (omega arith)
 numbered_at n (x ∷ es) zero d e low = ap (λ k. receipt_of k x) (omega arith)
 numbered_at n (x ∷ es) (suc i) d e low = let k : (n + 1) + i ≡ n + suc i = omega arith in numbered_at (n + 1) es i d e (omega arith) ∙ ap (λ j. receipt_of j (get_or es i e)) k
 
-pub receipt_here : (rs : List Receipt) (es : List Entry) (i : ℕ) (d : Receipt) (e : Entry) → i < length es → rs ≡ numbered 1 es → get_or rs i d ≡ receipt_of (i + 1) (get_or es i e)
-receipt_here rs es i d e inside same = let n : 1 + i ≡ i + 1 = omega arith in ap (λ l. get_or l i d) same ∙ numbered_at 1 es i d e inside ∙ ap (λ k. receipt_of k (get_or es i e)) n
+-- 1 where the receipt has this number
+abbrev pub has_number : ℕ → Receipt → ℕ
+has_number k r = cond (r.number == k) 1 0
+
+pub this_number : (k : ℕ) (r : Receipt) → r.number ≡ k → has_number k r ≡ 1
+this_number k r e = grind (arith, nat_tests)
+
+other_number : (k : ℕ) (r : Receipt) → (r.number ≡ k → ⊥) → has_number k r ≡ 0
+other_number k r other = grind (arith, nat_tests)
+
+one_number : (k : ℕ) (r : Receipt) → has_number k r ≤ 1
+one_number k r = grind (arith, nat_tests)
+
+numbered_above : (k n : ℕ) (es : List Entry) → k < n → sum_by (has_number k) (numbered n es) ≡ 0
+numbered_above k n [] low = refl
+numbered_above k n (e ∷ es) low =
+    let h = numbered_above k (n + 1) es (omega arith) in
+    omega (arith, h, sum_by-cons (has_number k) (receipt_of n e) (numbered (n + 1) es), other_number k (receipt_of n e) (λ same. omega (arith, same)))
+
+from_or_above : (k n : ℕ) → (n < k) ⊎ (k < n + 1)
+from_or_above k n = grind arith
+
+-- no number comes twice
+pub numbered_once : (k n : ℕ) (es : List Entry) → sum_by (has_number k) (numbered n es) ≤ 1
+numbered_once k n [] = omega arith
+numbered_once k n (e ∷ es) =
+    let here = sum_by-cons (has_number k) (receipt_of n e) (numbered (n + 1) es) in
+    elim (from_or_above k n) [
+      | inl later ↦ let h = numbered_once k (n + 1) es in omega (arith, here, h, other_number k (receipt_of n e) (λ same. omega (arith, same, later)))
+      | inr not_later ↦ omega (arith, here, one_number k (receipt_of n e), numbered_above k (n + 1) es not_later)
+    ]

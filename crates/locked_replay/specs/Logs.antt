@@ -16,6 +16,10 @@ module _ {L : Type 0} where
   abbrev pub all_asked : List (WorkerLog L) → ℕ
   all_asked = sum_by (λ log. log.seat.asked)
 
+-- in each log the receipts rise in number, and all receipts together are those of the entries, the oldest first, each once
+abbrev pub AreTheirs : {L : Type 0} → List Entry → List (WorkerLog L) → Type 0
+AreTheirs entries logs = All (λ log. Rises log.receipts.items) logs × IsPermutation (all_receipts logs) (numbered 1 entries)
+
 -- the logs are those of the entries, the oldest first
 pub record AreWhole {L : Type 0} (entries : List Entry) (logs : List (WorkerLog L)) : Type 0 where
   -- in each log the receipts rise in number

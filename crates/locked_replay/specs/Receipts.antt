@@ -1,6 +1,7 @@
 -- The receipts of entries.
-use Rattle.std.specs.Prelude.{◌+◌, ◌<◌, ℕ, List, [], ◌∷◌, length}
+use Rattle.std.specs.Prelude.{◌≡◌, ◌+◌, ◌<◌, ℕ, Bool, true, false, List, [], ◌∷◌, ◌++◌, length}
 use Rattle.std.specs.List.{AllAdjacentBelow}
+use Rattle.std.specs.List.Sorted.{IsPermutation}
 use Rattle.race_gate.specs.declared.answer.Entry.{Entry}
 use Rattle.race_gate.specs.declared.answer.Receipt.{Receipt}
 
@@ -16,3 +17,18 @@ numbered number (entry ∷ entries) = receipt_of number entry ∷ numbered (numb
 -- each receipt has a lower number than the next
 abbrev pub Rises : List Receipt → Type 0
 Rises receipts = AllAdjacentBelow (λ one next. one.number < next.number) receipts (length receipts)
+
+-- the items whose mark is set
+abbrev pub marked : {X : Type 0} → List Bool → List X → List X
+marked [] items = []
+marked (mark ∷ marks) [] = []
+marked (true ∷ marks) (item ∷ items) = item ∷ marked marks items
+marked (false ∷ marks) (item ∷ items) = marked marks items
+
+-- there is a mark for each entry, and the receipts are those of the marked entries, each once
+abbrev pub AreMarked : List Bool → List Entry → List Receipt → Type 0
+AreMarked marks entries receipts = (length marks ≡ length entries) × IsPermutation receipts (marked marks (numbered 1 entries))
+
+-- whatever follows them, the receipts are not those of the entries, each once
+abbrev pub AreAstray : List Entry → List Receipt → Type 0
+AreAstray entries receipts = (more : List Receipt) → IsPermutation (receipts ++ more) (numbered 1 entries) → ⊥

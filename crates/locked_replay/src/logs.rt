@@ -1,50 +1,59 @@
 //! Whether the logs of all workers are those of a gate.
 
-ghost use Rattle.std.specs.Prelude.{◌≡◌, ◌↔◌, ◌<◌, ◌≤◌, ◌^◌, true, reverse, IsTrue, IfOk, OnOk, MatchOption, Err};
-ghost use Rattle.std.specs.List.{All};
-ghost use Rattle.locked_replay.specs.Receipts.{Rises};
-ghost use Rattle.locked_replay.specs.Logs.{all_receipts, all_asked, AreWhole};
+ghost use Rattle.std.specs.Prelude.{◌≡◌, ◌↔◌, ◌≤◌, ◌^◌, [], true, length, reverse, IsTrue, IfOk, OnOk, MatchOption, Err};
+ghost use Rattle.std.specs.Bool.{MatchBool};
+ghost use Rattle.std.specs.List.{All, sum_by};
+ghost use Rattle.locked_replay.specs.Receipts.{Rises, AreMarked};
+ghost use Rattle.locked_replay.specs.Logs.{all_receipts, all_asked, AreTheirs, AreWhole};
 
 use crate::fault::RunFault;
-use crate::receipts::are_receipts;
+use crate::receipts::mark_all;
 use crate::worker::WorkerLog;
-use race_gate::{Gate, Receipt};
+use race_gate::{Entry, Gate};
 use std::alloc::{AllocError, Global};
 use std::sync::ledger::Ledger;
 
-/// Whether each receipt has a lower number than the next.
-fn rises(receipts: &[Receipt]) -> bool
-    ensures { IsTrue result ↔ Rises receipts.now }
+/// How many receipts there are in all logs, or None where no u64 holds it.
+fn count_of<L: Ledger>(logs: &[WorkerLog<L>]) -> Option<u64>
+    ensures { MatchOption result (2 ^ 64 ≤ sum_by (λ log. length log.receipts.items) logs.now) (λ count. count ≡ sum_by (λ log. length log.receipts.items) logs.now) }
 {
-    for at in 1..receipts.len() {
-        if receipts[at].number <= receipts[at - 1].number {
+    let mut count = 0u64;
+    for log in logs {
+        count = count.checked_add(log.receipts.len() as u64)?;
+    }
+    Some(count)
+}
+
+/// Marks the entries whose receipts are in the logs, where the receipts rise in number in each log, and no entry has two of them.
+fn mark_logs<L: Ledger>(marks: &mut [bool], entries: &[Entry], logs: &[WorkerLog<L>]) -> bool
+    requires { length marks.old ≡ length entries.now }
+    ensures { AreMarked marks.old entries.now [] →
+        MatchBool result (All (λ log. Rises log.receipts.items) logs.now × AreMarked marks.new entries.now (all_receipts logs.now)) (¬ (AreTheirs entries.now logs.now)) }
+{
+    for log in logs {
+        if !mark_all(marks, entries, log.receipts.as_slice()) {
             return false;
         }
     }
     true
 }
 
-/// Whether they do so in each log.
-fn all_rise<L: Ledger>(logs: &[WorkerLog<L>]) -> bool
-    ensures { IsTrue result ↔ All (λ log. Rises log.receipts.items) logs.now }
+/// Whether in each log the receipts rise in number, and all of them together are those of the entries, each once.
+fn are_theirs<L: Ledger>(
+    alloc: Global,
+    entries: &[Entry],
+    logs: &[WorkerLog<L>],
+) -> Result<bool, AllocError>
+    ensures { IfOk result (λ theirs. IsTrue theirs ↔ AreTheirs entries.now logs.now) }
 {
-    for log in logs {
-        if !rises(log.receipts.as_slice()) {
-            return false;
-        }
+    let Some(count) = count_of(logs) else {
+        return Ok(false);
+    };
+    if count != entries.len() as u64 {
+        return Ok(false);
     }
-    true
-}
-
-/// The receipts of all logs.
-fn receipts_of<L: Ledger>(alloc: Global, logs: &[WorkerLog<L>]) -> Result<Vec<Receipt>, AllocError>
-    ensures { IfOk result (λ all. all.items ≡ all_receipts logs.now) }
-{
-    let mut all = Vec::new(alloc);
-    for log in logs {
-        all.extend_from_slice(log.receipts.as_slice())?;
-    }
-    Ok(all)
+    let mut marks = vec![in alloc; false; entries.len()]?;
+    Ok(mark_logs(marks.as_mut_slice(), entries, logs))
 }
 
 /// What was asked on all seats, or None where no u64 holds it.
@@ -73,13 +82,10 @@ pub fn check_logs<L: Ledger>(
     if gate.is_stopped() {
         return Err(RunFault::Stopped);
     }
-    if !all_rise(logs) {
-        return Err(RunFault::Torn);
-    }
-    let Ok(all) = receipts_of(alloc, logs) else {
+    let Ok(theirs) = are_theirs(alloc, gate.history(), logs) else {
         return Err(RunFault::Memory);
     };
-    if !are_receipts(all, gate.history()) {
+    if !theirs {
         return Err(RunFault::Torn);
     }
     match asked_of(logs) {

@@ -1,53 +1,57 @@
 //! Whether receipts are those of a history, each once.
 
-ghost use Rattle.std.specs.Prelude.{◌≡◌, ◌↔◌, IsTrue, length};
-ghost use Rattle.std.specs.List.Sorted.{IsPermutation, IsNonDecreasingBy};
-ghost use Rattle.locked_replay.specs.Receipts.{numbered, receipt_of};
+ghost use Rattle.std.specs.Prelude.{◌≡◌, ◌↔◌, ◌++◌, ◌∷◌, [], ◌⊎◌, List, IsTrue, length};
+ghost use Rattle.std.specs.Bool.{MatchBool};
+ghost use Rattle.race_gate.specs.declared.answer.Receipt.{Receipt as OneReceipt};
+ghost use Rattle.locked_replay.specs.Receipts.{receipt_of, Rises, AreMarked, AreAstray};
 
 use crate::same::is_same_receipt;
 use race_gate::{Entry, Receipt};
 
-/// The receipts in the order of their numbers.
-fn in_order(receipts: Vec<Receipt>) -> Vec<Receipt>
-    ensures permutation { IsPermutation receipts.items result.items }
-    ensures rising { IsNonDecreasingBy (λ receipt. receipt.number) result.items }
-{
-    let mut receipts = receipts;
-    receipts.sort_unstable_by_key(|receipt| receipt.number);
-    receipts
-}
-
-/// Whether the receipt is that of the entry with this number.
-fn is_receipt(receipt: Receipt, number: u64, entry: Entry) -> bool
-    ensures { IsTrue result ↔ receipt ≡ receipt_of number entry }
+/// Whether the receipt is that of the entry, but for the number.
+fn is_receipt(receipt: Receipt, entry: Entry) -> bool
+    ensures { IsTrue result ↔ receipt ≡ receipt_of receipt.number entry }
 {
     let expected = Receipt {
         number: receipt.number,
         request: entry.request,
         answer: entry.answer,
     };
-    receipt.number as u64 == number && is_same_receipt(receipt, expected)
+    is_same_receipt(receipt, expected)
 }
 
-/// Whether the receipts are those of the entries, in their order.
-fn are_in_step(receipts: &[Receipt], entries: &[Entry]) -> bool
-    ensures { IsTrue result ↔ receipts.now ≡ numbered 1 entries.now }
+/// Marks the entry whose receipt it is, where there is one that was not marked.
+fn mark(marks: &mut [bool], entries: &[Entry], receipt: Receipt) -> bool
+    requires { length marks.old ≡ length entries.now }
+    ensures length { length marks.new ≡ length marks.old }
+    ensures marks { (met : List OneReceipt) → AreMarked marks.old entries.now met →
+        MatchBool result (AreMarked marks.new entries.now (met ++ receipt ∷ [])) (AreAstray entries.now (met ++ receipt ∷ [])) }
 {
-    if receipts.len() != entries.len() {
+    if receipt.number == 0 || receipt.number as usize > entries.len() {
         return false;
     }
-    for at in 0..entries.len() {
-        if !is_receipt(receipts[at], at as u64 + 1, entries[at]) {
+    let place = receipt.number as usize - 1;
+    if marks[place] || !is_receipt(receipt, entries[place]) {
+        return false;
+    }
+    marks[place] = true;
+    true
+}
+
+/// Marks the entries whose receipts these are, where the receipts rise in number, and each is that of an entry that was not marked.
+pub fn mark_all(marks: &mut [bool], entries: &[Entry], receipts: &[Receipt]) -> bool
+    requires { length marks.old ≡ length entries.now }
+    ensures length { length marks.new ≡ length marks.old }
+    ensures marks { (met : List OneReceipt) → AreMarked marks.old entries.now met →
+        MatchBool result (Rises receipts.now × AreMarked marks.new entries.now (met ++ receipts.now)) ((Rises receipts.now → ⊥) ⊎ AreAstray entries.now (met ++ receipts.now)) }
+{
+    for at in 0..receipts.len() {
+        if at > 0 && receipts[at].number <= receipts[at - 1].number {
+            return false;
+        }
+        if !mark(marks, entries, receipts[at]) {
             return false;
         }
     }
     true
-}
-
-/// Whether the receipts are those of the entries, each once and in any order.
-pub fn are_receipts(receipts: Vec<Receipt>, entries: &[Entry]) -> bool
-    ensures { IsTrue result ↔ IsPermutation receipts.items (numbered 1 entries.now) }
-{
-    let sorted = in_order(receipts);
-    are_in_step(sorted.as_slice(), entries)
 }

@@ -89,22 +89,23 @@ pub fn check_run<B: Allocator>(
 fn whole_of<L: Ledger, B: Allocator>(
     alloc: Global,
     program: &Program<B>,
-    gate: &Gate<Global>,
-    logs: &[WorkerLog<L>],
+    gate: Gate<Global>,
+    logs: Vec<WorkerLog<L>>,
 ) -> Result<Whole, RunFault>
-    ensures shape { OnOk result (gate.now.shape ≡ shape_in program.now) }
-    ensures entries { IfOk result (λ whole. whole.entries.items ≡ reverse gate.now.history) }
-    ensures memory { IfOk result (λ whole. whole.memory.items ≡ gate.now.memory) }
-    ensures clean { IfOk result (λ whole. IsTrue whole.clean ↔ IsClean gate.now.history) }
-    ensures logs { OnOk result (AreWhole (reverse gate.now.history) logs.now) }
-    ensures run { OnOk result (IsFinishedRun program.now.functions (shape_in program.now) gate.now.history) }
-    ensures stopped { gate.now.stopped ≡ true → result ≡ Err RunFault.Stopped }
-    ensures faults { IfErr result (HasFault program.now.functions (shape_in program.now) gate.now logs.now) }
+    ensures shape { OnOk result (gate.shape ≡ shape_in program.now) }
+    ensures entries { IfOk result (λ whole. whole.entries.items ≡ reverse gate.history) }
+    ensures memory { IfOk result (λ whole. whole.memory.items ≡ gate.memory) }
+    ensures clean { IfOk result (λ whole. IsTrue whole.clean ↔ IsClean gate.history) }
+    ensures logs { OnOk result (AreWhole (reverse gate.history) logs.items) }
+    ensures run { OnOk result (IsFinishedRun program.now.functions (shape_in program.now) gate.history) }
+    ensures stopped { gate.stopped ≡ true → result ≡ Err RunFault.Stopped }
+    ensures faults { IfErr result (HasFault program.now.functions (shape_in program.now) gate logs.items) }
 {
-    check_logs(alloc, gate, logs)?;
-    check_run(alloc, program, gate)?;
-    let entries = Vec::from_slice(alloc, gate.history())?;
-    let memory = Vec::from_slice(alloc, gate.memory())?;
+    check_logs(alloc, &gate, logs.as_slice())?;
+    // The replay may have the room of the receipts.
+    drop(logs);
+    check_run(alloc, program, &gate)?;
+    let (entries, memory) = gate.into_parts();
     let clean = is_clean(entries.as_slice());
     Ok(Whole {
         entries,
@@ -132,5 +133,5 @@ pub fn gather<L: Ledger, B: Allocator>(
     ensures limit { ¬ (result ≡ Err RunFault.Limit) }
 {
     let gate = locked.into_gate();
-    whole_of(alloc, program, &gate, logs.as_slice())
+    whole_of(alloc, program, gate, logs)
 }

@@ -103,6 +103,18 @@ impl<A: Allocator> Grouping<A> {
         Ok(())
     }
 
+    /// Asks for room for `count` more items, which the caller knows to be within the limit, and reserves none of it.
+    pub fn ask_room(&mut self, count: u32)
+        requires { length (items_along self.old.places.items) + count ≤ most_items }
+        ensures items { items_along self.new.places.items ≡ items_along self.old.places.items }
+        ensures reserved { self.new.reserved ≡ self.old.reserved }
+    {
+        let items = self.places.len() as u32 + count;
+        // What is refused here is asked for again when it is needed.
+        let _ = self.reserve_groups(items);
+        let _ = self.places.reserve(count as usize);
+    }
+
     /// How much room there is behind an item, before the next one of its group or the group's end.
     fn gap_behind(&self, item: u32) -> u64
         requires { item < length (items_along self.now.places.items) }

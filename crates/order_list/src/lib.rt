@@ -118,6 +118,15 @@ impl<A: Allocator> OrderList<A> {
         Ok(())
     }
 
+    /// Asks for room for `count` more items, so that the list need not grow by and by. It is a hint: it reserves no place and
+    /// changes nothing that is seen, and where there is no memory the list grows as it is filled.
+    pub fn make_room(&mut self, count: u32)
+        ensures { self.new ≡ self.old }
+    {
+        let left = MOST_ITEMS - self.list.len() as u32;
+        self.list.ask_room(count.min(left));
+    }
+
     /// Puts a new item directly behind `after`, and gives its number, which is the length so far. It takes one of the
     /// reserved places, and no memory.
     pub fn insert_reserved(&mut self, after: u32) -> u32

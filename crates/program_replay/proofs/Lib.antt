@@ -6,3 +6,4 @@ pub mod Turns
 pub mod Openings
 pub mod Played
 pub mod Told
+pub mod Slots

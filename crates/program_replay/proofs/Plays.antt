@@ -36,7 +36,7 @@ use Rattle.program_replay.proofs.Items.{got_kept, got_behind, got_cases, got_one
 use Rattle.program_replay.proofs.Frames.{place_of_frame, frame_at_place, one_place, not_split, same_unused, frame_kept, new_count, new_seat}
 
 -- where there is room there is an item
-item_below : {A : Type 0} (xs : List A) (place : ℕ) → place < length xs → (x : A) × (slice_get xs place ≡ Some x)
+pub item_below : {A : Type 0} (xs : List A) (place : ℕ) → place < length xs → (x : A) × (slice_get xs place ≡ Some x)
 item_below xs place below =
     elim (slice_get_cases xs place).1 [
       | inl k ↦ (k.0, k.2)

@@ -1,3 +1,4 @@
 pub mod Turns
 pub mod Casts
 pub mod Replays
+pub mod Slots

@@ -5,7 +5,7 @@ ghost use Rattle.race_gate.specs.Shapes.{most_entries};
 ghost use Rattle.race_gate.specs.States.{opening};
 ghost use Rattle.race_gate.specs.Cores.{IsCoreOf};
 ghost use Rattle.program_runs.specs.Runs.{shape_in, IsFinishedRun};
-ghost use Rattle.program_replay.specs.Casts.{Opens};
+ghost use Rattle.program_replay.specs.Slots.{OpensIn};
 ghost use Rattle.program_replay.specs.Replays.{IsUnfinishedRun, IsStrange};
 ghost use Rattle.program_replay.specs.declared.replays.ReplayFault.{ReplayFault};
 
@@ -57,7 +57,7 @@ fn play_all<A: Allocator + Copy, B: Allocator>(
     entries: &[Entry],
 ) -> Result<(), ReplayFault>
     requires core { IsCoreOf cast.old.core (opening (shape_in program.now) most_entries) }
-    requires opens { Opens program.now.functions (shape_in program.now) (opening (shape_in program.now) most_entries) cast.old.frames.items cast.old.seats.items }
+    requires opens { OpensIn program.now.functions (shape_in program.now) (opening (shape_in program.now) most_entries) cast.old.slots.items cast.old.homes.items cast.old.seats.items }
     ensures finished { OnOk result (IsFinishedRun program.now.functions (shape_in program.now) (reverse entries.now)) }
     ensures unfinished { result ≡ Err ReplayFault.Unfinished → IsUnfinishedRun program.now.functions (shape_in program.now) (reverse entries.now) }
     ensures strange { (number : ℕ) → result ≡ Err (ReplayFault.Strange number) → IsStrange program.now.functions (shape_in program.now) entries.now number }

@@ -1,5 +1,5 @@
 -- What an answer does to a function's registers, for each kind of act. Where an answer does not belong to the act there is nothing.
-use Rattle.std.specs.Prelude.{Option, Some, None, slice_set}
+use Rattle.std.specs.Prelude.{◌≡◌, Bool, true, false, Option, Some, None, slice_set}
 use Rattle.program_lines.specs.declared.statement.Register.{Register}
 use Rattle.race_gate.specs.declared.answer.Answer.{Answer}
 use Rattle.race_gate.specs.declared.answer.Answer.TheVariants.{Split, Same, Joined, Waits, Resumed, Ended, EndedJoined, Finished, Granted, Value, Refused, Unset}
@@ -40,6 +40,11 @@ after_sync Same registers = Some registers
 after_sync (Joined join) registers = Some registers
 after_sync Waits registers = Some registers
 after_sync _ registers = None
+
+-- The registers become what an answer makes of them, where there is anything, and else they stay; and which of the two it is.
+abbrev pub IsTaken : Option Registers → (belongs : Bool) → (before after : Registers) → Type 0
+IsTaken None belongs before after = (belongs ≡ false) × (after ≡ before)
+IsTaken (Some registers) belongs before after = (belongs ≡ true) × (after ≡ registers)
 
 -- Who began a function: a call, or a spawn. The root counts as spawned.
 pub data Origin : Type 0 where

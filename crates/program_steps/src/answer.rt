@@ -1,20 +1,17 @@
 //! What answers do to registers.
 
 ghost use Rattle.std.specs.Prelude.{◌≡◌, slice_set};
-ghost use Rattle.program_steps.specs.Values.{with_ok};
-ghost use Rattle.program_steps.specs.Answers.{after_read, after_get, after_write, after_update, after_spawn, after_sync};
+ghost use Rattle.program_steps.specs.Values.{Registers, with_ok};
+ghost use Rattle.program_steps.specs.Answers.{after_read, after_get, after_write, after_update, after_spawn, after_sync, IsTaken};
 ghost use Rattle.program_steps.specs.Requests.{answered};
 
 use program_text::{REGISTERS, Register, Statement};
 use race_gate::Answer;
 
-/// The registers after an answer to a statement; None where the answer does not belong to it, or the statement is a call.
-pub fn answered(
-    registers: [u64; REGISTERS],
-    statement: Statement,
-    answer: &Answer,
-) -> Option<[u64; REGISTERS]>
-    ensures { result ≡ answered statement answer.now registers }
+/// Does to the registers what an answer to a statement does, and says whether the answer belongs to it. They stay where it does not, or where the
+/// statement is a call.
+pub fn answered(registers: &mut [u64; REGISTERS], statement: Statement, answer: &Answer) -> bool
+    ensures { IsTaken (answered statement answer.now registers.old) result registers.old registers.new }
 {
     match statement {
         Statement::Read { register, .. } => after_read(registers, register, answer),
@@ -23,112 +20,104 @@ pub fn answered(
         Statement::Update { .. } => after_update(registers, answer),
         Statement::Put { .. } => after_write(registers, answer),
         Statement::Get { register, .. } => after_get(registers, register, answer),
-        Statement::Spawn { .. } => after_spawn(registers, answer),
-        Statement::Sync { .. } => after_sync(registers, answer),
-        _ => None,
+        Statement::Spawn { .. } => after_spawn(answer),
+        Statement::Sync { .. } => after_sync(answer),
+        _ => false,
     }
 }
 
-/// The registers with `ok` at 1.
-fn granted(registers: [u64; REGISTERS]) -> [u64; REGISTERS]
-    ensures { result ≡ with_ok 1 registers }
+/// Sets `ok` to 1.
+fn granted(registers: &mut [u64; REGISTERS])
+    ensures { registers.new ≡ with_ok 1 registers.old }
 {
-    let mut after = registers;
-    after[0] = 1;
-    after
+    registers[0] = 1;
 }
 
-/// The registers with `ok` at 0.
-fn refused(registers: [u64; REGISTERS]) -> [u64; REGISTERS]
-    ensures { result ≡ with_ok 0 registers }
+/// Sets `ok` to 0.
+fn refused(registers: &mut [u64; REGISTERS])
+    ensures { registers.new ≡ with_ok 0 registers.old }
 {
-    let mut after = registers;
-    after[0] = 0;
-    after
+    registers[0] = 0;
 }
 
-/// The registers with `ok` at 1, and with this value in one of them.
-fn taken(registers: [u64; REGISTERS], register: Register, value: u64) -> [u64; REGISTERS]
-    ensures { result ≡ slice_set (with_ok 1 registers) register.index value }
+/// Sets `ok` to 1, and then a register to this value.
+fn taken(registers: &mut [u64; REGISTERS], register: Register, value: u64)
+    ensures { registers.new ≡ slice_set (with_ok 1 registers.old) register.index value }
 {
-    let mut after = granted(registers);
-    after[usize::from(register.index)] = value;
-    after
+    registers[0] = 1;
+    registers[usize::from(register.index)] = value;
 }
 
-/// After an answer to a read.
-fn after_read(
-    registers: [u64; REGISTERS],
-    register: Register,
-    answer: &Answer,
-) -> Option<[u64; REGISTERS]>
-    ensures { result ≡ after_read register answer.now registers }
+/// An answer to a read.
+fn after_read(registers: &mut [u64; REGISTERS], register: Register, answer: &Answer) -> bool
+    ensures { IsTaken (after_read register answer.now registers.old) result registers.old registers.new }
 {
     match answer {
-        Answer::Value(value) => Some(taken(registers, register, *value)),
-        Answer::Refused { .. } => {
-            let kept = refused(registers);
-            Some(kept)
+        Answer::Value(value) => {
+            taken(registers, register, *value);
+            true
         }
-        _ => None,
+        Answer::Refused { .. } => {
+            refused(registers);
+            true
+        }
+        _ => false,
     }
 }
 
-/// After an answer to a get.
-fn after_get(
-    registers: [u64; REGISTERS],
-    register: Register,
-    answer: &Answer,
-) -> Option<[u64; REGISTERS]>
-    ensures { result ≡ after_get register answer.now registers }
+/// An answer to a get.
+fn after_get(registers: &mut [u64; REGISTERS], register: Register, answer: &Answer) -> bool
+    ensures { IsTaken (after_get register answer.now registers.old) result registers.old registers.new }
 {
     match answer {
-        Answer::Unset => Some(refused(registers)),
-        Answer::Value(value) => Some(taken(registers, register, *value)),
-        Answer::Refused { .. } => Some(refused(registers)),
-        _ => None,
+        Answer::Unset => {
+            refused(registers);
+            true
+        }
+        _ => after_read(registers, register, answer),
     }
 }
 
-/// After an answer to a write, a bump or a put.
-fn after_write(registers: [u64; REGISTERS], answer: &Answer) -> Option<[u64; REGISTERS]>
-    ensures { result ≡ after_write answer.now registers }
+/// An answer to a write, a bump or a put.
+fn after_write(registers: &mut [u64; REGISTERS], answer: &Answer) -> bool
+    ensures { IsTaken (after_write answer.now registers.old) result registers.old registers.new }
 {
     match answer {
-        Answer::Granted => Some(granted(registers)),
-        Answer::Refused { .. } => Some(refused(registers)),
-        _ => None,
+        Answer::Granted => {
+            granted(registers);
+            true
+        }
+        Answer::Refused { .. } => {
+            refused(registers);
+            true
+        }
+        _ => false,
     }
 }
 
-/// After an answer to an update, which is never refused.
-fn after_update(registers: [u64; REGISTERS], answer: &Answer) -> Option<[u64; REGISTERS]>
-    ensures { result ≡ after_update answer.now registers }
+/// An answer to an update, which is never refused.
+fn after_update(registers: &mut [u64; REGISTERS], answer: &Answer) -> bool
+    ensures { IsTaken (after_update answer.now registers.old) result registers.old registers.new }
 {
     match answer {
-        Answer::Granted => Some(granted(registers)),
-        _ => None,
+        Answer::Granted => {
+            granted(registers);
+            true
+        }
+        _ => false,
     }
 }
 
-/// After an answer to a spawn.
-fn after_spawn(registers: [u64; REGISTERS], answer: &Answer) -> Option<[u64; REGISTERS]>
-    ensures { result ≡ after_spawn answer.now registers }
+/// Whether an answer belongs to a spawn.
+fn after_spawn(answer: &Answer) -> bool
+    ensures { (registers : Registers) → IsTaken (after_spawn answer.now registers) result registers registers }
 {
-    match answer {
-        Answer::Split(_) => Some(registers),
-        _ => None,
-    }
+    matches!(answer, Answer::Split(_))
 }
 
-/// After an answer to a sync.
-fn after_sync(registers: [u64; REGISTERS], answer: &Answer) -> Option<[u64; REGISTERS]>
-    ensures { result ≡ after_sync answer.now registers }
+/// Whether an answer belongs to a sync.
+fn after_sync(answer: &Answer) -> bool
+    ensures { (registers : Registers) → IsTaken (after_sync answer.now registers) result registers registers }
 {
-    match answer {
-        Answer::Same => Some(registers),
-        Answer::Joined(_) => Some(registers),
-        Answer::Waits => Some(registers),
-        _ => None,
-    }
+    matches!(answer, Answer::Same | Answer::Joined(_) | Answer::Waits)
 }

@@ -83,6 +83,18 @@ impl<A: Allocator + Clone> Gate<A> {
         self.core.memory()
     }
 
+    /// The entries, the oldest first, and what the cells hold, as [`Gate::history`] and [`Gate::memory`] show them, taken out of the gate.
+    pub fn into_parts(self) -> (Vec<Entry, A>, Vec<u64, A>)
+        ensures entries { reverse result.0.items ≡ self.history }
+        ensures cells { result.1.items ≡ self.memory }
+        ensures judged { IsJudged self.shape self.history }
+        ensures values { IsMemory self.shape.cells self.history self.memory }
+        ensures within { length self.history ≤ self.limit }
+    {
+        let Gate { core, history } = self;
+        (history, core.into_memory())
+    }
+
     /// Whether the root function has returned.
     pub fn is_finished(&self) -> bool
         ensures { IsTrue result ↔ IsFinished self.now.history }

@@ -99,6 +99,14 @@ impl<A: Allocator + Clone> Core<A> {
         })
     }
 
+    /// Asks for room for so many more spawns, as [`Strands::make_room`](sp_labels::Strands::make_room) does. It is a hint, which changes
+    /// nothing that is seen.
+    pub fn make_room(&mut self, spawns: usize)
+        ensures { self.new ≡ self.old }
+    {
+        self.tracks.strands.make_room(spawns);
+    }
+
     /// How many cells there are, and the monoids of the reducers, as handed to `new`.
     pub fn shape(&self) -> &Shape<A>
         ensures { shape_of result.now ≡ self.now.shape }
@@ -119,6 +127,22 @@ impl<A: Allocator + Clone> Core<A> {
         ensures values { (state : State) → IsCoreOf self.now state → IsMemory state.shape.cells state.history result.now }
     {
         self.memory.as_slice()
+    }
+
+    /// What the cells hold, as [`Core::memory`], taken out of the core.
+    pub(crate) fn into_memory(self) -> Vec<u64, A>
+        ensures { result.items ≡ self.memory }
+    {
+        let Core {
+            shape: _,
+            limit: _,
+            stopped: _,
+            entries: _,
+            finished: _,
+            memory,
+            tracks: _,
+        } = self;
+        memory
     }
 
     /// Whether the root function has returned.

@@ -4,3 +4,4 @@ pub mod Floats
 pub mod CleanRuns
 pub mod JudgedRuns
 pub mod Schedules
+pub mod Digits

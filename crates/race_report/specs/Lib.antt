@@ -1,4 +1,5 @@
 pub mod VerdictText
+pub mod Rooms
 pub mod Refusals
 pub mod ReportText
 pub mod Conditions

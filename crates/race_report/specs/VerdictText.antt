@@ -1,5 +1,5 @@
 -- The text of verdicts.
-use Rattle.std.specs.Prelude.{ℕ, Option, Some, None, List, [], ◌∷◌, ◌++◌, codes, decimal, flat_map, unwrap_or, option_and_then, option_map, IsSome}
+use Rattle.std.specs.Prelude.{ℕ, Option, List, [], ◌∷◌, ◌++◌, codes, decimal, flat_map, unwrap_or, option_and_then, option_map, IsSome}
 use Rattle.access_table.specs.declared.kind.Kind.{Kind}
 use Rattle.access_table.specs.Table.{rule_between, rule_spelling}
 use Rattle.trace_values.specs.declared.value.Act.{Act}

@@ -8,6 +8,7 @@
 
 mod json_report;
 pub mod laws;
+mod placed;
 mod verdict;
 
 pub use json_report::report;

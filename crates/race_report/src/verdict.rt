@@ -1,19 +1,27 @@
 //! The verdict lines: a line for each reply of a gate.
 
-ghost use Rattle.std.specs.Prelude.{◌≡◌, ◌++◌, ℕ, List, IfOk, OnOk, IsSome, decimal, unwrap_or};
+ghost use Rattle.std.specs.Prelude.{◌≡◌, ◌++◌, ◌∷◌, ◌+◌, ◌≤◌, ℕ, [], List, IfOk, OnOk, IsOk, IsSome, codes, decimal, length, take, unwrap_or, vec_capacity};
 ghost use Rattle.std.specs.List.{All};
-ghost use Rattle.race_report.specs.VerdictText.{refusal_word, HasWord, HasWords, answer_word, answer_numbers, answer_text, fault_word as word_of_fault, numbers_text, line_of, verdict_text};
+ghost use Rattle.race_report.specs.VerdictText.{refusal_word, HasWord, HasWords, answer_text, fault_word, numbers_text, line_of, verdict_text};
+ghost use Rattle.race_report.specs.Rooms.{HasRoom, number_room, line_room};
 
+use crate::placed::{put_number, put_word};
 use access_table::{Kind, rule_word};
 use itoa::Buffer;
 use race_gate::{Answer, GateFault, Reply};
+use shadow_history::Witness;
+use sp_labels::Spawned;
 use std::alloc::{AllocError, Allocator};
 use trace_values::{Act, access_asked};
+
+/// Room for each verdict line: the longest is of four numbers, of at most 20 digits each, and the words between them.
+const LINE: usize = 96;
 
 /// The word of the rule that an act and an earlier access of this kind come under.
 pub(crate) fn rule_of_refusal(act: Act, witness: Kind) -> &'static str
     requires { IsSome (refusal_word act witness) }
-    ensures { refusal_word act witness ≡ Some result.now }
+    ensures word { refusal_word act witness ≡ Some result.now }
+    ensures short { length result.now ≤ 16 }
 {
     let Some(asked) = access_asked(act) else {
         unreachable!()
@@ -24,115 +32,137 @@ pub(crate) fn rule_of_refusal(act: Act, witness: Kind) -> &'static str
     }
 }
 
-/// The word of a fault.
-fn fault_word(fault: GateFault) -> &'static str
-    ensures { result.now ≡ word_of_fault fault }
-{
-    match fault {
-        GateFault::Stopped => "stopped",
-        GateFault::Limit => "limit",
-        GateFault::NotRunning => "not-running",
-        GateFault::BadName => "bad-name",
-        GateFault::Unsynced => "unsynced",
-        GateFault::Memory => "memory",
-    }
-}
-
-/// Adds words to a text.
+/// Adds words to a text. It fails only where the text has no room for them.
 pub fn push_words<A: Allocator>(text: &mut Vec<u8, A>, words: &str) -> Result<(), AllocError>
-    ensures { OnOk result (text.new.items ≡ text.old.items ++ words.now) }
+    ensures added { OnOk result (text.new.items ≡ text.old.items ++ words.now) }
+    ensures capacity { vec_capacity text.old ≤ vec_capacity text.new }
+    ensures room { (more : ℕ) → HasRoom (length words.now + more) text.old → IsOk result × HasRoom more text.new }
 {
     text.extend_from_slice(words.as_bytes())
 }
 
-/// Adds a number to a text, behind what stands before it.
+/// Adds a number to a text, behind what stands before it. It fails only where the text has no room for that and 20 digits.
 pub fn push_number<A: Allocator>(
     text: &mut Vec<u8, A>,
     before: &str,
     number: u64,
 ) -> Result<(), AllocError>
-    ensures { OnOk result (text.new.items ≡ text.old.items ++ before.now ++ decimal number) }
+    ensures added { OnOk result (text.new.items ≡ text.old.items ++ before.now ++ decimal number) }
+    ensures capacity { vec_capacity text.old ≤ vec_capacity text.new }
+    ensures room { (more : ℕ) → HasRoom (length before.now + number_room + more) text.old → IsOk result × HasRoom more text.new }
 {
     push_words(text, before)?;
     push_words(text, Buffer::new().format(number))
 }
 
-/// Adds the word of an answer to an act.
-fn push_word<A: Allocator>(
-    text: &mut Vec<u8, A>,
-    act: Act,
-    answer: Answer,
-) -> Result<(), AllocError>
-    requires { HasWord act answer }
-    ensures { OnOk result (text.new.items ≡ text.old.items ++ answer_word act answer) }
+/// Puts a word, a number and a line feed.
+#[inline(always)]
+fn put_told(out: &mut [u8], at: usize, word: &str, number: u64) -> usize
+    requires room { at + length word.now + 21 ≤ length out.old }
+    ensures len { length out.new ≡ length out.old }
+    ensures put { take result out.new ≡ take at out.old ++ (word.now ++ decimal number ++ codes "\n") }
 {
-    let word = match answer {
-        Answer::Split(_) => "split",
-        Answer::Same => "same",
-        Answer::Joined(_) => "joined",
-        Answer::Waits => "waits",
-        Answer::Resumed => "resumed",
-        Answer::Ended => "ended",
-        Answer::EndedJoined(_) => "ended-joined",
-        Answer::Finished => "finished",
-        Answer::Granted => "granted",
-        Answer::Value(_) => "value",
-        Answer::Refused { witness, .. } => {
-            push_words(text, "refused ")?;
-            rule_of_refusal(act, witness.kind)
-        }
-        Answer::Unset => "refused unset",
-    };
-    push_words(text, word)
+    let place = put_word(out, at, word);
+    let end = put_number(out, place, number);
+    put_word(out, end, "\n")
 }
 
-/// Adds the numbers of an answer, each behind a space.
-fn push_numbers<A: Allocator>(text: &mut Vec<u8, A>, answer: Answer) -> Result<(), AllocError>
-    ensures { OnOk result (text.new.items ≡ text.old.items ++ numbers_text (answer_numbers answer)) }
+/// Puts the end of a line that tells a spawn.
+#[inline(always)]
+fn put_split(out: &mut [u8], at: usize, spawned: Spawned) -> usize
+    requires room { at + 70 ≤ length out.old }
+    ensures len { length out.new ≡ length out.old }
+    ensures put { take result out.new ≡ take at out.old ++ (codes " split" ++ numbers_text (spawned.child ∷ spawned.next ∷ spawned.join ∷ []) ++ codes "\n") }
+{
+    let place = put_word(out, at, " split ");
+    let child = put_number(out, place, u64::from(spawned.child));
+    let between = put_word(out, child, " ");
+    let next = put_number(out, between, u64::from(spawned.next));
+    put_told(out, next, " ", u64::from(spawned.join))
+}
+
+/// Puts the end of a line that tells a refusal: that, the rule and the witness.
+fn put_refusal(out: &mut [u8], at: usize, act: Act, witness: Witness) -> usize
+    requires word { IsSome (refusal_word act witness.kind) }
+    requires room { at + 48 ≤ length out.old }
+    ensures len { length out.new ≡ length out.old }
+    ensures put { take result out.new ≡ take at out.old ++ (codes " refused " ++ unwrap_or (refusal_word act witness.kind) [] ++ codes " " ++ decimal witness.entry ++ codes "\n") }
+{
+    let place = put_word(out, at, " refused ");
+    let end = put_word(out, place, rule_of_refusal(act, witness.kind));
+    put_told(out, end, " ", u64::from(witness.entry))
+}
+
+/// Puts the end of a line behind the entry's number: what the gate answered to an act.
+#[inline(always)]
+fn put_answer(out: &mut [u8], at: usize, act: Act, answer: Answer) -> usize
+    requires word { HasWord act answer }
+    requires room { at + 70 ≤ length out.old }
+    ensures len { length out.new ≡ length out.old }
+    ensures put { take result out.new ≡ take at out.old ++ (codes " " ++ answer_text act answer ++ codes "\n") }
 {
     match answer {
-        Answer::Split(spawned) => {
-            push_number(text, " ", u64::from(spawned.child))?;
-            push_number(text, " ", u64::from(spawned.next))?;
-            push_number(text, " ", u64::from(spawned.join))
-        }
-        Answer::Joined(join) | Answer::EndedJoined(join) => push_number(text, " ", u64::from(join)),
-        Answer::Value(value) => push_number(text, " ", value),
-        Answer::Refused { witness, .. } => push_number(text, " ", u64::from(witness.entry)),
-        _ => Ok(()),
+        Answer::Split(spawned) => put_split(out, at, spawned),
+        Answer::Same => put_word(out, at, " same\n"),
+        Answer::Joined(join) => put_told(out, at, " joined ", u64::from(join)),
+        Answer::Waits => put_word(out, at, " waits\n"),
+        Answer::Resumed => put_word(out, at, " resumed\n"),
+        Answer::Ended => put_word(out, at, " ended\n"),
+        Answer::EndedJoined(join) => put_told(out, at, " ended-joined ", u64::from(join)),
+        Answer::Finished => put_word(out, at, " finished\n"),
+        Answer::Granted => put_word(out, at, " granted\n"),
+        Answer::Value(value) => put_told(out, at, " value ", value),
+        Answer::Refused { witness, .. } => put_refusal(out, at, act, witness),
+        Answer::Unset => put_word(out, at, " refused unset\n"),
     }
 }
 
-/// Adds what the gate answered to an act.
-fn push_answer<A: Allocator>(
-    text: &mut Vec<u8, A>,
-    act: Act,
-    answer: Answer,
-) -> Result<(), AllocError>
-    requires { HasWord act answer }
-    ensures { OnOk result (text.new.items ≡ text.old.items ++ answer_text act answer) }
+/// Puts the line of a fault.
+fn put_fault(out: &mut [u8], at: usize, fault: GateFault) -> usize
+    requires room { at + 24 ≤ length out.old }
+    ensures len { length out.new ≡ length out.old }
+    ensures put { take result out.new ≡ take at out.old ++ (codes "illegal " ++ fault_word fault ++ codes "\n") }
 {
-    push_word(text, act, answer)?;
-    push_numbers(text, answer)
+    match fault {
+        GateFault::Stopped => put_word(out, at, "illegal stopped\n"),
+        GateFault::Limit => put_word(out, at, "illegal limit\n"),
+        GateFault::NotRunning => put_word(out, at, "illegal not-running\n"),
+        GateFault::BadName => put_word(out, at, "illegal bad-name\n"),
+        GateFault::Unsynced => put_word(out, at, "illegal unsynced\n"),
+        GateFault::Memory => put_word(out, at, "illegal memory\n"),
+    }
 }
 
-/// Adds the verdict line of a reply, as [`verdict_lines`] writes it.
-pub fn push_verdict<A: Allocator>(text: &mut Vec<u8, A>, reply: &Reply) -> Result<(), AllocError>
-    requires { HasWords reply.now }
-    ensures { OnOk result (text.new.items ≡ text.old.items ++ line_of reply.now) }
+/// Puts the line of a reply, and answers the place behind it.
+#[inline(always)]
+fn put_line(out: &mut [u8], at: usize, reply: &Reply) -> usize
+    requires words { HasWords reply.now }
+    requires room { at + 96 ≤ length out.old }
+    ensures len { length out.new ≡ length out.old }
+    ensures put { take result out.new ≡ take at out.old ++ line_of reply.now }
 {
     match reply {
         Reply::Done(receipt) => {
-            push_number(text, "", u64::from(receipt.number))?;
-            push_words(text, " ")?;
-            push_answer(text, receipt.request.act, receipt.answer)?;
+            let end = put_number(out, at, u64::from(receipt.number));
+            put_answer(out, end, receipt.request.act, receipt.answer)
         }
-        Reply::Illegal(fault) => {
-            push_words(text, "illegal ")?;
-            push_words(text, fault_word(*fault))?;
-        }
+        Reply::Illegal(fault) => put_fault(out, at, *fault),
     }
-    push_words(text, "\n")
+}
+
+/// Adds the verdict line of a reply, as [`verdict_lines`] writes it. It fails only where the text has no room for 128 bytes.
+pub fn push_verdict<A: Allocator>(text: &mut Vec<u8, A>, reply: &Reply) -> Result<(), AllocError>
+    requires { HasWords reply.now }
+    ensures added { OnOk result (text.new.items ≡ text.old.items ++ line_of reply.now) }
+    ensures capacity { vec_capacity text.old ≤ vec_capacity text.new }
+    ensures room { HasRoom line_room text.old → IsOk result }
+{
+    let at = text.len();
+    // Room is asked for once, for the longest line, and what is left of it is cut off.
+    text.extend_from_slice(&[0; LINE])?;
+    let end = put_line(text.as_mut_slice(), at, reply);
+    text.truncate(end);
+    Ok(())
 }
 
 /// The verdict lines of replies, a line for each. A Done reply is the entry's number, a space and the answer; an Illegal one is `illegal`

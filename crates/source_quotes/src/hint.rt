@@ -1,6 +1,7 @@
 //! What may help where a program's text means nothing. No contract says which help is told.
 
 ghost use Rattle.std.specs.Prelude.{◌<◌, length, IfSome};
+ghost use Rattle.trace_values.specs.Text.{IsTextLine};
 
 use crate::look::{Look, push_noted};
 use crate::source::Source;
@@ -140,6 +141,45 @@ fn name_of(word: &str) -> &str {
     }
 }
 
+/// The index in the word of an array's cell, and nothing of other words.
+fn index_of(word: &str) -> &str {
+    match word.split_once('[') {
+        Some((_, index)) => index.strip_suffix(']').unwrap_or(index),
+        None => "",
+    }
+}
+
+/// The first six words of a line, which are all that a statement has; where there are fewer, nothing in their place.
+fn six_words(line: &str) -> [&str; 6]
+    requires { IsTextLine line.now }
+{
+    let mut words = Words::of_line(line);
+    [
+        words.take().unwrap_or(""),
+        words.take().unwrap_or(""),
+        words.take().unwrap_or(""),
+        words.take().unwrap_or(""),
+        words.take().unwrap_or(""),
+        words.take().unwrap_or(""),
+    ]
+}
+
+/// What a statement uses, names and numbers, at most three: not the register that it assigns. Other lines use nothing.
+fn used_by(line: &str) -> [&str; 3]
+    requires { IsTextLine line.now }
+{
+    match six_words(line) {
+        ["let", _, _, left, _, right] => [left, right, ""],
+        ["read", _, cell, ..] => [name_of(cell), index_of(cell), ""],
+        ["write" | "bump", cell, value, ..] => [name_of(cell), index_of(cell), value],
+        ["update" | "put" | "spawn" | "call", name, value, ..] => [name, value, ""],
+        ["get", _, reducer, ..] => [reducer, "", ""],
+        ["pfor", _, count, function, ..] => [count, function, ""],
+        ["if", register, ..] => [register, "", ""],
+        _ => ["", "", ""],
+    }
+}
+
 /// Whether a line of a function makes a register of this name known.
 fn assigns(line: &[u8], name: &str) -> bool {
     let Some(text) = as_text(line) else {
@@ -171,7 +211,7 @@ fn is_known<B: Allocator>(source: &Source<'_, B>, function: &[&[u8]], name: &str
         || declared_at(source.as_slice(), name).is_some()
 }
 
-/// Adds each name of a line that nothing makes known.
+/// Adds each name that a line uses and that nothing makes known, once.
 fn push_unknown<A: Allocator, B: Allocator>(
     text: &mut Vec<u8, A>,
     look: Look,
@@ -182,11 +222,10 @@ fn push_unknown<A: Allocator, B: Allocator>(
         return Ok(());
     };
     let function = function_lines(source.before(number));
-    let mut words = Words::of_line(line);
-    words.take();
-    while let Some(word) = words.take() {
-        let name = name_of(word);
-        if is_name(name) && !is_known(source, function, name) {
+    let used = used_by(line);
+    for (place, name) in used.iter().enumerate() {
+        let is_told = used[..place].contains(name);
+        if is_name(name) && !is_told && !is_known(source, function, name) {
             push_note(
                 text,
                 look,

@@ -15,6 +15,9 @@ use slab::Slab;
 use std::alloc::{AllocError, Allocator};
 use std::marker::Model;
 
+/// The spawns after which there may be no number left for a strand, where each makes three.
+const MOST_SPAWNS: usize = 1_000_000;
+
 /// The strands of one spawn-sync program.
 pub struct Strands<A: Allocator> {
     records: Vec<Record, A>,
@@ -97,6 +100,18 @@ impl<A: Allocator> Strands<A> {
         self.callers.reserve(1)?;
         self.has_room = true;
         Ok(())
+    }
+
+    /// Asks for room for so many more spawns, so that strands need not grow by and by. It is a hint: it changes nothing that is
+    /// seen, and where there is no memory they grow as they are made.
+    pub fn make_room(&mut self, spawns: usize)
+        ensures { self.new ≡ self.old }
+    {
+        // A spawn makes three strands at most, and each event wants room for as many.
+        let strands = (spawns.min(MOST_SPAWNS) + 1) * 3;
+        self.english.make_room(strands as u32);
+        self.hebrew.make_room(strands as u32);
+        let _ = self.records.reserve(strands);
     }
 
     /// Whether there is room for one event.

@@ -7,3 +7,4 @@ pub mod Reaches
 pub mod Standing
 pub mod Tasks
 pub mod Workers
+pub mod Goings

@@ -1,11 +1,11 @@
 -- What a worker keeps, and what it does at a request.
-use Rattle.std.specs.Prelude.{◌≡◌, ◌≢◌, ◌⊎◌, ◌<◌, ◌≤◌, ℕ, Bool, true, false, List, [], ◌∷◌, ◌++◌, length, map, All, Option, Some, None, Result, Ok, Err, IfOk, IfSome, IsOkAnd, IsSomeAnd, vec_len, vec_capacity}
+use Rattle.std.specs.Prelude.{◌≡◌, ◌≢◌, ◌⊎◌, ◌<◌, ◌≤◌, ℕ, Bool, true, false, List, [], ◌∷◌, ◌++◌, length, map, All, Option, Some, None, Result, Ok, Err, IsOkAnd, vec_len, vec_capacity}
 use Rattle.std.specs.List.{list_any}
 use Rattle.std.specs.Global.{Vec}
 use Rattle.trace_values.specs.declared.value.Request.{Request}
 use Rattle.race_gate.specs.declared.fault.GateFault.{GateFault}
 use Rattle.race_gate.specs.declared.answer.Answer.{Answer}
-use Rattle.race_gate.specs.declared.answer.Answer.TheVariants.{Split, Joined, Waits, Ended, EndedJoined, Finished}
+use Rattle.race_gate.specs.declared.answer.Answer.TheVariants.{Split, Waits, EndedJoined}
 use Rattle.race_gate.specs.declared.answer.Receipt.{Receipt}
 use Rattle.program_steps.specs.Exchanges.{Exchange}
 use Rattle.frame_steps.specs.Frames.{IsAfter, CanFollow}
@@ -17,7 +17,6 @@ use Rattle.locked_replay.specs.declared.worker.WorkerLog.{WorkerLog}
 use Rattle.steal_workers.specs.declared.joining.Room.{Room}
 use Rattle.steal_workers.specs.Faults.{fault_of, refused_thread, IsFirstOf}
 use Rattle.steal_workers.specs.Finishing.{finishes}
-use Rattle.steal_workers.specs.Tasks.{IsOn}
 use Rattle.steal_workers.specs.declared.hand.Hand.{Hand}
 use Rattle.steal_workers.specs.Hands.{hand}
 use Rattle.steal_workers.specs.Reaches.{Deque, own_deque, own_view, deques_of, AllLeadTo}
@@ -116,15 +115,3 @@ AsksFor task before after = (receipt : Receipt) × (after ≡ before ++ receipt 
 abbrev pub child_of : Answer → List ℕ
 child_of (Split strands) = strands.child ∷ []
 child_of _ = []
-
--- Where a worker goes on after an answer to a task, whose open block before it had this join: a spawner at its next strand, a joined one
--- at the join, one that waits where the last child has ended already, and whoever was last to end where the task has come already.
-abbrev pub GoesOn : Answer → Option ℕ → Task → Result (Option Task) RunFault → Type 0
-GoesOn (Split strands) join task result = IfOk result (λ next. IsSomeAnd next (IsOn strands.next task))
-GoesOn (Joined begun) join task result = IsOkAnd result (λ next. IsSomeAnd next (IsOn begun task))
-GoesOn Waits None task result = result ≡ Err Strange
-GoesOn Waits (Some reserved) task result = IfOk result (λ next. IfSome next (IsOn reserved task))
-GoesOn Ended join task result = result ≡ Ok None
-GoesOn (EndedJoined begun) join task result = IfOk result (λ next. IfSome next (λ woken. woken.strand ≡ begun))
-GoesOn Finished join task result = result ≡ Ok None
-GoesOn _ join task result = IsOkAnd result (λ next. IsSomeAnd next (IsOn task.strand task))

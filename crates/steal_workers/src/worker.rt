@@ -1,8 +1,9 @@
 //! A worker.
 
-ghost use Rattle.std.specs.Prelude.{◌≡◌, ◌↔◌, ◌+◌, ◌<◌, [], ◌∷◌, ◌++◌, Err, IfErr, IfSome, IsTrue, MatchOption, OnOk, length, vec_len};
+ghost use Rattle.std.specs.Prelude.{◌≡◌, ◌↔◌, ◌+◌, ◌<◌, [], ◌∷◌, ◌++◌, Err, IfErr, IfOk, IfSome, IsTrue, MatchOption, OnOk, length, vec_len};
 ghost use Rattle.locked_replay.specs.declared.fault.RunFault.{RunFault};
 ghost use Rattle.steal_workers.specs.Hands.{pushing};
+ghost use Rattle.steal_workers.specs.Goings.{GoesOn, HandsOut, IsAtJoin};
 
 use crate::ends::Ends;
 use crate::fault::{fault_of, meeting_of, refusal_of};
@@ -25,6 +26,37 @@ struct Asked {
     target: Option<Target>,
     /// The join of the block that was open.
     join: Option<u32>,
+}
+
+/// Where a worker goes on after an answer.
+#[derive(Clone, Copy)]
+enum Going {
+    /// With the task that it has.
+    Ahead,
+    /// With another: the task waits for this join.
+    Parks(u32),
+    /// With the task that waits for this join, if it has come: the one that it has ended last of the join's children.
+    Wakes(u32),
+    /// With another: the task has ended.
+    Ends,
+}
+
+/// Hands out a task that does not go ahead. What comes out goes on in its place.
+fn hand_out<'p, R: Wait>(
+    rt: &R,
+    lot: &Lot<'p>,
+    going: Going,
+    task: Task<'p>,
+) -> Result<Option<Task<'p>>, RunFault>
+    ensures handed { HandsOut going task.entry result }
+    ensures torn { result ≡ Err RunFault.Torn → IsAtJoin going }
+{
+    match going {
+        Going::Ahead => Ok(Some(task)),
+        Going::Parks(join) => lot.park(rt, join, task).map_err(meeting_of),
+        Going::Wakes(join) => lot.wake(rt, join).map_err(meeting_of),
+        Going::Ends => Ok(None),
+    }
 }
 
 fn is_same_act(one: Act, other: Act) -> bool
@@ -53,7 +85,7 @@ pub(crate) struct Worker<'p, L: Ledger> {
 
 impl<'p, L: Ledger> Worker<'p, L> {
     ghost use Rattle.steal_workers.specs.Reaches.{own_view};
-    ghost use Rattle.steal_workers.specs.Workers.{station_of, AsksFor, KeepsReceipt, GoesOn, MeetsJoin, EndsAtJoin, TornAtJoin, child_of};
+    ghost use Rattle.steal_workers.specs.Workers.{station_of, AsksFor, KeepsReceipt, MeetsJoin, EndsAtJoin, TornAtJoin, child_of};
 
     pub(crate) fn new(alloc: Global, seat: Seat<L>, ends: Ends<'p>) -> Worker<'p, L>
         ensures before { result.before ≡ seat.asked }
@@ -102,23 +134,24 @@ impl<'p, L: Ledger> Worker<'p, L> {
         }
     }
 
-    /// Asks what a task asks next. The task that comes out is where the worker goes on.
+    /// Asks what a task asks next, and goes on with it in place as far as the answer says so. Whoever is told to hand it out does that.
     fn step<G: Ask<L>, R: Wait>(
         &mut self,
         rt: &R,
         alloc: Global,
         gate: &G,
         lot: &Lot<'p>,
-        task: Task<'p>,
-    ) -> Result<Option<Task<'p>>, RunFault>
+        task: &mut Task<'p>,
+    ) -> Result<Going, RunFault>
         ensures station { station_of self.new ≡ station_of self.old }
-        ensures asks { OnOk result (AsksFor task.entry self.old.receipts.items self.new.receipts.items) }
+        ensures asks { OnOk result (AsksFor task.old self.old.receipts.items self.new.receipts.items) }
+        ensures joins { IfOk result (λ going. IsAtJoin going → EndsAtJoin self.new.receipts.items) }
         ensures torn { result ≡ Err RunFault.Torn → EndsAtJoin self.new.receipts.items }
     {
         let Task {
             strand,
             program,
-            mut frame,
+            frame,
         } = task;
         if frame.is_over() {
             return Err(RunFault::Strange);
@@ -130,59 +163,60 @@ impl<'p, L: Ledger> Worker<'p, L> {
             join: frame.block_join(),
         };
         let request = Request {
-            strand,
+            strand: *strand,
             act: want.act,
             line: want.line,
         };
         let answer = self.ask(rt, gate, request)?;
         frame.answer(program, &answer).map_err(refusal_of)?;
-        let task = Task {
-            strand,
-            program,
-            frame,
-        };
-        self.follow(rt, alloc, lot, task, answer, asked)
+        self.follow(rt, alloc, lot, program, strand, answer, asked)
     }
 
-    /// Where the worker goes on after an answer that the frame took.
+    /// Where the worker goes on after an answer that the frame took, and on which strand.
     fn follow<R: Wait>(
         &mut self,
         rt: &R,
         alloc: Global,
         lot: &Lot<'p>,
-        task: Task<'p>,
+        program: &'p Program<Global>,
+        strand: &mut u32,
         answer: Answer,
         asked: Asked,
-    ) -> Result<Option<Task<'p>>, RunFault>
-        requires { IfSome asked.target (λ t. t.function < length task.program.now.functions) }
+    ) -> Result<Going, RunFault>
+        requires { IfSome asked.target (λ t. t.function < length program.now.functions) }
         ensures station { station_of self.new ≡ station_of self.old }
         ensures pushed { OnOk result ((own_view self.new.ends).pushed ≡ (own_view self.old.ends).pushed ++ child_of answer) }
         ensures receipts { self.new.receipts ≡ self.old.receipts }
-        ensures goes_on { GoesOn answer asked.join task.entry result }
-        ensures torn { result ≡ Err RunFault.Torn → MeetsJoin answer }
+        ensures goes_on { GoesOn answer asked.join strand.old strand.new result }
+        ensures joins { IfOk result (λ going. IsAtJoin going → MeetsJoin answer) }
+        ensures torn { result ≡ Err RunFault.Torn → ⊥ }
     {
         match answer {
             Answer::Split(strands) => {
-                self.spawn(alloc, task.program, strands.child, asked.target)?;
-                Ok(Some(task.on(strands.next)))
+                self.spawn(alloc, program, strands.child, asked.target)?;
+                *strand = strands.next;
+                Ok(Going::Ahead)
             }
-            Answer::Joined(join) => Ok(Some(task.on(join))),
+            Answer::Joined(join) => {
+                *strand = join;
+                Ok(Going::Ahead)
+            }
             Answer::Waits => match asked.join {
-                Some(join) => lot.park(rt, join, task).map_err(meeting_of),
+                Some(join) => Ok(Going::Parks(join)),
                 None => Err(RunFault::Strange),
             },
-            Answer::Ended => Ok(None),
-            Answer::EndedJoined(join) => lot.wake(rt, join).map_err(meeting_of),
+            Answer::Ended => Ok(Going::Ends),
+            Answer::EndedJoined(join) => Ok(Going::Wakes(join)),
             Answer::Finished => {
                 lot.close(rt);
-                Ok(None)
+                Ok(Going::Ends)
             }
             Answer::Same
             | Answer::Resumed
             | Answer::Granted
             | Answer::Value(_)
             | Answer::Refused { .. }
-            | Answer::Unset => Ok(Some(task)),
+            | Answer::Unset => Ok(Going::Ahead),
         }
     }
 
@@ -210,6 +244,30 @@ impl<'p, L: Ledger> Worker<'p, L> {
         }
     }
 
+    /// Goes on with a task, and with those that the lot gives in its place, until there is none.
+    fn walk<G: Ask<L>, R: Wait>(
+        &mut self,
+        rt: &R,
+        alloc: Global,
+        gate: &G,
+        lot: &Lot<'p>,
+        mut task: Task<'p>,
+    ) -> Result<(), RunFault>
+        ensures station { station_of self.new ≡ station_of self.old }
+        ensures torn { result ≡ Err RunFault.Torn → EndsAtJoin self.new.receipts.items }
+    {
+        for _ in rt.forever() {
+            match self.step(rt, alloc, gate, lot, &mut task)? {
+                Going::Ahead => {}
+                going => match hand_out(rt, lot, going, task)? {
+                    Some(next) => task = next,
+                    None => return Ok(()),
+                },
+            }
+        }
+        Ok(())
+    }
+
     fn work<G: Ask<L>, R: Wait>(
         &mut self,
         rt: &R,
@@ -221,16 +279,11 @@ impl<'p, L: Ledger> Worker<'p, L> {
         ensures torn { result ≡ Err RunFault.Torn → EndsAtJoin self.new.receipts.items }
     {
         let backoff = Backoff::new();
-        let mut next = None;
         for _ in rt.forever() {
-            let found = match next.take() {
-                Some(task) => Some(task),
-                None => self.ends.find(),
-            };
-            match found {
+            match self.ends.find() {
                 Some(task) => {
                     backoff.reset();
-                    next = self.step(rt, alloc, gate, lot, task)?;
+                    self.walk(rt, alloc, gate, lot, task)?;
                 }
                 None => {
                     if lot.look(rt) {

@@ -1,9 +1,9 @@
 -- Bytes that are read or written in pieces, and calls that are counted.
-use Rattle.std.proofs.Common.{◌≡◌, ◌≤◌, ◌<◌, ℕ, zero, suc, ◌+◌, ◌-◌, ◌^◌, min, List, [], ◌++◌, Option, Some, None, take, drop, length, refl, ap, sym, subst, ◌∙◌, append_assoc, length-append, add-one, arith}
+use Rattle.std.proofs.Common.{◌≡◌, ◌≤◌, ◌<◌, ℕ, zero, suc, ◌+◌, ◌-◌, ◌^◌, min, List, [], ◌++◌, Option, Some, None, take, drop, length, refl, ap, sym, subst, ◌∙◌, append-nil, append_assoc, length-append, add-one, arith}
 use Rattle.std.specs.Prelude.{Bool, true, false, ◌==◌, ◌&&◌, ◌||◌, not}
 use Rattle.std.proofs.lemmas.List.{take-append-drop}
 use Rattle.std.proofs.lemmas.Bool.{ne_eqb}
-use Rattle.std.specs.Io.KnownBytes.{Consumes, Appends}
+use Rattle.std.specs.Io.KnownBytes.{Consumes, Appends, Keeps}
 use Rattle.text_commands.specs.declared.fault.CliFault.{CliFault}
 use Rattle.text_commands.specs.declared.fault.CliFault.TheVariants.{Read, TooLong, Memory}
 use Rattle.text_commands.specs.Watched.{one_more, count_after, IsCalledAtMost}
@@ -20,6 +20,18 @@ consumes-more None between last bytes more taken more_taken = tt
 consumes-more (Some xs) None last bytes more taken more_taken = absurd taken
 consumes-more (Some xs) (Some ys) None bytes more taken more_taken = absurd more_taken
 consumes-more (Some xs) (Some ys) (Some zs) bytes more taken more_taken = taken ∙ ap (λ rest. bytes ++ rest) more_taken ∙ sym (append_assoc bytes more zs)
+
+-- nothing was written
+pub appends-none : (known : Option (List ℕ)) → Appends known known []
+appends-none None = tt
+appends-none (Some bytes) = sym (append-nil bytes)
+
+-- nothing more was written
+pub appends-kept : (first between last : Option (List ℕ)) (bytes : List ℕ) → Appends first between bytes → Keeps between last → Appends first last bytes
+appends-kept None between last bytes written kept = tt
+appends-kept (Some xs) None last bytes written kept = absurd written
+appends-kept (Some xs) (Some ys) None bytes written kept = absurd kept
+appends-kept (Some xs) (Some ys) (Some zs) bytes written kept = kept ∙ written
 
 -- one piece after another
 pub appends-more : (first between last : Option (List ℕ)) (bytes more : List ℕ) → Appends first between bytes → Appends between last more → Appends first last (bytes ++ more)

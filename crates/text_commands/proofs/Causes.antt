@@ -1,23 +1,36 @@
--- What each step of judging a stream says of the whole.
-use Rattle.std.proofs.Common.{◌≡◌, ℕ, List, Option, ◌∙◌}
+-- What the end of judging a text says of the whole.
+use Rattle.std.proofs.Common.{◌≡◌, ℕ, List, Option}
+use Rattle.std.specs.Prelude.{Bool, Result, Ok, Err, IfOk, IfErr}
+use Rattle.std.specs.Io.KnownBytes.{Appends}
+use Rattle.trace_values.specs.Values.{Contents}
+use Rattle.trace_text.specs.Grammar.{TextMeans}
 use Rattle.race_gate.specs.declared.answer.Reply.{Reply}
+use Rattle.race_report.specs.VerdictText.{verdict_text}
 use Rattle.text_commands.specs.declared.fault.CliFault.{CliFault}
 use Rattle.text_commands.specs.declared.fault.CliFault.TheVariants.{Write}
-use Rattle.race_report.specs.VerdictText.{verdict_text}
-use Rattle.text_commands.specs.Streams.{AnswersText, IsRead, HasCause, StopsWriting}
+use Rattle.text_commands.specs.declared.judge.Verdicts.{Verdicts}
+use Rattle.text_commands.specs.Statuses.{status_of_replies}
+use Rattle.text_commands.specs.Streams.{AnswersText, StopsWriting, StopsAnswer}
+use Rattle.text_commands.specs.Meetings.{Tells, TellsTrace}
 
--- only a part could be written
-pub writing_cause : (before behind wrote writes : Option (List ℕ)) (limit : ℕ) (text lines : List ℕ) (replies : List Reply) (fault : CliFault) →
-    IsRead before behind text → AnswersText text limit replies → lines ≡ verdict_text replies → StopsWriting wrote writes lines fault →
-    HasCause before behind wrote writes limit fault
-writing_cause before behind wrote writes limit text lines replies Write read answers are stops = record {
-  text = text;
-  replies = replies;
-  part = stops.0;
-  rest = stops.1;
-  read = read;
-  answers = answers;
-  written = stops.2;
-  prefix = stops.3 ∙ are;
-}
-writing_cause before behind wrote writes limit text lines replies fault read answers are stops = absurd stops
+module _ {A : Type 0} (verdicts : Verdicts A) (limit : ℕ) (text : List ℕ) (contents : Contents) (wrote between writes : Option (List ℕ)) (failed : Bool)
+    (means : TextMeans text contents) (told : TellsTrace contents limit wrote between failed verdicts) where
+  replied : AnswersText text limit told.0
+  replied = record { contents = contents; means = means; replied = told.1 }
+
+  -- all was written
+  pub told_answer : (result : Result ℕ CliFault) →
+      IfOk result (λ status. (first : Option (List ℕ)) (replies : List Reply) → Tells replies verdicts first between failed →
+      (status ≡ status_of_replies replies) × Appends first writes (verdict_text replies)) →
+      IfOk result (λ status. (replies : List Reply) × (status ≡ status_of_replies replies) × AnswersText text limit replies × Appends wrote writes (verdict_text replies))
+  told_answer (Ok status) ends = let whole = ends wrote told.0 told.2 in (told.0, whole.0, replied, whole.1)
+  told_answer (Err fault) ends = tt
+
+  -- a part was written
+  pub told_stop : (result : Result ℕ CliFault) →
+      IfErr result (λ fault. (first : Option (List ℕ)) (replies : List Reply) → Tells replies verdicts first between failed →
+      StopsWriting first writes (verdict_text replies) fault) →
+      IfErr result (StopsAnswer text limit wrote writes)
+  told_stop (Ok status) ends = tt
+  told_stop (Err Write) ends = (told.0, replied, ends wrote told.0 told.2)
+  told_stop (Err fault) ends = absurd (ends wrote told.0 told.2)

@@ -14,5 +14,6 @@ pub mod Runs
 pub mod Traced
 pub mod Explanations
 pub mod Sources
+pub mod Names
 pub mod Performed
 pub mod Laws

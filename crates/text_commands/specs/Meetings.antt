@@ -1,5 +1,6 @@
 -- What was made of the replies to requests while they were judged.
-use Rattle.std.specs.Prelude.{◌≡◌, ℕ, List}
+use Rattle.std.specs.Prelude.{◌≡◌, ◌++◌, ℕ, Bool, false, List, Option}
+use Rattle.std.specs.Io.KnownBytes.{Appends}
 use Rattle.std.specs.List.{list_any}
 use Rattle.trace_values.specs.declared.value.Request.{Request}
 use Rattle.trace_values.specs.Values.{Contents}
@@ -20,19 +21,31 @@ pub record HasMet (replies : List Reply) (met : Met) : Type 0 where
   pub illegal : met.illegal ≡ list_any is_illegal replies
   pub refusal : met.refusal ≡ list_any is_refusal replies
 
+-- so many bytes of verdict lines wait at most before they are written
+abbrev pub most_held : ℕ
+most_held = 65_536
+
+-- A text was told so far: a part of it was written, and where no write has failed the rest waits.
+pub record IsTold (wrote writes : Option (List ℕ)) (failed : Bool) (waiting text : List ℕ) : Type 0 where
+  pub part : List ℕ
+  pub rest : List ℕ
+  pub written : Appends wrote writes part
+  pub whole : part ++ rest ≡ text
+  pub waits : failed ≡ false → rest ≡ waiting
+
 module _ {A : Type 0} where
-  -- the verdict lines of the replies, and what was met among them
-  pub record Tells (replies : List Reply) (verdicts : Verdicts A) : Type 0 where
-    pub lines : verdicts.lines.items ≡ verdict_text replies
+  -- the verdict lines of the replies were told, and what was met among them
+  pub record Tells (replies : List Reply) (verdicts : Verdicts A) (wrote writes : Option (List ℕ)) (failed : Bool) : Type 0 where
+    pub lines : IsTold wrote writes failed verdicts.lines.items (verdict_text replies)
     pub met : HasMet replies verdicts.met
 
   -- from this state on a core has judged the requests with these replies, which are told
-  pub record HasJudged (start : State) (requests : List Request) (replies : List Reply) (core : CoreState) (verdicts : Verdicts A) : Type 0 where
+  pub record HasJudged (start : State) (requests : List Request) (replies : List Reply) (core : CoreState) (verdicts : Verdicts A) (wrote writes : Option (List ℕ)) (failed : Bool) : Type 0 where
     pub last : State
     pub judges : JudgesAll start requests replies last
     pub fits : IsCoreOf core last
-    pub tells : Tells replies verdicts
+    pub tells : Tells replies verdicts wrote writes failed
 
   -- the replies to the requests of a trace are told
-  abbrev pub TellsTrace : Contents → (limit : ℕ) → Verdicts A → Type 0
-  TellsTrace contents limit verdicts = (replies : List Reply) × AreReplies contents limit replies × Tells replies verdicts
+  abbrev pub TellsTrace : Contents → (limit : ℕ) → (wrote writes : Option (List ℕ)) → (failed : Bool) → Verdicts A → Type 0
+  TellsTrace contents limit wrote writes failed verdicts = (replies : List Reply) × AreReplies contents limit replies × Tells replies verdicts wrote writes failed

@@ -1,6 +1,6 @@
 //! What commands see of the world around them.
 
-ghost use Rattle.std.specs.Prelude.{◌≡◌, ℕ, List, Option, IfOk, IsErr};
+ghost use Rattle.std.specs.Prelude.{◌≡◌, ℕ, Bool, List, Option, IfOk, IsErr};
 ghost use Rattle.text_commands.specs.Sources.{Sources};
 
 use std::io;
@@ -33,6 +33,9 @@ pub trait Host {
     // That no file with this name can be created, where that is known.
     ghost bars: { Self → List ℕ → Type 0 };
 
+    // What it may say to whether two names are of one file.
+    ghost says_one: { Self → (first second : List ℕ) → Bool → Type 0 };
+
     /// Standard input.
     fn input(&mut self) -> Self::Input
         ensures { Self.Input.remaining result ≡ (sources self.old).input };
@@ -46,6 +49,10 @@ pub trait Host {
     fn create(&mut self, name: &str) -> io::Result<Self::Created>
         ensures blank { IfOk result (λ file. Self.Created.contents file ≡ blank self.old) }
         ensures barred { bars self.old name.now → IsErr result };
+
+    /// Whether the two names are known to be of one file that is there.
+    fn is_one_file(&self, first: &str, second: &str) -> bool
+        ensures { says_one self.now first.now second.now result };
 
     /// Whether what is written to standard output is seen on a terminal.
     fn is_terminal(&self) -> bool;

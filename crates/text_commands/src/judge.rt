@@ -1,6 +1,6 @@
 //! Judging the trace that a reader gives.
 
-ghost use Rattle.std.specs.Prelude.{◌≡◌, ◌↔◌, ◌≤◌, ◌≢◌, ◌++◌, ◌∷◌, ◌+◌, ◌<◌, ℕ, List, [], true, false, length, map, IfOk, IfErr, OnOk, IsErrOf, IsTrue, MatchResult};
+ghost use Rattle.std.specs.Prelude.{◌≡◌, ◌↔◌, ◌≤◌, ◌≢◌, ◌++◌, ◌∷◌, ◌+◌, ◌<◌, ℕ, List, [], Option, true, false, length, map, vec_len, vec_capacity, IfOk, IfErr, OnOk, OnErr, IsErrOf, IsTrue, MatchResult};
 ghost use Rattle.std.specs.Io.KnownBytes.{Appends};
 ghost use Rattle.trace_text.specs.Grammar.{TextMeans};
 ghost use Rattle.trace_values.specs.Limits.{max_requests};
@@ -11,77 +11,149 @@ ghost use Rattle.race_gate.specs.States.{State};
 ghost use Rattle.race_gate.specs.declared.answer.Reply.{Reply as SpecReply};
 ghost use Rattle.trace_values.specs.declared.value.Request.{Request as SpecRequest};
 ghost use Rattle.text_commands.specs.Watched.{held, has_failed, is_delivered, calls_of, IsCalledAtMost};
-ghost use Rattle.text_commands.specs.Meetings.{HasJudged, Tells, TellsTrace};
+ghost use Rattle.text_commands.specs.Meetings.{most_held, IsTold, HasJudged, Tells, TellsTrace};
+ghost use Rattle.race_report.specs.VerdictText.{HasWords, line_of, verdict_text};
 ghost use Rattle.text_commands.specs.Statuses.{status_of_replies};
-ghost use Rattle.text_commands.specs.Streams.{most_reads, declared_shape, requests_of, IsJudgedBy, JudgesTrace, AreReplies, AnswersText, IsAnswered, IsFaultOf, HasCause};
+ghost use Rattle.text_commands.specs.Streams.{most_reads, declared_shape, requests_of, IsJudgedBy, JudgesTrace, AreReplies, AnswersText, IsAnswered, StopsWriting, StopsAnswer, HasCause};
 
 use crate::fault::CliFault;
 use crate::status::Met;
-use crate::streams::{parse_trace, read_text, write_text};
+use crate::streams::{deliver, parse_trace, read_text, write_bytes};
 use crate::watched::Watched;
-use race_gate::{Core, Gate, Reply, judge_all};
+use race_gate::{Core, Reply};
 use race_report::push_verdict;
 use std::alloc::{AllocError, Allocator};
 use std::io::{Read, Write};
 use trace_text::Trace;
-use trace_values::{Request, Shape};
+use trace_values::Request;
 
-/// What is told of the replies to requests: their verdict lines, and what the exit status wants to know of them.
+/// How many bytes of verdict lines wait at most before they are written.
+const MOST_HELD: usize = 65_536;
+/// How many bytes a verdict line has at most.
+const LINE: usize = 128;
+
+/// What is told of the replies to requests: the verdict lines that wait to be written, and what the exit status wants to know of all.
 #[derive(Drop)]
 struct Verdicts<A: Allocator> {
     lines: Vec<u8, A>,
     met: Met,
 }
 
-/// Judges a request and tells the reply.
-fn tell<A: Allocator + Clone>(
-    core: &mut Core<A>,
-    verdicts: &mut Verdicts<A>,
-    request: Request,
-) -> Result<(), AllocError>
-    requires { IsCore core.old }
-    ensures { (start : State) (requests : List SpecRequest) (replies : List SpecReply) → HasJudged start requests replies core.old verdicts.old →
-        OnOk result ((reply : SpecReply) × HasJudged start (requests ++ request ∷ []) (replies ++ reply ∷ []) core.new verdicts.new) }
+/// Writes the lines that wait, where no write has failed, and lets them go.
+fn give<A: Allocator, W: Write>(output: &mut Watched<W>, lines: &mut Vec<u8, A>)
+    ensures told { (wrote : Option (List ℕ)) (text : List ℕ) → IsTold wrote (W.contents (held output.old)) (has_failed output.old) lines.old.items text →
+        IsTold wrote (W.contents (held output.new)) (has_failed output.new) lines.new.items text }
+    ensures none { lines.new.items ≡ [] }
+    ensures empty { vec_len lines.new ≡ 0 }
+    ensures capacity { vec_capacity lines.new ≡ vec_capacity lines.old }
 {
-    let reply = core.reply(request);
-    push_verdict(&mut verdicts.lines, &reply)?;
-    verdicts.met.meet(&reply);
-    Ok(())
+    if !output.failed() {
+        // The writer notes where this fails.
+        let _ = write_bytes(output, lines.as_slice());
+    }
+    lines.clear();
 }
 
-/// Judges the requests of a trace in their order, and tells the replies one by one, so that none is kept.
-fn judge<A: Allocator + Copy>(
+/// Adds the verdict line of a reply to those that wait, which are written first where it might not fit.
+fn put<A: Allocator, W: Write>(output: &mut Watched<W>, lines: &mut Vec<u8, A>, reply: &Reply)
+    requires words { HasWords reply.now }
+    requires room { most_held ≤ vec_capacity lines.old }
+    ensures told { (wrote : Option (List ℕ)) (text : List ℕ) → IsTold wrote (W.contents (held output.old)) (has_failed output.old) lines.old.items text →
+        IsTold wrote (W.contents (held output.new)) (has_failed output.new) lines.new.items (text ++ line_of reply.now) }
+    ensures room { most_held ≤ vec_capacity lines.new }
+{
+    if lines.len() > MOST_HELD - LINE {
+        give(output, lines);
+    }
+    // There is room, so this does not fail.
+    let _ = push_verdict(lines, reply);
+}
+
+/// Judges a request and tells the reply.
+fn tell<A: Allocator + Clone, W: Write>(
+    core: &mut Core<A>,
+    verdicts: &mut Verdicts<A>,
+    output: &mut Watched<W>,
+    request: Request,
+)
+    requires core { IsCore core.old }
+    requires room { most_held ≤ vec_capacity verdicts.old.lines }
+    ensures judged { (start : State) (wrote : Option (List ℕ)) (requests : List SpecRequest) (replies : List SpecReply) →
+        HasJudged start requests replies core.old verdicts.old wrote (W.contents (held output.old)) (has_failed output.old) →
+        (reply : SpecReply) × HasJudged start (requests ++ request ∷ []) (replies ++ reply ∷ []) core.new verdicts.new wrote (W.contents (held output.new)) (has_failed output.new) }
+    ensures room { most_held ≤ vec_capacity verdicts.new.lines }
+{
+    let reply = core.reply(request);
+    put(output, &mut verdicts.lines, &reply);
+    verdicts.met.meet(&reply);
+}
+
+/// Judges the requests of a trace in their order, and tells the replies one by one. All memory that this may fail for is taken first, so
+/// nothing is written then.
+fn judge<A: Allocator + Copy, W: Write>(
     alloc: A,
     trace: &Trace<A>,
+    output: &mut Watched<W>,
     limit: u32,
 ) -> Result<Verdicts<A>, AllocError>
     requires limit { limit ≤ most_entries }
-    ensures { IfOk result (TellsTrace (contents trace.now) limit) }
+    ensures told { IfOk result (TellsTrace (contents trace.now) limit (W.contents (held output.old)) (W.contents (held output.new)) (has_failed output.new)) }
+    ensures unwritten { OnErr result (output.new ≡ output.old) }
 {
     let shape = trace.shape(alloc)?;
     let mut core = Core::new(alloc, &shape, limit)?;
     let mut verdicts = Verdicts {
-        lines: Vec::new(alloc),
+        lines: Vec::with_capacity(alloc, MOST_HELD)?,
         met: Met::new(),
     };
+    // There are no more spawns than requests. Room that is not filled costs nothing, and a pass that counts them would.
+    core.make_room(trace.lines.as_slice().len());
     for line in trace.lines.as_slice() {
-        tell(&mut core, &mut verdicts, line.request)?;
+        tell(&mut core, &mut verdicts, output, line.request);
     }
     Ok(verdicts)
 }
 
-/// What is told of the requests of the trace that a text means; the text is let go.
-fn answer_text<A: Allocator + Copy>(
+/// Writes the lines that wait behind the last reply, and sees to it that all are delivered.
+fn finish<A: Allocator, W: Write>(
+    output: &mut Watched<W>,
+    mut verdicts: Verdicts<A>,
+) -> Result<u8, CliFault>
+    ensures answered { IfOk result (λ status. (wrote : Option (List ℕ)) (replies : List SpecReply) → Tells replies verdicts wrote (W.contents (held output.old)) (has_failed output.old) →
+        (status ≡ status_of_replies replies) × Appends wrote (W.contents (held output.new)) (verdict_text replies)) }
+    ensures fault { IfErr result (λ fault. (wrote : Option (List ℕ)) (replies : List SpecReply) → Tells replies verdicts wrote (W.contents (held output.old)) (has_failed output.old) →
+        StopsWriting wrote (W.contents (held output.new)) (verdict_text replies) fault) }
+    ensures only { IfErr result (λ fault. fault ≡ CliFault.Write) }
+    ensures delivered { OnOk result (is_delivered output.new ≡ true) }
+    ensures failed { IsErrOf result CliFault.Write ↔ IsTrue (has_failed output.new) }
+{
+    give(output, &mut verdicts.lines);
+    if output.failed() {
+        return Err(CliFault::Write);
+    }
+    deliver(output)?;
+    Ok(verdicts.met.status())
+}
+
+/// Tells what is to be told of the requests of the trace that a text means; the text is let go.
+fn answer_text<A: Allocator + Copy, W: Write>(
     alloc: A,
     text: Vec<u8, A>,
+    output: &mut Watched<W>,
     limit: u32,
-) -> Result<Verdicts<A>, CliFault>
+) -> Result<u8, CliFault>
+    requires writer { has_failed output.old ≡ false }
     requires limit { limit ≤ most_entries }
-    ensures answers { IfOk result (λ verdicts. (replies : List SpecReply) × AnswersText text.items limit replies × Tells replies verdicts) }
-    ensures fault { IfErr result (IsFaultOf text.items) }
+    ensures answered { IfOk result (λ status. (replies : List SpecReply) × (status ≡ status_of_replies replies) × AnswersText text.items limit replies
+        × Appends (W.contents (held output.old)) (W.contents (held output.new)) (verdict_text replies)) }
+    ensures fault { IfErr result (StopsAnswer text.items limit (W.contents (held output.old)) (W.contents (held output.new))) }
+    ensures delivered { OnOk result (is_delivered output.new ≡ true) }
+    ensures write_failed { IsErrOf result CliFault.Write ↔ IsTrue (has_failed output.new) }
+    ensures unwritten { IfErr result (λ fault. fault ≢ CliFault.Write → output.new ≡ output.old) }
 {
     let trace = parse_trace(alloc, text)?;
-    Ok(judge(alloc, &trace, limit)?)
+    let verdicts = judge(alloc, &trace, output, limit)?;
+    finish(output, verdicts)
 }
 
 /// Reads a trace to its end, judges its requests in their order by a gate with this limit on the entries of its history, and writes
@@ -90,7 +162,7 @@ fn answer_text<A: Allocator + Copy>(
 ///
 /// It answers [`CliFault::Read`] or [`CliFault::Write`] exactly where the reader or the writer has failed, [`CliFault::TooLong`] for
 /// more than 67,108,864 bytes, [`CliFault::Trace`] with the first fault of a text that means no trace, and [`CliFault::Memory`] where
-/// a growth was refused. Nothing is written then, but for the part that a failed write has taken. The reader is asked at most
+/// a growth was refused. Nothing is written then, but for the part that was taken before a write failed. The reader is asked at most
 /// 67,108,865 times, since each piece but the last has a byte; its `calls` tells so where it began with room for more than these.
 pub fn judge_stream<A: Allocator + Copy, R: Read, W: Write>(
     alloc: A,
@@ -111,7 +183,5 @@ pub fn judge_stream<A: Allocator + Copy, R: Read, W: Write>(
     ensures unwritten { IfErr result (λ fault. fault ≢ CliFault.Write → output.new ≡ output.old) }
 {
     let text = read_text(alloc, input)?;
-    let verdicts = answer_text(alloc, text, limit)?;
-    write_text(output, verdicts.lines.as_slice())?;
-    Ok(verdicts.met.status())
+    answer_text(alloc, text, output, limit)
 }

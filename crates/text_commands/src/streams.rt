@@ -1,7 +1,7 @@
 //! Reading the texts that commands are given, and writing those that they answer.
 
 ghost use Rattle.std.specs.Prelude.{◌≡◌, ◌↔◌, ◌≤◌, ◌++◌, ◌+◌, ◌<◌, ℕ, List, true, false, length, IfOk, IfErr, OnOk, IsErrOf, IsTrue};
-ghost use Rattle.std.specs.Io.KnownBytes.{Appends};
+ghost use Rattle.std.specs.Io.KnownBytes.{Appends, Keeps};
 ghost use Rattle.trace_values.specs.declared.fault.TextFault.{TextFault as SpecFault};
 ghost use Rattle.trace_text.specs.Grammar.{TextMeans as TraceMeans};
 ghost use Rattle.trace_text.specs.Traces.{contents as trace_contents};
@@ -77,12 +77,11 @@ pub fn read_text<A: Allocator + Copy, R: Read>(
     Err(CliFault::TooLong)
 }
 
-/// Writes a text and sees to it that it is delivered.
-pub fn write_text<W: Write>(output: &mut Watched<W>, text: &[u8]) -> Result<(), CliFault>
+/// Writes a text.
+pub(crate) fn write_bytes<W: Write>(output: &mut Watched<W>, text: &[u8]) -> Result<(), CliFault>
     requires { has_failed output.old ≡ false }
     ensures ok { OnOk result (Appends (W.contents (held output.old)) (W.contents (held output.new)) text.now) }
     ensures fault { IfErr result (StopsWriting (W.contents (held output.old)) (W.contents (held output.new)) text.now) }
-    ensures delivered { OnOk result (is_delivered output.new ≡ true) }
     ensures failed { IsErrOf result CliFault.Write ↔ IsTrue (has_failed output.new) }
 {
     let mut rest = text;
@@ -92,19 +91,50 @@ pub fn write_text<W: Write>(output: &mut Watched<W>, text: &[u8]) -> Result<(), 
             Ok(count) => rest = rest.split_at(count).1,
         }
     }
+    Ok(())
+}
+
+/// Sees to it that what was written is delivered.
+pub(crate) fn deliver<W: Write>(output: &mut Watched<W>) -> Result<(), CliFault>
+    requires { has_failed output.old ≡ false }
+    ensures bytes { Keeps (W.contents (held output.old)) (W.contents (held output.new)) }
+    ensures fault { IfErr result (λ fault. fault ≡ CliFault.Write) }
+    ensures delivered { OnOk result (is_delivered output.new ≡ true) }
+    ensures failed { IsErrOf result CliFault.Write ↔ IsTrue (has_failed output.new) }
+{
     match output.flush() {
         Ok(()) => Ok(()),
         Err(_) => Err(CliFault::Write),
     }
 }
 
+/// Writes a text and sees to it that it is delivered.
+pub fn write_text<W: Write>(output: &mut Watched<W>, text: &[u8]) -> Result<(), CliFault>
+    requires { has_failed output.old ≡ false }
+    ensures ok { OnOk result (Appends (W.contents (held output.old)) (W.contents (held output.new)) text.now) }
+    ensures fault { IfErr result (StopsWriting (W.contents (held output.old)) (W.contents (held output.new)) text.now) }
+    ensures delivered { OnOk result (is_delivered output.new ≡ true) }
+    ensures failed { IsErrOf result CliFault.Write ↔ IsTrue (has_failed output.new) }
+{
+    write_bytes(output, text)?;
+    deliver(output)
+}
+
 /// The trace that a text means, which is let go.
-pub fn parse_trace<A: Allocator + Copy>(alloc: A, text: Vec<u8, A>) -> Result<Trace<A>, CliFault>
+pub fn parse_trace<A: Allocator + Copy>(
+    alloc: A,
+    mut text: Vec<u8, A>,
+) -> Result<Trace<A>, CliFault>
     ensures ok { IfOk result (λ trace. TraceMeans text.items (trace_contents trace)) }
     ensures fault { IfErr result (IsFaultOf text.items) }
 {
     match Trace::parse(alloc, text.as_slice()) {
-        Ok(trace) => Ok(trace),
+        Ok(trace) => {
+            // Let go as one large block, it would have the C library's heap copy the lists that grow later, where it moves their pages.
+            text.clear();
+            text.shrink_to(1);
+            Ok(trace)
+        }
         Err(fault) => Err(CliFault::from(fault)),
     }
 }

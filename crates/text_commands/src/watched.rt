@@ -118,6 +118,13 @@ impl<H: Host> Watched<H> {
         self.inner.close(name, file.into_inner());
     }
 
+    /// Whether the two names are known to be of one file that is there.
+    pub fn is_one_file(&self, first: &str, second: &str) -> bool
+        ensures { H.says_one (held self.now) first.now second.now result }
+    {
+        self.inner.is_one_file(first, second)
+    }
+
     /// Whether what is written to standard output is seen on a terminal.
     pub fn is_terminal(&self) -> bool {
         self.inner.is_terminal()

@@ -21,6 +21,10 @@ const MOST_WORKERS: usize = 64;
 
 const WORKERS: usize = 2;
 
+/// A trace and its program have one name.
+pub(crate) const OVER_PROGRAM: &str =
+    "the trace would be written over the program: name another file with '--trace <OUT>'";
+
 /// When words are painted.
 #[derive(Clone, Copy, Debug, PartialEq, Eq)]
 pub enum Color {
@@ -342,10 +346,7 @@ fn out_of(alloc: Global, matches: &ArgMatches<'_>, file: &str) -> Result<Option<
     ensures fault { IfErr result IsUsageFault }
 {
     match matches.get_str("trace") {
-        Some(name) if name == file => Err(usage(
-            alloc,
-            "the trace would be written over the program: name another file with '--trace <OUT>'",
-        )),
+        Some(name) if name == file => Err(usage(alloc, OVER_PROGRAM)),
         _ => given_file(alloc, matches, "trace"),
     }
 }

@@ -381,6 +381,36 @@ fn nearly_plain_faults(rt: HostRuntime) {
     );
 }
 
+/// Of nine names, `xaa` and `yaa` have one hint.
+#[test]
+fn names_found(rt: HostRuntime) -> Result<(), Fail> {
+    let text =
+        b"cilk 1\nmem one\nmem xaa 2\nmem yaa\nmem d\nmem e\nmem f\nmem g\nmem h\nreducer ninth sum\nread 3 one\nread 3 xaa[1]\nread 3 yaa\nread 3 h\nget 3 ninth\n";
+    let acts = [
+        Act::Read(0),
+        Act::Read(2),
+        Act::Read(3),
+        Act::Read(8),
+        Act::Get(0),
+    ];
+    asks(&rt, rt.alloc(), text, acts.as_slice())
+}
+
+#[test]
+fn names_not_found(rt: HostRuntime) {
+    check_faults(
+        &rt,
+        rt.alloc(),
+        &[
+            (b"cilk 1\nread 0 one\n", 2, Cause::UnknownName),
+            (b"cilk 1\nmem one\nread 0 on\n", 3, Cause::UnknownName),
+            (b"cilk 1\nmem one\nread 0 ones\n", 3, Cause::UnknownName),
+            (b"cilk 1\nmem xaa\nread 0 yaa\n", 3, Cause::UnknownName),
+            (b"cilk 1\nmem one\nread 0 \xC3\n", 3, Cause::NotText),
+        ],
+    );
+}
+
 /// Checks what a cell of a trace is called.
 fn is_called(
     rt: &impl Abort,

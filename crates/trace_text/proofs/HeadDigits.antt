@@ -1,6 +1,7 @@
 -- One more digit behind those that were read.
-use Rattle.std.proofs.Common.{◌≡◌, ◌++◌, ◌∷◌, [], ◌+◌, ◌*◌, ◌-◌, ◌≤◌, ◌∙◌, ℕ, List, length, IsTrue, take, drop, arith, refl, ap, sym, slice_index_or}
-use Rattle.std.proofs.lemmas.List.{take_all, append_assoc}
+use Rattle.std.proofs.Common.{◌≡◌, ◌++◌, ◌∷◌, [], ◌+◌, ◌*◌, ◌^◌, ◌<◌, ◌≤◌, ◌∙◌, ℕ, List, length, IsTrue, take, get_or, arith, refl, ap, sym, subst, add-one}
+use Rattle.std.proofs.Math.Nat.{pow-suc, pow-le-pow_right}
+use Rattle.std.proofs.lemmas.List.{take_more}
 use Rattle.std.proofs.lemmas.Bool.Decides.{nat_tests}
 use Rattle.std.specs.Char.{digit_value}
 use Rattle.std.specs.Str.{all_ascii_digits}
@@ -20,14 +21,25 @@ digits_step : (front : List ℕ) (d : ℕ) → IsTrue (all_ascii_digits front) �
 digits_step [] d front low high = is_digit d low high
 digits_step (x ∷ xs) d front low high = grind (arith, nat_tests, digits_step xs d)
 
-pub one_more_digit : (bytes front rest : List ℕ) (value v : ℕ)
-    → bytes ≡ front ++ rest → IsTrue (all_ascii_digits front) → value ≡ digits_value 10 front
-    → 1 ≤ length rest → 48 ≤ slice_index_or rest 0 0 → slice_index_or rest 0 0 ≤ 57 → v + 48 ≡ slice_index_or rest 0 0
-    → (x : List ℕ) × (bytes ≡ x ++ take (length rest - 1) (drop 1 rest)) × IsTrue (all_ascii_digits x) × (value * 10 + v ≡ digits_value 10 x)
-one_more_digit bytes front [] value v split digits is some low high same = absurd (omega arith)
-one_more_digit bytes front (d ∷ after) value v split digits is some low high same = (
-  front ++ d ∷ [],
-  split ∙ sym (append_assoc front (d ∷ []) after) ∙ ap (λ r. (front ++ d ∷ []) ++ r) (sym (take_all (length (d ∷ after) - 1) after (omega arith))),
-  digits_step front d digits low high,
-  omega (arith, is, value_step 0 front d, digit_is d v low high same),
-)
+pub one_more_digit : (bytes : List ℕ) (at value v : ℕ)
+    → at < length bytes → IsTrue (all_ascii_digits (take at bytes)) → value ≡ digits_value 10 (take at bytes) → value < 10 ^ at
+    → 48 ≤ get_or bytes at 0 → get_or bytes at 0 ≤ 57 → v + 48 ≡ get_or bytes at 0
+    → IsTrue (all_ascii_digits (take (at + 1) bytes)) × (value * 10 + v ≡ digits_value 10 (take (at + 1) bytes)) × (value * 10 + v < 10 ^ (at + 1))
+one_more_digit bytes at value v below digits is small low high same =
+    let d : ℕ = get_or bytes at 0 in
+    let front : List ℕ = take at bytes in
+    let more : take (at + 1) bytes ≡ front ++ d ∷ [] = take_more bytes at 0 below in
+    let power : 10 ^ (at + 1) ≡ 10 ^ at * 10 = ap (λ n. 10 ^ n) (add-one at) ∙ pow-suc 10 at in
+    let last : digits_value 10 (front ++ d ∷ []) ≡ digits_value 10 front * 10 + digit_value d = value_step 0 front d in
+    let of_last : digit_value d ≡ v = digit_is d v low high same in (
+      subst (λ (ds : List ℕ). IsTrue (all_ascii_digits ds)) (sym more) (digits_step front d digits low high),
+      subst (λ (ds : List ℕ). value * 10 + v ≡ digits_value 10 ds) (sym more) (omega (arith, is, last, of_last)),
+      omega (arith, power, small),
+    )
+
+-- a number of 18 digits or fewer can have one more
+pub room_for_digit : (value at : ℕ) → value < 10 ^ at → at < 19 → value < 1000000000000000000
+room_for_digit value at small few =
+    let ten : 0 < 10 = omega arith in
+    let most : 10 ^ at ≤ 10 ^ 18 = pow-le-pow_right ten (let few : at ≤ 18 = omega arith in few) in
+    omega (arith, most, small)

@@ -1,15 +1,13 @@
 -- Requests in plain form mean what their lines mean.
-use Rattle.std.proofs.Common.{◌≡◌, ◌++◌, ◌∷◌, [], ◌+◌, ◌-◌, ◌<◌, ◌≤◌, ◌∙◌, ℕ, suc, List, Bool, true, false, cond, length, take, drop, get_or, arith, refl, ap, sym, subst, inl, inr, slice_index_or, append_assoc}
-use Rattle.std.specs.Prelude.{Option, Some, None, IsTrue, option_map}
-use Rattle.std.specs.List.{All, AllByRecursion}
-use Rattle.std.specs.Char.{is_ascii_lowercase}
-use Rattle.std.proofs.lemmas.List.{take_all, get_or-take}
-use Rattle.std.proofs.lemmas.List.Elements.{All-from_recursion}
+use Rattle.std.proofs.Common.{◌≡◌, ◌++◌, ◌∷◌, [], ◌+◌, ◌-◌, ◌≤◌, ◌∙◌, ℕ, List, Bool, true, false, cond, length, take, drop, arith, refl, ap, sym, subst, inl, inr, slice_index_or, append_assoc}
+use Rattle.std.specs.Prelude.{Option, Some, None, option_map}
+use Rattle.std.specs.List.{All}
+use Rattle.std.proofs.lemmas.List.{take_all}
 use Rattle.trace_values.specs.declared.value.Act.{Act}
 use Rattle.trace_values.specs.declared.value.Act.TheVariants as act
 use Rattle.trace_values.specs.declared.value.Mem.{Mem}
 use Rattle.trace_values.specs.declared.names.Named.TheVariants.{Single, Array, Reducer}
-use Rattle.trace_values.specs.Text.{words, IsTextLine, IsName, is_name_byte}
+use Rattle.trace_values.specs.Text.{words, IsTextLine, IsName}
 use Rattle.trace_values.specs.Limits.{max_strand, max_value, max_cells}
 use Rattle.trace_values.specs.Values.{Known}
 use Rattle.trace_values.specs.Names.{memory_named, reducer_named, SingleMeans, ElementMeans, element_word}
@@ -103,24 +101,6 @@ two_operands known place bytes rest first second two mark behind end =
     (next_end known a_value [] (Some Mark) two.0 rest behind second mark two.2 end)
 
 -- ---- names
-
--- the bytes are a name where the first is lowercase
-pub is_name_of : (name : List ℕ) → 1 ≤ length name → length name ≤ 32 → IsTrue (is_ascii_lowercase (slice_index_or name 0 0))
-    → ((i : ℕ) → i < length name → IsTrue (is_name_byte (get_or name i 0))) → IsName name
-is_name_of [] some few lower each = absurd (omega arith)
-is_name_of (byte ∷ bytes) some few lower each = (lower, All-from_recursion _ bytes (along bytes (λ i l. each (suc i) (omega arith))), omega arith)
-  where
-    along : (xs : List ℕ) → ((i : ℕ) → i < length xs → IsTrue (is_name_byte (get_or xs i 0))) → AllByRecursion (λ c. IsTrue (is_name_byte c)) xs
-    along [] h = tt
-    along (x ∷ xs) h = (h 0 (omega arith), along xs (λ i l. h (suc i) (omega arith)))
-
--- what holds of the bytes that are taken holds of the name that they are
-pub name_bytes_taken : (bytes name : List ℕ) (n : ℕ) → name ≡ take n bytes → length name ≡ n → ((i : ℕ) → i < n → IsTrue (is_name_byte (get_or bytes i 0)))
-    → (i : ℕ) → i < length name → IsTrue (is_name_byte (get_or name i 0))
-name_bytes_taken bytes name n e len each i l =
-    let below : i < n = omega (arith, len, l) in
-    let same : get_or name i 0 ≡ get_or bytes i 0 = ap (λ (xs : List ℕ). get_or xs i 0) e ∙ get_or-take n bytes i 0 below in
-    subst (λ (b : ℕ). IsTrue (is_name_byte b)) (sym same) (each i below)
 
 single_by : (array : Bool) (cell first size : ℕ) → Some (Single cell) ≡ Some (cond array (Array first size) (Single first)) → (array ≡ false) × (cell ≡ first)
 single_by true cell first size e = cc

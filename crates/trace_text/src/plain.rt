@@ -4,11 +4,8 @@
 
 ghost use Rattle.std.specs.Prelude.{◌≡◌, ◌++◌, ◌+◌, ◌≤◌, [], Some};
 ghost use Rattle.std.specs.Option.{IfSome};
-ghost use Rattle.std.specs.List.{All};
-ghost use Rattle.trace_values.specs.Text.{IsName, is_name_byte as name_byte};
 ghost use Rattle.trace_values.specs.Limits.{max_cells};
 ghost use Rattle.trace_values.specs.Values.{Known};
-ghost use Rattle.trace_values.specs.Index.{named, IsInRange};
 ghost use Rattle.trace_text.specs.declared.keyword.Keyword.TheVariants.{Access};
 ghost use Rattle.trace_text.specs.Lines.{Cell, ReducerName, Mark, a_strand, a_value, OfNumber, if_there, spelling, HasKeyword};
 ghost use Rattle.trace_text.specs.Plain.{HasNumber, HasNext, HasTwo, HasIndex, HasEnd, HasOperands, HasRequest};
@@ -17,7 +14,7 @@ use crate::keyword::Keyword;
 use crate::place::STRAND;
 use access_table::Kind;
 use std::alloc::Allocator;
-use trace_values::{Act, NAME_LEN, Named, Names, Version};
+use trace_values::{Act, Named, Names, Version};
 
 /// A request in plain form.
 #[derive(Clone, Copy)]
@@ -41,29 +38,30 @@ fn digit_of(byte: u8) -> u64
     u64::from(byte - b'0')
 }
 
+/// So many digits are a number of 64 bits, whichever they are.
+const DIGITS: usize = 19;
+
 /// The number of at most 19 digits at the head of the bytes, and what stands behind it.
 #[inline(always)]
 fn head_number(bytes: &[u8]) -> Option<(u64, &[u8])>
     ensures { IfSome result (λ r. HasNumber bytes.now r.0 r.1.now) }
 {
+    let most = bytes.len().min(DIGITS);
     let mut value: u64 = 0;
-    let mut rest = bytes;
-    while let [digit, after @ ..] = rest {
-        let byte = *digit;
+    let mut length = 0;
+    while length < most {
+        let byte = bytes[length];
         if byte < b'0' || byte > b'9' {
             break;
         }
-        if value >= 1_000_000_000_000_000_000 {
-            return None;
-        }
         value = value * 10 + digit_of(byte);
-        rest = after;
+        length += 1;
     }
-    if rest.len() == bytes.len() {
-        None
-    } else {
-        Some((value, rest))
+    if length == 0 {
+        return None;
     }
+    let (_, rest) = bytes.split_at(length);
+    Some((value, rest))
 }
 
 /// The strand behind a space.
@@ -111,37 +109,16 @@ fn mark(bytes: &[u8]) -> Option<(Option<u32>, &[u8])>
     }
 }
 
-fn is_name_byte(byte: u8) -> bool
-    ensures { result ≡ name_byte byte }
-{
-    byte.is_ascii_lowercase() || byte.is_ascii_digit() || byte == b'_'
-}
-
-/// The name at the head of the bytes, and what stands behind it.
+/// What stands before the first space, bracket or line feed, and the rest. It need not be a name.
 #[inline(always)]
-fn head_name(bytes: &[u8]) -> Option<(&[u8], &[u8])>
-    ensures { IfSome result (λ r. (bytes.now ≡ r.0.now ++ r.1.now) × IsName r.0.now) }
+fn head_word(bytes: &[u8]) -> (&[u8], &[u8])
+    ensures { bytes.now ≡ result.0.now ++ result.1.now }
 {
     let mut length = 0;
-    while length < bytes.len() && is_name_byte(bytes[length]) {
+    while length < bytes.len() && bytes[length] > b' ' && bytes[length] != b'[' {
         length += 1;
     }
-    let (name, rest) = bytes.split_at(length);
-    match name {
-        [first, ..] if first.is_ascii_lowercase() && length <= NAME_LEN => Some((name, rest)),
-        _ => None,
-    }
-}
-
-/// What a name stands for.
-#[inline(always)]
-fn find<A: Allocator + Copy>(names: &Names<'_, A>, name: &[u8]) -> Option<Named>
-    ensures { IfSome result (λ found. (Some found ≡ named names.now name.now) × All IsInRange names.now.mems) }
-{
-    match str::from_utf8(name) {
-        Ok(name) => names.find(name),
-        Err(_) => None,
-    }
+    bytes.split_at(length)
 }
 
 /// The cell of an array whose index stands in brackets at the head of the bytes.
@@ -169,8 +146,8 @@ fn cell<'b, A: Allocator + Copy>(names: &Names<'_, A>, bytes: &'b [u8]) -> Optio
     let [b' ', behind @ ..] = bytes else {
         return None;
     };
-    let (name, rest) = head_name(behind)?;
-    match find(names, name) {
+    let (name, rest) = head_word(behind);
+    match names.find_bytes(name) {
         Some(Named::Single(cell)) => Some((cell, rest)),
         Some(Named::Array { first, cells }) => element(first, cells, rest),
         _ => None,
@@ -188,8 +165,8 @@ fn reducer<'b, A: Allocator + Copy>(
     let [b' ', behind @ ..] = bytes else {
         return None;
     };
-    let (name, rest) = head_name(behind)?;
-    match find(names, name) {
+    let (name, rest) = head_word(behind);
+    match names.find_bytes(name) {
         Some(Named::Reducer(reducer)) => Some((reducer, rest)),
         _ => None,
     }

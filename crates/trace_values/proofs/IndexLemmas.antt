@@ -1,13 +1,17 @@
--- How the index of names grows.
+-- How the index of names grows, and what is found in it.
 use Rattle.std.proofs.Common.{◌≡◌, ℕ, ◌<◌, ◌≤◌, ◌+◌, ◌∷◌, ◌++◌, [], List, Bool, true, false, cond, length, length as len, arith, refl, sym, ap, subst, ◌∙◌, inl, inr, zero-add}
-use Rattle.std.specs.Prelude.{Option, Some, None, unwrap_or}
-use Rattle.std.specs.List.{AllByRecursion, find, position_from}
+use Rattle.std.specs.Prelude.{IsTrue, OnSome, Option, Some, None, unwrap_or}
+use Rattle.std.specs.List.{All, AllByRecursion, find, position_from}
 use Rattle.std.specs.Map.{lookup}
-use Rattle.std.specs.Str.{bytes_eq}
+use Rattle.std.specs.Char.{is_ascii_lowercase}
+use Rattle.std.specs.Str.{IsUtf8, bytes_eq}
 use Rattle.std.specs.Cmp.Lexicographic.{bytes_decides}
 use Rattle.std.proofs.lemmas.List.{length_push}
 use Rattle.std.proofs.lemmas.List.Sums.{sum_by-append}
-use Rattle.std.proofs.lemmas.List.Elements.{All-append, All-from_recursion}
+use Rattle.std.proofs.lemmas.List.Elements.{All-append, All-cons, All-from_recursion}
+use Rattle.std.proofs.lemmas.Bool.Decides.{nat_tests}
+use Rattle.std.proofs.lemmas.Str.{IsUtf8-nil, IsUtf8-from_ascii}
+use Rattle.std.proofs.lemmas.Str.Ascii.{IsAscii-from_all}
 use denote.Ref.{Bor}
 use Rattle.indexmap.specs.IndexMap.{IndexMap, insert_entry}
 use Rattle.indexmap.proofs.CallerLemmas.{insert_entry-new}
@@ -17,6 +21,7 @@ use Rattle.trace_values.specs.declared.value.Mem.{Mem}
 use Rattle.trace_values.specs.declared.value.Reducer.{Reducer as Reduction}
 use Rattle.trace_values.specs.declared.value.Monoid.{Monoid}
 use Rattle.trace_values.specs.Limits.{max_cells, max_reducers}
+use Rattle.trace_values.specs.Text.{is_name_byte, IsName}
 use Rattle.trace_values.specs.Values.{Known}
 use Rattle.trace_values.specs.Names.{memory_named, reducer_named, IsFresh}
 use Rattle.trace_values.specs.Declarations.{cells_of, memory_from, memory_at, reducer_at, with_memory, with_reducer}
@@ -92,13 +97,19 @@ module _ (known : Known) (cells : ℕ) (entries : List (Bor (List ℕ) × Named)
     apart_memory true name e = inr (none_at name e).1
     apart_memory false name e = elim (indexed.apart name) [ inl f ↦ inl (find_old (λ (mem : Mem). bytes_eq name mem.name) the_memory known.mems e ∙ f) | inr f ↦ inr f ]
 
-    pub indexed_memory : cells_of known.mems + unwrap_or length 1 ≤ max_cells
+    names_memory : IsName key.now → (b : Bool) (name : List ℕ) (found : Named) → bytes_eq name key.now ≡ b → named (with_memory at known key.now length) name ≡ Some found → IsName name
+    names_memory is true name found e f = subst IsName (sym (same_bytes name e)) is
+    names_memory is false name found e f =
+        indexed.names name found (sym (ap (λ (mem : Option Mem). named_by mem (reducer_named known.reducers name)) (find_old (λ (mem : Mem). bytes_eq name mem.name) the_memory known.mems e)) ∙ f)
+
+    pub indexed_memory : IsName key.now → cells_of known.mems + unwrap_or length 1 ≤ max_cells
         → IsIndexed (with_memory at known key.now length) (cells + unwrap_or length 1) (extended_by (name_of_memory the_memory))
-    indexed_memory room =
+    indexed_memory is room =
         let one : AllByRecursion IsInRange (the_memory ∷ []) = (room, tt) in
         record {
           finds = λ name. finds_memory (bytes_eq name key.now) name refl;
           apart = λ name. apart_memory (bytes_eq name key.now) name refl;
+          names = λ name found. names_memory is (bytes_eq name key.now) name found refl;
           counted = ap (λ (n : ℕ). n + unwrap_or length 1) indexed.counted ∙ sym (sum_by-append (λ (mem : Mem). mem.cells) known.mems (the_memory ∷ []) ∙ ap (λ (n : ℕ). cells_of known.mems + n) (zero-add (unwrap_or length 1)));
           few_cells = (let e = indexed.counted in omega arith);
           few_reducers = indexed.few_reducers;
@@ -126,18 +137,57 @@ module _ (known : Known) (cells : ℕ) (entries : List (Bor (List ℕ) × Named)
     apart_reducer true name e = inl (none_at name e).0
     apart_reducer false name e = elim (indexed.apart name) [ inl f ↦ inl f | inr f ↦ inr (position_old (λ (r : Reduction). bytes_eq name r.name) the_reducer 0 known.reducers e ∙ f) ]
 
-    pub indexed_reducer : len known.reducers < max_reducers → IsIndexed (with_reducer at known key.now monoid) cells (extended_by (Reducer (len known.reducers)))
-    indexed_reducer room = record {
+    names_reducer : IsName key.now → (b : Bool) (name : List ℕ) (found : Named) → bytes_eq name key.now ≡ b → named (with_reducer at known key.now monoid) name ≡ Some found → IsName name
+    names_reducer is true name found e f = subst IsName (sym (same_bytes name e)) is
+    names_reducer is false name found e f =
+        indexed.names name found (sym (ap (λ (r : Option ℕ). named_by (memory_named known.mems name) r) (position_old (λ (r : Reduction). bytes_eq name r.name) the_reducer 0 known.reducers e)) ∙ f)
+
+    pub indexed_reducer : IsName key.now → len known.reducers < max_reducers → IsIndexed (with_reducer at known key.now monoid) cells (extended_by (Reducer (len known.reducers)))
+    indexed_reducer is room = record {
       finds = λ name. finds_reducer (bytes_eq name key.now) name refl;
       apart = λ name. apart_reducer (bytes_eq name key.now) name refl;
+      names = λ name found. names_reducer is (bytes_eq name key.now) name found refl;
       counted = indexed.counted;
       few_cells = indexed.few_cells;
       few_reducers = omega (arith, length_push known.reducers the_reducer);
       in_range = indexed.in_range;
     }
 
--- the same for what the calls say of their results
-module _ (known : Known) (cells : ℕ) {S : Type 0} (index : IndexMap (Bor (List ℕ)) Named S) (key : Bor (List ℕ)) (indexed : IsIndexed known cells index.entries) (fresh : IsFresh known key.now) where
+-- ---- a name looked up by its bytes
+
+lower_in_name : (byte : ℕ) → IsTrue (is_ascii_lowercase byte) → IsTrue (is_name_byte byte)
+lower_in_name byte h = grind (arith, nat_tests)
+
+name_is_ascii : (byte : ℕ) → IsTrue (is_name_byte byte) → byte < 128
+name_is_ascii byte h = grind (arith, nat_tests)
+
+pub name_is_utf8 : (name : List ℕ) → IsName name → IsUtf8 name
+name_is_utf8 [] h = IsUtf8-nil
+name_is_utf8 (byte ∷ bytes) h =
+    let all : All (λ c. IsTrue (is_name_byte c)) (byte ∷ bytes) = All-cons (λ c. IsTrue (is_name_byte c)) byte bytes (lower_in_name byte h.0) h.1 in
+    IsUtf8-from_ascii (byte ∷ bytes) (IsAscii-from_all (byte ∷ bytes) (λ i d l. name_is_ascii _ (all i d l)))
+
+none_found : {X : Type 0} (o : Option X) → ((x : X) → o ≡ Some x → ⊥) → None ≡ o
+none_found None f = refl
+none_found (Some x) f = absurd (f x refl)
+
+module _ (known : Known) (cells : ℕ) (entries : List (Bor (List ℕ) × Named)) (indexed : IsIndexed known cells entries) where
+  -- bytes that are no text are no name
+  pub no_text_named : (name : List ℕ) → (IsUtf8 name → ⊥) → None ≡ named known name
+  no_text_named name no_text = none_found (named known name) (λ found e. no_text (name_is_utf8 name (indexed.names name found e)))
+
+  -- what an entry of these bytes holds is what they stand for
+  pub entry_named : (key name : List ℕ) (found : Named) → lookup (λ (k : Bor (List ℕ)). bytes_eq key k.now) entries ≡ Some found → bytes_eq key name ≡ true → Some found ≡ named known name
+  entry_named key name found there same = sym there ∙ (indexed.finds key ∙ ap (named known) ((bytes_decides key name).0 same))
+
+  -- what is found is a name
+  pub found_is_name : (name : List ℕ) (o : Option Named) → o ≡ named known name → OnSome o (IsName name)
+  found_is_name name None e = tt
+  found_is_name name (Some found) e = indexed.names name found (sym e)
+
+-- ---- the same for what the calls say of their results
+
+module _ (known : Known) (cells : ℕ) {S : Type 0} (index : IndexMap (Bor (List ℕ)) Named S) (key : Bor (List ℕ)) (indexed : IsIndexed known cells index.entries) (is_name : IsName key.now) (fresh : IsFresh known key.now) where
   entries_after : (thing : Named) → insert_entry (λ (x y : Bor (List ℕ)). bytes_eq x.now y.now) index.entries key thing ≡ index.entries ++ (key, thing) ∷ []
   entries_after thing =
       insert_entry-new (λ (x y : Bor (List ℕ)). bytes_eq x.now y.now) index key thing (indexed.finds key.now ∙ fresh_unnamed known key.now fresh)
@@ -155,7 +205,7 @@ module _ (known : Known) (cells : ℕ) {S : Type 0} (index : IndexMap (Bor (List
       subst (λ (ms : List Mem). IsIndexed (record known { mems = ms }) (cells + mem.cells) entries) (sym all_mems)
       (subst (λ (es : List (Bor (List ℕ) × Named)). IsIndexed (with_memory at known key.now length) (cells + mem.cells) es) (sym all_entries)
       (subst (λ (n : ℕ). IsIndexed (with_memory at known key.now length) n (index.entries ++ (key, name_of_memory (memory_at at known.mems key.now length)) ∷ [])) (sym all_cells)
-      (indexed_memory known cells index.entries key indexed fresh at length room)))
+      (indexed_memory known cells index.entries key indexed fresh at length is_name room)))
 
   pub reducer_added : (at : ℕ) (monoid : Monoid) (reducers : List Reduction) (entries : List (Bor (List ℕ) × Named)) (number : ℕ)
       → reducers ≡ known.reducers ++ reducer_at at key.now monoid ∷ [] → number ≡ len known.reducers
@@ -166,4 +216,4 @@ module _ (known : Known) (cells : ℕ) {S : Type 0} (index : IndexMap (Bor (List
       inserted ∙ (entries_after (Reducer number) ∙ ap (λ (n : ℕ). index.entries ++ (key, Reducer n) ∷ []) is) in
       subst (λ (rs : List Reduction). IsIndexed (record known { reducers = rs }) cells entries) (sym grown)
       (subst (λ (es : List (Bor (List ℕ) × Named)). IsIndexed (with_reducer at known key.now monoid) cells es) (sym all_entries)
-      (indexed_reducer known cells index.entries key indexed fresh at monoid room))
+      (indexed_reducer known cells index.entries key indexed fresh at monoid is_name room))

@@ -7,6 +7,7 @@ use denote.Ref.{Bor}
 use Rattle.trace_values.specs.declared.names.Named.{Named}
 use Rattle.trace_values.specs.declared.names.Named.TheVariants.{Single, Array, Reducer}
 use Rattle.trace_values.specs.declared.value.Mem.{Mem}
+use Rattle.trace_values.specs.Text.{IsName}
 use Rattle.trace_values.specs.Limits.{max_cells, max_reducers}
 use Rattle.trace_values.specs.Values.{Known}
 use Rattle.trace_values.specs.Names.{memory_named, reducer_named}
@@ -31,10 +32,11 @@ named known name = named_by (memory_named known.mems name) (reducer_named known.
 abbrev pub IsApart : Known → List ℕ → Type 0
 IsApart known name = (memory_named known.mems name ≡ None) ⊎ (reducer_named known.reducers name ≡ None)
 
--- the index finds what each name stands for, and the cells are counted
+-- the index finds what each name stands for, what is found is a name, and the cells are counted
 pub record IsIndexed (known : Known) (cells : ℕ) (entries : List (Bor (List ℕ) × Named)) : Type 0 where
   pub finds : (name : List ℕ) → lookup (λ (key : Bor (List ℕ)). bytes_eq name key.now) entries ≡ named known name
   pub apart : (name : List ℕ) → IsApart known name
+  pub names : (name : List ℕ) (found : Named) → named known name ≡ Some found → IsName name
   pub counted : cells ≡ cells_of known.mems
   pub few_cells : cells ≤ max_cells
   pub few_reducers : length known.reducers ≤ max_reducers

@@ -1,6 +1,6 @@
 //! The names that are declared.
 
-ghost use Rattle.std.specs.Prelude.{◌≡◌, ◌+◌, ◌<◌, ◌≤◌, [], OnOk, OnErr, unwrap_or, length};
+ghost use Rattle.std.specs.Prelude.{◌≡◌, ◌+◌, ◌<◌, ◌≤◌, [], OnOk, OnErr, OnSome, unwrap_or, length};
 ghost use Rattle.std.specs.List.{All};
 ghost use Rattle.trace_values.specs.Text.{IsName};
 ghost use Rattle.trace_values.specs.Limits.{max_cells, max_reducers};
@@ -53,6 +53,25 @@ fn named_of(mem: &Mem) -> Named
     }
 }
 
+/// How many hints there are.
+const HINTS: usize = 256;
+
+/// Which hint a name has. Names that differ mostly do so at their ends, in the middle or in their lengths.
+#[inline(always)]
+fn hint_of(name: &[u8]) -> usize
+    ensures { result < 256 }
+{
+    let hint = match name {
+        [] => 0,
+        [only] => *only,
+        [.., before, last] => last
+            .wrapping_add(before.wrapping_mul(10))
+            .wrapping_add(name[name.len() / 2].wrapping_mul(37))
+            .wrapping_add((name.len() % HINTS) as u8),
+    };
+    usize::from(hint)
+}
+
 /// The declarations of a text, whose names are found in constant time. Contracts see the version and the lists of declarations.
 #[derive(Drop)]
 pub struct Names<'a, A: Allocator> {
@@ -61,6 +80,8 @@ pub struct Names<'a, A: Allocator> {
     reducers: Vec<Reducer, A>,
     cells: u32,
     index: IndexMap<&'a str, Named, BuildHasherDefault<FoldHasher>, A>,
+    // Where in the index the newest name with that hint stands. Nothing rests on it but speed.
+    hints: [usize; HINTS],
 }
 
 impl<'a, A: Allocator> Model for Names<'a, A> {
@@ -85,6 +106,7 @@ impl<'a, A: Allocator + Copy> Names<'a, A> {
             reducers: Vec::new(alloc),
             cells: 0,
             index: IndexMap::new(alloc),
+            hints: [0; HINTS],
         }
     }
 
@@ -101,7 +123,32 @@ impl<'a, A: Allocator + Copy> Names<'a, A> {
         ensures apart { IsApart self.now name.now }
         ensures in_range { All IsInRange self.now.mems }
     {
-        self.index.get(name).copied()
+        self.find_bytes(name.as_bytes())
+    }
+
+    /// What a name stands for whose bytes these are, if it is declared. No other bytes are found.
+    #[inline(always)]
+    pub fn find_bytes(&self, name: &[u8]) -> Option<Named>
+        ensures named { result ≡ named self.now name.now }
+        ensures is_name { OnSome result (IsName name.now) }
+        ensures apart { IsApart self.now name.now }
+        ensures in_range { All IsInRange self.now.mems }
+    {
+        match self.index.get_index(self.hints[hint_of(name)]) {
+            Some((key, found)) if key.as_bytes() == name => Some(*found),
+            _ => self.searched(name),
+        }
+    }
+
+    /// What a name stands for, by the index.
+    #[inline(never)]
+    fn searched(&self, name: &[u8]) -> Option<Named>
+        ensures { result ≡ named self.now name.now }
+    {
+        match str::from_utf8(name) {
+            Ok(name) => self.index.get(name).copied(),
+            Err(_) => None,
+        }
     }
 
     /// How many cells the memories have.
@@ -136,9 +183,11 @@ impl<'a, A: Allocator + Copy> Names<'a, A> {
         let mem = memory(at, self.cells, name, length);
         let named = named_of(&mem);
         let cells = mem.cells;
+        let place = self.index.len();
         self.mems.push(mem)?;
         match self.index.insert(name, named) {
             Ok(_) => {
+                self.hints[hint_of(name.as_bytes())] = place;
                 self.cells += cells;
                 Ok(())
             }
@@ -158,13 +207,17 @@ impl<'a, A: Allocator + Copy> Names<'a, A> {
         ensures err { OnErr result (self.new ≡ self.old) }
     {
         let number = self.reducers.len() as u32;
+        let place = self.index.len();
         self.reducers.push(Reducer {
             name: Name::new(name),
             monoid,
             line: at,
         })?;
         match self.index.insert(name, Named::Reducer(number)) {
-            Ok(_) => Ok(()),
+            Ok(_) => {
+                self.hints[hint_of(name.as_bytes())] = place;
+                Ok(())
+            }
             Err(_) => {
                 self.reducers.pop();
                 Err(AllocError)
@@ -182,6 +235,7 @@ impl<'a, A: Allocator + Copy> Names<'a, A> {
             reducers,
             cells: _,
             index: _,
+            hints: _,
         } = self;
         (version, mems, reducers)
     }

@@ -95,10 +95,10 @@ pub struct Reducer {
 /// A line of a trace that asks for something.
 #[derive(Clone, Copy, Debug, PartialEq, Eq)]
 pub struct TraceLine {
-    /// Its number in the trace.
-    pub at: u32,
     /// What it asks for.
     pub request: Request,
+    /// Its number in the trace.
+    pub at: u32,
     /// Whether it names the line of the program. Where it does not, the request's line is `at`.
     pub marked: bool,
 }

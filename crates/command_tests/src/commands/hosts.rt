@@ -66,6 +66,8 @@ impl<'a> Host for Texts<'a> {
 
     ghost bars = { λ _ _. ⊤ };
 
+    ghost says_one = { λ _ _ _ _. ⊤ };
+
     fn input(&mut self) -> Breaking<'a> {
         reader(self.input)
     }
@@ -81,6 +83,11 @@ impl<'a> Host for Texts<'a> {
 
     fn create(&mut self, _name: &str) -> io::Result<Filling> {
         Err(Error::from(ErrorKind::PermissionDenied))
+    }
+
+    /// Each file has one name.
+    fn is_one_file(&self, first: &str, second: &str) -> bool {
+        first == second && self.open(first).is_ok()
     }
 
     fn is_terminal(&self) -> bool {

@@ -1,6 +1,6 @@
 //! Runs whose trace is written.
 
-ghost use Rattle.std.specs.Prelude.{◌<◌, ◌≤◌, [], Some, IfOk};
+ghost use Rattle.std.specs.Prelude.{◌<◌, ◌≤◌, ⊤, [], Some, IfOk};
 ghost use Rattle.race_gate.specs.Shapes.{most_entries};
 ghost use Rattle.text_commands.specs.Jobs.{IsInRange};
 ghost use Rattle.text_commands.specs.Sources.{unknown_sources};
@@ -16,7 +16,8 @@ use std::sync::Wait;
 use std::test::Fail;
 use std::thread::Threads;
 use text_commands::{
-    CliFault, Host, Job, OpenDoor, Watched, judge_stream, perform, replay_text, run_traced_text,
+    CliFault, Host, Job, OpenDoor, Watched, check_names, judge_stream, perform, replay_text,
+    run_traced_text,
 };
 
 /// A program of two requests, the text of the trace of its one run, and the report of it.
@@ -271,6 +272,15 @@ struct Desk<'a> {
     held: Vec<u8>,
 }
 
+/// The number of the file with this name, if it is there. That of the program has three names, one of them a link's.
+fn file_number(name: &str) -> Option<u32> {
+    match name {
+        "program" | "./program" | "link" => Some(1),
+        "other" => Some(2),
+        _ => None,
+    }
+}
+
 impl<'a> Host for Desk<'a> {
     type Input = Breaking<'a>;
 
@@ -287,6 +297,8 @@ impl<'a> Host for Desk<'a> {
     ghost made = { λ desk _. Some desk.held.items };
 
     ghost bars = { λ _ _. ⊥ };
+
+    ghost says_one = { λ _ _ _ _. ⊤ };
 
     fn input(&mut self) -> Breaking<'a> {
         Breaking { text: &[], left: 0 }
@@ -310,6 +322,13 @@ impl<'a> Host for Desk<'a> {
         self.name = String::from_str(self.alloc, name)?;
         self.created = self.created.saturating_add(1);
         Ok(Vec::new(self.alloc))
+    }
+
+    fn is_one_file(&self, first: &str, second: &str) -> bool {
+        match (file_number(first), file_number(second)) {
+            (Some(first), Some(second)) => first == second,
+            _ => false,
+        }
     }
 
     fn is_terminal(&self) -> bool {
@@ -397,5 +416,47 @@ fn no_run_creates_no_file(rt: HostRuntime) -> Result<(), Fail> {
     let (answer, _, desk) = done_at(&rt, rt.alloc(), "cilk 1\nfoo\n", &job);
     assert!(&rt; matches!(answer, Err(CliFault::Program(_))));
     assert!(&rt; desk.created == 0);
+    Ok(())
+}
+
+/// At a desk a run that is recorded under this name is refused with this text, or passes.
+fn check_name(
+    rt: &(impl Abort + Alloc<A = Global>),
+    trace: &str,
+    wanted: Option<&str>,
+) -> Result<(), Fail> {
+    let host = Watched::new(new_desk(rt.alloc(), SHORT));
+    let job = record_job(rt.alloc(), trace, MOST)?;
+    match (check_names(rt.alloc(), &host, &job), wanted) {
+        (Ok(()), None) => {}
+        (Err(fault), Some(wanted)) => {
+            assert!(rt; fault.status() == 2, "{trace}");
+            let told = format!(in rt.alloc(); "{fault}")?;
+            equal(rt, &trace, &told.as_str(), &wanted);
+        }
+        _ => assert!(rt; false, "{trace}"),
+    }
+    Ok(())
+}
+
+#[test]
+fn a_trace_over_its_program(rt: HostRuntime) -> Result<(), Fail> {
+    let named =
+        "the trace would be written over the program: name another file with '--trace <OUT>'";
+    let filed =
+        "the trace would be written over the program, whose file has both names: name another file with '--trace <OUT>'";
+    check_name(&rt, "program", Some(named))?;
+    check_name(&rt, "./program", Some(filed))?;
+    check_name(&rt, "link", Some(filed))?;
+    check_name(&rt, "other", None)?;
+    check_name(&rt, "new", None)
+}
+
+#[test]
+fn jobs_that_write_no_trace_pass(rt: HostRuntime) -> Result<(), Fail> {
+    let host = Watched::new(new_desk(rt.alloc(), SHORT));
+    let file = String::from_str(rt.alloc(), "program")?;
+    let trace = String::from_str(rt.alloc(), "link")?;
+    assert!(&rt; check_names(rt.alloc(), &host, &Job::Replay { file, trace }).is_ok());
     Ok(())
 }

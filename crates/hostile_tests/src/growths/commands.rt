@@ -78,6 +78,11 @@ impl Ended {
         matches!(self.answer, Err(CliFault::Memory)) && self.output.is_empty()
             || matches!(command, Command::Judge) && self.tells(STARVED)
     }
+
+    /// Whether `judge` has done without room that it asked for in advance.
+    fn has_done_without(&self, command: Command) -> bool {
+        matches!(command, Command::Judge) && self.tells(JUDGED)
+    }
 }
 
 fn judged(alloc: Global, heap: &Heap) -> Ended {
@@ -119,7 +124,8 @@ fn is_told(rt: &impl Abort, alloc: Global, heap: &Heap, command: Command) {
     assert!(rt; ended.tells(command.told()), "{command:?}");
 }
 
-/// A command of which a growth was refused tells so, and tells what it always does where it is asked once more.
+/// A command of which a growth was refused tells so, where it needs what was refused, and tells what it always does where it is asked once
+/// more.
 pub(super) fn make(
     rt: &impl Abort,
     alloc: Global,
@@ -133,7 +139,10 @@ pub(super) fn make(
         assert!(rt; first.tells(command.told()), "{command:?}");
         return false;
     }
-    assert!(rt; first.has_starved(command), "{command:?}");
+    assert!(rt;
+        first.has_starved(command) || first.has_done_without(command),
+        "{command:?}"
+    );
     is_told(rt, alloc, heap, command);
     true
 }

@@ -44,6 +44,19 @@ pub(super) fn reserve_items(rt: &impl Abort, heap: &Heap, number: u64) -> Result
     Ok(is_refused)
 }
 
+/// A hint, whose refused growth is no fault.
+pub(super) fn hint_items(rt: &impl Abort, heap: &Heap, number: u64) -> Result<bool, Fail> {
+    let mut list = OrderList::new(heap)?;
+    heap.refuse(number);
+    list.make_room(20);
+    let is_refused = heap.has_refused();
+    heap.refuse(0);
+    has_items(rt, &list, 1, 0);
+    equal(rt, &"behind it", &list.reserve(20), &Ok(()));
+    has_items(rt, &list, 1, 20);
+    Ok(is_refused)
+}
+
 /// Which of the first strands have begun, which run, and whether there is room for an event.
 fn standings(strands: &Strands<&Heap>) -> ([bool; 3], [bool; 3], bool) {
     let begun = [
@@ -90,6 +103,19 @@ pub(super) fn reserve_strands(rt: &impl Abort, heap: &Heap, number: u64) -> Resu
         is_opening(rt, &strands, false);
         equal(rt, &"once more", &strands.reserve_event(), &Ok(()));
     }
+    is_opening(rt, &strands, true);
+    Ok(is_refused)
+}
+
+/// A hint, whose refused growth is no fault.
+pub(super) fn hint_spawns(rt: &impl Abort, heap: &Heap, number: u64) -> Result<bool, Fail> {
+    let mut strands = Strands::new(heap)?;
+    heap.refuse(number);
+    strands.make_room(2);
+    let is_refused = heap.has_refused();
+    heap.refuse(0);
+    is_opening(rt, &strands, false);
+    equal(rt, &"behind it", &strands.reserve_event(), &Ok(()));
     is_opening(rt, &strands, true);
     Ok(is_refused)
 }

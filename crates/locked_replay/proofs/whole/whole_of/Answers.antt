@@ -4,6 +4,8 @@ use Rattle.race_gate.specs.declared.answer.Entry.{Entry}
 use Rattle.race_gate.specs.Extensions.{IsClean}
 use Rattle.program_runs.specs.Runs.{shape_in}
 use Rattle.locked_replay.specs.declared.fault.RunFault.{RunFault}
+use Rattle.locked_replay.specs.declared.worker.WorkerLog.{WorkerLog}
+use Rattle.locked_replay.specs.Logs.{AreWhole}
 use Rattle.locked_replay.proofs.Reversed.{clean_either}
 use Rattle.locked_replay.proofs.Faulted.{run_faulted}
 use Rattle.locked_replay.proofs.whole.whole_of.Goals as goal
@@ -11,14 +13,14 @@ use Rattle.locked_replay.proofs.whole.whole_of.Goals as goal
 pub returns-in_err-check_run-clause-faults : goal.returns-in_err-check_run-clause-faults
 returns-in_err-check_run-clause-faults g c =
     let functions = c.args.program.now.functions in
-    let gate = c.args.gate.now in
+    let gate = c.args.gate in
     let fault = c.in_err-check_run.field-0.0 in
     let p = err_from_is_err_and c.from_residual-in_err-check_run.result c.from_residual-in_err-check_run.ensures.1 in
     rw (p.1, p.2) (
-    run_faulted functions (shape_in c.args.program.now) gate c.args.logs.now c.check_logs.result fault
+    run_faulted functions (shape_in c.args.program.now) gate c.args.logs.items c.check_logs.result fault
     (λ e. let was = c.in_ok-check_logs.was in cc)
     c.check_logs.ensures.stopped.1
-    c.in_ok-check_logs.ensures.whole
+    (subst (λ (l : List (WorkerLog _)). AreWhole (reverse gate.history) l) c.as_slice.ensures.value c.in_ok-check_logs.ensures.whole)
     (λ e. c.in_err-check_run.ensures.strange (ap (λ (f : RunFault). Err f) e))
     (λ e. c.in_err-check_run.ensures.faults.0 (ap (λ (f : RunFault). Err f) e))
     (λ e. c.in_err-check_run.ensures.faults.1 (ap (λ (f : RunFault). Err f) e))
@@ -26,6 +28,6 @@ returns-in_err-check_run-clause-faults g c =
 
 pub returns-clause-clean : goal.returns-clause-clean
 returns-clause-clean g c =
-    let tells = clean_either c.as_slice.result.now c.is_clean-clean.result c.is_clean-clean.ensures in
+    let tells = clean_either c.as_slice-2.result.now c.is_clean-clean.result c.is_clean-clean.ensures in
     subst (λ (l : List Entry). (IsTrue c.is_clean-clean.result → IsClean l) × (IsClean l → IsTrue c.is_clean-clean.result))
-    (ap reverse (c.as_slice.ensures.value ∙ c.in_ok-entries.ensures.items) ∙ c.history.ensures.entries) tells
+    (ap reverse c.as_slice-2.ensures.value ∙ c.into_parts-entries.ensures.entries) tells

@@ -11,8 +11,12 @@ loop-entry-init g c = record {
   plays = (
     opening (shape_in c.args.program.now) most_entries,
     c.requires.core,
-    opens_plays c.args.program.now.functions (shape_in c.args.program.now) (opening (shape_in c.args.program.now) most_entries) c.args.cast.now.frames.items
-        c.args.cast.now.seats.items c.requires.opens,
+    (
+      c.requires.opens.0,
+      c.requires.opens.1,
+      opens_plays c.args.program.now.functions (shape_in c.args.program.now) (opening (shape_in c.args.program.now) most_entries) c.requires.opens.0
+          c.args.cast.now.seats.items c.requires.opens.2,
+    ),
     refl,
   );
 }
@@ -20,7 +24,7 @@ loop-entry-init g c = record {
 pub next_number-number-requires : goal.next_number-number-requires
 next_number-number-requires g c =
     let kept = c.loop-entry.invariant.plays in
-    omega (arith, kept.1.counted, kept.2.within)
+    omega (arith, kept.1.counted, kept.2.2.within)
 
 pub play-requires : goal.play-requires
 play-requires g c =
@@ -32,8 +36,8 @@ returns-in-Err-Strange-clause-strange g c = λ number e.
     let kept = c.loop-entry.invariant.plays in
     let is : c.next_number-number.result ≡ number = cc in
     let place : number ≡ suc (length kept.0.history) = omega (arith, is, c.next_number-number.ensures, kept.1.counted) in
-    strange_at c.args.program.now.functions (shape_in c.args.program.now) kept.0 c.loop-entry.cast.frames.items c.loop-entry.cast.seats.items
-    kept.2 c.args.entries.now c.loop-entry.entry-index kept.3 _ number c.loop-entry-test.true place
+    strange_at c.args.program.now.functions (shape_in c.args.program.now) kept.0 kept.2.0 c.loop-entry.cast.seats.items
+    kept.2.2 c.args.entries.now c.loop-entry.entry-index kept.3 _ number c.loop-entry-test.true place
     (c.in-Err-Strange.ensures.strange kept.0 kept.1 kept.2 (ap Err c.in-Err-Strange.field-0-is))
 
 pub loop-entry-preserved : goal.loop-entry-preserved
@@ -52,15 +56,15 @@ loop-entry-preserved g c =
 pub returns-then-is_finished-clause-finished : goal.returns-then-is_finished-clause-finished
 returns-then-is_finished-clause-finished g c =
     let kept = c.loop-entry.invariant.plays in
-    finished_all c.args.program.now.functions (shape_in c.args.program.now) kept.0 c.loop-entry.cast.frames.items c.loop-entry.cast.seats.items
-    kept.2 c.args.entries.now c.loop-entry.entry-index kept.3 (omega (arith, c.loop-entry-test.false, c.loop-entry.auto.entry-index-end))
+    finished_all c.args.program.now.functions (shape_in c.args.program.now) kept.0 kept.2.0 c.loop-entry.cast.seats.items
+    kept.2.2 c.args.entries.now c.loop-entry.entry-index kept.3 (omega (arith, c.loop-entry-test.false, c.loop-entry.auto.entry-index-end))
     (kept.1.finished.0 (sym c.is_finished.ensures ∙ c.if-is_finished.true))
 
 pub returns-else-is_finished-clause-unfinished : goal.returns-else-is_finished-clause-unfinished
 returns-else-is_finished-clause-unfinished g c = λ e.
     let kept = c.loop-entry.invariant.plays in
-    unfinished_all c.args.program.now.functions (shape_in c.args.program.now) kept.0 c.loop-entry.cast.frames.items c.loop-entry.cast.seats.items
-    kept.2 c.args.entries.now c.loop-entry.entry-index kept.3 (omega (arith, c.loop-entry-test.false, c.loop-entry.auto.entry-index-end))
+    unfinished_all c.args.program.now.functions (shape_in c.args.program.now) kept.0 kept.2.0 c.loop-entry.cast.seats.items
+    kept.2.2 c.args.entries.now c.loop-entry.entry-index kept.3 (omega (arith, c.loop-entry-test.false, c.loop-entry.auto.entry-index-end))
     (λ f. let t = c.is_finished.ensures ∙ kept.1.finished.1 f in let n = c.if-is_finished.false in cc)
 
 pub returns-else-is_finished-clause-finished : goal.returns-else-is_finished-clause-finished

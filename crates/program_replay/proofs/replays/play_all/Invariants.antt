@@ -2,11 +2,11 @@ use Rattle.std.proofs.Common.{◌≡◌, reverse, take}
 use Rattle.race_gate.specs.States.{State}
 use Rattle.race_gate.specs.Cores.{IsCoreOf}
 use Rattle.program_runs.specs.Runs.{shape_in}
-use Rattle.program_replay.specs.Casts.{Plays}
+use Rattle.program_replay.specs.Slots.{PlaysIn}
 use Rattle.program_replay.proofs.replays.play_all.Given as goal
 
 abbrev pub invariant-loop-entry : goal.invariant-loop-entry
 invariant-loop-entry g l = record {
-  plays : (state : State) × IsCoreOf l.cast.core state × Plays l.program.functions (shape_in l.program) state l.cast.frames.items l.cast.seats.items ×
+  plays : (state : State) × IsCoreOf l.cast.core state × PlaysIn l.program.functions (shape_in l.program) state l.cast.slots.items l.cast.homes.items l.cast.seats.items ×
       (state.history ≡ reverse (take l.entry-index l.entries));
 }

@@ -11,4 +11,4 @@ returns g c =
     (λ last. five_pushed c.args.text.now.items (noted c.args.scene.now.look) sync_words (function_word c.args.scene.now c.args.line)
     (before_words ++ decimal c.args.onward) order_words c.push_noted.new.text.items c.push_words.new.text.items c.push_function.new.text.items
     c.push_told.new.text.items _ (search rules) (search rules) (search rules) (search rules) (search rules))
-    c.push_words-2.ensures
+    c.push_words-2.ensures.added

@@ -14,4 +14,4 @@ returns g c =
     (function_word c.args.scene.now (line_at c.args.scene.now.entries c.args.spawn.now.entry)) ended_words c.push_noted.new.text.items
     c.push_told.new.text.items c.push_words.new.text.items c.push_function.new.text.items _ (search rules) (search rules) (search rules) (search rules)
     (search rules))
-    c.push_words-2.ensures
+    c.push_words-2.ensures.added

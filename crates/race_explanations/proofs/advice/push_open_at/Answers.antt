@@ -9,4 +9,4 @@ returns g c =
     on_ok_weaker c.push_words.result
     (λ last. three_pushed c.args.text.now.items (outstanding_words ++ decimal c.args.at) (elsewhere_words ++ decimal c.args.not_at) (codes "\n")
     c.push_told.new.text.items c.push_told-2.new.text.items _ (search rules) (search rules) (search rules))
-    c.push_words.ensures
+    c.push_words.ensures.added

@@ -15,4 +15,4 @@ returns c =
     (refused_text scene pair encounter) (advice_text pair.lines.reason scene pair encounter) (codes "\n") c.push_title.new.text.items
     c.push_earlier.new.text.items c.push_refused.new.text.items c.push_advice.new.text.items _ (search rules) (search rules) (search rules)
     (search rules) (search rules))
-    c.push_words.ensures
+    c.push_words.ensures.added

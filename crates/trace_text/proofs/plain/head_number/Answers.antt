@@ -1,8 +1,21 @@
-use Rattle.trace_text.proofs.HeadDigits.{one_more_digit}
+use Rattle.std.proofs.Common.{◌<◌, ◌≤◌, ◌+◌, arith}
+use Rattle.trace_text.proofs.HeadDigits.{one_more_digit, room_for_digit}
 use Rattle.trace_text.proofs.plain.head_number.Goals as goal
 
-pub loop-rest-preserved : goal.loop-rest-preserved
-loop-rest-preserved c =
-    let was = c.loop-rest.invariant in
-    one_more_digit c.args.bytes.now was.0 c.loop-rest.rest.now c.loop-rest.value c.digit_of.result was.1 was.2 was.3
-    c.in-len1-up.len_at_least c.if-byte-lt48.false c.if-byte-gt57.false c.digit_of.ensures
+pub overflow_mul-value : goal.overflow_mul-value
+overflow_mul-value c =
+    let room = room_for_digit c.loop-length.value c.loop-length.length c.loop-length.invariant.3 (omega arith) in
+    omega (arith, room)
+
+pub overflow_add-value : goal.overflow_add-value
+overflow_add-value c =
+    let room = room_for_digit c.loop-length.value c.loop-length.length c.loop-length.invariant.3 (omega arith) in
+    omega (arith, room)
+
+pub loop-length-preserved : goal.loop-length-preserved
+loop-length-preserved c =
+    let was = c.loop-length.invariant in
+    let step = one_more_digit c.args.bytes.now c.loop-length.length c.loop-length.value c.digit_of.result (omega arith) was.1 was.2 was.3
+    c.if-byte-lt48.false c.if-byte-gt57.false c.digit_of.ensures in
+    let more : c.loop-length.length + 1 ≤ c.min-most.result = omega arith in
+    (more, step.0, step.1, step.2)

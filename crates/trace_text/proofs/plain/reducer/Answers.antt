@@ -4,9 +4,9 @@ use Rattle.trace_text.proofs.plain.reducer.Goals as goal
 
 pub returns-in-Some-Reducer : goal.returns-in-Some-Reducer
 returns-in-Some-Reducer g c =
-    let name = c.in_ok-name in
+    let name = c.head_word in
     let found = c.in-Some-Reducer in
     let space : slice_index_or c.args.bytes.now 0 0 ≡ 32 = omega arith in
-    let next : IsNextName c.args.bytes.now name.name.now name.rest.now =
-    record { some = c.in-32.len_at_least; space = space; split = name.ensures.0; is_name = name.ensures.1 } in
-    next_reducer c.args.names.now c.args.bytes.now name.name.now name.rest.now next found.reducer (rw found.field-0-is at found.ensures.0)
+    let next : IsNextName c.args.bytes.now name.result.0.now name.result.1.now =
+    record { some = c.in-32.len_at_least; space = space; split = name.ensures; is_name = found.ensures.is_name } in
+    next_reducer c.args.names.now c.args.bytes.now name.result.0.now name.result.1.now next found.reducer (rw found.field-0-is at found.ensures.named)

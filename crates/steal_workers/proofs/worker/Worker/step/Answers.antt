@@ -8,7 +8,7 @@ use Rattle.steal_workers.proofs.worker.Worker.step.Goals as goal
 
 pub returns-clause-asks : goal.returns-clause-asks
 returns-clause-asks g c =
-    let task = c.args.task in
+    let task = c.args.task.now in
     let functions = task.program.now.functions in
     let kept = c.in_ok-answer.ensures.kept in
     let request : Request = record { strand = task.strand; act = c.next-want.result.act; line = c.next-want.result.line } in

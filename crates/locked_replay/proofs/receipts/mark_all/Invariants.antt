@@ -1,0 +1,11 @@
+use Rattle.std.specs.Prelude.{◌≡◌, ◌++◌, ◌<◌, List, length, take}
+use Rattle.std.specs.List.{AllAdjacentBelow}
+use Rattle.race_gate.specs.declared.answer.Receipt.{Receipt}
+use Rattle.locked_replay.specs.Receipts.{AreMarked}
+use Rattle.locked_replay.proofs.receipts.mark_all.Given as goal
+
+abbrev pub invariant-loop-at : goal.invariant-loop-at
+invariant-loop-at l =
+    (length l.marks ≡ length l.entries) ×
+    AllAdjacentBelow (λ one next. one.number < next.number) l.receipts l.at ×
+    ((met : List Receipt) → AreMarked l.initial.marks l.entries met → AreMarked l.marks l.entries (met ++ take l.at l.receipts))
