@@ -79,9 +79,10 @@ impl Ended {
             || matches!(command, Command::Judge) && self.tells(STARVED)
     }
 
-    /// Whether `judge` has done without room that it asked for in advance.
+    /// Whether the command has done without what it asked for: `judge` asks for room in advance, and both it and `replay` for less room
+    /// for a text that they have read.
     fn has_done_without(&self, command: Command) -> bool {
-        matches!(command, Command::Judge) && self.tells(JUDGED)
+        matches!(command, Command::Judge | Command::Replay) && self.tells(command.told())
     }
 }
 
