@@ -107,8 +107,8 @@ fn judge<A: Allocator + Copy, W: Write>(
         met: Met::new(),
     };
     // There are no more spawns than requests. Room that is not filled costs nothing, and a pass that counts them would.
-    core.make_room(trace.lines.as_slice().len());
-    for line in trace.lines.as_slice() {
+    core.make_room(trace.lines.len());
+    for line in trace.lines.iter() {
         tell(&mut core, &mut verdicts, output, line.request);
     }
     Ok(verdicts)
