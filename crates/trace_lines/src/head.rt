@@ -1,6 +1,6 @@
 //! One line of a trace in numbers.
 
-ghost use Rattle.std.specs.Prelude.{◌≡◌, ◌≢◌, ◌↔◌, ◌<◌, ◌+◌, ◌*◌, ◌%◌, ◌^◌, IsTrue, false, get_or};
+ghost use Rattle.std.specs.Prelude.{◌≡◌, ◌≢◌, ◌↔◌, ◌<◌, ◌+◌, ◌*◌, ◌%◌, ◌^◌, IsTrue, false};
 ghost use Rattle.std.specs.Option.{IfSome};
 ghost use Rattle.trace_lines.specs.Heads.{tag_of, place_of as place_spec, value_of as value_spec, act_of as act_spec, strands, acts, places, marker, strand_in, tag_in, rest_in, line_of_head as line_of_head_spec, line_of_numbers as line_of_numbers_spec};
 
@@ -66,7 +66,7 @@ pub fn head_of(last: u32, line: TraceLine) -> Option<u64>
 {
     let (tag, place, value) = parts_of(line.request.act);
     let (strand, place) = (u64::from(line.request.strand), u64::from(place));
-    if u64::from(line.at) != u64::from(last) + 1 || line.request.line != line.at || line.marked {
+    if line.marked || line.request.line != line.at || u64::from(line.at) != u64::from(last) + 1 {
         return None;
     }
     if strand >= MARKER || place >= PLACES || value >= VALUES {
@@ -76,15 +76,16 @@ pub fn head_of(last: u32, line: TraceLine) -> Option<u64>
 }
 
 /// The head of a line that takes three numbers more, and these.
-pub fn numbers_of(line: TraceLine) -> (u64, [u64; 3])
+#[inline(always)]
+pub fn numbers_of(line: TraceLine) -> (u64, u64, u64, u64)
     ensures head { strand_in result.0 ≡ marker }
-    ensures line { line_of_numbers_spec result.0 (get_or result.1 0 0) (get_or result.1 1 0) (get_or result.1 2 0) ≡ line }
+    ensures line { line_of_numbers_spec result.0 result.1 result.2 result.3 ≡ line }
 {
     let (tag, place, value) = parts_of(line.request.act);
     let head = (u64::from(place) * ACTS + tag) * STRANDS + MARKER;
     let who = u64::from(line.request.strand) * HALF + u64::from(line.request.line);
     let spot = u64::from(line.at) * 2 + u64::from(line.marked);
-    (head, [value, who, spot])
+    (head, value, who, spot)
 }
 
 /// Whether three numbers more follow a head.

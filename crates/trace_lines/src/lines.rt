@@ -1,7 +1,7 @@
 //! A list of lines.
 
 ghost use Rattle.std.specs.Prelude.{◌≡◌, ◌++◌, ◌∷◌, [], ℕ, List, drop, get_or, length, OnOk, OnErr, IsTrue, ◌↔◌};
-ghost use Rattle.trace_lines.specs.Heads.{line_of_numbers as line_of_numbers_spec};
+ghost use Rattle.trace_lines.specs.Heads.{marker, strand_in, line_of_numbers as line_of_numbers_spec};
 ghost use Rattle.trace_lines.specs.Lines.{lines_from, lines_left};
 
 use crate::head::{has_more, head_of, line_of_head, line_of_numbers, numbers_of};
@@ -43,19 +43,27 @@ impl<A: Allocator> TraceLines<A> {
         }
     }
 
-    /// Adds a line that takes three numbers more.
-    fn push_numbers(&mut self, line: TraceLine) -> Result<(), AllocError>
-        ensures pushed { OnOk result (self.new ≡ self.old ++ line ∷ []) }
+    /// Adds the line of a head and three numbers more, which has the number `at`.
+    fn push_numbers(
+        &mut self,
+        at: u32,
+        head: u64,
+        value: u64,
+        who: u64,
+        spot: u64,
+    ) -> Result<(), AllocError>
+        requires long { strand_in head ≡ marker }
+        requires at { (line_of_numbers_spec head value who spot).at ≡ at }
+        ensures pushed { OnOk result (self.new ≡ self.old ++ line_of_numbers_spec head value who spot ∷ []) }
         ensures unchanged { OnErr result (self.new ≡ self.old) }
     {
-        let (head, [value, who, spot]) = numbers_of(line);
         self.heads.reserve(1)?;
         self.numbers.reserve(3)?;
         self.numbers.push_reserved(value);
         self.numbers.push_reserved(who);
         self.numbers.push_reserved(spot);
         self.heads.push_reserved(head);
-        self.last = line.at;
+        self.last = at;
         Ok(())
     }
 
@@ -66,7 +74,8 @@ impl<A: Allocator> TraceLines<A> {
         ensures unchanged { OnErr result (self.new ≡ self.old) }
     {
         let Some(head) = head_of(self.last, line) else {
-            return self.push_numbers(line);
+            let (head, value, who, spot) = numbers_of(line);
+            return self.push_numbers(line.at, head, value, who, spot);
         };
         self.heads.push(head)?;
         self.last = line.at;

@@ -76,6 +76,7 @@ impl<'a, A: Allocator + Copy> Draft<'a, A> {
     }
 
     /// Adds a request.
+    #[inline(always)]
     fn ask(&mut self, at: u32, line: TraceLine) -> Result<(), TextFault>
         ensures { MatchResult result
             (λ _. Extends at (so_far self.old.names self.old.lines) (Asked line) (so_far self.new.names self.new.lines))
