@@ -53,7 +53,7 @@ fn parts_of_programs(rt: HostRuntime) -> Result<(), Fail> {
 /// What a trace's text means: so many requests, or a fault at a line.
 pub(crate) fn found_of(alloc: Global, text: &[u8]) -> Option<Result<usize, (u32, Cause)>> {
     match Trace::parse(alloc, text) {
-        Ok(trace) => Some(Ok(trace.lines.as_slice().len())),
+        Ok(trace) => Some(Ok(trace.lines.len())),
         Err(TextFault::At { line, why }) => Some(Err((line, why))),
         Err(TextFault::Memory) => None,
     }

@@ -1,5 +1,6 @@
 pub mod VerdictText
 pub mod Rooms
+pub mod Counted
 pub mod Refusals
 pub mod ReportText
 pub mod Conditions

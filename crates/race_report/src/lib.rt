@@ -1,15 +1,17 @@
 //! The texts of results: the verdict lines of replies, and the report of a run.
 //!
-//! [`verdict_lines`] writes a line for each reply of a gate, and [`push_verdict`] adds one such line. [`report`] writes one JSON object:
-//! whether the run is clean, the number of its entries, what each memory holds, and each refusal with its witness. `specs/` says which text
-//! that is: `verdict_text` by cases on replies, and `report_told` as a JSON value, of which the report is the compact text.
+//! [`verdict_lines`] writes a line for each reply of a gate, and [`put_verdict`] puts one such line where there is room. [`report`] writes
+//! one JSON object: whether the run is clean, the number of its entries, what each memory holds, and each refusal with its witness. `specs/`
+//! says which text that is: `verdict_text` by cases on replies, and `report_told` as a JSON value, of which the report is the compact text.
 //! [`laws::schedules_law`] says what the report of a clean run promises of all runs of the program.
 #![tactic(auto)]
 
+mod counted;
 mod json_report;
 pub mod laws;
 mod placed;
 mod verdict;
 
+pub use counted::Counted;
 pub use json_report::report;
-pub use verdict::{push_number, push_verdict, push_words, verdict_lines};
+pub use verdict::{LINE_ROOM, push_number, push_words, put_verdict, verdict_lines};

@@ -21,6 +21,16 @@ pub(crate) fn put_word(out: &mut [u8], at: usize, word: &str) -> usize
     end
 }
 
+/// Puts bytes at a place.
+#[inline(always)]
+pub(crate) fn put_bytes(out: &mut [u8], at: usize, bytes: &[u8])
+    requires room { at + length bytes.now ≤ length out.old }
+    ensures len { length out.new ≡ length out.old }
+    ensures put { take (at + length bytes.now) out.new ≡ take at out.old ++ bytes.now }
+{
+    out[at..at + bytes.len()].copy_from_slice(bytes);
+}
+
 /// Puts two digits at a place.
 #[inline(always)]
 fn put_pair(out: &mut [u8], at: usize, pair: u64)

@@ -5,6 +5,7 @@ ghost use Rattle.std.specs.List.{All};
 ghost use Rattle.race_report.specs.VerdictText.{refusal_word, HasWord, HasWords, answer_text, fault_word, numbers_text, line_of, verdict_text};
 ghost use Rattle.race_report.specs.Rooms.{HasRoom, number_room, line_room};
 
+use crate::counted::Counted;
 use crate::placed::{put_number, put_word};
 use access_table::{Kind, rule_word};
 use itoa::Buffer;
@@ -14,8 +15,8 @@ use sp_labels::Spawned;
 use std::alloc::{AllocError, Allocator};
 use trace_values::{Act, access_asked};
 
-/// Room for each verdict line: the longest is of four numbers, of at most 20 digits each, and the words between them.
-const LINE: usize = 96;
+/// Room for each verdict line, in bytes: the longest is of four numbers, of at most 20 digits each, and the words between them.
+pub const LINE_ROOM: usize = 96;
 
 /// The word of the rule that an act and an earlier access of this kind come under.
 pub(crate) fn rule_of_refusal(act: Act, witness: Kind) -> &'static str
@@ -133,34 +134,38 @@ fn put_fault(out: &mut [u8], at: usize, fault: GateFault) -> usize
     }
 }
 
-/// Puts the line of a reply, and answers the place behind it.
+/// Puts the verdict line of a reply at a place of a slice that has [`LINE_ROOM`] bytes from there on, and answers the place behind it.
+/// What stands before the place stays. The line is as [`verdict_lines`] writes it. `counted` is where entries' numbers are counted: one
+/// for all replies of a gate.
 #[inline(always)]
-fn put_line(out: &mut [u8], at: usize, reply: &Reply) -> usize
+pub fn put_verdict(out: &mut [u8], at: usize, reply: &Reply, counted: &mut Counted) -> usize
     requires words { HasWords reply.now }
-    requires room { at + 96 ≤ length out.old }
+    requires room { at + line_room ≤ length out.old }
     ensures len { length out.new ≡ length out.old }
     ensures put { take result out.new ≡ take at out.old ++ line_of reply.now }
 {
     match reply {
         Reply::Done(receipt) => {
-            let end = put_number(out, at, u64::from(receipt.number));
+            let end = counted.put(out, at, u64::from(receipt.number));
             put_answer(out, end, receipt.request.act, receipt.answer)
         }
         Reply::Illegal(fault) => put_fault(out, at, *fault),
     }
 }
 
-/// Adds the verdict line of a reply, as [`verdict_lines`] writes it. It fails only where the text has no room for 128 bytes.
-pub fn push_verdict<A: Allocator>(text: &mut Vec<u8, A>, reply: &Reply) -> Result<(), AllocError>
+/// Adds the verdict line of a reply.
+fn push_verdict<A: Allocator>(
+    text: &mut Vec<u8, A>,
+    reply: &Reply,
+    counted: &mut Counted,
+) -> Result<(), AllocError>
     requires { HasWords reply.now }
-    ensures added { OnOk result (text.new.items ≡ text.old.items ++ line_of reply.now) }
-    ensures capacity { vec_capacity text.old ≤ vec_capacity text.new }
-    ensures room { HasRoom line_room text.old → IsOk result }
+    ensures { OnOk result (text.new.items ≡ text.old.items ++ line_of reply.now) }
 {
     let at = text.len();
     // Room is asked for once, for the longest line, and what is left of it is cut off.
-    text.extend_from_slice(&[0; LINE])?;
-    let end = put_line(text.as_mut_slice(), at, reply);
+    text.extend_from_slice(&[0; LINE_ROOM])?;
+    let end = put_verdict(text.as_mut_slice(), at, reply, counted);
     text.truncate(end);
     Ok(())
 }
@@ -173,8 +178,9 @@ pub fn verdict_lines<A: Allocator>(alloc: A, replies: &[Reply]) -> Result<Vec<u8
     ensures { IfOk result (λ text. text.items ≡ verdict_text replies.now) }
 {
     let mut text = Vec::new(alloc);
+    let mut counted = Counted::new();
     for reply in replies {
-        push_verdict(&mut text, reply)?;
+        push_verdict(&mut text, reply, &mut counted)?;
     }
     Ok(text)
 }

@@ -1,3 +1,4 @@
+pub mod Alike
 pub mod Added
 pub mod Parallel
 pub mod Witnesses

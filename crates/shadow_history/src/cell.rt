@@ -1,7 +1,8 @@
-ghost use Rattle.std.specs.Prelude.{◌≡◌, ◌≢◌, ◌++◌, ◌∷◌, [], List, ℕ, IsTrue, Some, None, MatchOption};
+ghost use Rattle.std.specs.Prelude.{◌≡◌, ◌≢◌, ◌↔◌, ◌++◌, ◌∷◌, [], List, ℕ, IsTrue, Some, None, MatchOption};
 ghost use Rattle.access_table.specs.declared.kind.Kind.{Kind};
 ghost use Rattle.access_table.specs.Table.{is_memory_kind};
 ghost use Rattle.control_history.specs.History.{History};
+ghost use Rattle.control_history.specs.Addresses.{IsEnglishBefore, IsHebrewBefore};
 ghost use Rattle.sp_labels.specs.Roster.{Follows, HasBegun};
 ghost use Rattle.shadow_history.specs.Accesses.{Access, HaveAllBegun};
 ghost use Rattle.shadow_history.specs.Witnesses.{witness_of, NoneIsParallel, IsLatestParallel};
@@ -26,6 +27,33 @@ pub struct Extremes {
     pub hebrew: Extreme,
 }
 
+/// Whether `a` stands before `b` in the English order. Most accesses of a cell are by the strand of the last one, which this tells without the
+/// order.
+#[inline(always)]
+fn english_before<A: Allocator>(strands: &Strands<A>, a: u32, b: u32) -> bool
+    requires a_begun { HasBegun strands.now a }
+    requires b_begun { HasBegun strands.now b }
+    ensures { (history : History) → Follows strands.now history → IsTrue result ↔ IsEnglishBefore history a b }
+{
+    if a == b {
+        return false;
+    }
+    strands.english_before(a, b)
+}
+
+/// The same in the Hebrew order.
+#[inline(always)]
+fn hebrew_before<A: Allocator>(strands: &Strands<A>, a: u32, b: u32) -> bool
+    requires a_begun { HasBegun strands.now a }
+    requires b_begun { HasBegun strands.now b }
+    ensures { (history : History) → Follows strands.now history → IsTrue result ↔ IsHebrewBefore history a b }
+{
+    if a == b {
+        return false;
+    }
+    strands.hebrew_before(a, b)
+}
+
 impl Extremes {
     /// The strand of the two, the English-last first, that is parallel to a running one.
     fn parallel_to<A: Allocator>(self, strands: &Strands<A>, strand: u32) -> Option<Extreme>
@@ -34,13 +62,13 @@ impl Extremes {
         ensures { (history : History) (accesses : List Access) (location : ℕ) (kind : Kind) → Follows strands.now history → HaveAllBegun history accesses → AreExtremes history accesses location kind self → MatchOption result (NoneIsParallel history accesses location kind strand) (λ extreme. IsLatestParallel history accesses strand (access_of location kind extreme)) }
     {
         // A running strand leads to no other: one that is after it in either order is parallel to it.
-        if strands.english_before(strand, self.english.strand) {
+        if english_before(strands, strand, self.english.strand) {
             return Some(self.english);
         }
-        if !strands.hebrew_before(strand, self.hebrew.strand) {
+        if !hebrew_before(strands, strand, self.hebrew.strand) {
             return None;
         }
-        if strands.hebrew_before(strand, self.english.strand) {
+        if hebrew_before(strands, strand, self.english.strand) {
             Some(self.english)
         } else {
             Some(self.hebrew)
@@ -53,12 +81,12 @@ impl Extremes {
         requires begun { HaveBegun strands.now (Some self) }
         ensures { (history : History) (accesses : List Access) (location : ℕ) (kind : Kind) → Follows strands.now history → AreExtremes history accesses location kind self → AreExtremes history (accesses ++ access_of location kind new ∷ []) location kind result }
     {
-        let english = if strands.english_before(self.english.strand, new.strand) {
+        let english = if english_before(strands, self.english.strand, new.strand) {
             new
         } else {
             self.english
         };
-        let hebrew = if strands.hebrew_before(self.hebrew.strand, new.strand) {
+        let hebrew = if hebrew_before(strands, self.hebrew.strand, new.strand) {
             new
         } else {
             self.hebrew

@@ -1,9 +1,9 @@
 -- What was met among replies, one after another.
-use Rattle.std.proofs.Common.{◌≡◌, ◌||◌, ℕ, ◌+◌, ◌<◌, Bool, true, false, Option, List, [], ◌∷◌, ◌++◌, length, map, take, get_or, append-nil, append_assoc, refl, ap, sym, subst, ◌∙◌}
+use Rattle.std.proofs.Common.{◌≡◌, ◌||◌, ℕ, Bool, true, false, Option, List, [], ◌∷◌, ◌++◌, map, append-nil, append_assoc, refl, ap, sym, subst, ◌∙◌}
 use Rattle.std.specs.List.{list_any}
 use Rattle.std.proofs.lemmas.Bool.{true≢false}
 use Rattle.std.proofs.lemmas.List.Folds.{list_any-append}
-use Rattle.std.proofs.lemmas.List.{take_more, map-append}
+use Rattle.std.proofs.lemmas.List.{map-append}
 use Rattle.std.proofs.lemmas.List.Concat.{flat_map-append}
 use Rattle.trace_values.specs.declared.value.Request.{Request}
 use Rattle.trace_values.specs.declared.value.TraceLine.{TraceLine}
@@ -120,25 +120,24 @@ told_failed wrote writes failed waiting left text fails told = record {
 }
 
 -- one more line of a trace
-pub requests_more : (lines : List TraceLine) (index : ℕ) (other : TraceLine) → index < length lines →
-    map (λ line. line.request) (take (index + 1) lines) ≡ map (λ line. line.request) (take index lines) ++ (get_or lines index other).request ∷ []
-requests_more lines index other below =
-    ap (map (λ line. line.request)) (take_more lines index other below) ∙ map-append (λ (line : TraceLine). line.request) (take index lines) (get_or lines index other ∷ [])
+pub requests_more : (taken : List TraceLine) (line : TraceLine) → map (λ line. line.request) (taken ++ line ∷ []) ≡ map (λ line. line.request) taken ++ line.request ∷ []
+requests_more taken line = map-append (λ (line : TraceLine). line.request) taken (line ∷ [])
 
--- the request of one more line was pushed
-pub pushed_more : (lines : List TraceLine) (index : ℕ) (other : TraceLine) (old new : List Request) → index < length lines →
-    new ≡ old ++ (get_or lines index other).request ∷ [] → old ≡ map (λ line. line.request) (take index lines) →
-    new ≡ map (λ line. line.request) (take (index + 1) lines)
-pushed_more lines index other old new below pushed before =
-    pushed ∙ ap (λ l. l ++ (get_or lines index other).request ∷ []) before ∙ sym (requests_more lines index other below)
+-- what is taken and what is still to come are the whole, also behind one more
+pub taken_more : (whole taken later rest : List TraceLine) (line : TraceLine) → whole ≡ taken ++ later → later ≡ line ∷ rest → whole ≡ (taken ++ line ∷ []) ++ rest
+taken_more whole taken later rest line same next = same ∙ ap (λ l. taken ++ l) next ∙ sym (append_assoc taken (line ∷ []) rest)
+
+-- all is taken where nothing is to come
+pub taken_all : (whole taken later : List TraceLine) → whole ≡ taken ++ later → later ≡ [] → whole ≡ taken
+taken_all whole taken later same none = same ∙ ap (λ l. taken ++ l) none ∙ append-nil taken
 
 module _ {A : Type 0} (start : State) (core : CoreState) (verdicts : Verdicts A) (wrote writes : Option (List ℕ)) (failed : Bool) where
   -- the request of one more line was judged
-  pub judged_more : (lines : List TraceLine) (index : ℕ) (other : TraceLine) (replies : List Reply) → index < length lines →
-      HasJudged start (map (λ line. line.request) (take index lines) ++ (get_or lines index other).request ∷ []) replies core verdicts wrote writes failed →
-      HasJudged start (map (λ line. line.request) (take (index + 1) lines)) replies core verdicts wrote writes failed
-  judged_more lines index other replies below judged =
-      subst (λ (asked : List Request). HasJudged start asked replies core verdicts wrote writes failed) (sym (requests_more lines index other below)) judged
+  pub judged_more : (taken : List TraceLine) (line : TraceLine) (replies : List Reply) →
+      HasJudged start (map (λ line. line.request) taken ++ line.request ∷ []) replies core verdicts wrote writes failed →
+      HasJudged start (map (λ line. line.request) (taken ++ line ∷ [])) replies core verdicts wrote writes failed
+  judged_more taken line replies judged =
+      subst (λ (asked : List Request). HasJudged start asked replies core verdicts wrote writes failed) (sym (requests_more taken line)) judged
 
   -- what was told of all requests of a trace
   pub told_trace : (contents : Contents) (limit : ℕ) (shape : Shape) (requests : List Request) (replies : List Reply) → start ≡ opening shape limit →

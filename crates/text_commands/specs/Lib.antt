@@ -2,6 +2,7 @@ pub mod Watched
 pub mod Faults
 pub mod Statuses
 pub mod Streams
+pub mod Waiting
 pub mod Meetings
 pub mod Jobs
 pub mod ElisionText

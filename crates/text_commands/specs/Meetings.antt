@@ -21,10 +21,6 @@ pub record HasMet (replies : List Reply) (met : Met) : Type 0 where
   pub illegal : met.illegal ≡ list_any is_illegal replies
   pub refusal : met.refusal ≡ list_any is_refusal replies
 
--- so many bytes of verdict lines wait at most before they are written
-abbrev pub most_held : ℕ
-most_held = 65_536
-
 -- A text was told so far: a part of it was written, and where no write has failed the rest waits.
 pub record IsTold (wrote writes : Option (List ℕ)) (failed : Bool) (waiting text : List ℕ) : Type 0 where
   pub part : List ℕ
@@ -36,7 +32,7 @@ pub record IsTold (wrote writes : Option (List ℕ)) (failed : Bool) (waiting te
 module _ {A : Type 0} where
   -- the verdict lines of the replies were told, and what was met among them
   pub record Tells (replies : List Reply) (verdicts : Verdicts A) (wrote writes : Option (List ℕ)) (failed : Bool) : Type 0 where
-    pub lines : IsTold wrote writes failed verdicts.lines.items (verdict_text replies)
+    pub lines : IsTold wrote writes failed verdicts.lines.text (verdict_text replies)
     pub met : HasMet replies verdicts.met
 
   -- from this state on a core has judged the requests with these replies, which are told

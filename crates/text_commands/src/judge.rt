@@ -1,6 +1,6 @@
 //! Judging the trace that a reader gives.
 
-ghost use Rattle.std.specs.Prelude.{◌≡◌, ◌↔◌, ◌≤◌, ◌≢◌, ◌++◌, ◌∷◌, ◌+◌, ◌<◌, ℕ, List, [], Option, true, false, length, map, vec_len, vec_capacity, IfOk, IfErr, OnOk, OnErr, IsErrOf, IsTrue, MatchResult};
+ghost use Rattle.std.specs.Prelude.{◌≡◌, ◌↔◌, ◌≤◌, ◌≢◌, ◌++◌, ◌∷◌, ◌+◌, ◌<◌, ℕ, List, [], Option, true, false, length, map, IfOk, IfErr, OnOk, OnErr, IsErrOf, IsTrue, MatchResult};
 ghost use Rattle.std.specs.Io.KnownBytes.{Appends};
 ghost use Rattle.trace_text.specs.Grammar.{TextMeans};
 ghost use Rattle.trace_values.specs.Limits.{max_requests};
@@ -11,7 +11,8 @@ ghost use Rattle.race_gate.specs.States.{State};
 ghost use Rattle.race_gate.specs.declared.answer.Reply.{Reply as SpecReply};
 ghost use Rattle.trace_values.specs.declared.value.Request.{Request as SpecRequest};
 ghost use Rattle.text_commands.specs.Watched.{held, has_failed, is_delivered, calls_of, IsCalledAtMost};
-ghost use Rattle.text_commands.specs.Meetings.{most_held, IsTold, HasJudged, Tells, TellsTrace};
+ghost use Rattle.text_commands.specs.Waiting.{most_filled};
+ghost use Rattle.text_commands.specs.Meetings.{IsTold, HasJudged, Tells, TellsTrace};
 ghost use Rattle.race_report.specs.VerdictText.{HasWords, line_of, verdict_text};
 ghost use Rattle.text_commands.specs.Statuses.{status_of_replies};
 ghost use Rattle.text_commands.specs.Streams.{most_reads, declared_shape, requests_of, IsJudgedBy, JudgesTrace, AreReplies, AnswersText, IsAnswered, StopsWriting, StopsAnswer, HasCause};
@@ -19,33 +20,27 @@ ghost use Rattle.text_commands.specs.Streams.{most_reads, declared_shape, reques
 use crate::fault::CliFault;
 use crate::status::Met;
 use crate::streams::{deliver, parse_trace, read_text, write_bytes};
+use crate::waiting::Waiting;
 use crate::watched::Watched;
 use race_gate::{Core, Reply};
-use race_report::push_verdict;
 use std::alloc::{AllocError, Allocator};
 use std::io::{Read, Write};
 use trace_text::Trace;
 use trace_values::Request;
 
-/// How many bytes of verdict lines wait at most before they are written.
-const MOST_HELD: usize = 65_536;
-/// How many bytes a verdict line has at most.
-const LINE: usize = 128;
-
 /// What is told of the replies to requests: the verdict lines that wait to be written, and what the exit status wants to know of all.
 #[derive(Drop)]
 struct Verdicts<A: Allocator> {
-    lines: Vec<u8, A>,
+    lines: Waiting<A>,
     met: Met,
 }
 
 /// Writes the lines that wait, where no write has failed, and lets them go.
-fn give<A: Allocator, W: Write>(output: &mut Watched<W>, lines: &mut Vec<u8, A>)
-    ensures told { (wrote : Option (List ℕ)) (text : List ℕ) → IsTold wrote (W.contents (held output.old)) (has_failed output.old) lines.old.items text →
-        IsTold wrote (W.contents (held output.new)) (has_failed output.new) lines.new.items text }
-    ensures none { lines.new.items ≡ [] }
-    ensures empty { vec_len lines.new ≡ 0 }
-    ensures capacity { vec_capacity lines.new ≡ vec_capacity lines.old }
+fn give<A: Allocator, W: Write>(output: &mut Watched<W>, lines: &mut Waiting<A>)
+    ensures told { (wrote : Option (List ℕ)) (text : List ℕ) → IsTold wrote (W.contents (held output.old)) (has_failed output.old) lines.old.text text →
+        IsTold wrote (W.contents (held output.new)) (has_failed output.new) lines.new.text text }
+    ensures none { lines.new.text ≡ [] }
+    ensures room { lines.new.filled ≤ most_filled }
 {
     if !output.failed() {
         // The writer notes where this fails.
@@ -55,18 +50,15 @@ fn give<A: Allocator, W: Write>(output: &mut Watched<W>, lines: &mut Vec<u8, A>)
 }
 
 /// Adds the verdict line of a reply to those that wait, which are written first where it might not fit.
-fn put<A: Allocator, W: Write>(output: &mut Watched<W>, lines: &mut Vec<u8, A>, reply: &Reply)
-    requires words { HasWords reply.now }
-    requires room { most_held ≤ vec_capacity lines.old }
-    ensures told { (wrote : Option (List ℕ)) (text : List ℕ) → IsTold wrote (W.contents (held output.old)) (has_failed output.old) lines.old.items text →
-        IsTold wrote (W.contents (held output.new)) (has_failed output.new) lines.new.items (text ++ line_of reply.now) }
-    ensures room { most_held ≤ vec_capacity lines.new }
+fn put<A: Allocator, W: Write>(output: &mut Watched<W>, lines: &mut Waiting<A>, reply: &Reply)
+    requires { HasWords reply.now }
+    ensures { (wrote : Option (List ℕ)) (text : List ℕ) → IsTold wrote (W.contents (held output.old)) (has_failed output.old) lines.old.text text →
+        IsTold wrote (W.contents (held output.new)) (has_failed output.new) lines.new.text (text ++ line_of reply.now) }
 {
-    if lines.len() > MOST_HELD - LINE {
+    if !lines.has_room() {
         give(output, lines);
     }
-    // There is room, so this does not fail.
-    let _ = push_verdict(lines, reply);
+    lines.add(reply);
 }
 
 /// Judges a request and tells the reply.
@@ -76,12 +68,10 @@ fn tell<A: Allocator + Clone, W: Write>(
     output: &mut Watched<W>,
     request: Request,
 )
-    requires core { IsCore core.old }
-    requires room { most_held ≤ vec_capacity verdicts.old.lines }
-    ensures judged { (start : State) (wrote : Option (List ℕ)) (requests : List SpecRequest) (replies : List SpecReply) →
+    requires { IsCore core.old }
+    ensures { (start : State) (wrote : Option (List ℕ)) (requests : List SpecRequest) (replies : List SpecReply) →
         HasJudged start requests replies core.old verdicts.old wrote (W.contents (held output.old)) (has_failed output.old) →
         (reply : SpecReply) × HasJudged start (requests ++ request ∷ []) (replies ++ reply ∷ []) core.new verdicts.new wrote (W.contents (held output.new)) (has_failed output.new) }
-    ensures room { most_held ≤ vec_capacity verdicts.new.lines }
 {
     let reply = core.reply(request);
     put(output, &mut verdicts.lines, &reply);
@@ -103,12 +93,12 @@ fn judge<A: Allocator + Copy, W: Write>(
     let shape = trace.shape(alloc)?;
     let mut core = Core::new(alloc, &shape, limit)?;
     let mut verdicts = Verdicts {
-        lines: Vec::with_capacity(alloc, MOST_HELD)?,
+        lines: Waiting::new(alloc)?,
         met: Met::new(),
     };
     // There are no more spawns than requests. Room that is not filled costs nothing, and a pass that counts them would.
-    core.make_room(trace.lines.as_slice().len());
-    for line in trace.lines.as_slice() {
+    core.make_room(trace.lines.len());
+    for line in trace.lines.iter() {
         tell(&mut core, &mut verdicts, output, line.request);
     }
     Ok(verdicts)

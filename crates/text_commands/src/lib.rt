@@ -41,6 +41,7 @@ mod run;
 mod status;
 mod streams;
 mod traced;
+mod waiting;
 mod watched;
 mod words;
 

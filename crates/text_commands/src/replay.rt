@@ -40,7 +40,7 @@ pub fn answered<A: Allocator + Copy>(alloc: A, trace: &Trace<A>) -> Result<Gate<
     let shape = trace.shape(alloc)?;
     let mut gate = Gate::new(alloc, &shape, MOST_ENTRIES)?;
     let mut number = 0;
-    for line in trace.lines.as_slice() {
+    for line in trace.lines.iter() {
         number += 1;
         match gate.judge(line.request) {
             Ok(_) => {}

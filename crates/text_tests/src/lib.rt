@@ -7,6 +7,8 @@
 #[cfg(test)]
 mod checks;
 #[cfg(test)]
+mod kept;
+#[cfg(test)]
 mod kinds;
 #[cfg(test)]
 mod lines;

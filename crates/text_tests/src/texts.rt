@@ -7,6 +7,7 @@ use crate::checks::equal;
 use std::alloc::Global;
 use std::process::Abort;
 use std::test::Fail;
+use trace_lines::TraceLines;
 use trace_text::{Trace, cell_name};
 use trace_values::{Act, Cause, Monoid, Request, TextFault, TraceLine};
 
@@ -195,7 +196,7 @@ fn many_reducers(rt: HostRuntime) -> Result<(), Fail> {
 }
 
 /// Checks what the lines ask for, each of strand 3 and of the line of its own number.
-fn ask_for(rt: &impl Abort, lines: &[TraceLine], acts: &[Act]) {
+fn ask_for(rt: &impl Abort, lines: &TraceLines<Global>, acts: &[Act]) {
     assert!(rt; lines.len() == acts.len());
     for (line, act) in lines.iter().zip(acts) {
         let request = Request {
@@ -203,14 +204,14 @@ fn ask_for(rt: &impl Abort, lines: &[TraceLine], acts: &[Act]) {
             act: *act,
             line: line.at,
         };
-        is_line(rt, line, request, line.at, false);
+        is_line(rt, &line, request, line.at, false);
     }
 }
 
 /// Checks that a text means these requests, each of strand 3 and of the line of its own number.
 fn asks(rt: &impl Abort, alloc: Global, text: &[u8], acts: &[Act]) -> Result<(), Fail> {
     let trace = Trace::parse(alloc, text)?;
-    ask_for(rt, trace.lines.as_slice(), acts);
+    ask_for(rt, &trace.lines, acts);
     Ok(())
 }
 
@@ -240,7 +241,7 @@ fn is_line(rt: &impl Abort, line: &TraceLine, request: Request, at: u32, marked:
 }
 
 /// The lines are those of a read and of a marked write, behind a spawn.
-fn are_marked(rt: &impl Abort, lines: &[TraceLine]) {
+fn are_marked(rt: &impl Abort, lines: &TraceLines<Global>) {
     assert!(rt; lines.len() == 3);
     let write = Request {
         strand: 2,
@@ -252,15 +253,20 @@ fn are_marked(rt: &impl Abort, lines: &[TraceLine]) {
         act: Act::Read(0),
         line: 4,
     };
-    is_line(rt, &lines[2], write, 6, true);
-    is_line(rt, &lines[1], read, 4, false);
+    let mut behind = lines.iter().skip(1);
+    for (wanted, at, marked) in [(read, 4, false), (write, 6, true)] {
+        match behind.next() {
+            Some(line) => is_line(rt, &line, wanted, at, marked),
+            None => assert!(rt; false, "no line {at}"),
+        }
+    }
 }
 
 #[test]
 fn marks_and_blanks(rt: HostRuntime) -> Result<(), Fail> {
     let text = b"cilk 1\r\nmem x\nspawn 0\nread 1 x # c\n\n  write\t2 x 9 @7\n\r";
     let trace = Trace::parse(rt.alloc(), text)?;
-    are_marked(&rt, trace.lines.as_slice());
+    are_marked(&rt, &trace.lines);
     Ok(())
 }
 

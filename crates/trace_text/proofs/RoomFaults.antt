@@ -184,11 +184,10 @@ whole_read view version text first rest (Ok d) e h m = text_means version text f
 whole_read view version text first rest (Err fault) e h f = body_fault version text first rest fault e h f
 
 -- what is read, in the parts of a trace
-pub assembled : (text : List ℕ) (known : Known) (requests : List TraceLine) (version : Version) (ms mems : List Mem) (rs reducers : List Reducer) (lines : List TraceLine)
-    → known ≡ record { version = version; mems = ms; reducers = rs } → mems ≡ ms → reducers ≡ rs → lines ≡ requests → TextMeans text (so_far known requests)
-    → TextMeans text (so_far (record { version = version; mems = mems; reducers = reducers }) lines)
-assembled text known requests version ms mems rs reducers lines e f g h m =
-    subst (λ (t : List Mem). TextMeans text (so_far (record { version = version; mems = t; reducers = reducers }) lines)) (sym f)
-    (subst (λ (t : List Reducer). TextMeans text (so_far (record { version = version; mems = ms; reducers = t }) lines)) (sym g)
-    (subst (λ (t : List TraceLine). TextMeans text (so_far (record { version = version; mems = ms; reducers = rs }) t)) (sym h)
-    (subst (λ (k : Known). TextMeans text (so_far k requests)) e m)))
+pub assembled : (text : List ℕ) (known : Known) (requests : List TraceLine) (version : Version) (ms mems : List Mem) (rs reducers : List Reducer)
+    → known ≡ record { version = version; mems = ms; reducers = rs } → mems ≡ ms → reducers ≡ rs → TextMeans text (so_far known requests)
+    → TextMeans text (so_far (record { version = version; mems = mems; reducers = reducers }) requests)
+assembled text known requests version ms mems rs reducers e f g m =
+    subst (λ (t : List Mem). TextMeans text (so_far (record { version = version; mems = t; reducers = reducers }) requests)) (sym f)
+    (subst (λ (t : List Reducer). TextMeans text (so_far (record { version = version; mems = ms; reducers = t }) requests)) (sym g)
+    (subst (λ (k : Known). TextMeans text (so_far k requests)) e m))

@@ -13,6 +13,7 @@ use crate::keyword::{keyword_for, keyword_word};
 use crate::trace::Trace;
 use std::alloc::{AllocError, Allocator};
 use std::fmt::Write;
+use trace_lines::TraceLines;
 use trace_values::{Act, Mem, Reducer, TraceLine, monoid_word, version_word};
 
 /// Appends a space and a number.
@@ -258,19 +259,19 @@ pub fn put_declarations<A: Allocator>(
 }
 
 /// Appends the lines of the requests.
-fn put_requests<A: Allocator>(
+fn put_requests<A: Allocator, B: Allocator>(
     out: &mut String<A>,
     from: u64,
     mems: &[Mem],
     reducers: &[Reducer],
-    lines: &[TraceLine],
+    lines: &TraceLines<B>,
 ) -> Result<(), AllocError>
     requires numbered { IsTrue (is_numbered 0 mems.now) }
     ensures { (version : Version) → OnOk result (string_bytes out.new ≡ string_bytes out.old ++ text_from (known_of version mems.now reducers.now) from (map OfRequest lines.now)) }
 {
     let mut at = from;
-    for line in lines {
-        at = put_request_line(out, at, mems, reducers, line)?;
+    for line in lines.iter() {
+        at = put_request_line(out, at, mems, reducers, &line)?;
     }
     Ok(())
 }
@@ -289,7 +290,7 @@ impl<A: Allocator> Trace<A> {
         let mems = self.mems.as_slice();
         let reducers = self.reducers.as_slice();
         let at = put_declarations(&mut out, mems, reducers)?;
-        put_requests(&mut out, at, mems, reducers, self.lines.as_slice())?;
+        put_requests(&mut out, at, mems, reducers, &self.lines)?;
         Ok(out.into_bytes())
     }
 

@@ -14,9 +14,10 @@ use crate::line::{Item, read_line, request_on};
 use crate::place::CELLS;
 use crate::plain::plain_request;
 use std::alloc::{AllocError, Allocator};
+use trace_lines::TraceLines;
 use trace_values::{
-    Cause, Lines, Mems, Monoid, Monoids, Names, Reducers, Shape, TextFault, TraceLine, Version,
-    Words, as_text, split_line, without_return,
+    Cause, Mems, Monoid, Monoids, Names, Reducers, Shape, TextFault, TraceLine, Version, Words,
+    as_text, split_line, without_return,
 };
 
 /// The most lines of a text.
@@ -30,7 +31,7 @@ pub const REDUCERS: usize = 256;
 #[derive(Drop)]
 struct Draft<'a, A: Allocator> {
     names: Names<'a, A>,
-    lines: Vec<TraceLine, A>,
+    lines: TraceLines<A>,
 }
 
 fn fault(line: u32, why: Cause) -> TextFault
@@ -44,8 +45,8 @@ impl<'a, A: Allocator + Copy> Draft<'a, A> {
     fn declare(&mut self, at: u32, name: &'a str, length: Option<u32>) -> Result<(), TextFault>
         requires { SaysSo at self.old.names (Declared name.now length) }
         ensures { MatchResult result
-            (λ _. Extends at (so_far self.old.names self.old.lines.items) (Declared name.now length) (so_far self.new.names self.new.lines.items))
-            (IsRoomFault at (so_far self.old.names self.old.lines.items) (Declared name.now length)) }
+            (λ _. Extends at (so_far self.old.names self.old.lines) (Declared name.now length) (so_far self.new.names self.new.lines))
+            (IsRoomFault at (so_far self.old.names self.old.lines) (Declared name.now length)) }
     {
         if !self.lines.is_empty() {
             return Err(fault(at, Cause::BadNesting));
@@ -61,8 +62,8 @@ impl<'a, A: Allocator + Copy> Draft<'a, A> {
     fn reduce(&mut self, at: u32, name: &'a str, monoid: Monoid) -> Result<(), TextFault>
         requires { SaysSo at self.old.names (Reduces name.now monoid) }
         ensures { MatchResult result
-            (λ _. Extends at (so_far self.old.names self.old.lines.items) (Reduces name.now monoid) (so_far self.new.names self.new.lines.items))
-            (IsRoomFault at (so_far self.old.names self.old.lines.items) (Reduces name.now monoid)) }
+            (λ _. Extends at (so_far self.old.names self.old.lines) (Reduces name.now monoid) (so_far self.new.names self.new.lines))
+            (IsRoomFault at (so_far self.old.names self.old.lines) (Reduces name.now monoid)) }
     {
         if !self.lines.is_empty() {
             return Err(fault(at, Cause::BadNesting));
@@ -75,10 +76,11 @@ impl<'a, A: Allocator + Copy> Draft<'a, A> {
     }
 
     /// Adds a request.
+    #[inline(always)]
     fn ask(&mut self, at: u32, line: TraceLine) -> Result<(), TextFault>
         ensures { MatchResult result
-            (λ _. Extends at (so_far self.old.names self.old.lines.items) (Asked line) (so_far self.new.names self.new.lines.items))
-            (IsRoomFault at (so_far self.old.names self.old.lines.items) (Asked line)) }
+            (λ _. Extends at (so_far self.old.names self.old.lines) (Asked line) (so_far self.new.names self.new.lines))
+            (IsRoomFault at (so_far self.old.names self.old.lines) (Asked line)) }
     {
         if at > LINES || self.lines.len() >= REQUESTS {
             return Err(fault(at, Cause::TooMany));
@@ -91,8 +93,8 @@ impl<'a, A: Allocator + Copy> Draft<'a, A> {
     fn add(&mut self, at: u32, item: Item<'a>) -> Result<(), TextFault>
         requires { SaysSo at self.old.names (item_of item) }
         ensures { MatchResult result
-            (λ _. Extends at (so_far self.old.names self.old.lines.items) (item_of item.entry) (so_far self.new.names self.new.lines.items))
-            (IsRoomFault at (so_far self.old.names self.old.lines.items) (item_of item.entry)) }
+            (λ _. Extends at (so_far self.old.names self.old.lines) (item_of item.entry) (so_far self.new.names self.new.lines))
+            (IsRoomFault at (so_far self.old.names self.old.lines) (item_of item.entry)) }
     {
         match item {
             Item::Blank => {
@@ -111,9 +113,9 @@ impl<'a, A: Allocator + Copy> Draft<'a, A> {
     /// Reads the line with the number `at`.
     fn take(&mut self, at: u32, line: &'a [u8]) -> Result<(), TextFault>
         ensures { MatchResult result
-            (λ _. (item : SpecItem) × LineMeans at (so_far self.old.names self.old.lines.items) line.now item
-            × (so_far self.new.names self.new.lines.items ≡ extended at (so_far self.old.names self.old.lines.items) item))
-            (IsLineFault at (so_far self.old.names self.old.lines.items) line.now) }
+            (λ _. (item : SpecItem) × LineMeans at (so_far self.old.names self.old.lines) line.now item
+            × (so_far self.new.names self.new.lines ≡ extended at (so_far self.old.names self.old.lines) item))
+            (IsLineFault at (so_far self.old.names self.old.lines) line.now) }
     {
         let Some(text) = as_text(line) else {
             return Err(fault(at, Cause::NotText));
@@ -129,8 +131,8 @@ impl<'a, A: Allocator + Copy> Draft<'a, A> {
     fn take_first(&mut self, at: u32, text: &'a [u8]) -> Result<&'a [u8], TextFault>
         requires { 0 < length text.now }
         ensures { MatchResult result
-            (λ rest. IsTaken at (so_far self.old.names self.old.lines.items) text.now rest.now (so_far self.new.names self.new.lines.items))
-            (IsStopped at (so_far self.old.names self.old.lines.items) text.now) }
+            (λ rest. IsTaken at (so_far self.old.names self.old.lines) text.now rest.now (so_far self.new.names self.new.lines))
+            (IsStopped at (so_far self.old.names self.old.lines) text.now) }
     {
         if let Some(plain) = plain_request(&self.names, text) {
             let line = request_on(at, plain.strand, plain.act, plain.mark);
@@ -169,12 +171,12 @@ fn body<'a, A: Allocator + Copy>(
     text: &'a [u8],
 ) -> Result<Draft<'a, A>, TextFault>
     ensures { MatchResult result
-        (λ draft. LinesMean 2 (nothing version) (lines text.now) (so_far draft.names draft.lines.items))
+        (λ draft. LinesMean 2 (nothing version) (lines text.now) (so_far draft.names draft.lines))
         (IsBodyFault version text.now) }
 {
     let mut draft = Draft {
         names: Names::new(alloc, version),
-        lines: Vec::new(alloc),
+        lines: TraceLines::new(alloc),
     };
     let mut rest = text;
     let mut at = 1;
@@ -190,7 +192,7 @@ fn body<'a, A: Allocator + Copy>(
 
 /// Reads a text.
 fn whole<'a, A: Allocator + Copy>(alloc: A, bytes: &'a [u8]) -> Result<Draft<'a, A>, TextFault>
-    ensures { MatchResult result (λ draft. TextMeans bytes.now (so_far draft.names draft.lines.items)) (IsTextFault bytes.now) }
+    ensures { MatchResult result (λ draft. TextMeans bytes.now (so_far draft.names draft.lines)) (IsTextFault bytes.now) }
 {
     if bytes.is_empty() {
         return Err(fault(1, Cause::BadHeader));
@@ -213,7 +215,7 @@ pub struct Trace<A: Allocator> {
     /// The declared reducers.
     pub reducers: Reducers<A>,
     /// The requests.
-    pub lines: Lines<A>,
+    pub lines: TraceLines<A>,
     ghost meant: { ∥ ((text : List ℕ) × TextMeans text (record { known = record { version = version; mems = mems; reducers = reducers }; lines = lines })) ∥₁ },
     ghost numbered: { IsTrue (is_numbered 0 mems) },
     ghost few_cells: { cells_of mems ≤ max_cells },
@@ -249,7 +251,7 @@ impl<A: Allocator + Copy> Trace<A> {
                     version,
                     mems: Mems::new(mems),
                     reducers: Reducers::new(reducers),
-                    lines: Lines::new(lines),
+                    lines,
                 })
             }
             Err(fault) => Err(fault),

@@ -20,7 +20,7 @@ pub(super) fn parse(rt: &impl Abort, heap: &Heap, number: u64) -> bool {
     match Trace::parse(heap, TEXT) {
         Ok(trace) => {
             assert!(rt; !heap.has_refused());
-            equal(rt, &"requests", &trace.lines.as_slice().len(), &5);
+            equal(rt, &"requests", &trace.lines.len(), &5);
             false
         }
         Err(fault) => wants_memory(rt, heap, &fault),

@@ -1,17 +1,17 @@
-use Rattle.std.proofs.Common.{◌≤◌, List, map, take}
-use Rattle.std.specs.Prelude.{vec_capacity}
+use Rattle.std.proofs.Common.{◌≡◌, ◌++◌, List, map}
+use Rattle.trace_lines.specs.Lines.{lines_left}
 use Rattle.race_gate.specs.declared.answer.Reply.{Reply}
 use Rattle.race_gate.specs.Shapes.{shape_of}
 use Rattle.race_gate.specs.States.{opening}
 use Rattle.text_commands.specs.Watched.{held, has_failed}
-use Rattle.text_commands.specs.Meetings.{most_held, HasJudged}
+use Rattle.text_commands.specs.Meetings.{HasJudged}
 use Rattle.text_commands.proofs.judge.judge.Given as goal
 
 -- the requests so far were judged, and their replies are told
 abbrev pub invariant-loop-line : goal.invariant-loop-line
 invariant-loop-line g l = record {
   judged : (replies : List Reply) ×
-      HasJudged (opening (shape_of l.shape) l.limit) (map (λ line. line.request) (take l.line-index l.line-items)) replies l.core l.verdicts
+      HasJudged (opening (shape_of l.shape) l.limit) (map (λ line. line.request) l.yielded) replies l.core l.verdicts
       (g.W.Write.contents (held l.initial.output)) (g.W.Write.contents (held l.output)) (has_failed l.output);
-  room : most_held ≤ vec_capacity l.verdicts.lines;
+  whole : l.trace.lines ≡ l.yielded ++ lines_left l.line-iterator;
 }

@@ -1,5 +1,6 @@
-use Rattle.std.proofs.Common.{◌≡◌, List, map, take}
+use Rattle.std.proofs.Common.{◌≡◌, ◌++◌, List, length, map}
 use Rattle.std.specs.List.{All}
+use Rattle.trace_lines.specs.Lines.{lines_left}
 use Rattle.race_gate.specs.declared.answer.Reply.{Reply}
 use Rattle.race_gate.specs.Shapes.{shape_of, most_entries}
 use Rattle.text_commands.specs.Streams.{IsJudgedBy}
@@ -9,6 +10,7 @@ use Rattle.text_commands.proofs.replay.answered.Given as goal
 -- the requests of the lines so far were answered, and the number is that of the last of them
 abbrev pub invariant-loop-line : goal.invariant-loop-line
 invariant-loop-line g l = record {
-  answered : (replies : List Reply) × IsJudgedBy (shape_of l.shape) most_entries (map (λ line. line.request) (take l.line-index l.line-items)) replies l.gate × All IsDone replies;
-  number : l.number ≡ l.line-index;
+  answered : (replies : List Reply) × IsJudgedBy (shape_of l.shape) most_entries (map (λ line. line.request) l.yielded) replies l.gate × All IsDone replies;
+  whole : l.trace.lines ≡ l.yielded ++ lines_left l.line-iterator;
+  number : l.number ≡ length l.yielded;
 }

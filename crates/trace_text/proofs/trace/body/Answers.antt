@@ -8,8 +8,8 @@ loop-rest-preserved g c =
     let was = c.loop-rest.invariant in
     let rest = c.loop-rest.rest.now in
     let after = c.in-Ok.after.now in
-    let before = so_far c.loop-rest.draft.names c.loop-rest.draft.lines.items in
-    let next = so_far c.take_first.new.self.names c.take_first.new.self.lines.items in
+    let before = so_far c.loop-rest.draft.names c.loop-rest.draft.lines in
+    let next = so_far c.take_first.new.self.names c.take_first.new.self.lines in
     let taken = c.in-Ok.ensures in
     record {
       few = taken.4.0;
@@ -19,5 +19,5 @@ loop-rest-preserved g c =
 
 pub returns-in-Err : goal.returns-in-Err
 returns-in-Err g c =
-    fault_here (c.loop-rest.at + 1) (so_far c.loop-rest.draft.names c.loop-rest.draft.lines.items) c.args.version c.in-Err.fault c.loop-rest.rest.now c.args.text.now
+    fault_here (c.loop-rest.at + 1) (so_far c.loop-rest.draft.names c.loop-rest.draft.lines) c.args.version c.in-Err.fault c.loop-rest.rest.now c.args.text.now
     c.in-Err.ensures c.loop-rest.invariant.faults

@@ -11,8 +11,8 @@ use Rattle.trace_text.proofs.trace.body.Given as goal
 abbrev pub invariant-loop-rest : goal.invariant-loop-rest
 invariant-loop-rest g l = record {
   few : l.at ≤ 4000000;
-  means : (contents : Contents) → LinesMean (l.at + 1) (so_far l.draft.names l.draft.lines.items) (lines l.rest) contents → LinesMean 2 (nothing l.fn.version) (lines l.text) contents;
-  faults : (bad : ℕ) (cause : Cause) → LinesFault (l.at + 1) (so_far l.draft.names l.draft.lines.items) (lines l.rest) bad cause → LinesFault 2 (nothing l.fn.version) (lines l.text) bad cause;
+  means : (contents : Contents) → LinesMean (l.at + 1) (so_far l.draft.names l.draft.lines) (lines l.rest) contents → LinesMean 2 (nothing l.fn.version) (lines l.text) contents;
+  faults : (bad : ℕ) (cause : Cause) → LinesFault (l.at + 1) (so_far l.draft.names l.draft.lines) (lines l.rest) bad cause → LinesFault 2 (nothing l.fn.version) (lines l.text) bad cause;
 }
 
 abbrev pub decreases-loop-rest : goal.decreases-loop-rest

@@ -15,7 +15,7 @@ returns-in-Ok g c =
     let draft = c.args.self.now in
     let ws : c.of_line.result ≡ words line = c.of_line.ensures ∙ ap words c.in-Some.ensures.0 in
     let means : ItemMeans c.args.at draft.names (words line) (item_of c.in-Ok.item) = rw ws at c.in-Ok.ensures in
-    line_taken c.args.at (so_far draft.names draft.lines.items) (so_far c.add.new.self.names c.add.new.self.lines.items) line
+    line_taken c.args.at (so_far draft.names draft.lines) (so_far c.add.new.self.names c.add.new.self.lines) line
     (item_of c.in-Ok.item) c.add.result c.in-Some.ensures.1 means (item_clean draft.names c.args.at (words line) (item_of c.in-Ok.item) means) c.add.ensures
 
 pub returns-in-Err : goal.returns-in-Err
@@ -25,4 +25,4 @@ returns-in-Err g c =
     let ws : c.of_line.result ≡ words line = c.of_line.ensures ∙ ap words c.in-Some.ensures.0 in
     let lowest : IsLowest (WordsFault draft.names (words line)) c.in-Err.why = rw ws at c.in-Err.ensures in
     rw c.fault-in-Err.ensures
-    (refl, lowest_of_words c.args.at (so_far draft.names draft.lines.items) line c.in-Some.ensures.1 c.in-Err.why lowest)
+    (refl, lowest_of_words c.args.at (so_far draft.names draft.lines) line c.in-Some.ensures.1 c.in-Err.why lowest)

@@ -1,0 +1,76 @@
+//! The numbers of entries put into a slice, which mostly go up by one.
+
+ghost use Rattle.std.specs.Prelude.{◌≡◌, ◌+◌, ◌/◌, ◌≤◌, ◌++◌, decimal, length, take};
+
+use crate::placed::{put_bytes, put_number};
+use std::marker::Model;
+
+/// How many bytes are put at once: more than a number has.
+const WIDTH: usize = 24;
+
+/// The digits of the last number that was put, but for its last one: nine of ten numbers behind it begin with them too. It changes nothing
+/// but how long it takes to put a number. Contracts see the tenth of that number.
+#[derive(Drop)]
+pub struct Counted {
+    above: u64,
+    digits: [u8; WIDTH],
+    length: usize,
+}
+
+impl Model for Counted {
+    ghost use Rattle.std.specs.Prelude.{◌≡◌, ◌≤◌, take};
+    ghost use Rattle.std.specs.Prelude.{ℕ};
+    ghost use Rattle.race_report.specs.Rooms.{number_room};
+    ghost use Rattle.race_report.specs.Counted.{leading};
+
+    ghost Value = { ℕ };
+
+    ghost view = { λ counted. counted.above };
+
+    ghost invariant = { λ counted. (take counted.length counted.digits ≡ leading counted.above) × (counted.length ≤ number_room) };
+}
+
+impl Counted {
+    /// No number was put.
+    pub fn new() -> Counted
+        ensures { result ≡ 0 }
+    {
+        Counted {
+            above: 0,
+            digits: [0; WIDTH],
+            length: 0,
+        }
+    }
+
+    /// Takes in the digits of this number.
+    #[cold]
+    #[inline(never)]
+    fn renew(&mut self, above: u64)
+        ensures { self.new ≡ above }
+    {
+        self.length = if above == 0 {
+            0
+        } else {
+            put_number(&mut self.digits, 0, above)
+        };
+        self.above = above;
+    }
+
+    /// Puts a number at a place, and answers the place behind it. Some bytes behind that are lost.
+    #[inline(always)]
+    pub(crate) fn put(&mut self, out: &mut [u8], at: usize, number: u64) -> usize
+        requires room { at + 24 ≤ length out.old }
+        ensures end { result ≤ at + 21 }
+        ensures len { length out.new ≡ length out.old }
+        ensures put { take result out.new ≡ take at out.old ++ decimal number }
+    {
+        let above = number / 10;
+        if above != self.above {
+            self.renew(above);
+        }
+        put_bytes(out, at, &self.digits);
+        let end = at + self.length;
+        out[end] = b'0' + (number % 10) as u8;
+        end + 1
+    }
+}

@@ -1,0 +1,134 @@
+//! One line of a trace in numbers.
+
+ghost use Rattle.std.specs.Prelude.{◌≡◌, ◌≢◌, ◌↔◌, ◌<◌, ◌+◌, ◌*◌, ◌%◌, ◌^◌, IsTrue, false};
+ghost use Rattle.std.specs.Option.{IfSome};
+ghost use Rattle.trace_lines.specs.Heads.{tag_of, place_of as place_spec, value_of as value_spec, act_of as act_spec, strands, acts, places, marker, strand_in, tag_in, rest_in, line_of_head as line_of_head_spec, line_of_numbers as line_of_numbers_spec};
+
+use trace_values::{Act, Request, TraceLine};
+
+/// How many strands a head can name, but for the last, which says that three numbers more follow.
+const STRANDS: u64 = 1 << 22;
+/// How many kinds of acts.
+const ACTS: u64 = 1 << 4;
+/// How many cells or reducers.
+const PLACES: u64 = 1 << 20;
+/// How many values.
+const VALUES: u64 = 1 << 18;
+/// What stands in place of a strand where three numbers more follow.
+const MARKER: u64 = STRANDS - 1;
+/// How many numbers there are of 32 bits.
+const HALF: u64 = 1 << 32;
+
+/// The number of an act's kind, its cell or reducer, and its value.
+#[inline(always)]
+fn parts_of(act: Act) -> (u64, u32, u64)
+    ensures tag { result.0 ≡ tag_of act }
+    ensures place { result.1 ≡ place_spec act }
+    ensures value { result.2 ≡ value_spec act }
+{
+    match act {
+        Act::Spawn => (0, 0, 0),
+        Act::Sync => (1, 0, 0),
+        Act::Call => (2, 0, 0),
+        Act::Return => (3, 0, 0),
+        Act::Read(cell) => (4, cell, 0),
+        Act::Write(cell, value) => (5, cell, value),
+        Act::Bump(cell, value) => (6, cell, value),
+        Act::Update(reducer, value) => (7, reducer, value),
+        Act::Put(reducer, value) => (8, reducer, value),
+        Act::Get(reducer) => (9, reducer, 0),
+    }
+}
+
+/// The act of these numbers.
+#[inline(always)]
+fn act_of(tag: u64, place: u32, value: u64) -> Act
+    ensures { result ≡ act_spec tag place value }
+{
+    match tag {
+        0 => Act::Spawn,
+        1 => Act::Sync,
+        2 => Act::Call,
+        3 => Act::Return,
+        4 => Act::Read(place),
+        5 => Act::Write(place, value),
+        6 => Act::Bump(place, value),
+        7 => Act::Update(place, value),
+        8 => Act::Put(place, value),
+        _ => Act::Get(place),
+    }
+}
+
+/// The head of a line where it is enough: one behind the line with the number `last`, with no mark, and with small numbers.
+#[inline(always)]
+pub fn head_of(last: u32, line: TraceLine) -> Option<u64>
+    ensures { IfSome result (λ head. (strand_in head ≢ marker) × (line_of_head_spec last head ≡ line)) }
+{
+    let (tag, place, value) = parts_of(line.request.act);
+    let (strand, place) = (u64::from(line.request.strand), u64::from(place));
+    if line.marked || line.request.line != line.at || u64::from(line.at) != u64::from(last) + 1 {
+        return None;
+    }
+    if strand >= MARKER || place >= PLACES || value >= VALUES {
+        return None;
+    }
+    Some(((value * PLACES + place) * ACTS + tag) * STRANDS + strand)
+}
+
+/// The head of a line that takes three numbers more, and these.
+#[inline(always)]
+pub fn numbers_of(line: TraceLine) -> (u64, u64, u64, u64)
+    ensures head { strand_in result.0 ≡ marker }
+    ensures line { line_of_numbers_spec result.0 result.1 result.2 result.3 ≡ line }
+{
+    let (tag, place, value) = parts_of(line.request.act);
+    let head = (u64::from(place) * ACTS + tag) * STRANDS + MARKER;
+    let who = u64::from(line.request.strand) * HALF + u64::from(line.request.line);
+    let spot = u64::from(line.at) * 2 + u64::from(line.marked);
+    (head, value, who, spot)
+}
+
+/// Whether three numbers more follow a head.
+#[inline(always)]
+pub fn has_more(head: u64) -> bool
+    ensures { IsTrue result ↔ (strand_in head ≡ marker) }
+{
+    head % STRANDS == MARKER
+}
+
+/// The line of a head that is enough, behind the line with the number `last`.
+#[inline(always)]
+pub fn line_of_head(last: u32, head: u64) -> TraceLine
+    ensures { result ≡ line_of_head_spec last head }
+{
+    let at = last.wrapping_add(1);
+    let rest = head / STRANDS;
+    let (tag, rest) = (rest % ACTS, rest / ACTS);
+    let act = act_of(tag, (rest % PLACES) as u32, rest / PLACES);
+    TraceLine {
+        request: Request {
+            strand: (head % STRANDS) as u32,
+            line: at,
+            act,
+        },
+        at,
+        marked: false,
+    }
+}
+
+/// The line of a head and three numbers more.
+pub fn line_of_numbers(head: u64, value: u64, who: u64, spot: u64) -> TraceLine
+    ensures { result ≡ line_of_numbers_spec head value who spot }
+{
+    let rest = head / STRANDS;
+    let act = act_of(rest % ACTS, (rest / ACTS % HALF) as u32, value);
+    TraceLine {
+        request: Request {
+            strand: (who / HALF % HALF) as u32,
+            line: (who % HALF) as u32,
+            act,
+        },
+        at: (spot / 2 % HALF) as u32,
+        marked: spot % 2 == 1,
+    }
+}
