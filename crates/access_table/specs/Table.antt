@@ -12,7 +12,8 @@ kinds = Write ∷ Bump ∷ Read ∷ Update ∷ Put ∷ Get ∷ []
 -- The table as a set: an earlier kind, a new kind, and the rule that the two come under.
 abbrev pub conflicts : List (Kind × Kind × Rule)
 conflicts =
-    (Write, Write, Race) ∷ (Bump, Write, Race) ∷ (Read, Write, Race) ∷ (Write, Bump, Race) ∷ (Read, Bump, Race) ∷ (Write, Read, Race) ∷ (Bump, Read, Race) ∷
+    (Write, Write, Race) ∷ (Bump, Write, Race) ∷ (Read, Write, Race) ∷
+    (Write, Bump, Race) ∷ (Read, Bump, Race) ∷ (Write, Read, Race) ∷ (Bump, Read, Race) ∷
     (Put, Put, View) ∷ (Get, Put, View) ∷ (Put, Get, View) ∷ (Get, Get, View) ∷ []
 
 -- Two kinds come under a rule that is listed for them, and under Free where none is.

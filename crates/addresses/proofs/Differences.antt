@@ -1,4 +1,5 @@
 -- The first difference of two addresses: that it determines how they are made, and the other way round.
+-- a, b: addresses; x, y: words; d: a difference; t: a Boolean
 use Rattle.std.proofs.Common.{◌≡◌, ◌≢◌, Bool, true, false, cond, [], ◌∷◌, ◌++◌, refl, ◌∙◌}
 use Rattle.addresses.specs.Address.{Word, child, next, join, Address, same_word, Difference, equal, prefix, extension, differ, first_difference, reversed}
 

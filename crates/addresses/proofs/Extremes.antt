@@ -1,4 +1,5 @@
 -- Two extreme members tell whether any member is parallel to a strand that reaches none of them.
+-- a, b: addresses; X: the type of the members of lists; x, y: members; s, t: Booleans
 use Rattle.std.proofs.Common.{ℕ, ◌≡◌, ◌≢◌, ◌⊎◌, ◌↔◌, ◌&&◌, ◌<◌, inl, inr, Bool, true, false, not, cond, List, [], ◌∷◌, fold, Contains, refl, sym, ap, ◌∙◌, arith, zero, suc, suc-le-suc, le_of_suc-le-suc}
 use Rattle.std.specs.Cmp.{IsStrictWeakOrder}
 use Rattle.addresses.specs.Address.{Word, Address, disagree, reaches, parallel, before, english, hebrew, english_before, hebrew_before}

@@ -1,4 +1,5 @@
 -- The strands between an address and one behind it with no continuation in between are those that the serial order has there.
+-- a, b: addresses; m, n: numbers, as of the joins behind an address; t: a Boolean
 use Rattle.std.proofs.Common.{ℕ, ◌≡◌, ◌≢◌, ◌⊎◌, ◌↔◌, ◌&&◌, ltb, inl, inr, Bool, true, false, not, cond, [], ◌∷◌, ◌++◌, refl, sym, ap, ◌∙◌, subst, arith, append_assoc, append-nil, replicate, zero, suc, IsTrue}
 use Rattle.std.proofs.lemmas.Bool.{and_parts, and_from, not-true}
 use Rattle.std.proofs.lemmas.Bool.Decides.{nat_tests, same_from_decides}

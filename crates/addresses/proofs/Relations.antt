@@ -1,4 +1,5 @@
 -- Reach, parallel and the two orders: what each says in words, and how they determine one another.
+-- a, b, r: addresses; x, y: words; d: a difference; s, t: Booleans
 use Rattle.std.proofs.Common.{ℕ, ◌≡◌, ◌≢◌, ◌⊎◌, ◌↔◌, ◌<◌, ◌&&◌, ltb, inl, inr, Bool, true, false, not, [], ◌∷◌, ◌++◌, refl, sym, ap, ◌∙◌, append-nil, Decides, IsTrue, arith, ltb-true, lt-ltb}
 use Rattle.std.proofs.lemmas.Bool.{and_parts, and_from}
 use Rattle.addresses.specs.Address.{Word, child, next, join, Address, is_fork, same_word, Difference, equal, prefix, extension, differ, first_difference, reversed, same, same_at, is_prefix, is_prefix_at, reaches_word, reaches_at, reaches, parallel, disagree, before_at, before, english, hebrew, english_before, hebrew_before, IsPrefix, PartBy, Reaches, Before, Parallel, SerialBefore}

@@ -1,4 +1,5 @@
 -- The strands of a block in the serial order, cut into the views that its join combines.
+-- a, b, c, u: addresses; X: the type of the members of lists; p, q: tests of members; t: a Boolean
 use Rattle.std.proofs.Common.{ℕ, ◌≡◌, ◌⊎◌, ◌&&◌, ◌||◌, ltb, inl, inr, Bool, true, false, not, cond, List, [], ◌∷◌, ◌++◌, filter, All, AllPairs, Contains, slice_index_or, replicate, zero, suc, refl, sym, ap, ◌∙◌, append-nil, append_assoc, arith}
 use Rattle.std.specs.List.{flat_map}
 use Rattle.std.proofs.lemmas.Bool.{and_left, and_right, false_from_ne_true}

@@ -1,4 +1,5 @@
 -- Lists that stay in order: what a spawn puts directly behind its strand keeps both lists sorted.
+-- X: the type of the members of lists; x, y, z: members; P: a property of them; R: a relation between them; v, w: words
 use Rattle.std.proofs.Common.{ℕ, ◌≡◌, ◌⊎◌, ◌↔◌, ◌<◌, lt_trans, inl, inr, true, false, List, [], ◌∷◌, ◌++◌, length, insert, All, AllPairs, get_or, refl, ap, ◌∙◌, arith, suc, zero, suc-le-suc, zero-lt-suc}
 use Rattle.std.proofs.lemmas.Bool.{cases_order}
 use Rattle.std.proofs.lemmas.List.Elements.{All-nil, All-cons, All-head, All-tail, All-append, All-weaker}

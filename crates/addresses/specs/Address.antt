@@ -149,7 +149,8 @@ IsPrefix a b = (rest : Address) × (b ≡ a ++ rest)
 -- where a and b part, a goes on with a word and b with another that the relation joins
 abbrev pub PartBy : (Word → Word → Type 0) → Address → Address → Type 0
 PartBy Relation a b =
-    (front rest_a rest_b : Address) × (word_a word_b : Word) × (a ≡ front ++ (word_a ∷ rest_a)) × (b ≡ front ++ (word_b ∷ rest_b)) × Relation word_a word_b
+    (front rest_a rest_b : Address) × (word_a word_b : Word) × (a ≡ front ++ (word_a ∷ rest_a))
+    × (b ≡ front ++ (word_b ∷ rest_b)) × Relation word_a word_b
 
 -- a path leads from a to b
 abbrev pub Reaches : Address → Address → Type 0

@@ -15,7 +15,8 @@ pub record IsStrandDag (Begun : Address → Type 0) (Edge : Address → Address 
   -- an edge leads to no strand that its first one does not reach
   pub sound : (a b : Address) → Edge a b → reaches a b ≡ true
   -- a child and a continuation have an edge from the spawner
-  pub spawned : (spawner : Address) (word : Word) → is_fork word ≡ true → Begun (extended spawner word) → Edge spawner (extended spawner word)
+  pub spawned : (spawner : Address) (word : Word) →
+      is_fork word ≡ true → Begun (extended spawner word) → Edge spawner (extended spawner word)
   -- what reaches a join does so by one of the strands with an edge to it
   pub ended : (opener strand : Address) → Begun (extended opener join) → Begun strand → strand ≢ extended opener join →
       reaches strand (extended opener join) ≡ true →

@@ -1,4 +1,5 @@
--- Where a strand's view of a reducer begins: a child goes on with its spawner's view and a join with its opener's, and a continuation begins anew.
+-- Where a strand's view of a reducer begins: a child goes on with its spawner's view and a join with its opener's, and a continuation
+-- begins anew.
 use Rattle.std.specs.Prelude.{Bool, true, false, not, ◌&&◌, List, [], ◌∷◌, filter}
 use Rattle.addresses.specs.Address.{Word, next, Address, english_before}
 

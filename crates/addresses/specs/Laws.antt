@@ -1,7 +1,8 @@
 -- What holds of all addresses.
 use Rattle.std.specs.Prelude.{◌≡◌, ◌≢◌, ◌⊎◌, ◌↔◌, ◌<◌, ℕ, Bool, false, List, ◌∷◌, ◌++◌, length, slice_index_or, All, Contains, IsTrue}
 use Rattle.std.specs.List.{flat_map}
-use Rattle.addresses.specs.Address.{Word, Address, child, next, join, extended, english, hebrew, before, english_before, hebrew_before, reaches, parallel, is_prefix, branch, PartBy, IsSplit}
+use Rattle.addresses.specs.Address.{Word, Address, child, next, join, extended, english, hebrew, before, english_before}
+use Rattle.addresses.specs.Address.{hebrew_before, reaches, parallel, is_prefix, branch, PartBy, IsSplit}
 use Rattle.addresses.specs.Blocks.{Block, all_spawners, IsBlock, IsOlder}
 use Rattle.addresses.specs.Dags.{Path, IsStrandDag}
 use Rattle.addresses.specs.Extremes.{last_of}
@@ -38,7 +39,8 @@ ExtremesDecide =
     (address : ℕ → Address) (first : ℕ) (rest : List ℕ) (strand : Address) →
     ((item : ℕ) → Contains (first ∷ rest) item → address item ≢ strand → reaches strand (address item) ≡ false) →
     (((item : ℕ) × Contains (first ∷ rest) item × IsTrue (parallel (address item) strand)) ↔
-    (IsTrue (parallel (address (last_of english address first rest)) strand) ⊎ IsTrue (parallel (address (last_of hebrew address first rest)) strand)))
+    (IsTrue (parallel (address (last_of english address first rest)) strand) ⊎
+    IsTrue (parallel (address (last_of hebrew address first rest)) strand)))
 
 -- the strands of a test come with the other side of each spawn, and with the opener of each join
 pub record IsClosed (has : Address → Bool) : Type 0 where
@@ -68,8 +70,10 @@ SpawnKeepsOrders =
     (address : ℕ → Address) (front : List ℕ) (spawner child_strand next_strand : ℕ) (back : List ℕ) →
     address child_strand ≡ extended (address spawner) child → address next_strand ≡ extended (address spawner) next →
     All (λ item. is_prefix (address spawner) (address item) ≡ false) back →
-    (IsSortedBy english address (front ++ (spawner ∷ back)) → IsSortedBy english address (front ++ (spawner ∷ (child_strand ∷ (next_strand ∷ back))))) ×
-    (IsSortedBy hebrew address (front ++ (spawner ∷ back)) → IsSortedBy hebrew address (front ++ (spawner ∷ (next_strand ∷ (child_strand ∷ back)))))
+    (IsSortedBy english address (front ++ (spawner ∷ back)) →
+    IsSortedBy english address (front ++ (spawner ∷ (child_strand ∷ (next_strand ∷ back))))) ×
+    (IsSortedBy hebrew address (front ++ (spawner ∷ back)) →
+    IsSortedBy hebrew address (front ++ (spawner ∷ (next_strand ∷ (child_strand ∷ back)))))
 
 -- the first spawn of a block puts the join behind them
 abbrev pub OpeningKeepsOrders : Type 0
@@ -85,12 +89,15 @@ OpeningKeepsOrders =
 -- in a list that is in the order by a rank, an item stands before another exactly where its address is before the other's
 abbrev pub PlacesAreOrder : (Word → ℕ) → Type 0
 PlacesAreOrder rank =
-    (address : ℕ → Address) (items : List ℕ) → IsSortedBy rank address items → (place other : ℕ) → place < length items → other < length items →
+    (address : ℕ → Address) (items : List ℕ) →
+    IsSortedBy rank address items → (place other : ℕ) → place < length items → other < length items →
     (IsTrue (before rank (address (slice_index_or items place 0)) (address (slice_index_or items other 0))) ↔ (place < other))
 
 -- the strands on the paths from the root of a strand's view to the strand are those that the serial order has there
 abbrev pub ViewsAreIntervals : Type 0
-ViewsAreIntervals = (strand a : Address) → ((IsTrue (reaches (view_root strand) a) × IsTrue (reaches a strand)) ↔ IsTrue (is_within (view_root strand) strand a))
+ViewsAreIntervals =
+    (strand a : Address) →
+    ((IsTrue (reaches (view_root strand) a) × IsTrue (reaches a strand)) ↔ IsTrue (is_within (view_root strand) strand a))
 
 -- and so between two strands of one branch, one of which reaches the other
 abbrev pub BranchesAreIntervals : Type 0
@@ -98,10 +105,12 @@ BranchesAreIntervals =
     (first last a : Address) → branch first ≡ branch last → IsTrue (reaches first last) →
     ((IsTrue (reaches first a) × IsTrue (reaches a last)) ↔ IsTrue (is_within first last a))
 
--- what a join's view holds is what the views of the block's children hold, in the order of spawning, and then what that of the strand that syncs holds
+-- what a join's view holds is what the views of the block's children hold, in the order of spawning, and then what that of the strand that
+-- syncs holds
 abbrev pub JoinsCombineViews : Type 0
 JoinsCombineViews =
-    (address : ℕ → Address) (items : List ℕ) (block : Block) → IsSortedBy english address items → IsBlock block → All (λ item. IsOlder block (address item)) items →
+    (address : ℕ → Address) (items : List ℕ) (block : Block) →
+    IsSortedBy english address items → IsBlock block → All (λ item. IsOlder block (address item)) items →
     in_view address items (extended block.opener join) ≡
     flat_map (λ spawner. in_view address items (block.last spawner)) (all_spawners block) ++ in_view address items block.syncing
 
@@ -110,7 +119,8 @@ abbrev pub JoinsFollowEnds : Type 0
 JoinsFollowEnds =
     (block : Block) (strand : Address) → IsBlock block → IsOlder block strand →
     (IsTrue (reaches strand (extended block.opener join)) ↔
-    (IsTrue (reaches strand block.syncing) ⊎ ((spawner : Address) × Contains (all_spawners block) spawner × IsTrue (reaches strand (block.last spawner)))))
+    (IsTrue (reaches strand block.syncing) ⊎
+    ((spawner : Address) × Contains (all_spawners block) spawner × IsTrue (reaches strand (block.last spawner)))))
 
 -- in a dag whose edges are those of spawns and joins, a path leads from a strand to another exactly where its address reaches the other's
 abbrev pub PathsAreReach : Type 0

@@ -1,8 +1,11 @@
 //! The laws of addresses, each the contract of a function that does nothing.
 
 ghost use Rattle.std.specs.Prelude.{◌↔◌, IsTrue};
-ghost use Rattle.addresses.specs.Address.{Address, english, hebrew, english_before, hebrew_before, reaches, parallel, Reaches, Parallel, SerialBefore};
-ghost use Rattle.addresses.specs.Laws.{IsStrictTotalOrder, IsPartialOrder, SidesAreReached, ReachIsBothOrders, ParallelIsDisagreement, ExtremesDecide, BranchesArePeers, NamesDecide, SpawnKeepsOrders, OpeningKeepsOrders, PlacesAreOrder, ViewsAreIntervals, BranchesAreIntervals, JoinsCombineViews, JoinsFollowEnds, PathsAreReach};
+ghost use Rattle.addresses.specs.Address.{Address, english, hebrew, english_before, hebrew_before};
+ghost use Rattle.addresses.specs.Address.{reaches, parallel, Reaches, Parallel, SerialBefore};
+ghost use Rattle.addresses.specs.Laws.{IsStrictTotalOrder, IsPartialOrder, SidesAreReached, ReachIsBothOrders, ParallelIsDisagreement};
+ghost use Rattle.addresses.specs.Laws.{ExtremesDecide, BranchesArePeers, NamesDecide, SpawnKeepsOrders, OpeningKeepsOrders, PlacesAreOrder};
+ghost use Rattle.addresses.specs.Laws.{ViewsAreIntervals, BranchesAreIntervals, JoinsCombineViews, JoinsFollowEnds, PathsAreReach};
 
 /// Both orders of addresses are strict and total, and the English one is that of a serial run: an address comes
 /// first that reaches the other, or that is on the child's side of a spawn whose continuation's side has the

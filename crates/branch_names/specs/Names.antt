@@ -33,7 +33,8 @@ pub record Follows (branches : Names) (history : History) : Type 0 where
   pub given : (strand : ℕ) → strand < length branches.names → IsGiven (name_at branches.names strand) ↔ Begun history strand
   pub below : (strand : ℕ) → strand < length branches.names → number_of (name_at branches.names strand) < length branches.names
   pub agree : (first second : ℕ) → first < length branches.names → second < length branches.names →
-      (number_of (name_at branches.names first) ≡ number_of (name_at branches.names second)) ↔ (branch history first ≡ branch history second)
+      (number_of (name_at branches.names first) ≡ number_of (name_at branches.names second))
+      ↔ (branch history first ≡ branch history second)
 
 -- some history is followed
 abbrev pub FollowsSome : Names → Type 0
@@ -70,7 +71,9 @@ BeginsNone _ = Unit {0}
 
 -- Names that follow a history follow it after any event that begins no strand.
 abbrev pub OtherEventsLaw : Type 0
-OtherEventsLaw = (branches : Names) (history : History) (event : Event) → Follows branches history → BeginsNone event → Legal (event ∷ history) → Follows branches (event ∷ history)
+OtherEventsLaw =
+    (branches : Names) (history : History) (event : Event) →
+    Follows branches history → BeginsNone event → Legal (event ∷ history) → Follows branches (event ∷ history)
 
 -- with room, an event finds all that it needs
 abbrev pub IsReady : Bool → (names names_fit : ℕ) → Type 0

@@ -2,9 +2,9 @@
 //!
 //! [`read_args`] reads what the words of the command line ask for; [`check_names`] refuses what would write over a program; [`perform`], or
 //! [`perform_alone`] for what starts no thread, does the job, and carries in its contract what is written for what standard input and the
-//! files hold; [`exit_of`] gives the exit status. What is trusted here is that [`System`] gives the bytes of standard input, and of the file
-//! with the name that it is asked for, that a file which it creates is empty and then holds what is written, and that it tells two names of
-//! one file.
+//! files hold; [`exit_of`] gives the exit status. What is trusted here is that [`System`] gives the bytes of standard input, and of the
+//! file with the name that it is asked for, that a file which it creates is empty and then holds what is written, and that it tells two
+//! names of one file.
 #![tactic(auto)]
 
 ghost use Rattle.std.specs.Prelude.{⊤, None, IfOk};

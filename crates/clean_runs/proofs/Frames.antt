@@ -1,4 +1,5 @@
 -- Frames of strands: later events leave them, all strands of a frame reach its last one, and each extends the frame's first strand.
+-- h: a history; e: an event; s, x: strands; in a split, s is the spawner, c its child, n its next and j the join
 use Rattle.std.proofs.Common.{◌≡◌, ◌≢◌, ◌⊎◌, inl, inr, ℕ, suc, ◌+◌, ◌<◌, ◌≤◌, Bool, true, false, [], ◌∷◌, length, refl, sym, ap, ◌∙◌, subst, arith}
 use Rattle.control_history.specs.History.{Event, split, same, joined, waits, call, resumed, ended, ended_joined, finished, History}
 use Rattle.control_history.specs.Strands.{Begun, unused}

@@ -1,4 +1,6 @@
 -- Where the entries of a legal history stand.
+-- h: a history; x, y: strands where they are numbers, and else placed entries; f: a frame; b: a Boolean; in a split, s is the spawner, c
+-- its child, n its next and j the join
 use Rattle.std.proofs.Common.{◌≡◌, ◌≢◌, ◌⊎◌, inl, inr, ℕ, suc, ◌<◌, ◌≤◌, Bool, true, false, Option, Some, None, List, [], ◌∷◌, ◌++◌, length, map, AllPairs, refl, sym, ap, ◌∙◌, subst, arith}
 use Rattle.std.specs.Prelude.{◌==◌, MatchOption, if◌then◌else◌}
 use Rattle.std.proofs.lemmas.Bool.{eqb-true, eq-eqb}

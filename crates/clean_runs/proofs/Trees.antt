@@ -1,4 +1,5 @@
 -- The entries of a history by frames: expanded from the root's frame on, they are all entries in serial order.
+-- a, b, s: addresses; w, y, z, and x where it is no word: placed entries
 use Rattle.std.proofs.Common.{◌≡◌, ◌≢◌, ◌⊎◌, inl, inr, ℕ, zero, suc, ◌+◌, ◌<◌, ◌≤◌, true, List, [], ◌∷◌, ◌++◌, length, All, AllPairs, refl, sym, ap, ◌∙◌, subst, arith, append_assoc}
 use Rattle.addresses.proofs.Branches.{cases_last}
 use Rattle.std.proofs.lemmas.List.Kept.{AllPairs-cons}

@@ -51,8 +51,10 @@ IsDoneBy functions monoids code argument effects =
 -- exchanges, none of them refused, and what they did, with what the spawned function did behind each spawn
 pub data Inserts (functions : List Code) (monoids : List Monoid) : List Exchange → List Effect → Type 0 where
   nothing : Inserts functions monoids [] []
-  kept : {x : Exchange} {said : List Exchange} {all : List Effect} → x.target ≡ None → IsCleanAnswer x.answer → Inserts functions monoids said all →
+  kept : {x : Exchange} {said : List Exchange} {all : List Effect} →
+      x.target ≡ None → IsCleanAnswer x.answer → Inserts functions monoids said all →
       Inserts functions monoids (x ∷ said) (did x ∷ all)
-  inserted : {x : Exchange} {said : List Exchange} {inner outer all : List Effect} {target : Target} {child : Code} → x.target ≡ Some target →
+  inserted : {x : Exchange} {said : List Exchange} {inner outer all : List Effect} {target : Target} {child : Code} →
+      x.target ≡ Some target →
       slice_get functions target.function ≡ Some child → IsDoneBy functions monoids child target.argument inner →
       Inserts functions monoids said outer → all ≡ inner ++ outer → Inserts functions monoids (x ∷ said) (did x ∷ all)

@@ -31,7 +31,8 @@ own (entry ∷ entries) frame =
 -- entries of a frame, with those of each frame that they begin behind the split that begins it
 pub data Expands (entries : Entries) : List Placed → List Placed → Type 0 where
   none : Expands entries [] []
-  alone : {x : Placed} {rest all : List Placed} → (IsSplit x.entry.answer → ⊥) → Expands entries rest all → Expands entries (x ∷ rest) (x ∷ all)
+  alone : {x : Placed} {rest all : List Placed} →
+      (IsSplit x.entry.answer → ⊥) → Expands entries rest all → Expands entries (x ∷ rest) (x ∷ all)
   began : {x : Placed} {rest inner outer all : List Placed} → IsSplit x.entry.answer → Expands entries (own entries x.begins) inner →
       Expands entries rest outer → all ≡ inner ++ outer → Expands entries (x ∷ rest) (x ∷ all)
 

@@ -13,14 +13,14 @@ pub fn serial_list_law()
     ensures { SerialListLaw }
 {}
 
-/// A finished run of a sound program in which nothing was refused is the serial elision: its entries in serial order do and are given what the elision's
-/// requests do and are given, and the memory that it leaves is the elision's.
+/// A finished run of a sound program in which nothing was refused is the serial elision: its entries in serial order do and are given what
+/// the elision's requests do and are given, and the memory that it leaves is the elision's.
 pub fn elision_law()
     ensures { ElisionLaw }
 {}
 
-/// What is told of the serial elision of a sound program is so of each finished run of it in which nothing was refused: the elision leaves the memory of
-/// that run, makes as many requests as it has entries, and needs no more.
+/// What is told of the serial elision of a sound program is so of each finished run of it in which nothing was refused: the elision leaves
+/// the memory of that run, makes as many requests as it has entries, and needs no more.
 pub fn elided_run_law()
     ensures { ElidedRunLaw }
 {}

@@ -1,4 +1,5 @@
 -- Until the root returns, each place that waits for someone is held, so some strand runs.
+-- h: a history; s: a strand; q: a status; j, k: joins; m, n: numbers of spawns
 use Rattle.std.proofs.Common.{◌≡◌, ◌≢◌, ◌⊎◌, inl, inr, ℕ, zero, suc, ◌+◌, ◌<◌, ◌≤◌, Bool, [], ◌∷◌, length, Some, refl, sym, ap, ap₂, ◌∙◌, subst, subst₂, arith}
 use Rattle.control_history.specs.Updated.{updated}
 use Rattle.control_history.specs.History.{Event, split, same, joined, waits, call, resumed, ended, ended_joined, finished, History}

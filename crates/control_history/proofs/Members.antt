@@ -1,4 +1,5 @@
 -- Members of lists, and pairs of them in the order of the list.
+-- X, Y: the types of the members of lists; a, x, y: members; f: a function of members; P: a property; R, S: relations
 use Rattle.std.proofs.Common.{◌≡◌, ◌⊎◌, ◌↔◌, inl, inr, ℕ, ◌<◌, List, [], ◌∷◌, ◌++◌, map, All, AllPairs, Contains, refl, sym, ap, subst, arith}
 use Rattle.std.proofs.lemmas.List.Elements.{All-nil, All-cons, All-head, All-tail}
 use Rattle.addresses.proofs.Extremes.{contains-head, contains-tail, contains-cases}

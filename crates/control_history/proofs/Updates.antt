@@ -1,4 +1,5 @@
 -- A function changed at one number.
+-- f: a function of numbers; x, y: numbers; v: a value of f, and A the type of its values
 use Rattle.std.proofs.Common.{◌≡◌, ◌≢◌, ◌⊎◌, inl, inr, ℕ, true, false, cond, eqb, refl, sym, subst}
 use Rattle.std.proofs.lemmas.Bool.Decides.{eqb_tells}
 use Rattle.control_history.specs.Updated.{updated}

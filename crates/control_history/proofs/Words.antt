@@ -1,4 +1,5 @@
 -- Addresses that grow by one word at their end: prefixes, and what reaches what.
+-- a, b: addresses; w, x, y: words
 use Rattle.std.proofs.Common.{◌≡◌, ◌≢◌, ◌⊎◌, inl, inr, Bool, true, false, [], ◌∷◌, ◌++◌, ◌&&◌, refl, sym, ap, ◌∙◌, subst, append-nil, append_assoc, IsTrue}
 use Rattle.std.proofs.lemmas.Bool.{and_parts, and_from, cases_Bool, or_cases}
 use Rattle.addresses.specs.Address.{Word, child, next, join, Address, extended, is_fork, same, is_prefix, reaches, english_before, hebrew_before, branch, IsPrefix, PartBy}

@@ -12,7 +12,8 @@ pub data Branch : Type 0 where
 abbrev pub branch : History → ℕ → Branch
 branch [] = λ strand. trunk
 branch (split strand child next join true ∷ history) =
-    updated (updated (updated (branch history) child (left (suc (length history)))) next (right (suc (length history)))) join (branch history strand)
+    updated (updated (updated (branch history) child (left (suc (length history)))) next (right (suc (length history))))
+    join (branch history strand)
 branch (split strand child next join false ∷ history) =
     updated (updated (branch history) child (left (suc (length history)))) next (right (suc (length history)))
 branch (_ ∷ history) = branch history

@@ -1,4 +1,5 @@
--- What a join gathers: the last strands of its block's children, in order of spawning, and then the strand that ended the block by its sync.
+-- What a join gathers: the last strands of its block's children, in order of spawning, and then the strand that ended the block by its
+-- sync.
 use Rattle.std.specs.Prelude.{◌≡◌, ◌↔◌, ℕ, suc, List, [], ◌∷◌, ◌++◌, map, length, Option, Some, None, Contains, AllPairs}
 use Rattle.control_history.specs.Updated.{updated}
 use Rattle.control_history.specs.History.{Event, split, joined, waits, ended, ended_joined, History}
@@ -9,7 +10,8 @@ use Rattle.control_history.specs.Addresses.{IsEnglishBefore}
 -- the children of a block, by the numbers of their splits, in order of spawning
 abbrev pub children : History → ℕ → List ℕ
 children [] = λ join. []
-children (split strand child next join first ∷ history) = updated (children history) join (children history join ++ (suc (length history) ∷ []))
+children (split strand child next join first ∷ history) =
+    updated (children history) join (children history join ++ (suc (length history) ∷ []))
 children (_ ∷ history) = children history
 
 -- the strand is the last one of the spawned function in which it stands

@@ -45,8 +45,8 @@ BegunAt history a = (strand : ℕ) × Begun history strand × (address history s
 abbrev pub EdgeAt : History → Address → Address → Type 0
 EdgeAt history a b = (strand : ℕ) × (other : ℕ) × Edge history strand other × (address history strand ≡ a) × (address history other ≡ b)
 
--- by the addresses of its strands the dag is one of strands that begin by spawns and at the ends of blocks; so addresses::laws::dag_law speaks of it,
--- by the tests that decide which strands and which edges there are
+-- by the addresses of its strands the dag is one of strands that begin by spawns and at the ends of blocks; so addresses::laws::dag_law
+-- speaks of it, by the tests that decide which strands and which edges there are
 abbrev pub DagLaw : Type 0
 DagLaw =
     (history : History) → Legal history →
@@ -114,7 +114,8 @@ FinishLaw = (history : History) → Legal history → (longer : History) × Exte
 abbrev pub BranchLaw : Type 0
 BranchLaw =
     (history : History) → Legal history → (strand other : ℕ) → Begun history strand → Begun history other →
-    (longer : History) → Extends longer history → Legal longer → (branch history strand ≡ branch history other) ↔ HaveSamePeers longer strand other
+    (longer : History) → Extends longer history → Legal longer →
+    (branch history strand ≡ branch history other) ↔ HaveSamePeers longer strand other
 
 -- so branches are equal where the peers are the same in every finished extension, and differ where they differ in every finished extension
 abbrev pub FinishedBranchLaw : Type 0
@@ -129,7 +130,8 @@ FinishedBranchLaw =
 abbrev pub BranchAddressLaw : Type 0
 BranchAddressLaw =
     (history : History) → Legal history → (strand other : ℕ) → Begun history strand → Begun history other →
-    (branch history strand ≡ branch history other) ↔ (branch_of_address (address history strand) ≡ branch_of_address (address history other))
+    (branch history strand ≡ branch history other)
+    ↔ (branch_of_address (address history strand) ≡ branch_of_address (address history other))
 
 -- two histories agree on reach and on branches of strands at the same addresses
 abbrev pub AcrossLaw : Type 0

@@ -10,8 +10,8 @@ Splits (split spawner its_child its_next join first ∷ history) strand child ne
     (strand ≡ spawner) × (child ≡ its_child) × (next ≡ its_next) ⊎ Splits history strand child next
 Splits (_ ∷ history) strand child next = Splits history strand child next
 
--- the strand reaches the other and is not the other; or of some split the child reaches the strand and not the other, and the next reaches the
--- other and not the strand
+-- the strand reaches the other and is not the other; or of some split the child reaches the strand and not the other, and the next reaches
+-- the other and not the strand
 abbrev pub IsSeriallyBefore : History → ℕ → ℕ → Type 0
 IsSeriallyBefore history strand other =
     (Reaches history strand other × (strand ≢ other)) ⊎

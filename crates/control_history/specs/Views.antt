@@ -4,8 +4,8 @@ use Rattle.control_history.specs.History.{split, joined, ended_joined, History}
 use Rattle.control_history.specs.Strands.{Begun}
 use Rattle.control_history.specs.Dag.{Arrives, Edge}
 
--- the view of the strand `viewer` holds what `strand` did: a child goes on with its spawner's view, a next begins its own, a join takes those of
--- the strands that arrive at it
+-- the view of the strand `viewer` holds what `strand` did: a child goes on with its spawner's view, a next begins its own, a join takes
+-- those of the strands that arrive at it
 abbrev pub Covers : History → ℕ → ℕ → Type 0
 Covers [] viewer strand = (viewer ≡ 0) × (strand ≡ 0)
 Covers (split spawner child next join first ∷ history) viewer strand =

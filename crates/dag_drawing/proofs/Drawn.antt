@@ -1,4 +1,6 @@
 -- What is drawn is what the walk over the entries found.
+-- h: a history; s, o: strands, from which and to which an edge goes; t: a status; n: the number of a list's first mark; i, k: places in
+-- lists
 use Rattle.std.proofs.Common.{◌≡◌, ◌⊎◌, inl, inr, ℕ, zero, suc, ◌+◌, ◌<◌, ◌≤◌, Bool, true, false, cond, List, [], ◌∷◌, length, get_or, filter, Option, refl, sym, ap, ◌∙◌, subst, arith}
 use Rattle.control_history.specs.History.{History}
 use Rattle.control_history.specs.Strands.{Status, absent, reserved, running, over, status, Begun, unused}

@@ -1,4 +1,5 @@
 -- The edges of the dag, told apart by their kinds, and as a list.
+-- h: a history; s, o: strands, from which and to which an edge goes; x: a strand; j: a join; in a split, c is the child and n the next
 use Rattle.std.proofs.Common.{◌≡◌, ◌⊎◌, inl, inr, ℕ, List, [], ◌∷◌, ◌++◌, Bool, Option, Some, None, refl, sym, subst}
 use Rattle.control_history.specs.History.{Event, split, same, joined, waits, call, resumed, ended, ended_joined, finished, History}
 use Rattle.control_history.specs.Blocks.{stack, enclosing}

@@ -1,4 +1,5 @@
 -- One more of the entries in a slice, and what it does to strands and edges.
+-- h: a history; s: a strand; j: a join; x: an answer; i: a place among the entries; d: what a list gives where it has no entry
 use Rattle.std.proofs.Common.{◌≡◌, ◌⊎◌, inl, inr, ℕ, ◌+◌, ◌<◌, Bool, true, List, [], ◌∷◌, ◌++◌, length, get_or, set, take, drop, reverse, Option, Some, None, refl, sym, ap, ◌∙◌, subst, arith}
 use Rattle.std.specs.Prelude.{MatchOption}
 use Rattle.std.proofs.lemmas.List.{reverse-append, take-append-drop, take_more}

@@ -11,13 +11,15 @@ use Rattle.dag_drawing.specs.declared.drawing.EdgeKind.TheVariants.{Child, Next,
 -- the strand spawned, and the other is the child that began
 abbrev pub SpawnsChild : History → ℕ → ℕ → Type 0
 SpawnsChild [] strand other = ⊥
-SpawnsChild (split spawner child next join first ∷ history) strand other = (strand ≡ spawner) × (other ≡ child) ⊎ SpawnsChild history strand other
+SpawnsChild (split spawner child next join first ∷ history) strand other =
+    (strand ≡ spawner) × (other ≡ child) ⊎ SpawnsChild history strand other
 SpawnsChild (_ ∷ history) strand other = SpawnsChild history strand other
 
 -- the strand spawned, and the other is the next strand of its function
 abbrev pub SpawnsNext : History → ℕ → ℕ → Type 0
 SpawnsNext [] strand other = ⊥
-SpawnsNext (split spawner child next join first ∷ history) strand other = (strand ≡ spawner) × (other ≡ next) ⊎ SpawnsNext history strand other
+SpawnsNext (split spawner child next join first ∷ history) strand other =
+    (strand ≡ spawner) × (other ≡ next) ⊎ SpawnsNext history strand other
 SpawnsNext (_ ∷ history) strand other = SpawnsNext history strand other
 
 -- an edge of the dag, of this kind

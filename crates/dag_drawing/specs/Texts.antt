@@ -1,5 +1,6 @@
 -- The text of a drawing, in Graphviz's language.
-use Rattle.std.specs.Prelude.{ℕ, ◌+◌, ◌-◌, ◌==◌, ◌||◌, List, [], ◌∷◌, ◌++◌, codes, decimal, flat_map, unwrap_or, slice_get, Option, Some, None, cond, take, drop}
+use Rattle.std.specs.Prelude.{ℕ, ◌+◌, ◌-◌, ◌==◌, ◌||◌, List, [], ◌∷◌, ◌++◌, codes, decimal}
+use Rattle.std.specs.Prelude.{flat_map, unwrap_or, slice_get, Option, Some, None, cond, take, drop}
 use Rattle.std.specs.List.{find}
 use Rattle.std.specs.Option.{option_map}
 use Rattle.access_table.specs.declared.kind.Kind.{Kind}
@@ -73,7 +74,8 @@ kind_word Next = codes "next"
 kind_word Join = codes "join"
 
 abbrev pub edge_text : Edge → List ℕ
-edge_text edge = codes "  " ++ decimal edge.from ++ codes " -> " ++ decimal edge.to ++ codes " [label=\"" ++ kind_word edge.kind ++ codes "\"];\n"
+edge_text edge =
+    codes "  " ++ decimal edge.from ++ codes " -> " ++ decimal edge.to ++ codes " [label=\"" ++ kind_word edge.kind ++ codes "\"];\n"
 
 -- how many of the accesses at the head of a list are the strand's
 abbrev pub count_own : ℕ → List Access → ℕ
@@ -83,7 +85,8 @@ count_own strand (access ∷ accesses) = cond (access.request.strand == strand) 
 -- a strand with its accesses
 abbrev pub node_text : List Mem → List Reducer → ℕ → List Access → List ℕ
 node_text mems reducers strand own =
-    codes "  " ++ decimal strand ++ codes " [label=\"" ++ decimal strand ++ codes "\\l" ++ flat_map (access_text mems reducers) own ++ codes "\"];\n"
+    codes "  " ++ decimal strand ++ codes " [label=\"" ++ decimal strand ++
+    codes "\\l" ++ flat_map (access_text mems reducers) own ++ codes "\"];\n"
 
 -- the strands, each with those at the head of what is left of the accesses, which stand by strands
 abbrev pub nodes_text : List Mem → List Reducer → List ℕ → List Access → List ℕ
@@ -110,5 +113,6 @@ race_text mems reducers race = ends_text race ++ codes " on " ++ name_text mems 
 -- a drawing
 abbrev pub drawing_text : List Mem → List Reducer → Drawing → List ℕ
 drawing_text mems reducers drawing =
-    codes "digraph trace {\n" ++ nodes_text mems reducers drawing.strands.items drawing.accesses.items ++ flat_map edge_text drawing.edges.items ++
+    codes "digraph trace {\n" ++ nodes_text mems reducers drawing.strands.items drawing.accesses.items ++
+    flat_map edge_text drawing.edges.items ++
     flat_map (race_text mems reducers) drawing.races.items ++ codes "}\n"

@@ -2,7 +2,9 @@
 
 ghost use Rattle.std.specs.Prelude.{◌≡◌, ◌++◌, ◌≤◌, flat_map, length, OnOk, IfOk, IsTrue};
 ghost use Rattle.trace_text.specs.Shapes.{is_numbered};
-ghost use Rattle.dag_drawing.specs.Texts.{escaped, element_text, cell_text, reducer_text, name_text, outcome_text, kind_text, access_text, kind_word, edge_text, count_own, node_text, nodes_text, rule_text, red_text, ends_text, race_text, drawing_text};
+ghost use Rattle.dag_drawing.specs.Texts.{escaped, element_text, cell_text, reducer_text, name_text, outcome_text};
+ghost use Rattle.dag_drawing.specs.Texts.{kind_text, access_text, kind_word, edge_text, count_own, node_text};
+ghost use Rattle.dag_drawing.specs.Texts.{nodes_text, rule_text, red_text, ends_text, race_text, drawing_text};
 
 use crate::drawing::{Access, Drawing, Edge, EdgeKind, Race};
 use access_table::{Kind, rule_word, word};

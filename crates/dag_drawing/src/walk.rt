@@ -1,6 +1,7 @@
 //! What the entries of a history did to its dag.
 
-ghost use Rattle.std.specs.Prelude.{◌≡◌, ◌<◌, ◌++◌, ◌∷◌, ◌+◌, [], ℕ, true, false, Some, None, length, reverse, take, slice_index_or, slice_set, IfOk, OnOk};
+ghost use Rattle.std.specs.Prelude.{◌≡◌, ◌<◌, ◌++◌, ◌∷◌, ◌+◌, [], ℕ, true, false, Some, None};
+ghost use Rattle.std.specs.Prelude.{length, reverse, take, slice_index_or, slice_set, IfOk, OnOk};
 ghost use Rattle.race_gate.specs.Entries.{control_part};
 ghost use Rattle.dag_drawing.specs.Arrows.{forks, arrival};
 ghost use Rattle.dag_drawing.specs.Walks.{IsLegalHistory, marks_of, blocks_of, IsWalk};
@@ -52,7 +53,8 @@ impl Walk {
     fn place(&mut self, strand: u32, spawned: Spawned) -> Result<(), AllocError>
         requires { strand < length self.now.blocks.items }
         ensures begun { OnOk result (self.new.begun.items ≡ self.old.begun.items ++ marks_of spawned.first) }
-        ensures blocks { OnOk result (self.new.blocks.items ≡ self.old.blocks.items ++ blocks_of spawned.first spawned.join (slice_index_or self.old.blocks.items strand None)) }
+        ensures blocks { OnOk result (self.new.blocks.items
+            ≡ self.old.blocks.items ++ blocks_of spawned.first spawned.join (slice_index_or self.old.blocks.items strand None)) }
         ensures edges { self.new.edges.items ≡ self.old.edges.items }
     {
         let outer = self.blocks[strand as usize];
@@ -91,7 +93,8 @@ impl Walk {
         requires { strand < length self.now.blocks.items }
         ensures begun { self.new.begun.items ≡ self.old.begun.items }
         ensures blocks { self.new.blocks.items ≡ self.old.blocks.items }
-        ensures edges { OnOk result (self.new.edges.items ≡ self.old.edges.items ++ arrival strand (slice_index_or self.old.blocks.items strand None)) }
+        ensures edges { OnOk result (self.new.edges.items
+            ≡ self.old.edges.items ++ arrival strand (slice_index_or self.old.blocks.items strand None)) }
     {
         if let Some(join) = self.blocks[strand as usize] {
             self.edges.push(Edge {
@@ -117,8 +120,10 @@ impl Walk {
     fn follow(&mut self, entries: &[Entry], before: usize) -> Result<(), AllocError>
         requires legal { IsLegalHistory (reverse entries.now) }
         requires within { before < length entries.now }
-        requires walk { IsWalk self.now.begun.items self.now.blocks.items self.now.edges.items (control_part (reverse (take before entries.now))) }
-        ensures { OnOk result (IsWalk self.new.begun.items self.new.blocks.items self.new.edges.items (control_part (reverse (take (before + 1) entries.now)))) }
+        requires walk { IsWalk self.now.begun.items self.now.blocks.items
+            self.now.edges.items (control_part (reverse (take before entries.now))) }
+        ensures { OnOk result (IsWalk self.new.begun.items self.new.blocks.items
+            self.new.edges.items (control_part (reverse (take (before + 1) entries.now)))) }
     {
         let entry = entries[before];
         let strand = entry.request.strand;

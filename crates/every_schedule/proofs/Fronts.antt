@@ -1,4 +1,6 @@
 -- One strand at most goes on for each frame, and it stands at the frame's front.
+-- h: a history; e: an event; k: a strand, and so m and n where they are numbers; in a split, s is the spawner, c its child, n its next and
+-- j the join
 use Rattle.std.proofs.Common.{◌≡◌, ◌≢◌, ◌⊎◌, inl, inr, ℕ, suc, ◌<◌, ◌≤◌, Bool, true, false, [], ◌∷◌, length, refl, sym, ap, ap₂, ◌∙◌, subst, arith}
 use Rattle.addresses.specs.Address.{Address, child, next, join, extended}
 use Rattle.control_history.specs.Updated.{updated}

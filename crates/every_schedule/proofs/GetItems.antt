@@ -1,4 +1,5 @@
 -- The value of a get, by deeds.
+-- H: a history; T: its targets; r: a reducer; y, z: items; u: an update with its number; w: a number that is put
 use Rattle.std.proofs.Common.{◌≡◌, ◌≢◌, ◌⊎◌, ◌↔◌, inl, inr, ℕ, suc, ◌<◌, true, cond, eqb, List, [], ◌∷◌, length, map, None, AllPairs, refl, sym, ap, ◌∙◌, subst, subst₂, arith}
 use Rattle.std.proofs.lemmas.Bool.Decides.{eqb_tells}
 use Rattle.addresses.specs.Address.{Address, english, reaches, english_before}

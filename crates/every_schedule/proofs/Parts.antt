@@ -1,4 +1,6 @@
 -- A history that did a part of what another, clean and finished, did.
+-- H, K, R: histories of entries; T: the targets of R; h: a control history; e: an entry or an event; x: an item; z: what was spoken; n: a
+-- strand
 use Rattle.std.proofs.Common.{◌≡◌, ◌≢◌, ◌⊎◌, inl, inr, ℕ, suc, ◌<◌, ◌≤◌, true, List, [], ◌∷◌, length, Some, refl, sym, ap, ◌∙◌, subst, subst₂, arith}
 use Rattle.addresses.specs.Address.{child, Address, extended, reaches}
 use Rattle.addresses.proofs.Relations.{reaches-transitive, reaches-antisymmetric}

@@ -1,4 +1,5 @@
 -- The updates and puts of a reducer, as deeds.
+-- H: a history; e: an entry; r: a reducer; u: an update or put with its number; y, z: items; m, n: numbers of entries; v, w: values
 use Rattle.std.proofs.Common.{◌≡◌, ◌⊎◌, inl, inr, ℕ, suc, ◌<◌, ◌≤◌, [], ◌∷◌, length, refl, sym, ap, ◌∙◌, subst, arith}
 use Rattle.trace_values.specs.declared.value.Act.{Act}
 use Rattle.trace_values.specs.declared.value.Act.TheVariants.{Read, Write, Bump, Update, Put, Get}

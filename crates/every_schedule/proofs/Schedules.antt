@@ -1,4 +1,5 @@
 -- One clean and finished run speaks for all runs.
+-- H: a history; R: the clean and finished one; T: its targets; e: an entry; r, s: lists of effects
 use Rattle.std.proofs.Common.{◌≡◌, ℕ, List, [], ◌∷◌, ◌++◌, Option, Some, refl, sym, ap, ◌∙◌, subst, append_assoc, append-nil}
 use Rattle.std.proofs.lemmas.List.Elements.{All-nil, All-cons, All-head, All-tail}
 use Rattle.race_gate.specs.declared.answer.Entry.{Entry}

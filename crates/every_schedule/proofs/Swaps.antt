@@ -1,4 +1,5 @@
 -- Two lists of the same items leave the same state where each two items stand in the same order in both or may be swapped.
+-- X: the type of the members of lists; a, b, x, y: members; R: a relation between them; S: the type of states; s: a state
 use Rattle.std.proofs.Common.{◌≡◌, ◌≢◌, ◌⊎◌, inl, inr, List, [], ◌∷◌, ◌++◌, refl, sym, ap, ◌∙◌, subst}
 
 -- the item is in the list

@@ -1,4 +1,5 @@
 -- What is known of the deeds of a legal history.
+-- H: a history; e: an entry; n: a strand; f, g: frames; x, y: items, or what was spoken
 use Rattle.std.proofs.Common.{true, ◌≡◌, ◌≢◌, ◌⊎◌, inl, inr, ℕ, ◌<◌, ◌≤◌, List, [], ◌∷◌, ◌++◌, length, Some, None, refl, sym, ap, ◌∙◌, subst, arith}
 use Rattle.std.specs.Prelude.{MatchOption}
 use Rattle.addresses.specs.Address.{Address, reaches}

@@ -18,7 +18,8 @@ pub record AreAlike (one other : Answer) : Type 0 where
 abbrev pub Agree : List Exchange → List Exchange → Type 0
 Agree [] others = Unit {0}
 Agree (x ∷ said) [] = Unit {0}
-Agree (x ∷ said) (y ∷ others) = (x.act ≡ y.act) × (x.line ≡ y.line) × (x.target ≡ y.target) × (AreAlike x.answer y.answer → Agree said others)
+Agree (x ∷ said) (y ∷ others) =
+    (x.act ≡ y.act) × (x.line ≡ y.line) × (x.target ≡ y.target) × (AreAlike x.answer y.answer → Agree said others)
 
 -- two dialogues of one function with one argument agree
 abbrev pub AgreementLaw : Type 0

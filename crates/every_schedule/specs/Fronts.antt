@@ -1,5 +1,5 @@
--- How far a spawned function is, by its acts alone: the address of the strand that goes on for it, and the functions and open blocks round that
--- strand. No number of a strand stands in it, so it is the same in every schedule.
+-- How far a spawned function is, by its acts alone: the address of the strand that goes on for it, and the functions and open blocks round
+-- that strand. No number of a strand stands in it, so it is the same in every schedule.
 use Rattle.std.specs.Prelude.{◌≡◌, ◌⊎◌, ℕ, suc, [], ◌∷◌, length}
 use Rattle.addresses.specs.Address.{Address, child, next, join, extended}
 use Rattle.trace_values.specs.declared.value.Act.{Act}
@@ -99,6 +99,7 @@ IsBegun (_ ∷ history) frame = IsBegun history frame
 -- the front of each frame is where the one strand stands that goes on for it, until it has returned
 pub record AreFronts (history : History) : Type 0 where
   pub at : (strand : ℕ) → IsActive history strand → front history (frame_at history strand) ≡ stands_at history strand
-  pub alone : (strand other : ℕ) → IsActive history strand → IsActive history other → frame_at history strand ≡ frame_at history other → strand ≡ other
+  pub alone : (strand other : ℕ) → IsActive history strand → IsActive history other → frame_at history strand ≡ frame_at history other →
+      strand ≡ other
   pub found : (frame : ℕ) → IsBegun history frame →
       ((front history frame).nest ≡ gone) ⊎ ((strand : ℕ) × IsActive history strand × (frame_at history strand ≡ frame))

@@ -21,7 +21,12 @@ pub record Spoken : Type 0 where
 
 abbrev pub spoken_of : Targets → (begins : ℕ) → Entry → Spoken
 spoken_of targets begins entry =
-    record { act = entry.request.act; line = entry.request.line; target = target_of entry.request.act (targets begins); value = value_given entry.answer }
+    record {
+      act = entry.request.act;
+      line = entry.request.line;
+      target = target_of entry.request.act (targets begins);
+      value = value_given entry.answer;
+    }
 
 -- what a frame did, the newest first
 abbrev pub spoken_by : Targets → Entries → ℕ → List Spoken

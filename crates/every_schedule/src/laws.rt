@@ -8,8 +8,8 @@ pub fn agreement_law()
     ensures { AgreementLaw }
 {}
 
-/// Where one finished run of a program has no refusal, none has: each run does at each address what that one begins with there, and a finished run
-/// does all of it and leaves the same memory.
+/// Where one finished run of a program has no refusal, none has: each run does at each address what that one begins with there, and a
+/// finished run does all of it and leaves the same memory.
 pub fn clean_law()
     ensures { CleanLaw }
 {}

@@ -1,5 +1,6 @@
 -- A frame's stack, and the dialogue after which it stands.
-use Rattle.std.specs.Prelude.{ℕ, ◌≡◌, ◌↔◌, false, Result, Err, OnOk, OnErr, List, [], ◌∷◌, ◌++◌, map, reverse, Option, Some, None, slice_get, IsTrue}
+use Rattle.std.specs.Prelude.{ℕ, ◌≡◌, ◌↔◌, false, Result, Err, OnOk, OnErr, List, [], ◌∷◌}
+use Rattle.std.specs.Prelude.{◌++◌, map, reverse, Option, Some, None, slice_get, IsTrue}
 use Rattle.program_text.specs.Codes.{Code}
 use Rattle.program_lines.specs.declared.statement.Statement.{Statement}
 use Rattle.program_text.specs.Trees.{Step}
@@ -67,11 +68,13 @@ pub record Stands (functions : List Code) (frame : State) : Type 0 where
 -- The frame wants the act of this exchange, and the answer belongs to it.
 pub record Wants (functions : List Code) (frame : State) (x : Exchange) : Type 0 where
   pub wanting : frame.phase ≡ Wanting
-  pub follows : Follows (origin_of (callers_of functions frame.callers)) (statement_of functions frame.top) (end_line_of functions frame.top.function) frame.top.registers x
+  pub follows : Follows (origin_of (callers_of functions frame.callers))
+      (statement_of functions frame.top) (end_line_of functions frame.top.function) frame.top.registers x
 
 -- What was said so far is a dialogue of the function with this argument, and it goes on as the frame does.
 pub record IsAfter (functions : List Code) (function argument : ℕ) (history : List Exchange) (frame : State) : Type 0 where
-  pub goes_on : (extent : Extent) (said : List Exchange) → StackDialogue functions extent (stack_of functions frame) said ↔ DialogueOf functions function argument extent (history ++ said)
+  pub goes_on : (extent : Extent) (said : List Exchange) →
+      StackDialogue functions extent (stack_of functions frame) said ↔ DialogueOf functions function argument extent (history ++ said)
   pub joins : joins_of frame ≡ joins_after (None ∷ []) history
 
 -- What was said so far can go on with this exchange.
@@ -102,16 +105,22 @@ pub record IsCalled (functions : List Code) (function argument : ℕ) (before af
   pub caller : Activation
   pub same : (caller.function ≡ before.top.function) × (caller.registers ≡ before.top.registers) × (caller.join ≡ before.top.join)
   pub place : IsInPlace functions caller
-  pub behind : (statement : Statement) → statement_of functions before.top ≡ Some statement → IsTrue (is_plain statement) → left functions before.top ≡ Step statement (left functions caller)
-  pub begun : (after.top.function ≡ function) × (after.top.place ≡ 0) × (after.top.registers ≡ first_registers argument) × (after.top.join ≡ None) × (after.top.turn ≡ Turn.Plainly)
+  pub behind : (statement : Statement) → statement_of functions before.top ≡ Some statement → IsTrue (is_plain statement) →
+      left functions before.top ≡ Step statement (left functions caller)
+  pub begun : (after.top.function ≡ function) × (after.top.place ≡ 0)
+      × (after.top.registers ≡ first_registers argument) × (after.top.join ≡ None) × (after.top.turn ≡ Turn.Plainly)
   pub callers : after.callers ≡ before.callers ++ caller ∷ []
   pub running : after.phase ≡ Running
 
 -- What becomes of a frame whose wanted act is answered, by what it says to the answer.
-pub record IsAnswered {T : Type 0} (functions : List Code) (before : State) (answer : Answer) (result : Result T FrameFault) (after : State) : Type 0 where
+pub record IsAnswered {T : Type 0} (functions : List Code) (before : State)
+    (answer : Answer) (result : Result T FrameFault) (after : State) : Type 0 where
   pub stands : Stands functions after
   pub belongs : OnOk result (MayAnswer functions before answer)
-  pub goes_on : OnOk result ((function argument : ℕ) (history : List Exchange) (x : Exchange) → IsAfter functions function argument history before → Wants functions before x → x.answer ≡ answer → IsAfter functions function argument (history ++ x ∷ []) after)
+  pub goes_on : OnOk result ((function argument : ℕ) (history : List Exchange) (x : Exchange) →
+      IsAfter functions function argument history before → Wants functions before x → x.answer ≡ answer →
+      IsAfter functions function argument (history ++ x ∷ []) after)
   pub err : OnErr result (after ≡ before)
   pub strange : result ≡ Err FrameFault.Strange → MayAnswer functions before answer → ⊥
-  pub memory : result ≡ Err FrameFault.Memory → (before.has_room ≡ false) × ((x : Exchange) → Wants functions before x → x.act ≡ Act.Call) × MayAnswer functions before answer
+  pub memory : result ≡ Err FrameFault.Memory →
+      (before.has_room ≡ false) × ((x : Exchange) → Wants functions before x → x.act ≡ Act.Call) × MayAnswer functions before answer

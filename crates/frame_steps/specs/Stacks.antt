@@ -19,17 +19,21 @@ StackDialogue functions extent [] said = said ≡ []
 StackDialogue functions extent (top ∷ []) said = Dialogue functions FromSpawn extent top.end_line top.rest top.registers said
 StackDialogue functions extent (top ∷ caller ∷ callers) said =
     ((extent ≡ Part) × Dialogue functions FromCall Part top.end_line top.rest top.registers said)
-    ⊎ ((inner : List Exchange) × (outer : List Exchange) × Dialogue functions FromCall Whole top.end_line top.rest top.registers inner × StackDialogue functions extent (caller ∷ callers) outer × (said ≡ inner ++ outer))
+    ⊎ ((inner : List Exchange) × (outer : List Exchange) × Dialogue functions FromCall Whole top.end_line top.rest top.registers inner
+    × StackDialogue functions extent (caller ∷ callers) outer × (said ≡ inner ++ outer))
 
 -- Two stacks with the same dialogues.
 pub record SameStack (functions : List Code) (before after : List Standing) : Type 0 where
   pub on : (extent : Extent) (said : List Exchange) → StackDialogue functions extent before said → StackDialogue functions extent after said
-  pub back : (extent : Extent) (said : List Exchange) → StackDialogue functions extent after said → StackDialogue functions extent before said
+  pub back : (extent : Extent) (said : List Exchange) →
+      StackDialogue functions extent after said → StackDialogue functions extent before said
 
 -- Two stacks, the second after an exchange.
 pub record NextStack (functions : List Code) (x : Exchange) (before after : List Standing) : Type 0 where
-  pub on : (extent : Extent) (said : List Exchange) → StackDialogue functions extent before (x ∷ said) → StackDialogue functions extent after said
-  pub back : (extent : Extent) (said : List Exchange) → StackDialogue functions extent after said → StackDialogue functions extent before (x ∷ said)
+  pub on : (extent : Extent) (said : List Exchange) →
+      StackDialogue functions extent before (x ∷ said) → StackDialogue functions extent after said
+  pub back : (extent : Extent) (said : List Exchange) →
+      StackDialogue functions extent after said → StackDialogue functions extent before (x ∷ said)
 
 -- Who began the topmost function, by those below it.
 abbrev pub origin_of : List Standing → Origin

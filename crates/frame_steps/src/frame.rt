@@ -1,6 +1,7 @@
 //! Frames.
 
-ghost use Rattle.std.specs.Prelude.{◌≡◌, ◌≢◌, ℕ, ◌<◌, ◌↔◌, Bool, true, false, IsTrue, List, [], ◌∷◌, ◌++◌, Some, None, length, IfSome, OnOk, OnErr, IfErr, Err};
+ghost use Rattle.std.specs.Prelude.{◌≡◌, ◌≢◌, ℕ, ◌<◌, ◌↔◌, Bool, true, false, IsTrue, List, []};
+ghost use Rattle.std.specs.Prelude.{◌∷◌, ◌++◌, Some, None, length, IfSome, OnOk, OnErr, IfErr, Err};
 ghost use Rattle.program_lines.specs.declared.statement.Statement.{Statement};
 ghost use Rattle.trace_values.specs.declared.value.Act.{Act};
 ghost use Rattle.program_text.specs.Codes.{Code};
@@ -12,7 +13,8 @@ ghost use Rattle.program_steps.specs.Dialogue.{Whole, Part};
 ghost use Rattle.program_steps.specs.Activations.{left, statement_of, is_plain, IsInPlace};
 ghost use Rattle.frame_steps.specs.Joins.{join_after, open_join};
 ghost use Rattle.frame_steps.specs.States.{State};
-ghost use Rattle.frame_steps.specs.Frames.{DialogueOf, Stands, Wants, IsAfter, CanFollow, MayAnswer, IsAnswered, IsCalled, IsLeft, began_by};
+ghost use Rattle.frame_steps.specs.Frames.{DialogueOf, Stands, Wants, IsAfter, CanFollow};
+ghost use Rattle.frame_steps.specs.Frames.{MayAnswer, IsAnswered, IsCalled, IsLeft, began_by};
 
 use crate::phase::Phase;
 use program_steps::{Activation, Target, Want, answered, value_of};
@@ -90,15 +92,18 @@ impl<A: Allocator> Frame<A> {
     /// Whether the function has ended. What was said is a dialogue, and a whole one then.
     pub fn is_over(&self) -> bool
         ensures over { IsTrue result ↔ (self.now.phase ≡ Phase.Over) }
-        ensures part { (functions : List Code) (function argument : ℕ) (history : List Exchange) → IsAfter functions function argument history self.now → DialogueOf functions function argument Part history }
-        ensures whole { IsTrue result → (functions : List Code) (function argument : ℕ) (history : List Exchange) → IsAfter functions function argument history self.now → DialogueOf functions function argument Whole history }
+        ensures part { (functions : List Code) (function argument : ℕ) (history : List Exchange) →
+            IsAfter functions function argument history self.now → DialogueOf functions function argument Part history }
+        ensures whole { IsTrue result → (functions : List Code) (function argument : ℕ) (history : List Exchange) →
+            IsAfter functions function argument history self.now → DialogueOf functions function argument Whole history }
     {
         matches!(self.phase, Phase::Over)
     }
 
     /// The join of the topmost function's last split, where it has not been answered a sync since.
     pub fn block_join(&self) -> Option<u32>
-        ensures { (functions : List Code) (function argument : ℕ) (history : List Exchange) → IsAfter functions function argument history self.now → result ≡ open_join history }
+        ensures { (functions : List Code) (function argument : ℕ) (history : List Exchange) →
+            IsAfter functions function argument history self.now → result ≡ open_join history }
     {
         match self.phase {
             Phase::Running => self.top.join,
@@ -140,8 +145,12 @@ impl<A: Allocator> Frame<A> {
         ensures wanting { self.new.phase ≡ Phase.Wanting }
         ensures room { self.new.has_room ≡ self.old.has_room }
         ensures asks { (x : Exchange) → Wants program.now.functions self.new x → (x.act ≡ result.act) × (x.line ≡ result.line) }
-        ensures after { (function argument : ℕ) (history : List Exchange) → IsAfter program.now.functions function argument history self.old → IsAfter program.now.functions function argument history self.new }
-        ensures only { (function argument : ℕ) (history : List Exchange) (x : Exchange) → IsAfter program.now.functions function argument history self.old → CanFollow program.now.functions function argument history x ↔ Wants program.now.functions self.new x }
+        ensures after { (function argument : ℕ) (history : List Exchange) →
+            IsAfter program.now.functions function argument history self.old →
+            IsAfter program.now.functions function argument history self.new }
+        ensures only { (function argument : ℕ) (history : List Exchange) (x : Exchange) →
+            IsAfter program.now.functions function argument history self.old →
+            CanFollow program.now.functions function argument history x ↔ Wants program.now.functions self.new x }
     {
         let want = self.top.seek(program);
         self.phase = Phase::Wanting;
@@ -178,10 +187,14 @@ impl<A: Allocator> Frame<A> {
         requires stands { Stands program.now.functions self.old }
         ensures stands { Stands program.now.functions self.new }
         ensures belongs { OnOk result (MayAnswer program.now.functions self.old answer.now) }
-        ensures after { OnOk result ((function argument : ℕ) (history : List Exchange) (x : Exchange) → IsAfter program.now.functions function argument history self.old → Wants program.now.functions self.old x → x.answer ≡ answer.now → IsAfter program.now.functions function argument (history ++ x ∷ []) self.new) }
+        ensures after { OnOk result ((function argument : ℕ) (history : List Exchange) (x : Exchange) →
+            IsAfter program.now.functions function argument history self.old → Wants program.now.functions self.old x →
+            x.answer ≡ answer.now → IsAfter program.now.functions function argument (history ++ x ∷ []) self.new) }
         ensures err { OnErr result (self.new ≡ self.old) }
         ensures strange { result ≡ Err FrameFault.Strange → MayAnswer program.now.functions self.old answer.now → ⊥ }
-        ensures memory { result ≡ Err FrameFault.Memory → (self.old.has_room ≡ false) × ((x : Exchange) → Wants program.now.functions self.old x → x.act ≡ Act.Call) × MayAnswer program.now.functions self.old answer.now }
+        ensures memory { result ≡ Err FrameFault.Memory →
+            (self.old.has_room ≡ false) × ((x : Exchange) → Wants program.now.functions self.old x → x.act ≡ Act.Call)
+            × MayAnswer program.now.functions self.old answer.now }
     {
         if !matches!(self.phase, Phase::Wanting) {
             return Err(FrameFault::Strange);
@@ -232,7 +245,9 @@ impl<A: Allocator> Frame<A> {
         ensures function { self.new.top.function ≡ self.old.top.function }
         ensures registers { self.new.top.registers ≡ self.old.top.registers }
         ensures join { self.new.top.join ≡ join_after answer.now self.old.top.join }
-        ensures behind { (statement : Statement) → statement_of program.now.functions self.old.top ≡ Some statement → IsTrue (is_plain statement) → left program.now.functions self.old.top ≡ Step statement (left program.now.functions self.new.top) }
+        ensures behind { (statement : Statement) →
+            statement_of program.now.functions self.old.top ≡ Some statement → IsTrue (is_plain statement) →
+            left program.now.functions self.old.top ≡ Step statement (left program.now.functions self.new.top) }
         ensures rest { (self.new.callers ≡ self.old.callers) × (self.new.phase ≡ Phase.Running) × (self.new.has_room ≡ self.old.has_room) }
     {
         self.top.join = join_after(self.top.join, answer);
@@ -291,7 +306,8 @@ impl<A: Allocator> Frame<A> {
 
     /// Ends, where no called function is on top.
     fn end(&mut self) -> Result<(), FrameFault>
-        ensures ok { OnOk result ((self.old.callers ≡ []) × (self.new.top ≡ self.old.top) × (self.new.callers ≡ []) × (self.new.phase ≡ Phase.Over)) }
+        ensures ok { OnOk result ((self.old.callers ≡ []) × (self.new.top ≡ self.old.top)
+            × (self.new.callers ≡ []) × (self.new.phase ≡ Phase.Over)) }
         ensures err { OnErr result (self.new ≡ self.old) }
         ensures strange { IfErr result (λ fault. (fault ≡ FrameFault.Strange) × (self.old.callers ≢ [])) }
     {

@@ -1,4 +1,5 @@
 -- Entries that are marked by their receipts.
+-- e: an entry; r: a receipt; m: a mark; i: a place among receipts; d: what a list gives where it has no receipt
 use Rattle.std.proofs.Common.{◌≡◌, ℕ, ◌+◌, ◌-◌, ◌<◌, ◌≤◌, Bool, true, false, List, [], ◌∷◌, ◌++◌, length, take, drop, get_or, refl, ap, sym, subst, append_assoc, arith, ◌∙◌}
 use Rattle.std.proofs.Math.ListN.{set}
 use Rattle.std.proofs.Math.Seq.{get_or-append_seam}

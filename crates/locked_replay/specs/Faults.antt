@@ -9,11 +9,12 @@ use Rattle.locked_replay.specs.declared.worker.WorkerLog.{WorkerLog}
 use Rattle.locked_replay.specs.Logs.{AreWhole}
 use Rattle.locked_replay.specs.Strange.{IsStrangeGate}
 
--- The gate is stopped; or it is not, and the logs are not whole; or they are, and the gate is not that of a finished run of the program. The first of
--- these counts, and want of memory may come at any growth behind the first.
+-- The gate is stopped; or it is not, and the logs are not whole; or they are, and the gate is not that of a finished run of the program.
+-- The first of these counts, and want of memory may come at any growth behind the first.
 abbrev pub HasFault : {L : Type 0} → List Code → Shape → State → List (WorkerLog L) → RunFault → Type 0
 HasFault functions shape gate logs Limit = ⊥
 HasFault functions shape gate logs Stopped = gate.stopped ≡ true
 HasFault functions shape gate logs Torn = (gate.stopped ≡ false) × (AreWhole (reverse gate.history) logs → ⊥)
-HasFault functions shape gate logs Strange = (gate.stopped ≡ false) × AreWhole (reverse gate.history) logs × IsStrangeGate functions shape gate
+HasFault functions shape gate logs Strange =
+    (gate.stopped ≡ false) × AreWhole (reverse gate.history) logs × IsStrangeGate functions shape gate
 HasFault functions shape gate logs Memory = gate.stopped ≡ false

@@ -1,5 +1,5 @@
-//! The laws of whole runs, each as the contract of a function that does nothing: that of both together, and passed on with it the two that it
-//! stands on, a clean run as the serial elision and a clean run as one that speaks for every schedule.
+//! The laws of whole runs, each as the contract of a function that does nothing: that of both together, and passed on with it the two that
+//! it stands on, a clean run as the serial elision and a clean run as one that speaks for every schedule.
 
 ghost use Rattle.locked_replay.specs.Laws.{WholeLaw};
 

@@ -3,8 +3,8 @@
 //! Any thread may ask a [`LockedGate`]. What lies under its lock is a gate with the total of all that was asked, and that total is the
 //! length of the gate's history, which is judged. Each worker counts what it asked on a [`Seat`], a share of the total, and keeps the
 //! receipts of the answers. [`gather`] takes the gate out of its lock, and answers Ok only where the receipts of all workers are the
-//! history's entries, each once, and the history is a finished run of the program. Where nothing was refused in it, it is the program's serial
-//! elision, and every run of the program agrees with it; [`laws::whole_law`] says so over the definitions alone.
+//! history's entries, each once, and the history is a finished run of the program. Where nothing was refused in it, it is the program's
+//! serial elision, and every run of the program agrees with it; [`laws::whole_law`] says so over the definitions alone.
 #![tactic(auto)]
 
 mod fault;

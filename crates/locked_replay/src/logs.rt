@@ -15,7 +15,9 @@ use std::sync::ledger::Ledger;
 
 /// How many receipts there are in all logs, or None where no u64 holds it.
 fn count_of<L: Ledger>(logs: &[WorkerLog<L>]) -> Option<u64>
-    ensures { MatchOption result (2 ^ 64 ≤ sum_by (λ log. length log.receipts.items) logs.now) (λ count. count ≡ sum_by (λ log. length log.receipts.items) logs.now) }
+    ensures { MatchOption result
+        (2 ^ 64 ≤ sum_by (λ log. length log.receipts.items) logs.now)
+        (λ count. count ≡ sum_by (λ log. length log.receipts.items) logs.now) }
 {
     let mut count = 0u64;
     for log in logs {
@@ -28,7 +30,9 @@ fn count_of<L: Ledger>(logs: &[WorkerLog<L>]) -> Option<u64>
 fn mark_logs<L: Ledger>(marks: &mut [bool], entries: &[Entry], logs: &[WorkerLog<L>]) -> bool
     requires { length marks.old ≡ length entries.now }
     ensures { AreMarked marks.old entries.now [] →
-        MatchBool result (All (λ log. Rises log.receipts.items) logs.now × AreMarked marks.new entries.now (all_receipts logs.now)) (¬ (AreTheirs entries.now logs.now)) }
+        MatchBool result
+        (All (λ log. Rises log.receipts.items) logs.now × AreMarked marks.new entries.now (all_receipts logs.now))
+        (¬ (AreTheirs entries.now logs.now)) }
 {
     for log in logs {
         if !mark_all(marks, entries, log.receipts.as_slice()) {

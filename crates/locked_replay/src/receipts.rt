@@ -43,7 +43,9 @@ pub fn mark_all(marks: &mut [bool], entries: &[Entry], receipts: &[Receipt]) -> 
     requires { length marks.old ≡ length entries.now }
     ensures length { length marks.new ≡ length marks.old }
     ensures marks { (met : List OneReceipt) → AreMarked marks.old entries.now met →
-        MatchBool result (Rises receipts.now × AreMarked marks.new entries.now (met ++ receipts.now)) ((Rises receipts.now → ⊥) ⊎ AreAstray entries.now (met ++ receipts.now)) }
+        MatchBool result
+        (Rises receipts.now × AreMarked marks.new entries.now (met ++ receipts.now))
+        ((Rises receipts.now → ⊥) ⊎ AreAstray entries.now (met ++ receipts.now)) }
 {
     for at in 0..receipts.len() {
         if at > 0 && receipts[at].number <= receipts[at - 1].number {

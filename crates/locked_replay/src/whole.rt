@@ -84,8 +84,8 @@ pub fn check_run<B: Allocator>(
     }
 }
 
-/// What [`gather`] answers of the gate that it took out of its lock. Stopped where the gate is stopped, else Torn where the logs are not whole,
-/// else Strange where the gate is not that of a finished run of the program; Memory at a refused growth.
+/// What [`gather`] answers of the gate that it took out of its lock. Stopped where the gate is stopped, else Torn where the logs are not
+/// whole, else Strange where the gate is not that of a finished run of the program; Memory at a refused growth.
 fn whole_of<L: Ledger, B: Allocator>(
     alloc: Global,
     program: &Program<B>,
@@ -114,9 +114,9 @@ fn whole_of<L: Ledger, B: Allocator>(
     })
 }
 
-/// Takes the gate out of its lock. Ok where the logs are whole and the history is a finished run of the program; where nothing was refused in it,
-/// it is the program's serial elision, and every run of the program agrees with it. Otherwise it answers what [`check_logs`] says of the gate
-/// and the logs, and then what [`check_run`] says of the gate, and drops both.
+/// Takes the gate out of its lock. Ok where the logs are whole and the history is a finished run of the program; where nothing was refused
+/// in it, it is the program's serial elision, and every run of the program agrees with it. Otherwise it answers what [`check_logs`] says of
+/// the gate and the logs, and then what [`check_run`] says of the gate, and drops both.
 pub fn gather<L: Ledger, B: Allocator>(
     alloc: Global,
     program: &Program<B>,
@@ -127,9 +127,12 @@ pub fn gather<L: Ledger, B: Allocator>(
     ensures logs { IfOk result (λ whole. AreWhole whole.entries.items logs.items) }
     ensures memory { IfOk result (λ whole. IsMemory (shape_in program.now).cells (reverse whole.entries.items) whole.memory.items) }
     ensures clean { IfOk result (λ whole. IsTrue whole.clean ↔ IsClean (reverse whole.entries.items)) }
-    ensures elided { IfOk result (λ whole. IsTrue whole.clean → IsElided program.now.functions (shape_in program.now) (reverse whole.entries.items)) }
-    ensures agree { IfOk result (λ whole. IsTrue whole.clean → AllAgree program.now.functions (shape_in program.now) (reverse whole.entries.items)) }
-    ensures faults { IfErr result (λ fault. (gate : State) × IsRight gate × HasFault program.now.functions (shape_in program.now) gate logs.items fault) }
+    ensures elided { IfOk result (λ whole.
+        IsTrue whole.clean → IsElided program.now.functions (shape_in program.now) (reverse whole.entries.items)) }
+    ensures agree { IfOk result (λ whole.
+        IsTrue whole.clean → AllAgree program.now.functions (shape_in program.now) (reverse whole.entries.items)) }
+    ensures faults { IfErr result (λ fault.
+        (gate : State) × IsRight gate × HasFault program.now.functions (shape_in program.now) gate logs.items fault) }
     ensures limit { ¬ (result ≡ Err RunFault.Limit) }
 {
     let gate = locked.into_gate();

@@ -32,7 +32,8 @@ items_along places = order_of (nexts_of places)
 
 -- the key behind that of an item
 abbrev pub key_behind : List ℕ → List Place → ℕ → ℕ
-key_behind order places item = slice_index (labels_along (keys_of order places) (items_along places)) (place_of item (items_along places) + 1)
+key_behind order places item =
+    slice_index (labels_along (keys_of order places) (items_along places)) (place_of item (items_along places) + 1)
 
 -- Items in groups: their keys rise along the order. Each group has a first item, and no item of it stands before that.
 pub record IsGrouped (order firsts : List ℕ) (places : List Place) (items : List ℕ) : Type 0 where
@@ -47,7 +48,8 @@ pub record IsGrouped (order firsts : List ℕ) (places : List Place) (items : Li
   pub firsts_len : length firsts ≡ length order
   pub first_known : (group : ℕ) → group < length order → slice_index firsts group < length items
   pub first_in : (group : ℕ) → group < length order → slice_index (groups_of places) (slice_index firsts group) ≡ group
-  pub first_first : (item : ℕ) → item < length items → place_of (slice_index firsts (slice_index (groups_of places) item)) items ≤ place_of item items
+  pub first_first : (item : ℕ) → item < length items →
+      place_of (slice_index firsts (slice_index (groups_of places) item)) items ≤ place_of item items
 
 -- so many items in a row, from `first` on
 pub record IsRow (items : List ℕ) (first count : ℕ) : Type 0 where
@@ -58,20 +60,27 @@ pub record IsRow (items : List ℕ) (first count : ℕ) : Type 0 where
 -- all items of a group from `first` on
 pub record IsGroupRow (places : List Place) (items : List ℕ) (first count : ℕ) : Type 0 where
   pub row : IsRow items first count
-  pub same : (place : ℕ) → place_of first items ≤ place → place < place_of first items + count → slice_index (groups_of places) (slice_index items place) ≡ slice_index (groups_of places) first
-  pub ends : place_of first items + count < length items → slice_index (groups_of places) (slice_index items (place_of first items + count)) ≢ slice_index (groups_of places) first
+  pub same : (place : ℕ) → place_of first items ≤ place → place < place_of first items + count →
+      slice_index (groups_of places) (slice_index items place) ≡ slice_index (groups_of places) first
+  pub ends : place_of first items + count < length items →
+      slice_index (groups_of places) (slice_index items (place_of first items + count)) ≢ slice_index (groups_of places) first
 
 -- The items at `count` positions from `start` on now stand in `group`, each `gap` at least behind the one before it, and below `bound`.
 pub record IsEvened (old new : List Place) (items : List ℕ) (start count group gap bound : ℕ) : Type 0 where
   pub len : length new ≡ length old
   pub nexts : nexts_of new ≡ nexts_of old
   pub inside : (place : ℕ) → start ≤ place → place < start + count → slice_index (groups_of new) (slice_index items place) ≡ group
-  pub steps : (place : ℕ) → start ≤ place → place + 1 < start + count → slice_index (locals_of new) (slice_index items place) + gap ≤ slice_index (locals_of new) (slice_index items (place + 1))
+  pub steps : (place : ℕ) → start ≤ place → place + 1 < start + count →
+      slice_index (locals_of new) (slice_index items place) + gap ≤ slice_index (locals_of new) (slice_index items (place + 1))
   pub below : (place : ℕ) → start ≤ place → place < start + count → slice_index (locals_of new) (slice_index items place) + gap ≤ bound
-  pub groups_before : (place : ℕ) → place < start → slice_index (groups_of new) (slice_index items place) ≡ slice_index (groups_of old) (slice_index items place)
-  pub locals_before : (place : ℕ) → place < start → slice_index (locals_of new) (slice_index items place) ≡ slice_index (locals_of old) (slice_index items place)
-  pub groups_behind : (place : ℕ) → start + count ≤ place → place < length items → slice_index (groups_of new) (slice_index items place) ≡ slice_index (groups_of old) (slice_index items place)
-  pub locals_behind : (place : ℕ) → start + count ≤ place → place < length items → slice_index (locals_of new) (slice_index items place) ≡ slice_index (locals_of old) (slice_index items place)
+  pub groups_before : (place : ℕ) → place < start →
+      slice_index (groups_of new) (slice_index items place) ≡ slice_index (groups_of old) (slice_index items place)
+  pub locals_before : (place : ℕ) → place < start →
+      slice_index (locals_of new) (slice_index items place) ≡ slice_index (locals_of old) (slice_index items place)
+  pub groups_behind : (place : ℕ) → start + count ≤ place → place < length items →
+      slice_index (groups_of new) (slice_index items place) ≡ slice_index (groups_of old) (slice_index items place)
+  pub locals_behind : (place : ℕ) → start + count ≤ place → place < length items →
+      slice_index (locals_of new) (slice_index items place) ≡ slice_index (locals_of old) (slice_index items place)
 
 -- so many places behind an item are still in its group, and before the next item
 pub record HasRoom (order : List ℕ) (places : List Place) (item gap : ℕ) : Type 0 where

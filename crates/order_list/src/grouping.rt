@@ -205,10 +205,12 @@ impl<A: Allocator> Grouping<A> {
         requires some { 0 < ahead }
         requires room { HasRoom self.old.groups.items self.old.places.items after (ahead + 1) }
         ensures item { result ≡ length (items_along self.old.places.items) }
-        ensures items { let items = items_along self.old.places.items in items_along self.new.places.items ≡ insert items (place_of after items + 1) result }
+        ensures items { let items = items_along self.old.places.items in
+            items_along self.new.places.items ≡ insert items (place_of after items + 1) result }
         ensures reserved { self.new.reserved + 1 ≡ self.old.reserved }
         ensures before { HasRoom self.new.groups.items self.new.places.items after ahead }
-        ensures behind { (gap : ℕ) → HasRoom self.old.groups.items self.old.places.items after (ahead + gap) → HasRoom self.new.groups.items self.new.places.items result gap }
+        ensures behind { (gap : ℕ) → HasRoom self.old.groups.items self.old.places.items after (ahead + gap) →
+            HasRoom self.new.groups.items self.new.places.items result gap }
     {
         self.reserved -= 1;
         tie(&mut self.places, after, ahead)
@@ -220,7 +222,8 @@ impl<A: Allocator> Grouping<A> {
         requires reserved { 0 < self.old.reserved }
         requires known { after < length (items_along self.old.places.items) }
         ensures item { result ≡ length (items_along self.old.places.items) }
-        ensures items { let items = items_along self.old.places.items in items_along self.new.places.items ≡ insert items (place_of after items + 1) result }
+        ensures items { let items = items_along self.old.places.items in
+            items_along self.new.places.items ≡ insert items (place_of after items + 1) result }
         ensures reserved { self.new.reserved + 1 ≡ self.old.reserved }
     {
         let gap = self.room_behind(after);
@@ -234,7 +237,8 @@ impl<A: Allocator> Grouping<A> {
         requires reserved { 1 < self.old.reserved }
         requires known { after < length (items_along self.old.places.items) }
         ensures item { result ≡ length (items_along self.old.places.items) }
-        ensures items { items_along self.new.places.items ≡ insert_behind result (result + 1) (insert_behind after result (items_along self.old.places.items)) }
+        ensures items { items_along self.new.places.items
+            ≡ insert_behind result (result + 1) (insert_behind after result (items_along self.old.places.items)) }
         ensures reserved { self.new.reserved + 2 ≡ self.old.reserved }
     {
         let gap = self.room_behind(after);
@@ -250,7 +254,8 @@ impl<A: Allocator> Grouping<A> {
         requires reserved { 1 < self.old.reserved }
         requires known { after < length (items_along self.old.places.items) }
         ensures item { result ≡ length (items_along self.old.places.items) }
-        ensures items { items_along self.new.places.items ≡ insert_behind after (result + 1) (insert_behind after result (items_along self.old.places.items)) }
+        ensures items { items_along self.new.places.items
+            ≡ insert_behind after (result + 1) (insert_behind after result (items_along self.old.places.items)) }
         ensures reserved { self.new.reserved + 2 ≡ self.old.reserved }
     {
         let gap = self.room_behind(after);

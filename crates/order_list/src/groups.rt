@@ -27,7 +27,8 @@ impl<A: Allocator> Model for Groups<A> {
 
     ghost view = { λ groups. record { items = order_of groups.ring.next.items; reserved = groups.ring.reserved } };
 
-    ghost invariant = { λ groups. IsRising groups.labels.items (order_of groups.ring.next.items) × (vec_len groups.labels + groups.ring.reserved ≤ vec_capacity groups.labels) };
+    ghost invariant = { λ groups. IsRising groups.labels.items (order_of groups.ring.next.items)
+        × (vec_len groups.labels + groups.ring.reserved ≤ vec_capacity groups.labels) };
 }
 
 impl<A: Allocator> Groups<A> {

@@ -171,7 +171,8 @@ impl<A: Allocator> OrderList<A> {
         requires room { 2 < self.old.reserved }
         requires known { after < length self.old.items }
         ensures item { result ≡ length self.old.items }
-        ensures items { self.new.items ≡ insert_behind (result + 1) (result + 2) (insert_behind result (result + 1) (insert_behind after result self.old.items)) }
+        ensures items { self.new.items ≡ insert_behind (result + 1) (result + 2)
+            (insert_behind result (result + 1) (insert_behind after result self.old.items)) }
         ensures few { result + 3 ≤ most_items }
         ensures len { length self.new.items ≡ length self.old.items + 3 }
         ensures reserved { self.new.reserved + 3 ≡ self.old.reserved }
@@ -187,7 +188,8 @@ impl<A: Allocator> OrderList<A> {
         requires room { 2 < self.old.reserved }
         requires known { after < length self.old.items }
         ensures item { result ≡ length self.old.items }
-        ensures items { self.new.items ≡ insert_behind result (result + 2) (insert_behind after (result + 1) (insert_behind after result self.old.items)) }
+        ensures items { self.new.items ≡ insert_behind result (result + 2)
+            (insert_behind after (result + 1) (insert_behind after result self.old.items)) }
         ensures len { length self.new.items ≡ length self.old.items + 3 }
         ensures reserved { self.new.reserved + 3 ≡ self.old.reserved }
     {

@@ -45,9 +45,11 @@ pub fn tie<A: Allocator>(places: &mut Vec<Place, A>, after: u32, ahead: u64) -> 
     ensures item { result ≡ length places.old.items }
     ensures len { vec_len places.new ≡ vec_len places.old + 1 }
     ensures capacity { vec_capacity places.new ≡ vec_capacity places.old }
-    ensures locals { let locals = locals_of places.old.items in locals_of places.new.items ≡ locals ++ (slice_index locals after + ahead) ∷ [] }
+    ensures locals { let locals = locals_of places.old.items in
+        locals_of places.new.items ≡ locals ++ (slice_index locals after + ahead) ∷ [] }
     ensures groups { let groups = groups_of places.old.items in groups_of places.new.items ≡ groups ++ slice_index groups after ∷ [] }
-    ensures nexts { let nexts = nexts_of places.old.items in nexts_of places.new.items ≡ set (nexts ++ slice_index nexts after ∷ []) after result }
+    ensures nexts { let nexts = nexts_of places.old.items in
+        nexts_of places.new.items ≡ set (nexts ++ slice_index nexts after ∷ []) after result }
 {
     let item = places.len() as u32;
     let here = places[after as usize];
@@ -105,7 +107,8 @@ pub fn spread(places: &mut [Place], first: u32, count: u32, group: u32) -> u64
     requires chain { IsChain (nexts_of places.old) (items_along places.old) }
     requires few { length places.old ≤ most_items }
     requires row { IsRow (items_along places.old) first count }
-    ensures evened { let items = items_along places.old in IsEvened places.old places.new items (place_of first items) count group result 18446744073709551615 }
+    ensures evened { let items = items_along places.old in
+        IsEvened places.old places.new items (place_of first items) count group result 18446744073709551615 }
     ensures some { 4 ≤ result }
 {
     let distance = u64::MAX / count as u64;

@@ -1,4 +1,5 @@
 -- Words in their places: what means something has no fault, and the lowest cause of more words is the lower one.
+-- A, B: the types of values; a, b, r: results, each a value or a cause
 use Rattle.std.proofs.Common.{◌≡◌, ℕ, ◌<◌, ◌≤◌, ◌+◌, ◌∷◌, [], List, length, true, false, Bool, cond, arith, refl, sym, ap, subst, inl, inr}
 use Rattle.std.specs.Prelude.{Option, Some, None, Result, Ok, Err, MatchResult, option_map, nat_lt}
 use Rattle.std.specs.Result.{result_and}

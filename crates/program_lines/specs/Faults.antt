@@ -9,7 +9,8 @@ use Rattle.trace_text.specs.Faults.{IsUndeclared, WordFault as CommonFault}
 use Rattle.program_lines.specs.declared.keyword.Keyword.{Keyword}
 use Rattle.program_lines.specs.declared.operator.Operator.{Operator}
 use Rattle.program_lines.specs.Scopes.{Scope, max_registers, register_named, function_named, IsFresh}
-use Rattle.program_lines.specs.Places.{Place, Common, FreshName, OperandWord, LocationWord, AssignedRegister, KnownRegister, FunctionName, ParameterName, Sign, Exactly, IsRegisterName, sign_spelling}
+use Rattle.program_lines.specs.Places.{Place, Common, FreshName, OperandWord, LocationWord, AssignedRegister, KnownRegister}
+use Rattle.program_lines.specs.Places.{FunctionName, ParameterName, Sign, Exactly, IsRegisterName, sign_spelling}
 use Rattle.program_lines.specs.Table.{Placed, IsArranged}
 
 -- ---- words in their places

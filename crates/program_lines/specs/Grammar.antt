@@ -10,7 +10,8 @@ use Rattle.program_lines.specs.declared.statement.Register.{Register}
 use Rattle.program_lines.specs.declared.statement.Expression.{Expression}
 use Rattle.program_lines.specs.declared.statement.Expression.TheVariants.{Plain as PlainOperand, Sum, Difference, Product, Less}
 use Rattle.program_lines.specs.declared.statement.Statement.{Statement}
-use Rattle.program_lines.specs.declared.statement.Statement.TheVariants.{Let, Read, Write, Bump, Update, Put, Get, Spawn, Call, Sync, ParallelFor, If, Else, End}
+use Rattle.program_lines.specs.declared.statement.Statement.TheVariants.{Let, Read, Write, Bump, Update, Put, Get}
+use Rattle.program_lines.specs.declared.statement.Statement.TheVariants.{Spawn, Call, Sync, ParallelFor, If, Else, End}
 use Rattle.program_lines.specs.Scopes.{Scope}
 use Rattle.program_lines.specs.Places.{Value, Plain, OfOperand, OfLocation, OfRegister, OfAssigned, OfSign, Nothing}
 use Rattle.program_lines.specs.Table.{Says}
@@ -79,7 +80,8 @@ statement_values (Get line register reducer) named = OfAssigned register named �
 statement_values (Spawn line function argument) named = Plain (OfNumber function) ∷ OfOperand argument ∷ []
 statement_values (Call line function argument) named = Plain (OfNumber function) ∷ OfOperand argument ∷ []
 statement_values (Sync line) named = []
-statement_values (ParallelFor line register count function) named = OfAssigned register named ∷ OfOperand count ∷ Plain (OfNumber function) ∷ []
+statement_values (ParallelFor line register count function) named =
+    OfAssigned register named ∷ OfOperand count ∷ Plain (OfNumber function) ∷ []
 statement_values (If line register otherwise) named = OfRegister register ∷ []
 statement_values (Else line after) named = []
 statement_values (End line) named = []

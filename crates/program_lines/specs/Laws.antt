@@ -14,7 +14,9 @@ use Rattle.program_lines.specs.Printing.{item_words, scope_behind}
 
 -- The words of a line say one thing at most.
 abbrev pub OneMeaning : Type 0
-OneMeaning = (at : ℕ) (scope : Scope) (ws : List (List ℕ)) (item other : Item) → ItemMeans at scope ws item → ItemMeans at scope ws other → item ≡ other
+OneMeaning =
+    (at : ℕ) (scope : Scope) (ws : List (List ℕ)) (item other : Item) →
+    ItemMeans at scope ws item → ItemMeans at scope ws other → item ≡ other
 
 -- The words of a line say something, or have a lowest cause why not. A function has no more registers than it may.
 abbrev pub MeaningOrFault : Type 0
@@ -24,7 +26,8 @@ MeaningOrFault =
 
 -- Words that say something have no fault.
 abbrev pub MeaningExcludesFault : Type 0
-MeaningExcludesFault = (at : ℕ) (scope : Scope) (ws : List (List ℕ)) (item : Item) (why : Cause) → ItemMeans at scope ws item → WordsFault scope ws why → ⊥
+MeaningExcludesFault =
+    (at : ℕ) (scope : Scope) (ws : List (List ℕ)) (item : Item) (why : Cause) → ItemMeans at scope ws item → WordsFault scope ws why → ⊥
 
 -- There is no room for a register only where all are known.
 abbrev pub RoomForRegisters : Type 0

@@ -23,5 +23,6 @@ abbrev pub IsElementFault : Scope → (name index : List ℕ) → Cause → Type
 IsElementFault scope name index BadWord = IsName name → HasOperandShape index → ⊥
 IsElementFault scope name index BadNumber = IsName name × IsNoNumber index
 IsElementFault scope name index UnknownName =
-    IsName name × HasOperandShape index × (IsNoNumber index → ⊥) × (IsUndeclared scope.known.mems name true ⊎ IsNoRegister scope.registers index)
+    IsName name × HasOperandShape index × (IsNoNumber index → ⊥)
+    × (IsUndeclared scope.known.mems name true ⊎ IsNoRegister scope.registers index)
 IsElementFault scope name index cause = ⊥

@@ -10,7 +10,8 @@ use Rattle.program_lines.specs.Faults.{WordFault, SomeFault}
 
 -- The answer is what the word means in its place, or the lowest cause why it means nothing.
 abbrev pub Reads : {A : Type 0} → Scope → Place → List ℕ → Result A Cause → (A → Value) → Type 0
-Reads scope place word answer value = MatchResult answer (λ x. WordMeans scope place word (value x)) (λ cause. IsLowest (WordFault scope place word) cause)
+Reads scope place word answer value =
+    MatchResult answer (λ x. WordMeans scope place word (value x)) (λ cause. IsLowest (WordFault scope place word) cause)
 
 -- The first word is taken, and the answer is what it means in its place; or there is none.
 abbrev pub TakesWord : {A : Type 0} → Scope → Place → List (List ℕ) → List (List ℕ) → Result A Cause → (A → Value) → Type 0

@@ -20,9 +20,11 @@ use Rattle.program_lines.specs.declared.statement.Statement.TheVariants.{Read, W
 use Rattle.program_lines.specs.declared.keyword.Keyword.{Keyword}
 use Rattle.program_lines.specs.declared.keyword.Keyword.TheVariants as word
 use Rattle.program_lines.specs.Scopes.{Scope, ok_word}
-use Rattle.program_lines.specs.Places.{Place, Common, FunctionName, Exactly, Value, Plain, OfOperand, OfLocation, OfRegister, OfAssigned, OfSign, sign_spelling}
+use Rattle.program_lines.specs.Places.{Place, Common, FunctionName, Exactly, Value, Plain, OfOperand}
+use Rattle.program_lines.specs.Places.{OfLocation, OfRegister, OfAssigned, OfSign, sign_spelling}
 use Rattle.program_lines.specs.Table.{spelling, wanted, optional}
-use Rattle.program_lines.specs.Grammar.{Item, Blank, Declared, Reduces, Begins, Does, Decides, Otherwise, Ends, keyword_of_statement, statement_values, number_if_there}
+use Rattle.program_lines.specs.Grammar.{Item, Blank, Declared, Reduces, Begins, Does, Decides, Otherwise}
+use Rattle.program_lines.specs.Grammar.{Ends, keyword_of_statement, statement_values, number_if_there}
 
 -- ---- words
 
@@ -76,7 +78,8 @@ words_for scope keyword values = spelling keyword ∷ plain_words scope (wanted 
 -- The words of a statement behind its keyword, where the scope has all registers of its function.
 abbrev pub argument_words : Scope → Statement → List (List ℕ)
 argument_words scope statement =
-    plain_words scope (wanted (keyword_of_statement statement)) (optional (keyword_of_statement statement)) (statement_values statement None)
+    plain_words scope (wanted (keyword_of_statement statement))
+    (optional (keyword_of_statement statement)) (statement_values statement None)
 
 abbrev pub statement_words : Scope → Statement → List (List ℕ)
 statement_words scope statement = words_for scope (keyword_of_statement statement) (statement_values statement None)
@@ -132,4 +135,9 @@ registers_behind scope item = scope.registers
 
 -- The scope in which a line is printed: its function has these registers, and names more on later lines.
 abbrev pub scope_behind : Scope → Item → List (List ℕ) → Scope
-scope_behind scope item more = record { known = scope.known; functions = scope.functions; begun = 0; registers = registers_behind scope item ++ more }
+scope_behind scope item more = record {
+  known = scope.known;
+  functions = scope.functions;
+  begun = 0;
+  registers = registers_behind scope item ++ more;
+}

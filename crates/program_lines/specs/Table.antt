@@ -8,9 +8,11 @@ use Rattle.trace_values.specs.Names.{IsSecond}
 use Rattle.trace_values.specs.Limits.{max_cells}
 use Rattle.trace_text.specs.Lines as trace
 use Rattle.program_lines.specs.declared.keyword.Keyword.{Keyword}
-use Rattle.program_lines.specs.declared.keyword.Keyword.TheVariants.{Mem, Reducer, Func, Let, Access, Spawn, Call, Sync, ParallelFor, If, Else, End}
+use Rattle.program_lines.specs.declared.keyword.Keyword.TheVariants.{Mem, Reducer, Func, Let, Access, Spawn}
+use Rattle.program_lines.specs.declared.keyword.Keyword.TheVariants.{Call, Sync, ParallelFor, If, Else, End}
 use Rattle.program_lines.specs.Scopes.{Scope}
-use Rattle.program_lines.specs.Places.{Place, Common, FreshName, OperandWord, LocationWord, AssignedRegister, KnownRegister, FunctionName, ParameterName, Sign, Exactly, Value, WordMeans}
+use Rattle.program_lines.specs.Places.{Place, Common, FreshName, OperandWord, LocationWord, AssignedRegister}
+use Rattle.program_lines.specs.Places.{KnownRegister, FunctionName, ParameterName, Sign, Exactly, Value, WordMeans}
 
 abbrev pub spelling : Keyword → List ℕ
 spelling Mem = codes "mem"

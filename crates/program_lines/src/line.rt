@@ -7,7 +7,8 @@ ghost use Rattle.trace_values.specs.Limits.{max_cells};
 ghost use Rattle.trace_values.specs.Causes.{IsLowest};
 ghost use Rattle.program_lines.specs.declared.keyword.Keyword.TheVariants.{Access, Call, Let, ParallelFor, Spawn};
 ghost use Rattle.program_lines.specs.Scopes.{Scope as SpecScope};
-ghost use Rattle.program_lines.specs.Places.{Common, FreshName, OperandWord, LocationWord, AssignedRegister, KnownRegister, FunctionName, ParameterName, Sign, Exactly, Plain, OfOperand, OfLocation, OfRegister, OfAssigned, Nothing};
+ghost use Rattle.program_lines.specs.Places.{Common, FreshName, OperandWord, LocationWord, AssignedRegister, KnownRegister, FunctionName};
+ghost use Rattle.program_lines.specs.Places.{ParameterName, Sign, Exactly, Plain, OfOperand, OfLocation, OfRegister, OfAssigned, Nothing};
 ghost use Rattle.program_lines.specs.Table.{HasKeyword};
 ghost use Rattle.program_lines.specs.Grammar.{Does, ItemMeans, expression_values, number_if_there};
 ghost use Rattle.program_lines.specs.Faults.{WordsFault};
@@ -32,7 +33,8 @@ fn memory<'a, A: Allocator + Copy>(
     scope: &Scope<'_, '_, A>,
     words: &mut Words<'a>,
 ) -> Result<(&'a str, Option<u32>), Cause>
-    ensures { Fits scope.now (FreshName ∷ []) (Common (trace.Number 1 max_cells) ∷ []) words.old result (λ r. Plain (trace.OfName r.0.now) ∷ number_if_there r.1) }
+    ensures { Fits scope.now (FreshName ∷ []) (Common (trace.Number 1 max_cells) ∷ []) words.old result
+        (λ r. Plain (trace.OfName r.0.now) ∷ number_if_there r.1) }
 {
     let name = fresh_name(scope, words);
     let cells = length(words);
@@ -44,7 +46,8 @@ fn reduction<'a, A: Allocator + Copy>(
     scope: &Scope<'_, '_, A>,
     words: &mut Words<'a>,
 ) -> Result<(&'a str, (Monoid, ())), Cause>
-    ensures { Fits scope.now (FreshName ∷ Common trace.MonoidWord ∷ []) [] words.old result (λ r. Plain (trace.OfName r.0.now) ∷ Plain (trace.OfMonoid r.1.0) ∷ []) }
+    ensures { Fits scope.now (FreshName ∷ Common trace.MonoidWord ∷ []) [] words.old result
+        (λ r. Plain (trace.OfName r.0.now) ∷ Plain (trace.OfMonoid r.1.0) ∷ []) }
 {
     let name = fresh_name(scope, words);
     let monoid = monoid(scope, words);
@@ -57,7 +60,8 @@ fn head<'a, A: Allocator + Copy>(
     scope: &Scope<'_, '_, A>,
     words: &mut Words<'a>,
 ) -> Result<(&'a str, (&'a str, ())), Cause>
-    ensures { Fits scope.now (FreshName ∷ ParameterName ∷ []) [] words.old result (λ r. Plain (trace.OfName r.0.now) ∷ Plain (trace.OfName r.1.0.now) ∷ []) }
+    ensures { Fits scope.now (FreshName ∷ ParameterName ∷ []) [] words.old result
+        (λ r. Plain (trace.OfName r.0.now) ∷ Plain (trace.OfName r.1.0.now) ∷ []) }
 {
     let name = fresh_name(scope, words);
     let parameter = parameter(words);
@@ -112,7 +116,8 @@ fn of_update<A: Allocator + Copy>(
     scope: &Scope<'_, '_, A>,
     words: &mut Words<'_>,
 ) -> Result<(u32, (Operand, ())), Cause>
-    ensures { Fits scope.now (Common trace.ReducerName ∷ OperandWord ∷ []) [] words.old result (λ r. Plain (trace.OfNumber r.0) ∷ OfOperand r.1.0 ∷ []) }
+    ensures { Fits scope.now (Common trace.ReducerName ∷ OperandWord ∷ []) [] words.old result
+        (λ r. Plain (trace.OfNumber r.0) ∷ OfOperand r.1.0 ∷ []) }
 {
     let reducer = reducer(scope, words);
     let value = operand(scope, words);
@@ -139,7 +144,8 @@ fn of_call<A: Allocator + Copy>(
     scope: &Scope<'_, '_, A>,
     words: &mut Words<'_>,
 ) -> Result<(u32, (Operand, ())), Cause>
-    ensures { Fits scope.now (FunctionName ∷ OperandWord ∷ []) [] words.old result (λ r. Plain (trace.OfNumber r.0) ∷ OfOperand r.1.0 ∷ []) }
+    ensures { Fits scope.now (FunctionName ∷ OperandWord ∷ []) [] words.old result
+        (λ r. Plain (trace.OfNumber r.0) ∷ OfOperand r.1.0 ∷ []) }
 {
     let function = function(scope, words);
     let argument = operand(scope, words);
@@ -439,7 +445,9 @@ pub fn read_line<'a, A: Allocator + Copy>(
     scope: &Scope<'_, '_, A>,
     words: &mut Words<'a>,
 ) -> Result<Item<'a>, Cause>
-    ensures { MatchResult result (λ item. ItemMeans at scope.now words.old (item_of item)) (λ cause. IsLowest (WordsFault scope.now words.old) cause) }
+    ensures { MatchResult result
+        (λ item. ItemMeans at scope.now words.old (item_of item))
+        (λ cause. IsLowest (WordsFault scope.now words.old) cause) }
 {
     match words.take() {
         None => Ok(Item::Blank),

@@ -5,7 +5,9 @@ ghost use Rattle.trace_text.specs.Cells.{IsSingleFault};
 ghost use Rattle.trace_text.specs.Lines as trace;
 ghost use Rattle.trace_values.specs.Limits.{max_cells};
 ghost use Rattle.program_lines.specs.Scopes.{Scope as SpecScope, IsFresh};
-ghost use Rattle.program_lines.specs.Places.{Common, FreshName, OperandWord, LocationWord, AssignedRegister, KnownRegister, FunctionName, ParameterName, Sign, Exactly, Plain, OfOperand, OfLocation, OfRegister, OfAssigned, OfSign, Nothing, IsRegisterName};
+ghost use Rattle.program_lines.specs.Places.{Common, FreshName, OperandWord, LocationWord, AssignedRegister};
+ghost use Rattle.program_lines.specs.Places.{KnownRegister, FunctionName, ParameterName, Sign, Exactly, Plain, OfOperand};
+ghost use Rattle.program_lines.specs.Places.{OfLocation, OfRegister, OfAssigned, OfSign, Nothing, IsRegisterName};
 ghost use Rattle.program_lines.specs.Grammar.{number_if_there};
 ghost use Rattle.program_lines.specs.Locations.{SingleIs, ElementIs, IsElementFault};
 ghost use Rattle.program_lines.specs.Items.{joined_values};
@@ -177,7 +179,8 @@ pub fn assigned_register<'a, A: Allocator + Copy>(
     scope: &Scope<'_, '_, A>,
     words: &mut Words<'a>,
 ) -> Result<Assigned<'a>, Cause>
-    ensures { TakesWord scope.now AssignedRegister words.old words.new result (λ assigned. OfAssigned assigned.register (option_copied assigned.named)) }
+    ensures { TakesWord scope.now AssignedRegister words.old words.new result
+        (λ assigned. OfAssigned assigned.register (option_copied assigned.named)) }
 {
     match words.take() {
         Some(word) => assigned_by(scope, word),

@@ -5,7 +5,8 @@ ghost use Rattle.trace_values.specs.declared.value.Version.{Version};
 ghost use Rattle.trace_text.specs.Shapes.{is_numbered};
 ghost use Rattle.trace_text.specs.Printing.{behind_space, name_of_reducer, spaced};
 ghost use Rattle.program_lines.specs.Grammar.{keyword_of_statement};
-ghost use Rattle.program_lines.specs.Printing.{IsAccess, IsNamedFunction, argument_words, expression_words, location_word, name_of_array, name_of_register, operand_word, printed_scope, statement_words};
+ghost use Rattle.program_lines.specs.Printing.{IsAccess, IsNamedFunction, argument_words, expression_words, location_word};
+ghost use Rattle.program_lines.specs.Printing.{name_of_array, name_of_register, operand_word, printed_scope, statement_words};
 ghost use Rattle.program_lines.specs.Table.{spelling};
 
 use crate::statement::{Expression, Location, Operand, Register, Statement};
@@ -115,7 +116,8 @@ fn put_joined<A: Allocator>(
     sign: &str,
     right: Operand,
 ) -> Result<(), AllocError>
-    ensures { OnOk result (string_bytes out.new ≡ string_bytes out.old ++ behind_space (operand_word registers.now left ∷ sign.now ∷ operand_word registers.now right ∷ [])) }
+    ensures { OnOk result (string_bytes out.new
+        ≡ string_bytes out.old ++ behind_space (operand_word registers.now left ∷ sign.now ∷ operand_word registers.now right ∷ [])) }
 {
     put_value(out, registers, left)?;
     put_word(out, sign)?;
@@ -148,7 +150,8 @@ fn put_located<A: Allocator>(
     value: Operand,
 ) -> Result<(), AllocError>
     requires numbered { IsTrue (is_numbered 0 mems.now) }
-    ensures { OnOk result (string_bytes out.new ≡ string_bytes out.old ++ behind_space (location_word mems.now registers.now location ∷ operand_word registers.now value ∷ [])) }
+    ensures { OnOk result (string_bytes out.new
+        ≡ string_bytes out.old ++ behind_space (location_word mems.now registers.now location ∷ operand_word registers.now value ∷ [])) }
 {
     put_location(out, mems, registers, location)?;
     put_value(out, registers, value)
@@ -174,7 +177,8 @@ fn put_assigned<A: Allocator>(
     register: Register,
     value: Expression,
 ) -> Result<(), AllocError>
-    ensures { OnOk result (string_bytes out.new ≡ string_bytes out.old ++ behind_space (name_of_register registers.now register.index ∷ codes "=" ∷ expression_words registers.now value)) }
+    ensures { OnOk result (string_bytes out.new ≡ string_bytes out.old ++
+        behind_space (name_of_register registers.now register.index ∷ codes "=" ∷ expression_words registers.now value)) }
 {
     put_word(out, register_name(registers, register))?;
     put_word(out, "=")?;
@@ -189,7 +193,8 @@ fn put_loop<A: Allocator>(
     count: Operand,
     function: &str,
 ) -> Result<(), AllocError>
-    ensures { OnOk result (string_bytes out.new ≡ string_bytes out.old ++ behind_space (name_of_register registers.now register.index ∷ operand_word registers.now count ∷ function.now ∷ [])) }
+    ensures { OnOk result (string_bytes out.new ≡ string_bytes out.old ++
+        behind_space (name_of_register registers.now register.index ∷ operand_word registers.now count ∷ function.now ∷ [])) }
 {
     put_word(out, register_name(registers, register))?;
     put_value(out, registers, count)?;
@@ -205,7 +210,8 @@ fn put_read<A: Allocator>(
     from: Location,
 ) -> Result<(), AllocError>
     requires numbered { IsTrue (is_numbered 0 mems.now) }
-    ensures { OnOk result (string_bytes out.new ≡ string_bytes out.old ++ behind_space (name_of_register registers.now register.index ∷ location_word mems.now registers.now from ∷ [])) }
+    ensures { OnOk result (string_bytes out.new ≡ string_bytes out.old ++
+        behind_space (name_of_register registers.now register.index ∷ location_word mems.now registers.now from ∷ [])) }
 {
     put_word(out, register_name(registers, register))?;
     put_location(out, mems, registers, from)
@@ -218,7 +224,8 @@ fn put_get<A: Allocator>(
     register: Register,
     reducer: &str,
 ) -> Result<(), AllocError>
-    ensures { OnOk result (string_bytes out.new ≡ string_bytes out.old ++ behind_space (name_of_register registers.now register.index ∷ reducer.now ∷ [])) }
+    ensures { OnOk result (string_bytes out.new
+        ≡ string_bytes out.old ++ behind_space (name_of_register registers.now register.index ∷ reducer.now ∷ [])) }
 {
     put_word(out, register_name(registers, register))?;
     put_word(out, reducer)
@@ -257,7 +264,8 @@ fn put_access<A: Allocator>(
     requires numbered { IsTrue (is_numbered 0 mems.now) }
     requires access { IsAccess statement.now }
     ensures { (version : Version) (functions : List (List ℕ))
-        → OnOk result (string_bytes out.new ≡ string_bytes out.old ++ behind_space (argument_words (printed_scope version mems.now reducers.now functions registers.now) statement.now)) }
+        → OnOk result (string_bytes out.new ≡ string_bytes out.old ++
+        behind_space (argument_words (printed_scope version mems.now reducers.now functions registers.now) statement.now)) }
 {
     match *statement {
         Statement::Read {
@@ -298,7 +306,8 @@ fn put_arguments<A: Allocator>(
 ) -> Result<(), AllocError>
     requires numbered { IsTrue (is_numbered 0 mems.now) }
     ensures { (version : Version) (functions : List (List ℕ)) → IsNamedFunction functions statement.now function.now
-        → OnOk result (string_bytes out.new ≡ string_bytes out.old ++ behind_space (argument_words (printed_scope version mems.now reducers.now functions registers.now) statement.now)) }
+        → OnOk result (string_bytes out.new ≡ string_bytes out.old ++
+        behind_space (argument_words (printed_scope version mems.now reducers.now functions registers.now) statement.now)) }
 {
     match *statement {
         Statement::Let {
@@ -333,7 +342,8 @@ pub fn put_statement<A: Allocator>(
 ) -> Result<(), AllocError>
     requires numbered { IsTrue (is_numbered 0 mems.now) }
     ensures { (version : Version) (functions : List (List ℕ)) → IsNamedFunction functions statement.now function.now
-        → OnOk result (string_bytes out.new ≡ string_bytes out.old ++ spaced (statement_words (printed_scope version mems.now reducers.now functions registers.now) statement.now)) }
+        → OnOk result (string_bytes out.new ≡ string_bytes out.old ++
+        spaced (statement_words (printed_scope version mems.now reducers.now functions registers.now) statement.now)) }
 {
     out.push_str(statement_word(statement))?;
     put_arguments(out, mems, reducers, registers, function, statement)

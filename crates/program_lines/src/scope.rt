@@ -99,7 +99,12 @@ impl<'s, 'a, A: Allocator> Model for Scope<'s, 'a, A> {
 
     ghost Value = { SpecScope };
 
-    ghost view = { λ scope. record { known = scope.names.now; functions = scope.functions.now; begun = scope.begun; registers = scope.registers.now } };
+    ghost view = { λ scope. record {
+      known = scope.names.now;
+      functions = scope.functions.now;
+      begun = scope.begun;
+      registers = scope.registers.now;
+    } };
 
     ghost invariant = { λ scope. length scope.registers.now ≤ max_registers };
 }

@@ -50,14 +50,17 @@ pub record Opens (functions : List Code) (shape : Shape) (gate : GateState) (fra
   pub seats_are : seats ≡ 0 ∷ []
 
 -- The frames are those of the entries, each after what it said with these targets, and no run of these entries has other targets.
-pub record IsCast (functions : List Code) (shape : Shape) (main : ℕ) (targets : Targets) (entries : Entries) (frames : List State) (seats : List ℕ) : Type 0 where
+pub record IsCast (functions : List Code) (shape : Shape) (main : ℕ) (targets : Targets)
+    (entries : Entries) (frames : List State) (seats : List ℕ) : Type 0 where
   pub run : IsRunWith functions shape main targets entries
-  pub only : (others : Targets) → IsRunWith functions shape main others entries → (frame : ℕ) → HasFrame entries frame → others frame ≡ targets frame
+  pub only : (others : Targets) → IsRunWith functions shape main others entries → (frame : ℕ) → HasFrame entries frame →
+      others frame ≡ targets frame
   pub counted : length frames ≡ length (frames_in entries)
   pub each : (place number : ℕ) (frame : State) → slice_get (frames_in entries) place ≡ Some number → slice_get frames place ≡ Some frame →
       Stands functions frame × IsAfter functions (targets number).function (targets number).argument (said_by targets entries number) frame
   pub strands : length seats ≡ unused (control_part entries)
-  pub seated : (strand place : ℕ) → slice_get seats strand ≡ Some place → slice_get (frames_in entries) place ≡ Some (frame_in entries strand)
+  pub seated : (strand place : ℕ) → slice_get seats strand ≡ Some place →
+      slice_get (frames_in entries) place ≡ Some (frame_in entries strand)
 
 -- So it is for some targets, and the gate has these entries.
 pub record Plays (functions : List Code) (shape : Shape) (gate : GateState) (frames : List State) (seats : List ℕ) : Type 0 where

@@ -12,8 +12,8 @@ use Rattle.program_runs.specs.Runs.{IsRun}
 abbrev pub IsUnfinishedRun : List Code → Shape → Entries → Type 0
 IsUnfinishedRun functions shape entries = IsRun functions shape entries × (IsFinished entries → ⊥)
 
--- The entry of this number, the oldest having 1, is the first strange one: those before it are a run. With it they are none, or they are too many, or
--- it is a refusal, which may name another witness than the gate does.
+-- The entry of this number, the oldest having 1, is the first strange one: those before it are a run. With it they are none, or they are
+-- too many, or it is a refusal, which may name another witness than the gate does.
 pub record IsStrange (functions : List Code) (shape : Shape) (entries : List Entry) (number : ℕ) : Type 0 where
   pub earlier : List Entry
   pub entry : Entry

@@ -18,12 +18,15 @@ pub record IsHome {A : Type 0} (slots : List (Slot A)) (home number : ℕ) (fram
 -- Each frame has its home.
 pub record AreHeld {A : Type 0} (slots : List (Slot A)) (homes : List ℕ) (frames : List State) : Type 0 where
   pub counted : length homes ≡ length frames
-  pub each : (number home : ℕ) (frame : State) → slice_get homes number ≡ Some home → slice_get frames number ≡ Some frame → IsHome slots home number frame
+  pub each : (number home : ℕ) (frame : State) →
+      slice_get homes number ≡ Some home → slice_get frames number ≡ Some frame → IsHome slots home number frame
 
 -- Frames with these homes open.
 abbrev pub OpensIn : {A : Type 0} → List Code → Shape → GateState → List (Slot A) → (homes seats : List ℕ) → Type 0
-OpensIn functions shape gate slots homes seats = (frames : List State) × AreHeld slots homes frames × Opens functions shape gate frames seats
+OpensIn functions shape gate slots homes seats =
+    (frames : List State) × AreHeld slots homes frames × Opens functions shape gate frames seats
 
 -- Frames with these homes play.
 abbrev pub PlaysIn : {A : Type 0} → List Code → Shape → GateState → List (Slot A) → (homes seats : List ℕ) → Type 0
-PlaysIn functions shape gate slots homes seats = (frames : List State) × AreHeld slots homes frames × Plays functions shape gate frames seats
+PlaysIn functions shape gate slots homes seats =
+    (frames : List State) × AreHeld slots homes frames × Plays functions shape gate frames seats

@@ -45,7 +45,8 @@ pub record IsEntered (entry : Entry) (before after : GateState) : Type 0 where
   pub below : length before.history < before.limit
   pub judged : IsJudged after.shape after.history
 
--- A gate that was not stopped does not answer so, but where the history is full, or where it refuses as the entry does with another witness.
+-- A gate that was not stopped does not answer so, but where the history is full, or where it refuses as the entry does with another
+-- witness.
 abbrev pub IsOdd : Entry → GateState → Type 0
 IsOdd entry gate =
     gate.stopped ≡ false → IsJudged gate.shape (entry ∷ gate.history) → (length gate.history ≡ gate.limit) ⊎ IsRefused entry.answer

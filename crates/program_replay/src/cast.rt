@@ -28,9 +28,9 @@ pub struct Slot<A: Allocator> {
     frame: Frame<A>,
 }
 
-/// A core with what is played before it. A frame that begins takes the slot of one that has ended, so there are as many slots as frames were alive at
-/// once. For each frame that has begun there is its slot, also where another has it now, and for each strand that has begun or is reserved the number
-/// of its frame. The entries that were played are not kept.
+/// A core with what is played before it. A frame that begins takes the slot of one that has ended, so there are as many slots as frames
+/// were alive at once. For each frame that has begun there is its slot, also where another has it now, and for each strand that has begun
+/// or is reserved the number of its frame. The entries that were played are not kept.
 #[derive(Drop)]
 pub struct Cast<A: Allocator + Copy> {
     alloc: A,
@@ -78,7 +78,8 @@ fn seat<A: Allocator>(
     Ok(())
 }
 
-/// Goes on with the frame of this number by an entry, and gives the function that it spawns. The slot is another's where the frame has ended.
+/// Goes on with the frame of this number by an entry, and gives the function that it spawns. The slot is another's where the frame has
+/// ended.
 fn turn_of<A: Allocator, B: Allocator>(
     slot: &mut Slot<A>,
     number: usize,
@@ -86,8 +87,10 @@ fn turn_of<A: Allocator, B: Allocator>(
     entry: Entry,
 ) -> Result<Option<Target>, Misfit>
     requires stands { slot.old.number ≡ number → Stands program.now.functions slot.old.frame }
-    ensures ok { IfOk result (λ target. (slot.old.number ≡ number) × (slot.new.number ≡ number) × IsTurn program.now.functions entry target slot.old.frame slot.new.frame) }
-    ensures strange { result ≡ Err Misfit.Strange → (slot.old.number ≢ number) ⊎ ((slot.old.number ≡ number) × HasNoTurn program.now.functions entry slot.old.frame) }
+    ensures ok { IfOk result (λ target.
+        (slot.old.number ≡ number) × (slot.new.number ≡ number) × IsTurn program.now.functions entry target slot.old.frame slot.new.frame) }
+    ensures strange { result ≡ Err Misfit.Strange →
+        (slot.old.number ≢ number) ⊎ ((slot.old.number ≡ number) × HasNoTurn program.now.functions entry slot.old.frame) }
 {
     if slot.number != number {
         return Err(Misfit::Strange);
@@ -100,7 +103,8 @@ impl<A: Allocator + Copy> Cast<A> {
     pub fn open<B: Allocator>(alloc: A, program: &Program<B>) -> Result<Cast<A>, AllocError>
         ensures core { IfOk result (λ cast. IsCoreOf cast.core (opening (shape_in program.now) most_entries)) }
         ensures opens { IfOk result (λ cast.
-            OpensIn program.now.functions (shape_in program.now) (opening (shape_in program.now) most_entries) cast.slots.items cast.homes.items cast.seats.items) }
+            OpensIn program.now.functions (shape_in program.now) (opening (shape_in program.now) most_entries)
+            cast.slots.items cast.homes.items cast.seats.items) }
     {
         let frame = Frame::new(alloc, program, program.main(), 0);
         let slots = alone(alloc, Slot { number: 0, frame })?;
@@ -118,8 +122,10 @@ impl<A: Allocator + Copy> Cast<A> {
 
     /// A slot whose frame has ended, if one is known.
     fn freed(&mut self) -> Option<usize>
-        ensures ended { IfSome result (λ home. (slot : Slot A) × (slice_get self.old.slots.items home ≡ Some slot) × (slot.frame.phase ≡ Phase.Over)) }
-        ensures rest { (self.new.slots ≡ self.old.slots) × (self.new.homes ≡ self.old.homes) × (self.new.seats ≡ self.old.seats) × (self.new.core ≡ self.old.core) }
+        ensures ended { IfSome result (λ home.
+            (slot : Slot A) × (slice_get self.old.slots.items home ≡ Some slot) × (slot.frame.phase ≡ Phase.Over)) }
+        ensures rest { (self.new.slots ≡ self.old.slots) × (self.new.homes ≡ self.old.homes)
+            × (self.new.seats ≡ self.old.seats) × (self.new.core ≡ self.old.core) }
     {
         let home = self.free.pop()?;
         match self.slots.get(home) {
@@ -142,9 +148,12 @@ impl<A: Allocator + Copy> Cast<A> {
         target: Target,
     ) -> Result<usize, AllocError>
         requires there { target.function < length program.now.functions }
-        ensures frames { IfOk result (λ home. (frames : List State) → (length frames ≡ number) → AreHeld self.old.slots.items self.old.homes.items frames →
-            (next : List State) × AreHeld self.new.slots.items (self.old.homes.items ++ home ∷ []) next × IsBegun program.now.functions target frames next) }
-        ensures rest { OnOk result ((self.new.homes ≡ self.old.homes) × (self.new.seats ≡ self.old.seats) × (self.new.core ≡ self.old.core)) }
+        ensures frames { IfOk result (λ home.
+            (frames : List State) → (length frames ≡ number) → AreHeld self.old.slots.items self.old.homes.items frames →
+            (next : List State) × AreHeld self.new.slots.items (self.old.homes.items ++ home ∷ []) next
+            × IsBegun program.now.functions target frames next) }
+        ensures rest { OnOk result ((self.new.homes ≡ self.old.homes)
+            × (self.new.seats ≡ self.old.seats) × (self.new.core ≡ self.old.core)) }
     {
         match self.freed() {
             Some(home) => {
@@ -173,7 +182,8 @@ impl<A: Allocator + Copy> Cast<A> {
     ) -> Result<(), AllocError>
         requires there { target.function < length program.now.functions }
         ensures frames { OnOk result ((frames : List State) → AreHeld self.old.slots.items self.old.homes.items frames →
-            (next : List State) × AreHeld self.new.slots.items self.new.homes.items next × IsBegun program.now.functions target frames next) }
+            (next : List State) × AreHeld self.new.slots.items self.new.homes.items next
+            × IsBegun program.now.functions target frames next) }
         ensures seats { OnOk result (self.new.seats.items ≡ self.old.seats.items ++ new_seats first (length self.old.homes.items) place) }
         ensures core { OnOk result (self.new.core ≡ self.old.core) }
     {
@@ -185,7 +195,8 @@ impl<A: Allocator + Copy> Cast<A> {
 
     /// Keeps a slot for another frame where its frame has ended by this answer.
     fn vacate(&mut self, home: usize, answer: Answer) -> Result<(), Misfit>
-        ensures rest { (self.new.slots ≡ self.old.slots) × (self.new.homes ≡ self.old.homes) × (self.new.seats ≡ self.old.seats) × (self.new.core ≡ self.old.core) }
+        ensures rest { (self.new.slots ≡ self.old.slots) × (self.new.homes ≡ self.old.homes)
+            × (self.new.seats ≡ self.old.seats) × (self.new.core ≡ self.old.core) }
         ensures err { IfErr result (λ fault. fault ≡ Misfit.Memory) }
     {
         match answer {
@@ -202,9 +213,10 @@ impl<A: Allocator + Copy> Cast<A> {
         requires plays { (state : GateState) × IsCoreOf self.old.core state ×
             PlaysIn program.now.functions (shape_in program.now) state self.old.slots.items self.old.homes.items self.old.seats.items }
         ensures ok { (state : GateState) → IsCoreOf self.old.core state →
-            PlaysIn program.now.functions (shape_in program.now) state self.old.slots.items self.old.homes.items self.old.seats.items → OnOk result
-            ((next : GateState) × IsCoreOf self.new.core next ×
-            PlaysIn program.now.functions (shape_in program.now) next self.new.slots.items self.new.homes.items self.new.seats.items × IsPlayed entry state next) }
+            PlaysIn program.now.functions (shape_in program.now) state self.old.slots.items self.old.homes.items self.old.seats.items →
+            OnOk result ((next : GateState) × IsCoreOf self.new.core next ×
+            PlaysIn program.now.functions (shape_in program.now) next self.new.slots.items self.new.homes.items self.new.seats.items ×
+            IsPlayed entry state next) }
         ensures strange { (state : GateState) → IsCoreOf self.old.core state →
             PlaysIn program.now.functions (shape_in program.now) state self.old.slots.items self.old.homes.items self.old.seats.items →
             result ≡ Err Misfit.Strange → IsMisfit program.now.functions (shape_in program.now) entry state }

@@ -1,8 +1,8 @@
 //! Replays of runs: whether the entries of a history are a run of a program.
 //!
-//! [`replay`] carries the theorem in its contract: it is Ok only on a finished run, and otherwise says how far the entries are one. One frame for each
-//! spawned function asks, and a fresh core of the gate answers, which keeps no entries; an entry is strange where it is another request, or has
-//! another answer.
+//! [`replay`] carries the theorem in its contract: it is Ok only on a finished run, and otherwise says how far the entries are one. One
+//! frame for each spawned function asks, and a fresh core of the gate answers, which keeps no entries; an entry is strange where it is
+//! another request, or has another answer.
 #![tactic(auto)]
 
 mod cast;

@@ -19,8 +19,8 @@ use thiserror::Error;
 /// Why entries are not a finished run.
 #[derive(Clone, Copy, Debug, PartialEq, Eq, Error)]
 pub enum ReplayFault {
-    /// The first entry, by its number from 1 on, that is not the request of a frame that runs there, or has not the gate's answer, or is past the
-    /// 1,000,000th.
+    /// The first entry, by its number from 1 on, that is not the request of a frame that runs there, or has not the gate's answer, or is
+    /// past the 1,000,000th.
     #[error("strange {0}")]
     Strange(u32),
     /// The root function has not returned.
@@ -57,10 +57,13 @@ fn play_all<A: Allocator + Copy, B: Allocator>(
     entries: &[Entry],
 ) -> Result<(), ReplayFault>
     requires core { IsCoreOf cast.old.core (opening (shape_in program.now) most_entries) }
-    requires opens { OpensIn program.now.functions (shape_in program.now) (opening (shape_in program.now) most_entries) cast.old.slots.items cast.old.homes.items cast.old.seats.items }
+    requires opens { OpensIn program.now.functions (shape_in program.now)
+        (opening (shape_in program.now) most_entries) cast.old.slots.items cast.old.homes.items cast.old.seats.items }
     ensures finished { OnOk result (IsFinishedRun program.now.functions (shape_in program.now) (reverse entries.now)) }
-    ensures unfinished { result ≡ Err ReplayFault.Unfinished → IsUnfinishedRun program.now.functions (shape_in program.now) (reverse entries.now) }
-    ensures strange { (number : ℕ) → result ≡ Err (ReplayFault.Strange number) → IsStrange program.now.functions (shape_in program.now) entries.now number }
+    ensures unfinished { result ≡ Err ReplayFault.Unfinished →
+        IsUnfinishedRun program.now.functions (shape_in program.now) (reverse entries.now) }
+    ensures strange { (number : ℕ) → result ≡ Err (ReplayFault.Strange number) →
+        IsStrange program.now.functions (shape_in program.now) entries.now number }
 {
     for entry in entries {
         let number = next_number(&cast.core);
@@ -77,16 +80,18 @@ fn play_all<A: Allocator + Copy, B: Allocator>(
     }
 }
 
-/// Plays the entries, the oldest first, with the program's frames before a fresh core of the gate. It is Ok only on a finished run. Of a run that is
-/// not finished it says so, and otherwise which entry is strange; a refused entry can be strange in its witness alone.
+/// Plays the entries, the oldest first, with the program's frames before a fresh core of the gate. It is Ok only on a finished run. Of a
+/// run that is not finished it says so, and otherwise which entry is strange; a refused entry can be strange in its witness alone.
 pub fn replay<A: Allocator + Copy, B: Allocator>(
     alloc: A,
     program: &Program<B>,
     entries: &[Entry],
 ) -> Result<(), ReplayFault>
     ensures finished { OnOk result (IsFinishedRun program.now.functions (shape_in program.now) (reverse entries.now)) }
-    ensures unfinished { result ≡ Err ReplayFault.Unfinished → IsUnfinishedRun program.now.functions (shape_in program.now) (reverse entries.now) }
-    ensures strange { (number : ℕ) → result ≡ Err (ReplayFault.Strange number) → IsStrange program.now.functions (shape_in program.now) entries.now number }
+    ensures unfinished { result ≡ Err ReplayFault.Unfinished →
+        IsUnfinishedRun program.now.functions (shape_in program.now) (reverse entries.now) }
+    ensures strange { (number : ℕ) → result ≡ Err (ReplayFault.Strange number) →
+        IsStrange program.now.functions (shape_in program.now) entries.now number }
 {
     let mut cast = Cast::open(alloc, program)?;
     play_all(&mut cast, program, entries)

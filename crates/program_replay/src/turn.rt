@@ -57,7 +57,8 @@ fn is_same_answer(one: Answer, other: Answer) -> bool
 /// Has a core judge an entry's request, and compares the answer. A request that has another fault of the gate than want of
 /// memory is strange, so want of memory is told only where it has none.
 pub fn confirm<A: Allocator + Clone>(core: &mut Core<A>, entry: Entry) -> Result<(), Misfit>
-    ensures ok { (state : State) → IsCoreOf core.old state → OnOk result ((next : State) × IsCoreOf core.new next × IsEntered entry state next) }
+    ensures ok { (state : State) → IsCoreOf core.old state →
+        OnOk result ((next : State) × IsCoreOf core.new next × IsEntered entry state next) }
     ensures strange { (state : State) → IsCoreOf core.old state → result ≡ Err Misfit.Strange → IsOdd entry state }
     ensures fault { (state : State) → IsCoreOf core.old state →
         (fault : GateFault) → fault ≢ GateFault.Memory → HasCause state entry.request fault → result ≡ Err Misfit.Strange }

@@ -1,4 +1,5 @@
 -- In which frames strands stand, as control histories go on.
+-- h: a history; y: a strand; in a split, s is the spawner, c its child, n its next and j the join
 use Rattle.std.proofs.Common.{◌≡◌, ◌≢◌, ℕ, suc, ◌<◌, ◌≤◌, Bool, true, false, Option, Some, None, [], ◌∷◌, length, refl, sym, ◌∙◌, ap, arith}
 use Rattle.std.specs.Prelude.{MatchOption}
 use Rattle.control_history.specs.Updated.{updated}

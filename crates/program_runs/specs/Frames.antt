@@ -9,8 +9,8 @@ use Rattle.race_gate.specs.Entries.{Entries, control_part}
 use Rattle.program_steps.specs.declared.request.Target.{Target}
 use Rattle.program_steps.specs.Exchanges.{Exchange}
 
--- the frame in which a strand stands there: 0 for that of the root function, and else the number of the split that spawned it, among the events of
--- control
+-- the frame in which a strand stands there: 0 for that of the root function, and else the number of the split that spawned it, among the
+-- events of control
 abbrev pub frame_of : Stack → ℕ
 frame_of root = 0
 frame_of (spawned number join) = number
@@ -50,7 +50,12 @@ target_of act target = None
 -- an entry as an exchange of its frame: a split spawns the function of the frame that it begins
 abbrev pub exchange_of : Targets → (begins : ℕ) → Entry → Exchange
 exchange_of targets begins entry =
-    record { act = entry.request.act; line = entry.request.line; target = target_of entry.request.act (targets begins); answer = entry.answer }
+    record {
+      act = entry.request.act;
+      line = entry.request.line;
+      target = target_of entry.request.act (targets begins);
+      answer = entry.answer;
+    }
 
 -- what a frame asked and was answered, in order
 abbrev pub said_by : Targets → Entries → ℕ → List Exchange

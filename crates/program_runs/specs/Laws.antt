@@ -14,8 +14,8 @@ use Rattle.program_runs.specs.Serial.{Numbered, IsSerialList, effects_of}
 use Rattle.program_runs.specs.Numbers.{AreNumbered}
 use Rattle.program_runs.specs.Coordinates.{effects_at, IsPrefixOf}
 
--- The entries in serial order are, one by one, the requests of the program's serial elision, with the values that they were given there, and the
--- memory that the history leaves is the elision's. So the elision makes as many requests as there are entries.
+-- The entries in serial order are, one by one, the requests of the program's serial elision, with the values that they were given there,
+-- and the memory that the history leaves is the elision's. So the elision makes as many requests as there are entries.
 pub record IsElided (functions : List Code) (shape : Shape) (entries : Entries) : Type 0 where
   pub main : Code
   pub is_main : HasMain functions main
@@ -29,7 +29,9 @@ pub record IsElided (functions : List Code) (shape : Shape) (entries : Entries) 
 
 -- what a run begins with is a run
 abbrev pub PrefixLaw : Type 0
-PrefixLaw = (functions : List Code) (shape : Shape) (later entries : Entries) → IsRun functions shape (later ++ entries) → IsRun functions shape entries
+PrefixLaw =
+    (functions : List Code) (shape : Shape) (later entries : Entries) →
+    IsRun functions shape (later ++ entries) → IsRun functions shape entries
 
 -- the values that a run of a sound program asks with are numbers of 64 bits
 abbrev pub NumbersLaw : Type 0
@@ -43,8 +45,8 @@ ElisionLaw =
     (functions : List Code) (shape : Shape) → IsSound shape.cells (length shape.monoids) functions → (entries : Entries) →
     IsFinishedRun functions shape entries → IsClean entries → IsElided functions shape entries
 
--- Another run of the program agrees with a clean and finished one: nothing is refused in it, at each address it did what the clean one did there, as
--- far as it went, and where it is finished it did all of that and left the same memory.
+-- Another run of the program agrees with a clean and finished one: nothing is refused in it, at each address it did what the clean one did
+-- there, as far as it went, and where it is finished it did all of that and left the same memory.
 pub record Agrees (shape : Shape) (clean entries : Entries) : Type 0 where
   pub is_clean : IsClean entries
   pub begins : (place : Address) → IsPrefixOf (effects_at entries place) (effects_at clean place)
@@ -61,10 +63,11 @@ CleanLaw =
     (functions : List Code) (shape : Shape) → IsSound shape.cells (length shape.monoids) functions → (clean : Entries) →
     IsFinishedRun functions shape clean → IsClean clean → AllAgree functions shape clean
 
--- What is told of the program's serial elision is so of the history: it leaves the memory that the history leaves, and makes one request for each
--- entry; so it does not need more than that.
+-- What is told of the program's serial elision is so of the history: it leaves the memory that the history leaves, and makes one request
+-- for each entry; so it does not need more than that.
 pub record IsToldByElision (functions : List Code) (shape : Shape) (entries : Entries) : Type 0 where
-  pub leaves : (memory : List ℕ) (requests : ℕ) → Elides functions shape.monoids shape.cells memory requests → IsMemory shape.cells entries memory
+  pub leaves : (memory : List ℕ) (requests : ℕ) →
+      Elides functions shape.monoids shape.cells memory requests → IsMemory shape.cells entries memory
   pub same : (memory : List ℕ) (requests : ℕ) → Elides functions shape.monoids shape.cells memory requests → (held : List ℕ) →
       IsMemory shape.cells entries held → memory ≡ held
   pub makes : (memory : List ℕ) (requests : ℕ) → Elides functions shape.monoids shape.cells memory requests → requests ≡ length entries

@@ -16,8 +16,8 @@ use Rattle.program_runs.specs.Frames.{Targets, HasFrame, said_by}
 abbrev pub shape_in : {A : Type 0} → Program A → Shape
 shape_in program = record { cells = cells_of program.mems; monoids = map (λ reducer. reducer.monoid) program.reducers }
 
--- The history is judged, and what each frame asked and was answered is a dialogue of its function, ended or not: the root frame is of `main`
--- with argument 0, and the others are of the functions that their spawns name.
+-- The history is judged, and what each frame asked and was answered is a dialogue of its function, ended or not: the root frame is of
+-- `main` with argument 0, and the others are of the functions that their spawns name.
 pub record IsRunWith (functions : List Code) (shape : Shape) (main : ℕ) (targets : Targets) (entries : Entries) : Type 0 where
   pub judged : IsJudged shape entries
   pub root : targets 0 ≡ record { function = main; argument = 0 }

@@ -1,5 +1,6 @@
 -- Where an activation stands in its function.
-use Rattle.std.specs.Prelude.{ℕ, suc, ◌≡◌, ◌<◌, ◌≤◌, ◌-◌, ◌+◌, ◌*◌, ◌^◌, Bool, true, false, List, Option, Some, None, length, drop, slice_get, nat_lt, if◌then◌else◌}
+use Rattle.std.specs.Prelude.{ℕ, suc, ◌≡◌, ◌<◌, ◌≤◌, ◌-◌, ◌+◌, ◌*◌, ◌^◌, Bool, true, false, List}
+use Rattle.std.specs.Prelude.{Option, Some, None, length, drop, slice_get, nat_lt, if◌then◌else◌}
 use Rattle.program_lines.specs.declared.statement.Operand.TheVariants.{Number}
 use Rattle.program_lines.specs.declared.statement.Expression.TheVariants.{Plain}
 use Rattle.program_lines.specs.declared.statement.Statement.{Statement}
@@ -21,8 +22,10 @@ left_at code place = and_then (left_of (drop place code.body)) (closing code.end
 -- What is left of a function at a turn.
 abbrev pub left_on : Code → (place : ℕ) → Turn → Tree
 left_on code place Plainly = left_at code place
-left_on code place (Numbering line register function number count) = numbers line register function number (count - number) (left_at code place)
-left_on code place (Spawning line register function number count) = Step (Spawn line function (Number number)) (numbers line register function (suc number) (count - suc number) (left_at code place))
+left_on code place (Numbering line register function number count) =
+    numbers line register function number (count - number) (left_at code place)
+left_on code place (Spawning line register function number count) =
+    Step (Spawn line function (Number number)) (numbers line register function (suc number) (count - suc number) (left_at code place))
 left_on code place Returning = Done
 
 -- What is left of a function where an activation stands.
@@ -54,7 +57,8 @@ statement_or (Some statement) last = statement
 -- statements of their own.
 abbrev pub statement_on : Code → (place : ℕ) → Turn → Option Statement
 statement_on code place Plainly = Some (statement_or (slice_get code.body place) (Sync code.end_line))
-statement_on code place (Numbering line register function number count) = Some (if nat_lt number count then Let line register (Plain (Number number)) else Sync line)
+statement_on code place (Numbering line register function number count) =
+    Some (if nat_lt number count then Let line register (Plain (Number number)) else Sync line)
 statement_on code place (Spawning line register function number count) = Some (Spawn line function (Number number))
 statement_on code place Returning = None
 

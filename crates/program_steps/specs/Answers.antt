@@ -2,7 +2,8 @@
 use Rattle.std.specs.Prelude.{◌≡◌, Bool, true, false, Option, Some, None, slice_set}
 use Rattle.program_lines.specs.declared.statement.Register.{Register}
 use Rattle.race_gate.specs.declared.answer.Answer.{Answer}
-use Rattle.race_gate.specs.declared.answer.Answer.TheVariants.{Split, Same, Joined, Waits, Resumed, Ended, EndedJoined, Finished, Granted, Value, Refused, Unset}
+use Rattle.race_gate.specs.declared.answer.Answer.TheVariants.{Split, Same, Joined, Waits, Resumed, Ended}
+use Rattle.race_gate.specs.declared.answer.Answer.TheVariants.{EndedJoined, Finished, Granted, Value, Refused, Unset}
 use Rattle.program_steps.specs.Values.{Registers, with_ok}
 
 -- A read: where it is granted the register takes the value, and where it is refused the register stays.

@@ -17,4 +17,9 @@ exchange act line answer = record { act = act; line = line; target = None; answe
 
 -- An exchange that spawns a function with an argument.
 abbrev pub spawning : (line function argument : ℕ) → Answer → Exchange
-spawning line function argument answer = record { act = Act.Spawn; line = line; target = Some (record { function = function; argument = argument }); answer = answer }
+spawning line function argument answer = record {
+  act = Act.Spawn;
+  line = line;
+  target = Some (record { function = function; argument = argument });
+  answer = answer;
+}

@@ -2,7 +2,8 @@
 use Rattle.std.specs.Prelude.{ℕ, ◌≡◌, ◌<◌, Option, Some, None, Bool, true}
 use Rattle.trace_values.specs.Limits.{max_cells}
 use Rattle.program_lines.specs.declared.statement.Statement.{Statement}
-use Rattle.program_lines.specs.declared.statement.Statement.TheVariants.{Let, Read, Write, Bump, Update, Put, Get, Spawn, Call, Sync, ParallelFor, If, Else, End}
+use Rattle.program_lines.specs.declared.statement.Statement.TheVariants.{Let, Read, Write, Bump, Update, Put, Get}
+use Rattle.program_lines.specs.declared.statement.Statement.TheVariants.{Spawn, Call, Sync, ParallelFor, If, Else, End}
 use Rattle.program_text.specs.Sound.{is_located}
 use Rattle.program_text.specs.Trees.{Tree, Done, Step, Choice}
 use Rattle.trace_values.specs.declared.value.Act.{Act}

@@ -23,19 +23,26 @@ script code = and_then (left_of code.body) (closing code.end_line)
 abbrev pub numbers : (line : ℕ) (register : Register) (function number remaining : ℕ) → Tree → Tree
 numbers line register function number zero rest = Step (Sync line) rest
 numbers line register function number (suc remaining) rest =
-    Step (Let line register (Plain (Number number))) (Step (Spawn line function (Number number)) (numbers line register function (suc number) remaining rest))
+    Step (Let line register (Plain (Number number)))
+    (Step (Spawn line function (Number number)) (numbers line register function (suc number) remaining rest))
 
 -- A statement that asks nothing: what is left of the function and its registers, before and after.
 pub data Passes : Tree → Registers → Tree → Registers → Type 0 where
   -- `let`
-  assigned : {line : ℕ} {register : Register} {value : Expression} {rest : Tree} {registers : Registers} → Passes (Step (Let line register value) rest) registers rest (slice_set registers register.index (result_of value registers))
+  assigned : {line : ℕ} {register : Register} {value : Expression} {rest : Tree} {registers : Registers} →
+      Passes (Step (Let line register value) rest) registers rest (slice_set registers register.index (result_of value registers))
   -- `if`
-  first_part : {line : ℕ} {register : Register} {first second rest : Tree} {registers : Registers} → slice_index registers register.index ≢ 0 → Passes (Choice line register first second rest) registers (and_then first rest) registers
-  second_part : {line : ℕ} {register : Register} {first second rest : Tree} {registers : Registers} → slice_index registers register.index ≡ 0 → Passes (Choice line register first second rest) registers (and_then second rest) registers
+  first_part : {line : ℕ} {register : Register} {first second rest : Tree} {registers : Registers} →
+      slice_index registers register.index ≢ 0 → Passes (Choice line register first second rest) registers (and_then first rest) registers
+  second_part : {line : ℕ} {register : Register} {first second rest : Tree} {registers : Registers} →
+      slice_index registers register.index ≡ 0 → Passes (Choice line register first second rest) registers (and_then second rest) registers
   -- `pfor`, which evaluates its operand once
-  counted : {line function : ℕ} {register : Register} {count : Operand} {rest : Tree} {registers : Registers} → Passes (Step (ParallelFor line register count function) rest) registers (numbers line register function 0 (value_of count registers) rest) registers
+  counted : {line function : ℕ} {register : Register} {count : Operand} {rest : Tree} {registers : Registers} →
+      Passes (Step (ParallelFor line register count function) rest) registers
+      (numbers line register function 0 (value_of count registers) rest) registers
 
 -- Any number of them.
 pub data PassesAll : Tree → Registers → Tree → Registers → Type 0 where
   none_passed : {rest : Tree} {registers : Registers} → PassesAll rest registers rest registers
-  one_more : {first second third : Tree} {before between after : Registers} → PassesAll first before second between → Passes second between third after → PassesAll first before third after
+  one_more : {first second third : Tree} {before between after : Registers} →
+      PassesAll first before second between → Passes second between third after → PassesAll first before third after

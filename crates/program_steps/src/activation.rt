@@ -12,7 +12,8 @@ ghost use Rattle.program_text.specs.Trees.{Step};
 ghost use Rattle.program_steps.specs.Values.{first_registers};
 ghost use Rattle.program_steps.specs.Scripts.{PassesAll};
 ghost use Rattle.program_steps.specs.Requests.{Asks, IsNamed, IsTargeted, act_of};
-ghost use Rattle.program_steps.specs.Activations.{left_in, left, end_line_of, statement_in, statement_of, asked_act, steps_ahead, is_plain, StandsIn, IsInPlace};
+ghost use Rattle.program_steps.specs.Activations.{left_in, left, end_line_of, statement_in, statement_of};
+ghost use Rattle.program_steps.specs.Activations.{asked_act, steps_ahead, is_plain, StandsIn, IsInPlace};
 
 use crate::request::{Want, act_of, line_of};
 use crate::value::{result_of, value_of};
@@ -137,10 +138,15 @@ impl Activation {
     /// Goes behind the statement before which the activation stands, in its function.
     fn step_in<A: Allocator>(&mut self, function: &Function<A>)
         requires stands { (functions : ℕ) × StandsIn functions function.now.body self.old }
-        ensures same { (self.new.function ≡ self.old.function) × (self.new.registers ≡ self.old.registers) × (self.new.join ≡ self.old.join) }
+        ensures same { (self.new.function ≡ self.old.function)
+            × (self.new.registers ≡ self.old.registers) × (self.new.join ≡ self.old.join) }
         ensures stands { (functions : ℕ) → StandsIn functions function.now.body self.old → StandsIn functions function.now.body self.new }
-        ensures behind { (statement : Statement) → statement_in function.now self.old ≡ Some statement → IsTrue (is_plain statement) → left_in function.now self.old ≡ Step statement (left_in function.now self.new) }
-        ensures later { (line : ℕ) (register : Register) (value : Expression) → statement_in function.now self.old ≡ Some (Let line register value) → steps_ahead (length function.now.body) self.new.place self.new.turn < steps_ahead (length function.now.body) self.old.place self.old.turn }
+        ensures behind { (statement : Statement) → statement_in function.now self.old ≡ Some statement → IsTrue (is_plain statement) →
+            left_in function.now self.old ≡ Step statement (left_in function.now self.new) }
+        ensures later { (line : ℕ) (register : Register) (value : Expression) →
+            statement_in function.now self.old ≡ Some (Let line register value) →
+            steps_ahead (length function.now.body) self.new.place self.new.turn
+            < steps_ahead (length function.now.body) self.old.place self.old.turn }
     {
         match self.turn {
             Turn::Plainly => {
@@ -198,8 +204,10 @@ impl Activation {
         requires at { statement_in function.now self.old ≡ Some statement }
         requires silent { act_of statement self.old.registers ≡ None }
         ensures same { (self.new.function ≡ self.old.function) × (self.new.join ≡ self.old.join) }
-        ensures stands { (cells reducers functions : ℕ) → IsTrue (is_within cells reducers functions statement) → StandsIn functions function.now.body self.old → StandsIn functions function.now.body self.new }
-        ensures later { steps_ahead (length function.now.body) self.new.place self.new.turn < steps_ahead (length function.now.body) self.old.place self.old.turn }
+        ensures stands { (cells reducers functions : ℕ) → IsTrue (is_within cells reducers functions statement) →
+            StandsIn functions function.now.body self.old → StandsIn functions function.now.body self.new }
+        ensures later { steps_ahead (length function.now.body) self.new.place self.new.turn
+            < steps_ahead (length function.now.body) self.old.place self.old.turn }
         ensures passes { PassesAll (left_in function.now self.old) self.old.registers (left_in function.now self.new) self.new.registers }
     {
         match statement {
@@ -258,8 +266,10 @@ impl Activation {
         requires place { IsInPlace program.now.functions self.old }
         ensures place { IsInPlace program.now.functions self.new }
         ensures same { (self.new.function ≡ self.old.function) × (self.new.join ≡ self.old.join) }
-        ensures passes { PassesAll (left program.now.functions self.old) self.old.registers (left program.now.functions self.new) self.new.registers }
-        ensures asks { Asks (left program.now.functions self.new) (end_line_of program.now.functions self.new.function) self.new.registers result }
+        ensures passes { PassesAll (left program.now.functions self.old)
+            self.old.registers (left program.now.functions self.new) self.new.registers }
+        ensures asks { Asks (left program.now.functions self.new)
+            (end_line_of program.now.functions self.new.function) self.new.registers result }
         ensures asked { asked_act (statement_of program.now.functions self.new) self.new.registers ≡ Some result.act }
         ensures named { IsNamed (cells_of program.now.mems) (length program.now.reducers) result.act }
     {
@@ -295,8 +305,10 @@ impl Activation {
     pub fn step<A: Allocator>(&mut self, program: &Program<A>)
         requires place { IsInPlace program.now.functions self.old }
         ensures place { IsInPlace program.now.functions self.new }
-        ensures same { (self.new.function ≡ self.old.function) × (self.new.registers ≡ self.old.registers) × (self.new.join ≡ self.old.join) }
-        ensures behind { (statement : Statement) → statement_of program.now.functions self.old ≡ Some statement → IsTrue (is_plain statement) → left program.now.functions self.old ≡ Step statement (left program.now.functions self.new) }
+        ensures same { (self.new.function ≡ self.old.function)
+            × (self.new.registers ≡ self.old.registers) × (self.new.join ≡ self.old.join) }
+        ensures behind { (statement : Statement) → statement_of program.now.functions self.old ≡ Some statement →
+            IsTrue (is_plain statement) → left program.now.functions self.old ≡ Step statement (left program.now.functions self.new) }
     {
         let function = self.function_in(program);
         self.step_in(function);

@@ -8,8 +8,8 @@ ghost use Rattle.program_steps.specs.Requests.{answered};
 use program_text::{REGISTERS, Register, Statement};
 use race_gate::Answer;
 
-/// Does to the registers what an answer to a statement does, and says whether the answer belongs to it. They stay where it does not, or where the
-/// statement is a call.
+/// Does to the registers what an answer to a statement does, and says whether the answer belongs to it. They stay where it does not, or
+/// where the statement is a call.
 pub fn answered(registers: &mut [u64; REGISTERS], statement: Statement, answer: &Answer) -> bool
     ensures { IsTaken (answered statement answer.now registers.old) result registers.old registers.new }
 {

@@ -203,9 +203,11 @@ fn unset_lines(rt: &HostRuntime, numbers: &[u32], wanted: &str) -> Result<(), Fa
 #[test]
 fn lines_count_up(rt: HostRuntime) -> Result<(), Fail> {
     let up = [1, 2, 9, 10, 11, 19, 20, 99, 100, 101, 999, 1_000];
-    let wanted = "1 refused unset\n2 refused unset\n9 refused unset\n10 refused unset\n11 refused unset\n19 refused unset\n20 refused unset\n99 refused unset\n100 refused unset\n101 refused unset\n999 refused unset\n1000 refused unset\n";
+    let wanted =
+        "1 refused unset\n2 refused unset\n9 refused unset\n10 refused unset\n11 refused unset\n19 refused unset\n20 refused unset\n99 refused unset\n100 refused unset\n101 refused unset\n999 refused unset\n1000 refused unset\n";
     unset_lines(&rt, &up, wanted)?;
     let about = [1_000_000, 10, 999_999, 0, 4_294_967_295, 7];
-    let wanted = "1000000 refused unset\n10 refused unset\n999999 refused unset\n0 refused unset\n4294967295 refused unset\n7 refused unset\n";
+    let wanted =
+        "1000000 refused unset\n10 refused unset\n999999 refused unset\n0 refused unset\n4294967295 refused unset\n7 refused unset\n";
     unset_lines(&rt, &about, wanted)
 }

@@ -1,4 +1,5 @@
 -- A text means at most one program, and never a program and a fault.
+-- v, w: what a text means; m, n: numbers of faulty lines; c, d: causes
 use Rattle.std.proofs.Common.{◌≡◌, ℕ, ◌+◌, ◌∷◌, [], List, arith, sym, ◌∙◌, subst, inl, inr}
 use Rattle.trace_values.specs.declared.value.Version.{Version}
 use Rattle.trace_values.specs.declared.fault.Cause.{Cause}

@@ -1,9 +1,11 @@
 -- Where the parts of an `if` end.
-use Rattle.std.specs.Prelude.{◌≡◌, ℕ, zero, suc, ◌+◌, ◌-◌, ◌<◌, ◌≤◌, Bool, true, false, IsTrue, List, [], ◌∷◌, Option, Some, None, length, drop, slice_get}
+use Rattle.std.specs.Prelude.{◌≡◌, ℕ, zero, suc, ◌+◌, ◌-◌, ◌<◌, ◌≤◌, Bool, true, false, IsTrue}
+use Rattle.std.specs.Prelude.{List, [], ◌∷◌, Option, Some, None, length, drop, slice_get}
 use Rattle.program_lines.specs.declared.statement.Statement.{Statement}
 use Rattle.program_lines.specs.declared.statement.Statement.TheVariants.{If, Else, End}
 
--- The statements behind the `else` or `end` that closes the part in which these statements stand; depth counts the parts that were opened since.
+-- The statements behind the `else` or `end` that closes the part in which these statements stand; depth counts the parts that were opened
+-- since.
 abbrev pub behind_part : (depth : ℕ) → List Statement → List Statement
 behind_part depth [] = []
 behind_part depth (If _ _ _ ∷ rest) = behind_part (suc depth) rest

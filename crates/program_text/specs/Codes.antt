@@ -4,7 +4,8 @@ use Rattle.std.specs.List.{position_from}
 use Rattle.std.specs.Str.{bytes_eq}
 use Rattle.program_lines.specs.declared.statement.Statement.{Statement}
 
--- A function: its name, its parameter, the lines of its `func` and its `end`, the names of its registers other than `ok`, and its statements.
+-- A function: its name, its parameter, the lines of its `func` and its `end`, the names of its registers other than `ok`, and its
+-- statements.
 pub record Code : Type 0 where
   pub name : List ℕ
   pub parameter : List ℕ

@@ -66,7 +66,10 @@ with_statement current statement = record current { body = current.body ++ state
 -- An `if`, whose first part begins.
 abbrev pub with_choice : ℕ → Open → Register → Open
 with_choice at current register =
-    record current { body = current.body ++ If at register 0 ∷ []; parts = (record { place = length current.body; second = Bool.false }) ∷ current.parts }
+    record current {
+      body = current.body ++ If at register 0 ∷ [];
+      parts = (record { place = length current.body; second = Bool.false }) ∷ current.parts;
+    }
 
 -- The statement, and where the part behind it ends.
 abbrev pub ending : ℕ → Statement → Statement
@@ -96,9 +99,19 @@ with_else at current = divided_by at current current.parts
 
 -- An `end` of an `if`: the innermost part ends behind it.
 abbrev pub with_part_ended : ℕ → Open → Part → List Part → Open
-with_part_ended at current part parts = record current { body = with_end part.place (length current.body + 1) current.body ++ End at ∷ []; parts = parts }
+with_part_ended at current part parts = record current {
+  body = with_end part.place (length current.body + 1) current.body ++ End at ∷ [];
+  parts = parts;
+}
 
 -- The function, whose `end` stands on that line.
 abbrev pub code_of : ℕ → Open → Code
 code_of at current =
-    record { name = current.name; parameter = current.parameter; line = current.line; end_line = at; registers = current.registers; body = current.body }
+    record {
+      name = current.name;
+      parameter = current.parameter;
+      line = current.line;
+      end_line = at;
+      registers = current.registers;
+      body = current.body;
+    }

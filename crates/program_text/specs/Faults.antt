@@ -23,7 +23,8 @@ use Rattle.program_text.specs.Grammar.{IsInOrder, HasRoom, LineMeans, LinesMean,
 -- What is wrong with the line with the number `at`, behind what was read so far, in a text with these functions.
 abbrev pub LineFault : List (List ℕ) → ℕ → Draft → List ℕ → Cause → Type 0
 LineFault names at so_far line NotText = IsTextLine line → ⊥
-LineFault names at so_far line BadNesting = (item : Item) × ItemMeans at (scope_of names so_far) (words line) item × (IsInOrder so_far item → ⊥)
+LineFault names at so_far line BadNesting =
+    (item : Item) × ItemMeans at (scope_of names so_far) (words line) item × (IsInOrder so_far item → ⊥)
 LineFault names at so_far line TooMany =
     (max_lines < at)
     ⊎ ((item : Item) × ItemMeans at (scope_of names so_far) (words line) item × (HasRoom so_far item → ⊥))
@@ -93,6 +94,7 @@ abbrev pub IsBodyFault : Version → List ℕ → TextFault → Type 0
 IsBodyFault version text fault = IsFaultOfLines (functions_of (lines text)) (nothing version) (lines text) fault
 
 -- What is left of these lines from the number `at` on decides them: what it means behind what was read, they mean, and its fault is theirs.
-pub record DecidesLines (names : List (List ℕ)) (first : Draft) (whole : List (List ℕ)) (at : ℕ) (before : Draft) (left : List (List ℕ)) : Type 0 where
+pub record DecidesLines (names : List (List ℕ)) (first : Draft) (whole : List (List ℕ))
+    (at : ℕ) (before : Draft) (left : List (List ℕ)) : Type 0 where
   pub means : (contents : Contents) → LinesMean names at before left contents → LinesMean names 2 first whole contents
   pub faults : (bad : ℕ) (cause : Cause) → LinesFault names at before left bad cause → LinesFault names 2 first whole bad cause

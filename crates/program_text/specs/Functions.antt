@@ -13,7 +13,8 @@ is_name_word (byte ∷ bytes) = is_ascii_lowercase byte && nat_lt (length bytes)
 
 -- The name in these words, where they are `func`, a name and a name.
 abbrev pub function_in : List (List ℕ) → Option (List ℕ)
-function_in (first ∷ name ∷ parameter ∷ []) = cond (bytes_eq first (codes "func") && is_name_word name && is_name_word parameter) (Some name) None
+function_in (first ∷ name ∷ parameter ∷ []) =
+    cond (bytes_eq first (codes "func") && is_name_word name && is_name_word parameter) (Some name) None
 function_in ws = None
 
 -- The function that a line makes known. What stands in a comment on it does not count.

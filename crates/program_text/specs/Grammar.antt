@@ -1,5 +1,6 @@
 -- What the lines of a program mean: a case for each kind of line.
-use Rattle.std.specs.Prelude.{◌≡◌, ◌≢◌, ℕ, ◌+◌, ◌<◌, ◌≤◌, false, Option, Some, None, List, [], ◌∷◌, ◌++◌, length, unwrap_or, option_map, MatchOption}
+use Rattle.std.specs.Prelude.{◌≡◌, ◌≢◌, ℕ, ◌+◌, ◌<◌, ◌≤◌, false, Option, Some, None, List}
+use Rattle.std.specs.Prelude.{[], ◌∷◌, ◌++◌, length, unwrap_or, option_map, MatchOption}
 use Rattle.trace_values.specs.declared.value.Version.{Version}
 use Rattle.trace_values.specs.Text.{lines, words, IsTextLine, IsName}
 use Rattle.trace_values.specs.Limits.{max_cells, max_reducers, max_lines}
@@ -12,7 +13,8 @@ use Rattle.program_text.specs.Codes.{main_of}
 use Rattle.program_text.specs.Sound.{max_functions, max_statements}
 use Rattle.program_text.specs.Functions.{functions_of}
 use Rattle.program_text.specs.declared.open_function.Part.{Part}
-use Rattle.program_text.specs.Drafts.{Open, Draft, Contents, held, begun, registers_of, scope_of, first_open, with_register, with_statement, with_choice, with_else, with_part_ended, code_of}
+use Rattle.program_text.specs.Drafts.{Open, Draft, Contents, held, begun, registers_of, scope_of, first_open}
+use Rattle.program_text.specs.Drafts.{with_register, with_statement, with_choice, with_else, with_part_ended, code_of}
 
 abbrev pub max_nested : ℕ
 max_nested = 64
@@ -24,7 +26,8 @@ abbrev pub IsFirst : List Part → Type 0
 IsFirst [] = ⊥
 IsFirst (part ∷ parts) = part.second ≡ false
 
--- Declarations stand before the first `func`, functions outside functions, statements in one, and an `else` behind the first part of an `if`.
+-- Declarations stand before the first `func`, functions outside functions, statements in one, and an `else` behind the first part of an
+-- `if`.
 abbrev pub IsInOrder : Draft → Item → Type 0
 IsInOrder so_far Blank = Unit {0}
 IsInOrder so_far (Declared name length) = begun so_far ≡ 0
@@ -60,7 +63,11 @@ abbrev pub with_open : Draft → Option Open → Draft
 with_open so_far current = record so_far { current = current; lines = so_far.lines + 1 }
 
 abbrev pub ended_by : ℕ → Draft → Open → List Part → Draft
-ended_by at so_far current [] = record so_far { functions = so_far.functions ++ code_of at current ∷ []; current = None; lines = so_far.lines + 1 }
+ended_by at so_far current [] = record so_far {
+  functions = so_far.functions ++ code_of at current ∷ [];
+  current = None;
+  lines = so_far.lines + 1;
+}
 ended_by at so_far current (part ∷ parts) = with_open so_far (Some (with_part_ended at current part parts))
 
 -- An `end`: that of the innermost `if`, or of the function.
@@ -74,7 +81,8 @@ extended at so_far Blank = so_far
 extended at so_far (Declared name length) = record so_far { known = with_memory at so_far.known name length }
 extended at so_far (Reduces name monoid) = record so_far { known = with_reducer at so_far.known name monoid }
 extended at so_far (Begins name parameter) = with_open so_far (Some (first_open at name parameter))
-extended at so_far (Does statement named) = with_open so_far (option_map (λ current. with_statement (with_register current named) statement) so_far.current)
+extended at so_far (Does statement named) =
+    with_open so_far (option_map (λ current. with_statement (with_register current named) statement) so_far.current)
 extended at so_far (Decides register) = with_open so_far (option_map (λ current. with_choice at current register) so_far.current)
 extended at so_far Otherwise = with_open so_far (option_map (λ current. with_else at current) so_far.current)
 extended at so_far Ends = ended at so_far so_far.current
@@ -82,7 +90,8 @@ extended at so_far Ends = ended at so_far so_far.current
 -- The line with the number `at` says this item, behind what was read so far, in a text with these functions.
 abbrev pub LineMeans : List (List ℕ) → ℕ → Draft → List ℕ → Item → Type 0
 LineMeans names at so_far line item =
-    (at ≤ max_lines) × IsTextLine line × ItemMeans at (scope_of names so_far) (words line) item × IsInOrder so_far item × HasRoom so_far item
+    (at ≤ max_lines) × IsTextLine line × ItemMeans at (scope_of names so_far) (words line) item
+    × IsInOrder so_far item × HasRoom so_far item
 
 -- ---- texts
 

@@ -13,15 +13,19 @@ OneMeaning = (text : List ℕ) (one other : Contents) → TextMeans text one →
 
 -- Each list of bytes means a program or has a fault.
 abbrev pub MeaningOrFault : Type 0
-MeaningOrFault = (text : List ℕ) → ((contents : Contents) × TextMeans text contents) ⊎ ((line : ℕ) × (why : Cause) × TextFaults text line why)
+MeaningOrFault =
+    (text : List ℕ) → ((contents : Contents) × TextMeans text contents) ⊎ ((line : ℕ) × (why : Cause) × TextFaults text line why)
 
 -- No text means a program and has a fault.
 abbrev pub MeaningExcludesFault : Type 0
-MeaningExcludesFault = (text : List ℕ) (contents : Contents) (line : ℕ) (why : Cause) → TextMeans text contents → TextFaults text line why → ⊥
+MeaningExcludesFault =
+    (text : List ℕ) (contents : Contents) (line : ℕ) (why : Cause) → TextMeans text contents → TextFaults text line why → ⊥
 
 -- A text has at most one fault.
 abbrev pub OneFault : Type 0
-OneFault = (text : List ℕ) (line other : ℕ) (why cause : Cause) → TextFaults text line why → TextFaults text other cause → (line ≡ other) × (why ≡ cause)
+OneFault =
+    (text : List ℕ) (line other : ℕ) (why cause : Cause) →
+    TextFaults text line why → TextFaults text other cause → (line ≡ other) × (why ≡ cause)
 
 -- What a text means is sound.
 abbrev pub SoundLaw : Type 0

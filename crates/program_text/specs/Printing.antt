@@ -28,7 +28,10 @@ begin_row code = record { line = code.line; text = spaced (codes "func" ∷ code
 -- A statement of a function with these registers, in a text with these functions.
 abbrev pub statement_row : Known → (names registers : List (List ℕ)) → Statement → Row
 statement_row known names registers statement =
-    record { line = line_of statement; text = spaced (statement_words (printed_scope known.version known.mems known.reducers names registers) statement) }
+    record {
+      line = line_of statement;
+      text = spaced (statement_words (printed_scope known.version known.mems known.reducers names registers) statement);
+    }
 
 abbrev pub end_row : Code → Row
 end_row code = record { line = code.end_line; text = codes "end" }
@@ -68,7 +71,8 @@ PlainMeaning = (text : List ℕ) (contents : Contents) → TextMeans text conten
 
 -- And it means nothing else, so what is printed and read again is the same.
 abbrev pub NoOtherMeaning : Type 0
-NoOtherMeaning = (text : List ℕ) (contents other : Contents) → TextMeans text contents → TextMeans (plain_text contents) other → other ≡ contents
+NoOtherMeaning =
+    (text : List ℕ) (contents other : Contents) → TextMeans text contents → TextMeans (plain_text contents) other → other ≡ contents
 
 -- ---- what is printed so far
 

@@ -65,8 +65,9 @@ has_numbers (Call line function argument) = is_numbered argument
 has_numbers (ParallelFor line register count function) = is_numbered count
 has_numbers _ = true
 
--- A body is sound: it is not too long, what it names is there, the numbers that are written in it are of 64 bits, each `if` and `else` knows
--- where the part behind it ends, the part behind an `else` is closed by an `end`, and each `if` has its `end`, each `else` and `end` its `if`.
+-- A body is sound: it is not too long, what it names is there, the numbers that are written in it are of 64 bits, each `if` and `else`
+-- knows where the part behind it ends, the part behind an `else` is closed by an `end`, and each `if` has its `end`, each `else` and `end`
+-- its `if`.
 pub record IsSoundBody (cells reducers functions : ℕ) (body : List Statement) : Type 0 where
   pub few : length body < max_statements
   pub within : All (λ statement. IsTrue (is_within cells reducers functions statement)) body

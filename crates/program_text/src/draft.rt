@@ -40,7 +40,12 @@ impl<'a, A: Allocator> Model for Draft<'a, A> {
 
     ghost Value = { SpecDraft };
 
-    ghost view = { λ draft. record { known = draft.names; functions = draft.functions.items; current = draft.current; lines = draft.lines } };
+    ghost view = { λ draft. record {
+      known = draft.names;
+      functions = draft.functions.items;
+      current = draft.current;
+      lines = draft.lines;
+    } };
 
     ghost invariant = { λ draft. IsCounted draft.functions.items draft.current draft.lines };
 }

@@ -36,5 +36,12 @@ impl<A: Allocator> Model for Function<A> {
 
     ghost Value = { Code };
 
-    ghost view = { λ f. record { name = f.name; parameter = f.parameter; line = f.line; end_line = f.end_line; registers = f.registers; body = f.body } };
+    ghost view = { λ f. record {
+      name = f.name;
+      parameter = f.parameter;
+      line = f.line;
+      end_line = f.end_line;
+      registers = f.registers;
+      body = f.body;
+    } };
 }

@@ -4,10 +4,11 @@
 //! first faulty line and the lowest cause in it; `program_lines` has what one line says. [`Program::parse`] carries the theorem that the
 //! code meets it: an answer `Ok` is what the text means, and a fault `At` is the first faulty line with the lowest cause in it. `Memory` is
 //! the answer to a refused growth; no clause says when it comes. The laws [`one_meaning`], [`one_fault`], [`meaning_or_fault`] and
-//! [`meaning_excludes_fault`] say that each list of bytes has one meaning or one fault, and not both. A [`Program`] keeps that some text means it and that it is sound: its statements name
-//! cells, reducers and functions that there are, their numbers are of 64 bits, each `if` has its `end` and one `else` at most, and each `if`
-//! and `else` knows where its part ends; [`sound_law`] says so of each text that means a program. [`Program::print`] gives the plain text, which means the program and, by these laws, no other; [`plain_meaning`] says the same
-//! over the definitions alone.
+//! [`meaning_excludes_fault`] say that each list of bytes has one meaning or one fault, and not both. A [`Program`] keeps that some text
+//! means it and that it is sound: its statements name cells, reducers and functions that there are, their numbers are of 64 bits, each `if`
+//! has its `end` and one `else` at most, and each `if` and `else` knows where its part ends; [`sound_law`] says so of each text that means
+//! a program. [`Program::print`] gives the plain text, which means the program and, by these laws, no other; [`plain_meaning`] says the
+//! same over the definitions alone.
 #![tactic(auto)]
 
 mod draft;

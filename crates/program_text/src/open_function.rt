@@ -4,7 +4,8 @@ ghost use Rattle.std.specs.Prelude.{◌≡◌, ◌+◌, ◌<◌, ◌≤◌, ◌�
 ghost use Rattle.trace_values.specs.Text.{IsName};
 ghost use Rattle.program_lines.specs.Scopes.{max_registers};
 ghost use Rattle.program_text.specs.Sound.{max_statements};
-ghost use Rattle.program_text.specs.Drafts.{ending as ending_of, with_end, first_open, with_register, with_statement, with_choice, with_else, code_of};
+ghost use Rattle.program_text.specs.Drafts.{ending as ending_of, with_end, first_open, with_register};
+ghost use Rattle.program_text.specs.Drafts.{with_statement, with_choice, with_else, code_of};
 ghost use Rattle.program_text.specs.Grammar.{IsFirst};
 ghost use Rattle.program_text.specs.Openings.{EndsPart};
 
@@ -41,7 +42,14 @@ impl<A: Allocator> Model for Open<A> {
 
     ghost Value = { SpecOpen };
 
-    ghost view = { λ open_function. record { name = open_function.name; parameter = open_function.parameter; line = open_function.line; registers = open_function.registers.items; body = open_function.body.items; parts = reverse open_function.parts.items } };
+    ghost view = { λ open_function. record {
+      name = open_function.name;
+      parameter = open_function.parameter;
+      line = open_function.line;
+      registers = open_function.registers.items;
+      body = open_function.body.items;
+      parts = reverse open_function.parts.items;
+    } };
 
     ghost invariant = { λ open_function. length open_function.registers.items ≤ max_registers };
 }

@@ -7,7 +7,8 @@ ghost use Rattle.trace_text.specs.Printing.{declarations, known_of};
 ghost use Rattle.std.specs.Prelude.{map};
 ghost use Rattle.program_lines.specs.Grammar.{line_of};
 ghost use Rattle.program_lines.specs.Printing.{IsNamedFunction, name_of_function};
-ghost use Rattle.program_text.specs.Printing.{PrintsRows, Row, begin_row, body_rows, declared_row, end_row, function_rows, names_of, rows_of_functions, statement_row, text_from};
+ghost use Rattle.program_text.specs.Printing.{PrintsRows, Row, begin_row, body_rows, declared_row, end_row};
+ghost use Rattle.program_text.specs.Printing.{function_rows, names_of, rows_of_functions, statement_row, text_from};
 
 use crate::function::Function;
 use crate::program::Program;
@@ -71,7 +72,10 @@ fn put_statement_line<A: Allocator, B: Allocator>(
     statement: &Statement,
 ) -> Result<u64, AllocError>
     requires numbered { IsTrue (is_numbered 0 mems.now) }
-    ensures { (version : Version) → IfOk result (λ next. PrintsRows (string_bytes out.old) at (statement_row (known_of version mems.now reducers.now) (names_of functions.now) registers.now statement.now ∷ []) (string_bytes out.new) next) }
+    ensures { (version : Version) →
+        IfOk result (λ next. PrintsRows (string_bytes out.old) at
+        (statement_row (known_of version mems.now reducers.now) (names_of functions.now) registers.now statement.now ∷ [])
+        (string_bytes out.new) next) }
 {
     let line = statement_line(statement);
     put_feeds(out, at, u64::from(line))?;
@@ -92,7 +96,9 @@ fn put_body<A: Allocator, B: Allocator>(
     body: &[Statement],
 ) -> Result<u64, AllocError>
     requires numbered { IsTrue (is_numbered 0 mems.now) }
-    ensures { (version : Version) (more : List Row) → IfOk result (λ next. string_bytes out.new ++ text_from next more ≡ string_bytes out.old ++ text_from from (body_rows (known_of version mems.now reducers.now) (names_of functions.now) registers.now body.now ++ more)) }
+    ensures { (version : Version) (more : List Row) →
+        IfOk result (λ next. string_bytes out.new ++ text_from next more ≡ string_bytes out.old ++
+        text_from from (body_rows (known_of version mems.now reducers.now) (names_of functions.now) registers.now body.now ++ more)) }
 {
     let mut at = from;
     for statement in body {
@@ -141,7 +147,9 @@ fn put_function<A: Allocator, B: Allocator>(
     function: &Function<A>,
 ) -> Result<u64, AllocError>
     requires numbered { IsTrue (is_numbered 0 mems.now) }
-    ensures { (version : Version) → IfOk result (λ next. PrintsRows (string_bytes out.old) at (function_rows (known_of version mems.now reducers.now) (names_of functions.now) function.now) (string_bytes out.new) next) }
+    ensures { (version : Version) →
+        IfOk result (λ next. PrintsRows (string_bytes out.old) at
+        (function_rows (known_of version mems.now reducers.now) (names_of functions.now) function.now) (string_bytes out.new) next) }
 {
     let inside = put_begin(out, at, function)?;
     let registers = function.registers.as_slice();
@@ -160,7 +168,9 @@ fn put_functions<A: Allocator, B: Allocator>(
     functions: &[Function<A>],
 ) -> Result<u64, AllocError>
     requires numbered { IsTrue (is_numbered 0 mems.now) }
-    ensures { (version : Version) (more : List Row) → IfOk result (λ next. string_bytes out.new ++ text_from next more ≡ string_bytes out.old ++ text_from from (rows_of_functions (known_of version mems.now reducers.now) (names_of functions.now) functions.now ++ more)) }
+    ensures { (version : Version) (more : List Row) →
+        IfOk result (λ next. string_bytes out.new ++ text_from next more ≡ string_bytes out.old ++
+        text_from from (rows_of_functions (known_of version mems.now reducers.now) (names_of functions.now) functions.now ++ more)) }
 {
     let mut at = from;
     for function in functions {
@@ -175,7 +185,10 @@ fn put_declared<B: Allocator>(
     mems: &[Mem],
     reducers: &[Reducer],
 ) -> Result<u64, AllocError>
-    ensures { (version : Version) → IfOk result (λ next. PrintsRows (string_bytes out.old) 2 (map (declared_row (known_of version mems.now reducers.now)) (declarations mems.now reducers.now)) (string_bytes out.new) next) }
+    ensures { (version : Version) →
+        IfOk result (λ next. PrintsRows (string_bytes out.old) 2
+        (map (declared_row (known_of version mems.now reducers.now)) (declarations mems.now reducers.now))
+        (string_bytes out.new) next) }
 {
     let next = put_declarations(out, mems, reducers)?;
     Ok(next)

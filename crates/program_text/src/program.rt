@@ -27,7 +27,8 @@ pub struct Program<A: Allocator> {
     pub functions: Functions<A>,
     /// The number of the function `main`.
     main: u32,
-    ghost meant: { ∥ ((text : List ℕ) × TextMeans text (record { known = record { version = version; mems = mems; reducers = reducers }; functions = functions })) ∥₁ },
+    ghost meant: { ∥ ((text : List ℕ)
+        × TextMeans text (record { known = record { version = version; mems = mems; reducers = reducers }; functions = functions })) ∥₁ },
     ghost numbered: { IsTrue (is_numbered 0 mems) },
     ghost few_cells: { cells_of mems ≤ max_cells },
     ghost few_reducers: { length reducers ≤ max_reducers },

@@ -94,7 +94,8 @@ sync_text setting line onward =
     else missing_text setting line onward
 
 abbrev pub parting_text : Setting → Pair → Option Parting → ℕ → List ℕ
-parting_text setting pair (Some parting) onward = parts_text setting pair parting onward ++ sync_text setting (line_at setting.entries parting.entry) onward
+parting_text setting pair (Some parting) onward =
+    parts_text setting pair parting onward ++ sync_text setting (line_at setting.entries parting.entry) onward
 parting_text setting pair None onward = []
 
 -- at which of two lines a spawn is outstanding

@@ -1,5 +1,6 @@
 -- What is told of the entries of a run.
-use Rattle.std.specs.Prelude.{ℕ, ◌≡◌, ◌+◌, ◌-◌, nat_lt, Bool, List, [], ◌∷◌, ◌++◌, codes, length, take, filter, is_some, decimal, if◌then◌else◌}
+use Rattle.std.specs.Prelude.{ℕ, ◌≡◌, ◌+◌, ◌-◌, nat_lt, Bool, List, [], ◌∷◌, ◌++◌, codes}
+use Rattle.std.specs.Prelude.{length, take, filter, is_some, decimal, if◌then◌else◌}
 use Rattle.std.specs.Global.{Global}
 use Rattle.program_text.specs.Drafts.{Contents}
 use Rattle.race_gate.specs.declared.answer.Entry.{Entry}
@@ -49,17 +50,20 @@ pairs_left_out count = if nat_lt 20 count then codes "and " ++ counted (count - 
 
 -- at how many pairs of lines, and among how many requests
 abbrev pub among : ℕ → ℕ → List ℕ
-among count requests = codes " at " ++ counted count (codes "pair") ++ codes " of lines, among " ++ counted requests (codes "request") ++ codes "\n"
+among count requests =
+    codes " at " ++ counted count (codes "pair") ++ codes " of lines, among " ++ counted requests (codes "request") ++ codes "\n"
 
 -- what is told at the end: how many refusals there were
 abbrev pub summary : List Entry → ℕ → List ℕ
 summary entries count = counted (refusals_among entries) (codes "refusal") ++ among count (length entries)
 
--- The text tells of the entries of a run, the oldest first: of each of the first twenty pairs of lines that raced, how many more there are, and how
--- many refusals there were.
-pub record IsExplanation (is_painted : Bool) (file : List ℕ) (source : List (List ℕ)) (program : Contents) (entries : List Entry) (text : List ℕ) : Type 0 where
+-- The text tells of the entries of a run, the oldest first: of each of the first twenty pairs of lines that raced, how many more there are,
+-- and how many refusals there were.
+pub record IsExplanation (is_painted : Bool) (file : List ℕ) (source : List (List ℕ))
+    (program : Contents) (entries : List Entry) (text : List ℕ) : Type 0 where
   pub pairs : List Pair
   pub are_pairs : ArePairs entries pairs
   pub told : List ℕ
-  pub all_told : AllTold (record { look = look_of is_painted source; file = file; source = source; program = program; entries = entries }) (take 20 pairs) told
+  pub all_told : AllTold (record { look = look_of is_painted source; file = file; source = source; program = program; entries = entries })
+      (take 20 pairs) told
   pub text_is : text ≡ told ++ pairs_left_out (length pairs) ++ summary entries (length pairs)

@@ -42,11 +42,13 @@ refused_text setting pair encounter =
 
 -- What would order the two.
 abbrev pub advice_text : Reason → Setting → Pair → Encounter Global → List ℕ
-advice_text (Race earlier refused) setting pair encounter = parting_text setting pair encounter.parting (line_at setting.entries (unwrap_or encounter.onward 0))
+advice_text (Race earlier refused) setting pair encounter =
+    parting_text setting pair encounter.parting (line_at setting.entries (unwrap_or encounter.onward 0))
 advice_text ViewRead setting pair encounter = outstanding_text setting pair encounter.outstanding
 advice_text Unset setting pair encounter = put_text setting
 
--- All that is told of a pair of lines: the kind of the race and where it is, the two accesses with what led there, and what would order them.
+-- All that is told of a pair of lines: the kind of the race and where it is, the two accesses with what led there, and what would order
+-- them.
 abbrev pub message : Setting → Pair → List ℕ → Encounter Global → List ℕ
 message setting pair places encounter =
     title_text setting pair places ++ earlier_text pair.lines.reason setting pair encounter ++ refused_text setting pair encounter ++

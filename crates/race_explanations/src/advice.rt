@@ -1,7 +1,10 @@
 //! Where two strands part, and what would order them.
 
 ghost use Rattle.std.specs.Prelude.{◌≡◌, ◌++◌, OnOk, codes, decimal};
-ghost use Rattle.race_explanations.specs.Advice.{parts_words, rounds_words, outstanding_words, elsewhere_words, move_words, behind_words, ended_words, put_words, sync_words, before_words, order_words, onward_words, while_words, between, line_on, spawn_line, function_word, parts_text, missing_text, sync_text, parting_text, open_words, open_text, move_text, outstanding_text, put_text};
+ghost use Rattle.race_explanations.specs.Advice.{parts_words, rounds_words, outstanding_words, elsewhere_words, move_words, behind_words};
+ghost use Rattle.race_explanations.specs.Advice.{ended_words, put_words, sync_words, before_words, order_words, onward_words};
+ghost use Rattle.race_explanations.specs.Advice.{while_words, between, line_on, spawn_line, function_word, parts_text, missing_text};
+ghost use Rattle.race_explanations.specs.Advice.{sync_text, parting_text, open_words, open_text, move_text, outstanding_text, put_text};
 
 use crate::paths::push_marked;
 use crate::scene::Scene;

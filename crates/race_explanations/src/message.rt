@@ -1,7 +1,8 @@
 //! What is told of a pair of lines that raced.
 
 ghost use Rattle.std.specs.Prelude.{◌≡◌, ◌++◌, OnOk, codes};
-ghost use Rattle.race_explanations.specs.Messages.{unordered_words, witness_text, earlier_text, verdict_words, refused_text, advice_text, message};
+ghost use Rattle.race_explanations.specs.Messages.{unordered_words, witness_text, earlier_text};
+ghost use Rattle.race_explanations.specs.Messages.{verdict_words, refused_text, advice_text, message};
 
 use crate::advice::{push_between, push_outstanding, push_parting, push_put};
 use crate::paths::{push_access, push_chain};

@@ -3,7 +3,8 @@
 ghost use Rattle.std.specs.Prelude.{◌≡◌, ◌++◌, OnOk, codes};
 ghost use Rattle.source_quotes.specs.Lines.{line_in};
 ghost use Rattle.race_explanations.specs.Names.{statement};
-ghost use Rattle.race_explanations.specs.Paths.{more_words, at_words, in_words, marked_line, within, access_text, link_text, links_text, links_left_out, chain_text};
+ghost use Rattle.race_explanations.specs.Paths.{more_words, at_words, in_words, marked_line, within};
+ghost use Rattle.race_explanations.specs.Paths.{access_text, link_text, links_text, links_left_out, chain_text};
 
 use crate::scene::Scene;
 use crate::words::{function_at, push_told, way_at, word_at};

@@ -27,5 +27,11 @@ impl<'s, 'a, A: Allocator> Model for Scene<'s, 'a, A> {
 
     ghost Value = { Setting };
 
-    ghost view = { λ scene. record { look = scene.look; file = scene.file.now; source = scene.source.now; program = contents scene.program.now; entries = scene.entries.now } };
+    ghost view = { λ scene. record {
+      look = scene.look;
+      file = scene.file.now;
+      source = scene.source.now;
+      program = contents scene.program.now;
+      entries = scene.entries.now;
+    } };
 }

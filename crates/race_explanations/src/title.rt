@@ -2,7 +2,8 @@
 
 ghost use Rattle.std.specs.Prelude.{◌≡◌, ◌++◌, ◌∷◌, IfOk, OnOk, codes, string_bytes, take};
 ghost use Rattle.program_text.specs.Programs.{contents};
-ghost use Rattle.race_explanations.specs.Titles.{sort_word, reason_words, spaced_name, other_names, listed_names, left_out, names_text, headline, title_text};
+ghost use Rattle.race_explanations.specs.Titles.{sort_word, reason_words, spaced_name, other_names};
+ghost use Rattle.race_explanations.specs.Titles.{listed_names, left_out, names_text, headline, title_text};
 ghost use Rattle.race_report.specs.Refusals.{name_of_reducer};
 
 use crate::scene::Scene;

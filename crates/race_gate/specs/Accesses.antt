@@ -1,5 +1,6 @@
 -- The accesses of memory that were granted.
-use Rattle.std.specs.Prelude.{ℕ, suc, List, [], ◌∷◌, ◌++◌, length, Option, Some, None, option_and_then, unwrap_or, Bool, true, false, if◌then◌else◌}
+use Rattle.std.specs.Prelude.{ℕ, suc, List, [], ◌∷◌, ◌++◌, length, Option, Some, None}
+use Rattle.std.specs.Prelude.{option_and_then, unwrap_or, Bool, true, false, if◌then◌else◌}
 use Rattle.std.specs.Option.{option_map, option_to_list}
 use Rattle.access_table.specs.Table.{is_memory_kind}
 use Rattle.trace_values.specs.declared.value.Act.{Act}
@@ -40,7 +41,8 @@ is_granted answer = false
 abbrev pub access_at : ℕ → Entry → Option Access
 access_at number entry =
     if is_granted entry.answer
-    then option_map (λ access. record { strand = entry.request.strand; kind = access.kind; location = access.location; entry = number }) (cell_access entry.request.act)
+    then option_map (λ access. record { strand = entry.request.strand; kind = access.kind; location = access.location; entry = number })
+    (cell_access entry.request.act)
     else None
 
 -- the granted accesses of cells, the oldest first

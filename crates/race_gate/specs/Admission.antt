@@ -28,7 +28,8 @@ IsOfTheGate fault = ⊥
 abbrev pub AdmissionLaw : Type 0
 AdmissionLaw =
     (state : State) → IsLegal state.shape state.history → (request : Request) →
-    IsFaultless state request ↔ ((state.stopped ≡ false) × (length state.history < state.limit) × IsAdmitted state.shape state.history request)
+    IsFaultless state request
+    ↔ ((state.stopped ≡ false) × (length state.history < state.limit) × IsAdmitted state.shape state.history request)
 
 -- the reply has an entry, or a fault of the gate
 abbrev pub IsEnteredOrOfTheGate : Reply → Type 0

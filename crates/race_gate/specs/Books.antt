@@ -33,7 +33,8 @@ pub record Books : Type 0 where
 
 -- Of each reducer the puts are among the granted reads, and where there is a read, there is a put.
 pub record PutsAreRead (steps : Steps) (earlier : List ReducerRead) (reducer : ℕ) : Type 0 where
-  pub read_of : (put : Entry) → HasPut (items_of reducer steps) put → (read : ReducerRead) × IsReadOf earlier reducer read × (read.strand ≡ strand_of put)
+  pub read_of : (put : Entry) → HasPut (items_of reducer steps) put →
+      (read : ReducerRead) × IsReadOf earlier reducer read × (read.strand ≡ strand_of put)
   pub put_of : (read : ReducerRead) → IsReadOf earlier reducer read → (put : Entry) × HasPut (items_of reducer steps) put
 
 -- The books are those of these steps, with these granted reads.
@@ -50,7 +51,8 @@ pub record Keeps (books : Books) (steps : Steps) (earlier : List ReducerRead) : 
 
 -- some steps are kept, after which the strand runs
 abbrev pub KeepsRunning : Books → ℕ → Type 0
-KeepsRunning books strand = (steps : Steps) × (earlier : List ReducerRead) × Keeps books steps earlier × Running (control_steps steps) strand
+KeepsRunning books strand =
+    (steps : Steps) × (earlier : List ReducerRead) × Keeps books steps earlier × Running (control_steps steps) strand
 
 -- what was kept before is kept still
 pub record KeepsStill (old new : Books) : Type 0 where
@@ -80,7 +82,8 @@ pub record IsRefusal (history : History) (earlier : List ReducerRead) (strand re
   pub none : IsRefused answer ⊎ (answer ≡ Unset)
 
 -- The answer to the strand's act after these steps is right, and the books are those of the steps and this one, which has the number.
-pub record IsAnswered (steps : Steps) (earlier : List ReducerRead) (number strand : ℕ) (act : Act) (answer : Answer) (books : Books) : Type 0 where
+pub record IsAnswered (steps : Steps) (earlier : List ReducerRead)
+    (number strand : ℕ) (act : Act) (answer : Answer) (books : Books) : Type 0 where
   pub belongs : Belongs act answer
   pub right : IsRightFor books.views.monoids (control_steps steps) steps earlier strand act answer
   pub keeps : Keeps books (step_with None strand act answer ∷ steps) (earlier ++ option_to_list (read_at number strand act answer))
@@ -123,7 +126,8 @@ OptionKeepsOn old new event = ⊥
 -- some steps with this control history are kept
 abbrev pub OptionKeepsSome : Option Books → History → Type 0
 OptionKeepsSome None history = Unit {0}
-OptionKeepsSome (Some books) history = (steps : Steps) × (earlier : List ReducerRead) × Keeps books steps earlier × (control_steps steps ≡ history)
+OptionKeepsSome (Some books) history =
+    (steps : Steps) × (earlier : List ReducerRead) × Keeps books steps earlier × (control_steps steps ≡ history)
 
 abbrev pub OptionKeepsRunning : Option Books → ℕ → Type 0
 OptionKeepsRunning None strand = ⊥

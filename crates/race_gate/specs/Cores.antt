@@ -14,8 +14,8 @@ use Rattle.race_gate.specs.States.{State}
 use Rattle.race_gate.specs.Books.{Books}
 use Rattle.race_gate.specs.Kept.{IsKept}
 
--- what a core shows: the shape and the limit that it was made with, whether it was stopped, how many entries there were, whether the root function
--- has returned, the cells' values, and what is kept of the strands, of the granted accesses of cells, and of the reducers
+-- what a core shows: the shape and the limit that it was made with, whether it was stopped, how many entries there were, whether the root
+-- function has returned, the cells' values, and what is kept of the strands, of the granted accesses of cells, and of the reducers
 pub record CoreState : Type 0 where
   pub shape : Shape
   pub limit : ℕ

@@ -19,7 +19,8 @@ abbrev pub AreBooksOf : Shape → Entries → Option Books → Type 0
 AreBooksOf shape history None = shape.monoids ≡ []
 AreBooksOf shape history (Some books) = (books.views.monoids ≡ shape.monoids) × Keeps books (steps_of history) (granted_reads history)
 
--- the history is judged rightly, the strands follow its control part, the shadow history remembers its granted accesses, and the books its reducers
+-- the history is judged rightly, the strands follow its control part, the shadow history remembers its granted accesses, and the books its
+-- reducers
 pub record IsKept (state : State) (strands : Roster) (shadow : List Cell) (books : Option Books) : Type 0 where
   pub right : IsRight state
   pub follows : Follows strands (control_part state.history)
@@ -37,7 +38,8 @@ pub record OpensTracks (strands : Roster) (shadow : List Cell) (books : Option B
   pub opens : OpensBooks books monoids
 
 -- the request has no fault in the state, and its entry will have this number
-pub record IsReady (state : State) (strands : Roster) (shadow : List Cell) (books : Option Books) (memory : List ℕ) (request : Request) (number : ℕ) : Type 0 where
+pub record IsReady (state : State) (strands : Roster) (shadow : List Cell)
+    (books : Option Books) (memory : List ℕ) (request : Request) (number : ℕ) : Type 0 where
   pub kept : IsKept state strands shadow books
   pub cells : memory ≡ state.memory
   pub faultless : IsFaultless state request
@@ -45,4 +47,7 @@ pub record IsReady (state : State) (strands : Roster) (shadow : List Cell) (book
 
 -- the state after one more entry
 abbrev pub with_entry : State → Request → Answer → List ℕ → State
-with_entry state request answer memory = record state { history = record { request = request; answer = answer } ∷ state.history; memory = memory }
+with_entry state request answer memory = record state {
+  history = record { request = request; answer = answer } ∷ state.history;
+  memory = memory;
+}

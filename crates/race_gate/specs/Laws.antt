@@ -24,15 +24,16 @@ RaceLaw =
     (strand : ℕ) → Running (control_part entries) strand → (access : CellAccess) →
     HasRace (control_part entries) (granted entries) strand access ↔ HasRace (control_part longer) (granted entries) strand access
 
--- each access of memory in a judged history is refused exactly where it races with an earlier granted access in the dag of the whole history
+-- each access of memory in a judged history is refused exactly where it races with an earlier granted access in the dag of the whole
+-- history
 abbrev pub VerdictLaw : Type 0
 VerdictLaw =
     (shape : Shape) (later entries : Entries) (entry : Entry) (access : CellAccess) → IsJudged shape (later ++ entry ∷ entries) →
     cell_access entry.request.act ≡ Some access →
     IsRefused entry.answer ↔ HasRace (control_part (later ++ entry ∷ entries)) (granted entries) entry.request.strand access
 
--- each put or get in a judged history is refused exactly where an earlier granted one of its reducer is of a strand with other peers in the dag of any
--- finished extension of the whole history
+-- each put or get in a judged history is refused exactly where an earlier granted one of its reducer is of a strand with other peers in the
+-- dag of any finished extension of the whole history
 abbrev pub ReadLaw : Type 0
 ReadLaw =
     (shape : Shape) (later entries : Entries) (entry : Entry) (reducer value : ℕ) → IsJudged shape (later ++ entry ∷ entries) →
@@ -42,6 +43,7 @@ ReadLaw =
 
 -- the value of a cell is that of its last granted write, or 0 where there is none, and the granted bumps since, modulo 2^64
 pub record ValueLaw : Type 0 where
-  pub written : (later before : Entries) (write : Entry) (cell value : ℕ) → effect write.request.act write.answer ≡ sets cell value → HasNoWrite cell later →
+  pub written : (later before : Entries) (write : Entry) (cell value : ℕ) →
+      effect write.request.act write.answer ≡ sets cell value → HasNoWrite cell later →
       value_of (later ++ write ∷ before) cell ≡ (value + bumps_of cell later) % 2 ^ 64
   pub unwritten : (entries : Entries) (cell : ℕ) → HasNoWrite cell entries → value_of entries cell ≡ bumps_of cell entries % 2 ^ 64

@@ -8,8 +8,8 @@ use Rattle.shadow_history.specs.Accesses.{Access, Races}
 use Rattle.shadow_history.specs.Witnesses.{witness_of}
 use Rattle.race_gate.specs.declared.access.CellAccess.{CellAccess}
 
--- In this dag, one of the earlier granted accesses of the same cell, which conflicts with the strand's new one under the rule of races, is of a strand
--- that is parallel to it.
+-- In this dag, one of the earlier granted accesses of the same cell, which conflicts with the strand's new one under the rule of races, is
+-- of a strand that is parallel to it.
 abbrev pub HasRace : History → List Access → ℕ → CellAccess → Type 0
 HasRace dag earlier strand new = (access : Access) × Races dag earlier new.location new.kind strand access
 

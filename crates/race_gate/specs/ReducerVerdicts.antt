@@ -18,13 +18,14 @@ use Rattle.race_gate.specs.Verdicts.{IfValue}
 use Rattle.race_gate.specs.Reducers.{steps_of, granted_reads}
 use Rattle.race_gate.specs.ViewReads.{IsRightRead}
 
--- The value of a get by the strand after these steps: the last granted put of the reducer, combined by its monoid with the granted updates since then
--- of strands that the put's strand reaches and that reach the get's, in serial order.
+-- The value of a get by the strand after these steps: the last granted put of the reducer, combined by its monoid with the granted updates
+-- since then of strands that the put's strand reaches and that reach the get's, in serial order.
 abbrev pub IsGetValue : List Monoid → Steps → ℕ → ℕ → ℕ → Type 0
 IsGetValue monoids steps strand reducer value =
     (view : View) × IsValue (reducer_of (monoid_of monoids reducer)) (items_of reducer steps) strand view × (number_of view ≡ Some value)
 
--- after this control history, these steps and these granted reads this is the right answer to the strand's act, where that is a put or a get
+-- after this control history, these steps and these granted reads this is the right answer to the strand's act, where that is a put or a
+-- get
 abbrev pub IsRightFor : List Monoid → History → Steps → List ReducerRead → ℕ → Act → Answer → Type 0
 IsRightFor monoids history steps earlier strand (Put reducer value) answer = IsRightRead history earlier strand reducer kind.Put answer
 IsRightFor monoids history steps earlier strand (Get reducer) answer =
@@ -36,4 +37,5 @@ abbrev pub ReducersAreJudged : Shape → Entries → Type 0
 ReducersAreJudged shape [] = Unit {0}
 ReducersAreJudged shape (entry ∷ entries) =
     ReducersAreJudged shape entries ×
-    IsRightFor shape.monoids (control_part entries) (steps_of entries) (granted_reads entries) entry.request.strand entry.request.act entry.answer
+    IsRightFor shape.monoids (control_part entries) (steps_of entries)
+    (granted_reads entries) entry.request.strand entry.request.act entry.answer

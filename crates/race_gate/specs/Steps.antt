@@ -1,5 +1,6 @@
 -- What the gate's steps do to the strands, to the shadow history and to memory.
-use Rattle.std.specs.Prelude.{◌≡◌, ◌↔◌, ◌<◌, ◌+◌, ◌%◌, ◌^◌, ◌==◌, ℕ, List, ◌∷◌, ◌++◌, length, slice_index, Some, None, Option, if◌then◌else◌}
+use Rattle.std.specs.Prelude.{◌≡◌, ◌↔◌, ◌<◌, ◌+◌, ◌%◌, ◌^◌, ◌==◌, ℕ, List, ◌∷◌, ◌++◌}
+use Rattle.std.specs.Prelude.{length, slice_index, Some, None, Option, if◌then◌else◌}
 use Rattle.std.specs.Option.{option_to_list}
 use Rattle.trace_values.specs.declared.value.Act.{Act}
 use Rattle.trace_values.specs.declared.value.Act.TheVariants.{Spawn, Sync, Call, Return}
@@ -42,11 +43,13 @@ abbrev pub if_granted : Answer → Access → Option Access
 if_granted answer access = if is_granted answer then Some access else None
 
 -- the answer is right by these accesses, and they go on with this one if it was granted
-pub record IsJudgedBy (history : History) (accesses : List Access) (strand : ℕ) (access : CellAccess) (number : ℕ) (answer : Answer) (shadow : List Cell) : Type 0 where
+pub record IsJudgedBy (history : History) (accesses : List Access) (strand : ℕ)
+    (access : CellAccess) (number : ℕ) (answer : Answer) (shadow : List Cell) : Type 0 where
   pub refused : IsRefused answer ↔ HasRace history accesses strand access
   pub witness : IfRefused answer (IsTrueWitness history accesses strand access)
   pub remembers : Remembers shadow history
-      (accesses ++ option_to_list (if_granted answer (record { strand = strand; kind = access.kind; location = access.location; entry = number })))
+      (accesses ++
+      option_to_list (if_granted answer (record { strand = strand; kind = access.kind; location = access.location; entry = number })))
 
 -- what a cell holds after an effect, by what it held before
 abbrev pub after : Effect → ℕ → ℕ → ℕ

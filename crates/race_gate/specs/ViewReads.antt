@@ -27,7 +27,8 @@ abbrev pub HasViewRace : History → List ReducerRead → ℕ → ℕ → Type 0
 HasViewRace dag earlier strand reducer = (read : ReducerRead) × IsReadOf earlier reducer read × HasOtherPeers dag strand read
 
 -- The witness is such a read, by its entry, its strand and its kind, in the dag of each finished extension, and the rule is that of views.
-pub record IsTrueReadWitness (history : History) (earlier : List ReducerRead) (strand reducer : ℕ) (new : Kind) (rule : Rule) (witness : Witness) : Type 0 where
+pub record IsTrueReadWitness (history : History) (earlier : List ReducerRead)
+    (strand reducer : ℕ) (new : Kind) (rule : Rule) (witness : Witness) : Type 0 where
   pub read : ReducerRead
   pub names : witness ≡ witness_of read
   pub listed : IsReadOf earlier reducer read
@@ -44,5 +45,6 @@ pub record IsRightRead (history : History) (earlier : List ReducerRead) (strand 
   -- a refusal names a true witness and its rule
   pub witness : IfRefused answer (IsTrueReadWitness history earlier strand reducer new)
   -- where it is granted, all earlier granted reads of the reducer are of strands with the same peers
-  pub granted : is_granted answer ≡ true → (read : ReducerRead) → IsReadOf earlier reducer read → (whole : History) → Completes whole history →
+  pub granted : is_granted answer ≡ true → (read : ReducerRead) → IsReadOf earlier reducer read →
+      (whole : History) → Completes whole history →
       HaveSamePeers whole read.strand strand

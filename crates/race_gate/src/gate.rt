@@ -126,7 +126,8 @@ impl<A: Allocator + Clone> Gate<A> {
 
     /// Answers a request of a strand, does what was granted, and enters both in the history. A fault is the first one, in the order of
     /// [`GateFault`], that has its cause. It changes nothing, and none but the last depends on memory. A request that the rules of legal
-    /// histories admit, that is, one that some answer may follow, is entered unless the gate was stopped, is at its limit, or has no memory.
+    /// histories admit, that is, one that some answer may follow, is entered unless the gate was stopped, is at its limit, or has no
+    /// memory.
     pub fn judge(&mut self, request: Request) -> Result<Receipt, GateFault>
         ensures replies { Judges self.old request (reply_of result) self.new }
         ensures admitted { IsAdmitted self.old.shape self.old.history request → IfErr result IsOfTheGate }

@@ -52,9 +52,29 @@ impl<A: Allocator + Clone> Model for Core<A> {
 
     ghost Value = { CoreState };
 
-    ghost view = { λ core. record { shape = shape_of core.shape; limit = core.limit; stopped = core.stopped; entries = core.entries; finished = core.finished; memory = core.memory.items; strands = core.tracks.strands; shadow = core.tracks.shadow; reducers = core.tracks.reducers } };
+    ghost view = { λ core. record {
+      shape = shape_of core.shape;
+      limit = core.limit;
+      stopped = core.stopped;
+      entries = core.entries;
+      finished = core.finished;
+      memory = core.memory.items;
+      strands = core.tracks.strands;
+      shadow = core.tracks.shadow;
+      reducers = core.tracks.reducers;
+    } };
 
-    ghost invariant = { λ core. IsCore (record { shape = shape_of core.shape; limit = core.limit; stopped = core.stopped; entries = core.entries; finished = core.finished; memory = core.memory.items; strands = core.tracks.strands; shadow = core.tracks.shadow; reducers = core.tracks.reducers }) };
+    ghost invariant = { λ core. IsCore (record {
+      shape = shape_of core.shape;
+      limit = core.limit;
+      stopped = core.stopped;
+      entries = core.entries;
+      finished = core.finished;
+      memory = core.memory.items;
+      strands = core.tracks.strands;
+      shadow = core.tracks.shadow;
+      reducers = core.tracks.reducers;
+    }) };
 }
 
 /// A copy of what a program declares.
@@ -177,7 +197,8 @@ impl<A: Allocator + Clone> Core<A> {
     /// The first fault of a request that can be told without memory.
     pub(crate) fn check(&self, request: Request) -> Result<(), GateFault>
         ensures fits { IsCore self.now }
-        ensures fault { (state : State) → IsCoreOf self.now state → MatchResult result (λ _. IsFaultless state request) (IsFirstFault state request) }
+        ensures fault { (state : State) → IsCoreOf self.now state →
+            MatchResult result (λ _. IsFaultless state request) (IsFirstFault state request) }
     {
         if self.stopped {
             return Err(GateFault::Stopped);
@@ -213,13 +234,14 @@ impl<A: Allocator + Clone> Core<A> {
         Ok(answer)
     }
 
-    /// Answers a request of a strand and does what was granted, as [`Gate::judge`](crate::Gate::judge) does. A fault is the first one, in the
-    /// order of [`GateFault`], that has its cause. It changes nothing, and none but the last depends on memory. A request that the rules of
-    /// legal histories admit is answered unless the core was stopped, is at its limit, or has no memory.
+    /// Answers a request of a strand and does what was granted, as [`Gate::judge`](crate::Gate::judge) does. A fault is the first one, in
+    /// the order of [`GateFault`], that has its cause. It changes nothing, and none but the last depends on memory. A request that the
+    /// rules of legal histories admit is answered unless the core was stopped, is at its limit, or has no memory.
     pub fn judge(&mut self, request: Request) -> Result<Answer, GateFault>
         ensures judges { (state : State) → IsCoreOf self.old state →
             (next : State) × Judges state request (reply_with (self.old.entries + 1) request result) next × IsCoreOf self.new next }
-        ensures admitted { (state : State) → IsCoreOf self.old state → IsAdmitted state.shape state.history request → IfErr result IsOfTheGate }
+        ensures admitted { (state : State) → IsCoreOf self.old state → IsAdmitted state.shape state.history request →
+            IfErr result IsOfTheGate }
     {
         self.check(request)?;
         self.answer(request)

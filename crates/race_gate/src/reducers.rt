@@ -7,7 +7,8 @@ ghost use Rattle.control_history.specs.Strands.{Running};
 ghost use Rattle.reducer_values.specs.Accesses.{Steps, control_steps};
 ghost use Rattle.view_read_rule.specs.Reads.{ReducerRead};
 ghost use Rattle.race_gate.specs.Entries.{event_between};
-ghost use Rattle.race_gate.specs.Books.{Keeps, KeepsRunning, KeepsStill, KeepsOn, TakesEvent, HasRoom, HasRoomFor, OptionHasReducer, IsRefusal, MayRead, AnswersAccess, OpensBooks};
+ghost use Rattle.race_gate.specs.Books.{Keeps, KeepsRunning, KeepsStill, KeepsOn, TakesEvent, HasRoom, HasRoomFor};
+ghost use Rattle.race_gate.specs.Books.{OptionHasReducer, IsRefusal, MayRead, AnswersAccess, OpensBooks};
 
 use crate::answer::Answer;
 use access_table::{Kind, rule};
@@ -133,7 +134,9 @@ impl<A: Allocator + Clone> Reducers<A> {
         requires reducer_read { IsTrue (is_reducer_read kind) }
         requires keeps { KeepsRunning self.now strand }
         ensures { (steps : Steps) (earlier : List ReducerRead) → Keeps self.now steps earlier → Running (control_steps steps) strand →
-            MatchOption result (MayRead (control_steps steps) earlier strand reducer kind) (IsRefusal (control_steps steps) earlier strand reducer kind) }
+            MatchOption result
+            (MayRead (control_steps steps) earlier strand reducer kind)
+            (IsRefusal (control_steps steps) earlier strand reducer kind) }
     {
         match self.reads.judge(&self.branches, reducer, kind, strand) {
             ViewVerdict::Granted => None,

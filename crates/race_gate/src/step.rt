@@ -10,7 +10,8 @@ ghost use Rattle.shadow_history.specs.Shadow.{Remembers, StandsOn, Runs};
 ghost use Rattle.race_gate.specs.Shapes.{shape_of, IsInRange};
 ghost use Rattle.race_gate.specs.Entries.{event_between};
 ghost use Rattle.race_gate.specs.Legal.{Belongs};
-ghost use Rattle.race_gate.specs.Books.{OptionKeepsStill, OptionKeepsOn, OptionKeepsRunning, OptionAnswersAccess, OptionHasRoom, OptionHasReducer};
+ghost use Rattle.race_gate.specs.Books.{OptionKeepsStill, OptionKeepsOn, OptionKeepsRunning};
+ghost use Rattle.race_gate.specs.Books.{OptionAnswersAccess, OptionHasRoom, OptionHasReducer};
 ghost use Rattle.race_gate.specs.Accesses.{cell_access, is_granted};
 ghost use Rattle.race_gate.specs.Memory.{effect};
 ghost use Rattle.race_gate.specs.Verdicts.{IfValue};
@@ -87,7 +88,8 @@ pub fn control<A: Allocator + Clone>(
     requires synced { act ≡ Act.Return → (history : History) → Follows strands.old history → IsSynced (stack history strand) }
     requires numbers { (history : History) → Follows strands.old history → HasFewLeft history → ⊥ }
     ensures ok { IfOk result (λ answer. (history : History) → Follows strands.old history → GoesOn history strand act answer strands.new) }
-    ensures books { IfOk result (λ answer. (event : Event) → event_between strand act answer ≡ Some event → OptionKeepsOn reducers.old reducers.new event) }
+    ensures books { IfOk result (λ answer.
+        (event : Event) → event_between strand act answer ≡ Some event → OptionKeepsOn reducers.old reducers.new event) }
     ensures err { IfErr result (λ fault. fault ≡ GateFault.Memory) }
     ensures still { OnErr result ((history : History) → Follows strands.old history → Follows strands.new history) }
     ensures books_still { OnErr result (OptionKeepsStill reducers.old reducers.new) }
@@ -186,7 +188,8 @@ pub fn judge_access<A: Allocator>(
     requires in_shadow { access.location < length shadow.old }
     requires in_memory { access.location < length memory.old }
     ensures belongs { Belongs act result }
-    ensures judged { (history : History) (accesses : List Access) → Follows strands.now history → Remembers shadow.old history accesses → IsJudgedBy history accesses strand access number result shadow.new }
+    ensures judged { (history : History) (accesses : List Access) → Follows strands.now history → Remembers shadow.old history accesses →
+        IsJudgedBy history accesses strand access number result shadow.new }
     ensures locations { length shadow.new ≡ length shadow.old }
     ensures value { IfValue result (λ value. value ≡ slice_index memory.old access.location) }
     ensures memory { TakesPlace (effect act result) memory.old memory.new }
@@ -208,7 +211,8 @@ fn perform(memory: &mut [u64], act: Act) -> Answer
     requires access { IsSome (cell_access act) }
     ensures belongs { Belongs act result }
     ensures granted { is_granted result ≡ true }
-    ensures value { (access : CellAccess) → cell_access act ≡ Some access → IfValue result (λ value. value ≡ slice_index memory.old access.location) }
+    ensures value { (access : CellAccess) → cell_access act ≡ Some access →
+        IfValue result (λ value. value ≡ slice_index memory.old access.location) }
     ensures memory { TakesPlace (effect act result) memory.old memory.new }
 {
     match act {

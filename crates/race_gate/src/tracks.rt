@@ -65,9 +65,11 @@ impl<A: Allocator + Clone> Tracks<A> {
         request: Request,
     ) -> Result<Answer, GateFault>
         requires { (state : State) × IsReady state self.old.strands self.old.shadow self.old.reducers memory.old request number }
-        ensures { (state : State) → IsReady state self.old.strands self.old.shadow self.old.reducers memory.old request number → MatchResult result
+        ensures { (state : State) → IsReady state self.old.strands self.old.shadow self.old.reducers memory.old request number →
+            MatchResult result
             (λ answer. IsKept (with_entry state request answer memory.new) self.new.strands self.new.shadow self.new.reducers)
-            (λ fault. (fault ≡ GateFault.Memory) × (memory.new ≡ memory.old) × IsKept state self.new.strands self.new.shadow self.new.reducers) }
+            (λ fault. (fault ≡ GateFault.Memory) × (memory.new ≡ memory.old)
+            × IsKept state self.new.strands self.new.shadow self.new.reducers) }
     {
         match sort_of(request.act) {
             Sort::Cell(access) => Ok(judge_access(

@@ -1,5 +1,6 @@
 -- How the strands of a refused access and its witness came about.
-use Rattle.std.specs.Prelude.{◌≡◌, ◌⊎◌, ◌↔◌, ◌-◌, ◌<◌, ◌≤◌, ℕ, List, [], reverse, take, unwrap_or, option_and_then, Option, Some, None, IsSome, IfSome, MatchOption}
+use Rattle.std.specs.Prelude.{◌≡◌, ◌⊎◌, ◌↔◌, ◌-◌, ◌<◌, ◌≤◌, ℕ, List, [], reverse, take, unwrap_or}
+use Rattle.std.specs.Prelude.{option_and_then, Option, Some, None, IsSome, IfSome, MatchOption}
 use Rattle.std.specs.Option.{option_map}
 use Rattle.std.specs.List.{All, Contains}
 use Rattle.control_history.specs.Dag.{IsParallel}
@@ -17,7 +18,8 @@ use Rattle.race_pairs.specs.Refusals.{entry_at}
 
 -- the frames of the strand of the entry with this number, before it; none where there is no such entry
 abbrev pub chain_at : List Entry → ℕ → List ℕ
-chain_at told number = unwrap_or (option_map (λ entry. frames (reverse (take (number - 1) told)) entry.request.strand) (entry_at told number)) []
+chain_at told number =
+    unwrap_or (option_map (λ entry. frames (reverse (take (number - 1) told)) entry.request.strand) (entry_at told number)) []
 
 -- the strand of the entry with this number
 abbrev pub strand_at : List Entry → ℕ → Option ℕ
@@ -25,13 +27,15 @@ strand_at told number = option_map (λ entry. entry.request.strand) (entry_at to
 
 -- the strands of the first refused access of a pair and of its witness, where both are there
 abbrev pub strands_of : List Entry → Pair → Option (ℕ × ℕ)
-strands_of told pair = option_and_then (λ refused. option_map (λ witness. (refused, witness)) (strand_at told pair.witness)) (strand_at told pair.first)
+strands_of told pair =
+    option_and_then (λ refused. option_map (λ witness. (refused, witness)) (strand_at told pair.witness)) (strand_at told pair.first)
 
 -- the two strands part at that spawn, and at none exactly where they are not parallel
 abbrev pub PartAt : List Entry → Pair → Option Parting → Type 0
 PartAt told pair parting =
     MatchOption (strands_of told pair) (parting ≡ None)
-    (λ strands. IfSome parting (IsParting (reverse told) strands.0 strands.1) × (IsSome parting ↔ IsParallel (control_part (reverse told)) strands.0 strands.1))
+    (λ strands. IfSome parting (IsParting (reverse told) strands.0 strands.1)
+    × (IsSome parting ↔ IsParallel (control_part (reverse told)) strands.0 strands.1))
 
 -- of these numbers this is the least above a bound, where one is above it
 abbrev pub IsLeast : ℕ → List ℕ → Option ℕ → Type 0

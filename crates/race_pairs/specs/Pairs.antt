@@ -7,7 +7,8 @@ use Rattle.race_pairs.specs.declared.tally.Pair.{Pair}
 use Rattle.race_pairs.specs.Refusals.{refusal_at, lines_of, HasLines}
 use Rattle.race_pairs.specs.Firsts.{AreFirsts, Tells}
 
--- The pair tells of the entries up to a last number: its first entry is a refusal with its lines and its witness, and so many of them have its lines.
+-- The pair tells of the entries up to a last number: its first entry is a refusal with its lines and its witness, and so many of them have
+-- its lines.
 pub record IsPair (told : List Entry) (last : ℕ) (pair : Pair) : Type 0 where
   pub refusal : Refusal
   pub refused : refusal_at told pair.first ≡ Some refusal

@@ -12,7 +12,8 @@ abbrev pub HasPlace : List Entry → Lines → ℕ → ℕ → Type 0
 HasPlace told lines number place =
     (refusal : Refusal) × (refusal_at told number ≡ Some refusal) × (lines_of told refusal ≡ lines) × (refusal.place ≡ place)
 
--- The cells or reducers of the refusals with these lines among the entries up to a last number, each once, in the order of their first refusals.
+-- The cells or reducers of the refusals with these lines among the entries up to a last number, each once, in the order of their first
+-- refusals.
 pub record ArePlacesUpTo (told : List Entry) (lines : Lines) (last : ℕ) (places : List ℕ) : Type 0 where
   pub numbers : List ℕ
   pub firsts : AreFirsts (HasPlace told lines) last numbers

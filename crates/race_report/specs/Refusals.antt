@@ -49,8 +49,8 @@ refusal_told known entry_number request rule witness =
     (member (codes "strand") (number (unsigned request.strand))
     (member (codes "witness") witness no_members))))))
 
--- What is told of the entry with this number: a refused access by the word of its rule and with its witness, an unset one by `unset` and with none, and
--- nothing of other entries.
+-- What is told of the entry with this number: a refused access by the word of its rule and with its witness, an unset one by `unset` and
+-- with none, and nothing of other entries.
 abbrev pub answer_told : Known → List Entry → ℕ → Request → Answer → Option Data
 answer_told known entries entry_number request (Refused rule witness) =
     Some (refusal_told known entry_number request (unwrap_or (refusal_word request.act witness.kind) []) (witness_told entries witness))

@@ -16,7 +16,8 @@ cells_told is_array values = array (items_of (map (λ value. number (unsigned va
 -- the members with each of these memories put to its name; the values are those of the memories' cells, in order
 abbrev pub memory_put : Members → List Mem → List ℕ → Members
 memory_put told [] values = told
-memory_put told (mem ∷ mems) values = memory_put (put mem.name (cells_told mem.array (take mem.cells values)) told) mems (drop mem.cells values)
+memory_put told (mem ∷ mems) values =
+    memory_put (put mem.name (cells_told mem.array (take mem.cells values)) told) mems (drop mem.cells values)
 
 -- each memory's name with what its cells hold, the names in byte order
 abbrev pub memory_told : List Mem → List ℕ → Data

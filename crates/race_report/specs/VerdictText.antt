@@ -5,7 +5,8 @@ use Rattle.access_table.specs.Table.{rule_between, rule_spelling}
 use Rattle.trace_values.specs.declared.value.Act.{Act}
 use Rattle.trace_values.specs.Asking.{access_asked}
 use Rattle.race_gate.specs.declared.answer.Answer.{Answer}
-use Rattle.race_gate.specs.declared.answer.Answer.TheVariants.{Split, Same, Joined, Waits, Resumed, Ended, EndedJoined, Finished, Granted, Value, Refused, Unset}
+use Rattle.race_gate.specs.declared.answer.Answer.TheVariants.{Split, Same, Joined, Waits, Resumed, Ended}
+use Rattle.race_gate.specs.declared.answer.Answer.TheVariants.{EndedJoined, Finished, Granted, Value, Refused, Unset}
 use Rattle.race_gate.specs.declared.answer.Reply.{Reply}
 use Rattle.race_gate.specs.declared.answer.Reply.TheVariants.{Done, Illegal}
 use Rattle.race_gate.specs.declared.fault.GateFault.{GateFault}

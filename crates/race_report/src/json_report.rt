@@ -100,7 +100,8 @@ fn entry_value<A: Allocator>(
     entry: Entry,
 ) -> Result<Option<Value>, AllocError>
     requires { IsTellable (shape_known (contents program.now).known) (length entries.now) entry }
-    ensures { IfOk result (λ told. option_map view told ≡ answer_told (contents program.now).known entries.now number entry.request entry.answer) }
+    ensures { IfOk result (λ told.
+        option_map view told ≡ answer_told (contents program.now).known entries.now number entry.request entry.answer) }
 {
     match entry.answer {
         Answer::Refused { witness, .. } => {

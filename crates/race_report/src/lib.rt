@@ -1,8 +1,9 @@
 //! The texts of results: the verdict lines of replies, and the report of a run.
 //!
-//! [`verdict_lines`] writes a line for each reply of a gate, and [`put_verdict`] puts one such line where there is room. [`report`] writes
-//! one JSON object: whether the run is clean, the number of its entries, what each memory holds, and each refusal with its witness. `specs/`
-//! says which text that is: `verdict_text` by cases on replies, and `report_told` as a JSON value, of which the report is the compact text.
+//! [`verdict_lines`] writes a line for each reply of a gate, and [`put_verdict`] puts one such line where there is room. [`report`]
+//! writes one JSON object: whether the run is clean, the number of its entries, what each memory holds, and each refusal with its
+//! witness. `specs/` says which text that is: `verdict_text` by cases on replies, and `report_told` as a JSON value, of which the report
+//! is the compact text.
 //! [`laws::schedules_law`] says what the report of a clean run promises of all runs of the program.
 #![tactic(auto)]
 

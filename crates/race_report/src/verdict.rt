@@ -1,8 +1,10 @@
 //! The verdict lines: a line for each reply of a gate.
 
-ghost use Rattle.std.specs.Prelude.{◌≡◌, ◌++◌, ◌∷◌, ◌+◌, ◌≤◌, ℕ, [], List, IfOk, OnOk, IsOk, IsSome, codes, decimal, length, take, unwrap_or, vec_capacity};
+ghost use Rattle.std.specs.Prelude.{◌≡◌, ◌++◌, ◌∷◌, ◌+◌, ◌≤◌, ℕ, [], List, IfOk, OnOk, IsOk};
+ghost use Rattle.std.specs.Prelude.{IsSome, codes, decimal, length, take, unwrap_or, vec_capacity};
 ghost use Rattle.std.specs.List.{All};
-ghost use Rattle.race_report.specs.VerdictText.{refusal_word, HasWord, HasWords, answer_text, fault_word, numbers_text, line_of, verdict_text};
+ghost use Rattle.race_report.specs.VerdictText.{refusal_word, HasWord, HasWords, answer_text};
+ghost use Rattle.race_report.specs.VerdictText.{fault_word, numbers_text, line_of, verdict_text};
 ghost use Rattle.race_report.specs.Rooms.{HasRoom, number_room, line_room};
 
 use crate::counted::Counted;
@@ -73,7 +75,8 @@ fn put_told(out: &mut [u8], at: usize, word: &str, number: u64) -> usize
 fn put_split(out: &mut [u8], at: usize, spawned: Spawned) -> usize
     requires room { at + 70 ≤ length out.old }
     ensures len { length out.new ≡ length out.old }
-    ensures put { take result out.new ≡ take at out.old ++ (codes " split" ++ numbers_text (spawned.child ∷ spawned.next ∷ spawned.join ∷ []) ++ codes "\n") }
+    ensures put { take result out.new
+        ≡ take at out.old ++ (codes " split" ++ numbers_text (spawned.child ∷ spawned.next ∷ spawned.join ∷ []) ++ codes "\n") }
 {
     let place = put_word(out, at, " split ");
     let child = put_number(out, place, u64::from(spawned.child));
@@ -87,7 +90,8 @@ fn put_refusal(out: &mut [u8], at: usize, act: Act, witness: Witness) -> usize
     requires word { IsSome (refusal_word act witness.kind) }
     requires room { at + 48 ≤ length out.old }
     ensures len { length out.new ≡ length out.old }
-    ensures put { take result out.new ≡ take at out.old ++ (codes " refused " ++ unwrap_or (refusal_word act witness.kind) [] ++ codes " " ++ decimal witness.entry ++ codes "\n") }
+    ensures put { take result out.new ≡ take at out.old ++
+        (codes " refused " ++ unwrap_or (refusal_word act witness.kind) [] ++ codes " " ++ decimal witness.entry ++ codes "\n") }
 {
     let place = put_word(out, at, " refused ");
     let end = put_word(out, place, rule_of_refusal(act, witness.kind));

@@ -1,4 +1,5 @@
 -- Below the branch of the last put's strand no log holds what was written before the put.
+-- h: a history; e: an event; s, x, y, z, and a where it is a number: strands; a, b: else addresses
 use Rattle.std.proofs.Common.{◌≡◌, ◌⊎◌, inl, inr, ℕ, suc, ◌≤◌, Bool, true, false, not, ◌&&◌, List, [], ◌∷◌, ◌++◌, length, refl, sym, ap, ◌∙◌, subst, subst₂, arith}
 use Rattle.std.specs.List.{flat_map}
 use Rattle.std.proofs.lemmas.Bool.{and_right, cases_Bool}

@@ -1,4 +1,5 @@
 -- Lists put together: members, and pairs in the order of the list.
+-- X, Y: the types of the members of lists; u, v, x, y: members; f: a function of members to lists; R: a relation between members
 use Rattle.std.proofs.Common.{◌≡◌, ◌↔◌, inl, inr, List, [], ◌∷◌, ◌++◌, AllPairs, refl, sym, ap₂, ◌∙◌, subst}
 use Rattle.std.specs.List.{flat_map}
 use Rattle.addresses.proofs.Sorted.{pairs-nil, pairs-head, pairs-tail, pairs-append}

@@ -1,4 +1,5 @@
 -- Each log is in serial order.
+-- h: a history; e: an event; x, y, z: strands; u, v: updates or puts with their numbers; f: the logs of strands
 use Rattle.std.proofs.Common.{◌≡◌, ◌⊎◌, ◌↔◌, inl, inr, ℕ, suc, ◌<◌, ◌≤◌, List, [], ◌∷◌, ◌++◌, length, AllPairs, refl, sym, subst, arith}
 use Rattle.std.specs.List.{flat_map}
 use Rattle.std.proofs.lemmas.List.Elements.{All-nil}

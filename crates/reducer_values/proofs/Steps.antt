@@ -1,4 +1,5 @@
 -- What each item does to the logs.
+-- h: a history, of events or of items; e: an event; s, x: strands; j: a join; u: an update or put with its number; f: the logs of strands
 use Rattle.std.proofs.Common.{◌≡◌, ◌⊎◌, ◌↔◌, inl, inr, ℕ, suc, ◌≤◌, Bool, List, [], ◌∷◌, ◌++◌, length, AllPairs, refl, sym, ap, ◌∙◌, subst, arith}
 use Rattle.std.specs.List.{flat_map}
 use Rattle.control_history.specs.Updated.{updated}

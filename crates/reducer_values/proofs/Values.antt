@@ -1,4 +1,5 @@
 -- A strand's view is the product of its log, and so at a granted get that of the last put and the updates that count.
+-- h: a history, of events or of items; s, x: strands; u: an update or put with its number; p: a put; f: the logs of strands; g: their views
 use Rattle.std.proofs.Common.{◌≡◌, inl, inr, ℕ, suc, ◌≤◌, List, [], ◌∷◌, ◌++◌, map, length, All, IsTrue, refl, sym, ap, ap₂, ◌∙◌, subst, arith}
 use Rattle.std.proofs.lemmas.List.{map-append}
 use Rattle.std.specs.List.{flat_map}

@@ -36,4 +36,5 @@ HasPut (_ ∷ items) entry = HasPut items entry
 -- the serial order of entries: that of their strands, and within one strand that of their numbers
 abbrev pub AreInSerialOrder : History → Entry → Entry → Type 0
 AreInSerialOrder history entry later =
-    IsSeriallyBefore history (strand_of entry) (strand_of later) ⊎ ((strand_of entry ≡ strand_of later) × (number_of entry < number_of later))
+    IsSeriallyBefore history (strand_of entry) (strand_of later)
+    ⊎ ((strand_of entry ≡ strand_of later) × (number_of entry < number_of later))

@@ -4,7 +4,8 @@ use Rattle.control_history.specs.History.{Event, History}
 use Rattle.control_history.specs.Strands.{Running}
 use Rattle.control_history.specs.Legal.{Allowed}
 
--- What an entry of a history is to one reducer: an event of control, a granted update or put of the reducer, or any other access, granted or not.
+-- What an entry of a history is to one reducer: an event of control, a granted update or put of the reducer, or any other access, granted
+-- or not.
 pub data Item : Type 0 where
   control : (event : Event) → Item
   update : (strand value : ℕ) → Item

@@ -39,7 +39,8 @@ StayLaw View =
 -- each reducer sees all events, and what it sees is legal exactly where the whole is
 abbrev pub ProjectionLaw : Type 0
 ProjectionLaw =
-    (reducer : ℕ) (steps : Steps) → (control_part (items_of reducer steps) ≡ control_steps steps) × (IsLegal (items_of reducer steps) ↔ AreLegal steps)
+    (reducer : ℕ) (steps : Steps) →
+    (control_part (items_of reducer steps) ≡ control_steps steps) × (IsLegal (items_of reducer steps) ↔ AreLegal steps)
 
 -- the get by the strand is granted, these are the updates that count at it, and this is its value and the strand's view
 pub record IsWorked {View : Type 0} (reducer : Reducer View) (items : Items) (strand : ℕ) (put : Entry) (counted : List Entry)

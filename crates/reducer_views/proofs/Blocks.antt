@@ -1,4 +1,6 @@
 -- The homes of a block's children and of its syncing strand, in order: the home of its join, and then its continuations.
+-- h: a history; e: an event; x, y: strands; i, j, k: joins; m: the number of a spawn; p: a place; in a split, s is the spawner, c its
+-- child, n its next and j the join
 use Rattle.std.proofs.Common.{◌≡◌, ◌≢◌, ◌⊎◌, inl, inr, ℕ, ◌+◌, ◌<◌, ◌≤◌, suc, Bool, true, false, List, [], ◌∷◌, ◌++◌, map, length, AllPairs, refl, sym, ap, ap₂, ◌∙◌, subst, subst₂, arith}
 use Rattle.std.proofs.lemmas.List.{map-append}
 use Rattle.control_history.specs.Updated.{updated}

@@ -1,4 +1,6 @@
 -- Strands that run or have arrived at a join that has not begun: what a join gathers of them, and that no two have one home.
+-- h: a history; e: an event; s, x, z: strands; i, j: joins; m: the number of a spawn; in a split, s is the spawner, c its child, n its next
+-- and j the join
 use Rattle.std.proofs.Common.{◌≡◌, ◌≢◌, ◌⊎◌, inl, inr, ℕ, ◌+◌, ◌<◌, ◌≤◌, suc, Bool, List, [], ◌∷◌, ◌++◌, map, length, Some, refl, sym, ap, ap₂, ◌∙◌, subst, subst₂, arith}
 use Rattle.std.proofs.lemmas.List.{map-append}
 use Rattle.control_history.specs.Updated.{updated}

@@ -1,4 +1,6 @@
 -- What is held follows the steps.
+-- h: a history; s, x: strands; q: a reducer; v: a view; j: a join; A: the type of an allocator; in a split, s is the spawner, c its child,
+-- n its next and j the join
 use Rattle.std.proofs.Common.{◌≡◌, ◌≢◌, ◌⊎◌, inl, inr, ℕ, ◌+◌, ◌<◌, ◌≤◌, Bool, true, false, List, [], ◌∷◌, map, length, get_or, Option, Some, None, refl, sym, ap, ap₂, ◌∙◌, subst, subst₂, arith}
 use Rattle.std.proofs.lemmas.List.{get_or_default}
 use Rattle.trace_values.specs.declared.value.Monoid.{Monoid}

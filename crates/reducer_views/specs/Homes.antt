@@ -8,7 +8,8 @@ use Rattle.control_history.specs.Dag.{Arrives}
 -- A child goes on at its spawner's home and a join at that of the strand that opened its block; a continuation has a home of its own.
 abbrev pub home : History → ℕ → ℕ
 home [] = λ strand. 0
-home (split strand child next join true ∷ history) = updated (updated (updated (home history) child (home history strand)) next next) join (home history strand)
+home (split strand child next join true ∷ history) =
+    updated (updated (updated (home history) child (home history strand)) next next) join (home history strand)
 home (split strand child next join false ∷ history) = updated (updated (home history) child (home history strand)) next next
 home (_ ∷ history) = home history
 

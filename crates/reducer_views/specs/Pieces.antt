@@ -1,5 +1,6 @@
 -- What is kept of the strands, by their numbers.
-use Rattle.std.specs.Prelude.{◌≡◌, ◌≢◌, ◌⊎◌, ◌+◌, ◌<◌, ◌≤◌, ℕ, Bool, true, false, List, [], ◌∷◌, length, slice_index_or, map, Option, Some, None, Contains}
+use Rattle.std.specs.Prelude.{◌≡◌, ◌≢◌, ◌⊎◌, ◌+◌, ◌<◌, ◌≤◌, ℕ, Bool, true, false, List, []}
+use Rattle.std.specs.Prelude.{◌∷◌, length, slice_index_or, map, Option, Some, None, Contains}
 use Rattle.trace_values.specs.declared.value.Monoid.{Monoid}
 use Rattle.reducer_views.specs.declared.view.View.{View}
 use Rattle.reducer_views.specs.declared.pieces.Piece.{Piece}
@@ -44,7 +45,8 @@ pub record AreKept (monoids : List Monoid) (strands : List Kept) : Type 0 where
   pub homes : (strand : ℕ) → home_at strands strand < length strands
   pub laters : (strand : ℕ) → later_at strands strand < length strands
   pub behind_home : (strand : ℕ) → 0 < later_at strands strand → home_at strands strand < later_at strands strand
-  pub rising : (strand : ℕ) → 0 < later_at strands strand → 0 < later_at strands (later_at strands strand) → later_at strands strand < later_at strands (later_at strands strand)
+  pub rising : (strand : ℕ) → 0 < later_at strands strand → 0 < later_at strands (later_at strands strand) →
+      later_at strands strand < later_at strands (later_at strands strand)
   pub touched : (strand : ℕ) → AreTouches monoids (touches_at strands strand)
 
 -- only what is touched differs
@@ -76,7 +78,8 @@ pub record SetsAt (old new : List Kept) (home reducer : ℕ) (touch : Touch) : T
 pub record ChangesAt (monoids : List Monoid) (old new : List Kept) (home reducer : ℕ) (view : View) : Type 0 where
   pub same : SameHomes old new
   pub changed : view_in monoids new home reducer ≡ view
-  pub others : (strand other : ℕ) → (strand ≢ home) ⊎ (other ≢ reducer) → view_in monoids new strand other ≡ view_in monoids old strand other
+  pub others : (strand other : ℕ) → (strand ≢ home) ⊎ (other ≢ reducer) →
+      view_in monoids new strand other ≡ view_in monoids old strand other
 
 -- three numbers are added by a block's first spawn, and two by a later one
 abbrev pub more_strands : Bool → ℕ
@@ -88,7 +91,8 @@ pub record Grown (old new : List Kept) (home : ℕ) (first : Bool) : Type 0 wher
   pub len : length new ≡ more_strands first + length old
   pub child : (number : ℕ) → number ≡ length old → kept_at new number ≡ record { home = home; later = 0; touches = [] }
   pub next : (number : ℕ) → number ≡ 1 + length old → kept_at new number ≡ record { home = 1 + length old; later = 0; touches = [] }
-  pub join : (number : ℕ) → first ≡ true → number ≡ 2 + length old → kept_at new number ≡ record { home = home; later = 1 + length old; touches = [] }
+  pub join : (number : ℕ) → first ≡ true → number ≡ 2 + length old →
+      kept_at new number ≡ record { home = home; later = 1 + length old; touches = [] }
   pub beyond : (number : ℕ) → length new ≤ number → kept_at new number ≡ record { home = 0; later = 0; touches = [] }
   pub homes : (number : ℕ) → number < length old → home_at new number ≡ home_at old number
   pub touched : (number : ℕ) → number < length old → touches_at new number ≡ touches_at old number
@@ -108,5 +112,6 @@ product_from monoid view (later ∷ views) = product_from monoid (product_of mon
 -- the views under these numbers are combined at the home, and no other home is touched
 pub record Combines (monoids : List Monoid) (old new : List Kept) (home : ℕ) (continuations : List ℕ) : Type 0 where
   pub views : (reducer : ℕ) → view_in monoids new home reducer ≡
-      product_from (monoid_of monoids reducer) (view_in monoids old home reducer) (map (λ strand. view_in monoids old strand reducer) continuations)
+      product_from (monoid_of monoids reducer) (view_in monoids old home reducer)
+      (map (λ strand. view_in monoids old strand reducer) continuations)
   pub others : (strand : ℕ) → strand ≢ home → (Contains continuations strand → ⊥) → touches_at new strand ≡ touches_at old strand

@@ -43,7 +43,8 @@ abbrev pub product_of : Monoid → View → View → View
 product_of Sum (One left) (One right) = One (wrapped (left + right))
 product_of Min (One left) (One right) = One (min left right)
 product_of Max (One left) (One right) = One (max left right)
-product_of Digits (Pair left_multiplier left) (Pair multiplier right) = Pair (wrapped (left_multiplier * multiplier)) (wrapped (left * multiplier + right))
+product_of Digits (Pair left_multiplier left) (Pair multiplier right) =
+    Pair (wrapped (left_multiplier * multiplier)) (wrapped (left * multiplier + right))
 product_of _ left Nothing = left
 product_of _ left right = right
 

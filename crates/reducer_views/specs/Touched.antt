@@ -1,5 +1,6 @@
 -- The reducers that a piece of the serial order has touched, each with its monoid and its view.
-use Rattle.std.specs.Prelude.{◌≡◌, ◌≢◌, ℕ, ◌+◌, ◌-◌, ◌*◌, ◌/◌, ◌%◌, List, [], ◌∷◌, ◌++◌, map, Option, Some, None, slice_index_or, ◌==◌, if◌then◌else◌, Box}
+use Rattle.std.specs.Prelude.{◌≡◌, ◌≢◌, ℕ, ◌+◌, ◌-◌, ◌*◌, ◌/◌, ◌%◌, List, [], ◌∷◌, ◌++◌, map}
+use Rattle.std.specs.Prelude.{Option, Some, None, slice_index_or, ◌==◌, if◌then◌else◌, Box}
 use Rattle.trace_values.specs.declared.value.Monoid.{Monoid}
 use Rattle.trace_values.specs.declared.value.Monoid.TheVariants.{Sum}
 use Rattle.reducer_views.specs.declared.view.View.{View}
@@ -17,7 +18,8 @@ untouched = λ reducer. None
 
 -- Reducer 0 is first. The others are those with odd numbers and those with even ones, both counted from 0 on.
 abbrev pub spread : Option Touch → Touches → Touches → Touches
-spread first odd even reducer = if reducer == 0 then first else (if reducer % 2 == 1 then odd ((reducer - 1) / 2) else even ((reducer - 1) / 2))
+spread first odd even reducer =
+    if reducer == 0 then first else (if reducer % 2 == 1 then odd ((reducer - 1) / 2) else even ((reducer - 1) / 2))
 
 abbrev mutual
   pub touches_from : {A : Type 0} → Slot A → Touches
@@ -46,7 +48,8 @@ alone None = []
 alone (Some touch) = (0, touch) ∷ []
 
 abbrev pub spread_list : Option Touch → Listed → Listed → Listed
-spread_list first odd even = alone first ++ (map (λ entry. (2 * entry.0 + 1, entry.1)) odd ++ map (λ entry. (2 * entry.0 + 2, entry.1)) even)
+spread_list first odd even =
+    alone first ++ (map (λ entry. (2 * entry.0 + 1, entry.1)) odd ++ map (λ entry. (2 * entry.0 + 2, entry.1)) even)
 
 abbrev mutual
   pub listed_from : {A : Type 0} → Slot A → Listed

@@ -2,7 +2,8 @@
 
 ghost use Rattle.std.specs.Prelude.{◌≡◌, ◌+◌, ◌<◌, ◌≤◌, ◌^◌, ℕ, List, length, vec_len, vec_capacity, IfOk};
 ghost use Rattle.trace_values.specs.declared.value.Monoid.{Monoid};
-ghost use Rattle.reducer_views.specs.Pieces.{AreKept, AreLater, Combines, Grown, SameHomes, SetsAt, TakesOver, all_kept, first_kept, home_at, later_at, touches_at};
+ghost use Rattle.reducer_views.specs.Pieces.{AreKept, AreLater, Combines, Grown, SameHomes, SetsAt};
+ghost use Rattle.reducer_views.specs.Pieces.{TakesOver, all_kept, first_kept, home_at, later_at, touches_at};
 ghost use Rattle.reducer_views.specs.Touched.{added};
 
 use crate::touched::{Slots, Spare, Touch, absorb, gather, set};
@@ -70,7 +71,8 @@ pub fn gather_at<A: Allocator>(
 )
     requires home_known { home < length pieces.old }
     requires room { reducer + 1 < 2 ^ vec_len spare.old }
-    ensures { SetsAt (all_kept pieces.old) (all_kept pieces.new) home reducer (added (touches_at (all_kept pieces.old) home reducer) touch) }
+    ensures { SetsAt (all_kept pieces.old) (all_kept pieces.new) home reducer
+        (added (touches_at (all_kept pieces.old) home reducer) touch) }
 {
     gather(&mut pieces[home as usize].slots, spare, reducer, touch);
 }

@@ -49,7 +49,8 @@ impl<A: Allocator + Clone> Model for Views<A> {
 
     ghost view = { λ v. record { monoids = v.monoids.items; strands = all_kept v.pieces.items; has_room = v.has_room } };
 
-    ghost invariant = { λ v. AreKept v.monoids.items (all_kept v.pieces.items) × (v.has_room ≡ true → (33 ≤ vec_len v.spare) × (vec_len v.pieces + 3 ≤ vec_capacity v.pieces)) };
+    ghost invariant = { λ v. AreKept v.monoids.items (all_kept v.pieces.items)
+        × (v.has_room ≡ true → (33 ≤ vec_len v.spare) × (vec_len v.pieces + 3 ≤ vec_capacity v.pieces)) };
 }
 
 impl<A: Allocator + Clone> Views<A> {
@@ -103,7 +104,8 @@ impl<A: Allocator + Clone> Views<A> {
         requires newest { spawned.now.next ≡ length self.old.strands + 1 }
         ensures monoids { self.new.monoids ≡ self.old.monoids }
         ensures room_used { self.new.has_room ≡ false }
-        ensures follows { (steps : Steps) → AreLegal steps → Holds self.old steps → Allowed (control_steps steps) (split_of strand spawned.now) →
+        ensures follows { (steps : Steps) → AreLegal steps → Holds self.old steps →
+            Allowed (control_steps steps) (split_of strand spawned.now) →
             Holds self.new (control (split_of strand spawned.now) ∷ steps) }
     {
         let home = self.pieces[strand as usize].home;
@@ -117,9 +119,11 @@ impl<A: Allocator + Clone> Views<A> {
         requires there { join < length self.old.strands }
         ensures monoids { self.new.monoids ≡ self.old.monoids }
         ensures room_used { self.new.has_room ≡ false }
-        ensures at_sync { (steps : Steps) → AreLegal steps → Holds self.old steps → (strand : ℕ) → Allowed (control_steps steps) (joined strand join) →
+        ensures at_sync { (steps : Steps) → AreLegal steps → Holds self.old steps → (strand : ℕ) →
+            Allowed (control_steps steps) (joined strand join) →
             Holds self.new (control (joined strand join) ∷ steps) }
-        ensures at_return { (steps : Steps) → AreLegal steps → Holds self.old steps → (strand : ℕ) → Allowed (control_steps steps) (ended_joined strand join) →
+        ensures at_return { (steps : Steps) → AreLegal steps → Holds self.old steps → (strand : ℕ) →
+            Allowed (control_steps steps) (ended_joined strand join) →
             Holds self.new (control (ended_joined strand join) ∷ steps) }
     {
         gather_block(&mut self.pieces, join);

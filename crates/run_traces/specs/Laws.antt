@@ -24,7 +24,8 @@ pub record IsRunOf (program : Contents) (entries : List Entry) : Type 0 where
 -- each request of a run is one that a trace of the program's declarations can say
 abbrev pub FittingLaw : Type 0
 FittingLaw =
-    (text : List ℕ) (program : Contents) → TextMeans text program → (entries : List Entry) → IsRunOf program entries → AreFitting program.known entries
+    (text : List ℕ) (program : Contents) →
+    TextMeans text program → (entries : List Entry) → IsRunOf program entries → AreFitting program.known entries
 
 -- the plain text of the trace of a run means that trace
 abbrev pub MeaningLaw : Type 0

@@ -54,7 +54,8 @@ fn put_operands<A: Allocator>(
     act: Act,
 ) -> Result<(), AllocError>
     requires numbered { IsTrue (is_numbered 0 mems.now) }
-    ensures { (version : Version) → OnOk result (string_bytes out.new ≡ string_bytes out.old ++ operand_text (known_of version mems.now reducers.now) act) }
+    ensures { (version : Version) →
+        OnOk result (string_bytes out.new ≡ string_bytes out.old ++ operand_text (known_of version mems.now reducers.now) act) }
 {
     match act {
         Act::Spawn | Act::Sync | Act::Call | Act::Return => Ok(()),
@@ -87,7 +88,9 @@ fn put_request<A: Allocator>(
     request: Request,
 ) -> Result<(), AllocError>
     requires numbered { IsTrue (is_numbered 0 mems.now) }
-    ensures { (version : Version) → OnOk result (string_bytes out.new ≡ string_bytes out.old ++ entry_text (known_of version mems.now reducers.now) (line_of_request request)) }
+    ensures { (version : Version) →
+        OnOk result (string_bytes out.new
+        ≡ string_bytes out.old ++ entry_text (known_of version mems.now reducers.now) (line_of_request request)) }
 {
     out.push_str(keyword(request.act))?;
     put_number(out, u64::from(request.strand))?;
@@ -126,7 +129,8 @@ fn put_requests<A: Allocator>(
     entries: &[Entry],
 ) -> Result<(), AllocError>
     requires numbered { IsTrue (is_numbered 0 mems.now) }
-    ensures { (version : Version) → OnOk result (string_bytes out.new ≡ string_bytes out.old ++ requests_text (known_of version mems.now reducers.now) entries.now) }
+    ensures { (version : Version) →
+        OnOk result (string_bytes out.new ≡ string_bytes out.old ++ requests_text (known_of version mems.now reducers.now) entries.now) }
 {
     for entry in entries {
         put_request(out, mems, reducers, entry.request)?;
@@ -164,7 +168,8 @@ pub fn trace_of<A: Allocator, B: Allocator>(
     entries: &[Entry],
 ) -> Result<Vec<u8, B>, AllocError>
     ensures plain { IfOk result (λ text. text.items ≡ plain_text (trace_contents (contents program.now) entries.now)) }
-    ensures means { IfOk result (λ text. IsRunOf (contents program.now) entries.now → ∥ TextMeans text.items (trace_contents (contents program.now) entries.now) ∥₁) }
+    ensures means { IfOk result (λ text.
+        IsRunOf (contents program.now) entries.now → ∥ TextMeans text.items (trace_contents (contents program.now) entries.now) ∥₁) }
 {
     let text = text_of(alloc, program, entries)?;
     Ok(text)

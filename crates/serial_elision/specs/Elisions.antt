@@ -30,7 +30,8 @@ pub record Elides (functions : List Code) (monoids : List Monoid) (cells : ℕ) 
   pub views : List View
   pub evaluates : EvaluatesProgram functions monoids cells main effects (record { memory = memory; views = views })
   pub count : length effects ≡ requests
-  pub only : (others : List Effect) (last : Store) → EvaluatesProgram functions monoids cells main others last → (others ≡ effects) × (last ≡ record { memory = memory; views = views })
+  pub only : (others : List Effect) (last : Store) →
+      EvaluatesProgram functions monoids cells main others last → (others ≡ effects) × (last ≡ record { memory = memory; views = views })
 
 -- the program makes more requests than the limit, if it ends
 pub record NeedsMore (functions : List Code) (monoids : List Monoid) (cells limit : ℕ) : Type 0 where

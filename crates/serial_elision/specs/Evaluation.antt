@@ -1,5 +1,6 @@
 -- The serial elision: a spawn is a call, and a sync changes nothing (Feng and Leiserson 1997).
-use Rattle.std.specs.Prelude.{◌≡◌, ◌≢◌, ℕ, ◌+◌, ◌%◌, ◌^◌, List, [], ◌∷◌, ◌++◌, Option, Some, None, unwrap_or, slice_get, slice_index, slice_index_or, slice_set}
+use Rattle.std.specs.Prelude.{◌≡◌, ◌≢◌, ℕ, ◌+◌, ◌%◌, ◌^◌, List, [], ◌∷◌, ◌++◌, Option, Some}
+use Rattle.std.specs.Prelude.{None, unwrap_or, slice_get, slice_index, slice_index_or, slice_set}
 use Rattle.trace_values.specs.declared.value.Act.{Act}
 use Rattle.trace_values.specs.declared.value.Monoid.{Monoid}
 use Rattle.reducer_views.specs.declared.view.View.{View}
@@ -10,7 +11,8 @@ use Rattle.program_lines.specs.declared.statement.Register.{Register}
 use Rattle.program_lines.specs.declared.statement.Operand.{Operand}
 use Rattle.program_lines.specs.declared.statement.Expression.{Expression}
 use Rattle.program_lines.specs.declared.statement.Location.{Location}
-use Rattle.program_lines.specs.declared.statement.Statement.TheVariants.{Let, Read, Write, Bump, Update, Put, Get, Spawn, Call, Sync, ParallelFor}
+use Rattle.program_lines.specs.declared.statement.Statement.TheVariants.{Let, Read, Write, Bump, Update, Put}
+use Rattle.program_lines.specs.declared.statement.Statement.TheVariants.{Get, Spawn, Call, Sync, ParallelFor}
 use Rattle.program_text.specs.Codes.{Code}
 use Rattle.program_text.specs.Trees.{Tree, Done, Step, Choice, and_then}
 use Rattle.program_steps.specs.Values.{Registers, first_registers, with_ok, value_of, result_of, cell_of}
@@ -56,64 +58,84 @@ with_register registers register value = slice_set registers register.index valu
 
 -- What is left of a function whose `end` stands on this line, from these registers and this store on: the effects of its requests and of
 -- those of the functions that it begins, in order, and the last store.
-pub data Evaluates (functions : List Code) (monoids : List Monoid) : (end_line : ℕ) → Tree → Registers → Store → List Effect → Store → Type 0 where
-  let_evaluated : {end_line : ℕ} {rest : Tree} {registers : Registers} {store last : Store} {effects : List Effect} {line : ℕ} {register : Register} {value : Expression} →
+pub data Evaluates (functions : List Code) (monoids : List Monoid)
+    : (end_line : ℕ) → Tree → Registers → Store → List Effect → Store → Type 0 where
+  let_evaluated : {end_line : ℕ} {rest : Tree} {registers : Registers} {store last : Store}
+      {effects : List Effect} {line : ℕ} {register : Register} {value : Expression} →
       Evaluates functions monoids end_line rest (with_register registers register (result_of value registers)) store effects last →
       Evaluates functions monoids end_line (Step (Let line register value) rest) registers store effects last
-  read_evaluated : {end_line : ℕ} {rest : Tree} {registers : Registers} {store last : Store} {effects : List Effect} {line : ℕ} {register : Register} {location : Location} →
-      Evaluates functions monoids end_line rest (with_register (with_ok 1 registers) register (slice_index store.memory (cell_of location registers))) store effects last →
+  read_evaluated : {end_line : ℕ} {rest : Tree} {registers : Registers} {store last : Store}
+      {effects : List Effect} {line : ℕ} {register : Register} {location : Location} →
+      Evaluates functions monoids end_line rest
+      (with_register (with_ok 1 registers) register (slice_index store.memory (cell_of location registers))) store effects last →
       Evaluates functions monoids end_line (Step (Read line register location) rest) registers store
       (valued (Act.Read (cell_of location registers)) line (slice_index store.memory (cell_of location registers)) ∷ effects) last
-  write_evaluated : {end_line : ℕ} {rest : Tree} {registers : Registers} {store last : Store} {effects : List Effect} {line : ℕ} {location : Location} {value : Operand} →
-      Evaluates functions monoids end_line rest (with_ok 1 registers) (with_cell store (cell_of location registers) (value_of value registers)) effects last →
+  write_evaluated : {end_line : ℕ} {rest : Tree} {registers : Registers} {store last : Store}
+      {effects : List Effect} {line : ℕ} {location : Location} {value : Operand} →
+      Evaluates functions monoids end_line rest (with_ok 1 registers)
+      (with_cell store (cell_of location registers) (value_of value registers)) effects last →
       Evaluates functions monoids end_line (Step (Write line location value) rest) registers store
       (effect (Act.Write (cell_of location registers) (value_of value registers)) line ∷ effects) last
   -- a bump adds modulo 2^64
-  bump_evaluated : {end_line : ℕ} {rest : Tree} {registers : Registers} {store last : Store} {effects : List Effect} {line : ℕ} {location : Location} {value : Operand} →
+  bump_evaluated : {end_line : ℕ} {rest : Tree} {registers : Registers} {store last : Store}
+      {effects : List Effect} {line : ℕ} {location : Location} {value : Operand} →
       Evaluates functions monoids end_line rest (with_ok 1 registers)
-      (with_cell store (cell_of location registers) ((slice_index store.memory (cell_of location registers) + value_of value registers) % 2 ^ 64)) effects last →
+      (with_cell store (cell_of location registers)
+      ((slice_index store.memory (cell_of location registers) + value_of value registers) % 2 ^ 64)) effects last →
       Evaluates functions monoids end_line (Step (Bump line location value) rest) registers store
       (effect (Act.Bump (cell_of location registers) (value_of value registers)) line ∷ effects) last
   -- an update combines on the right, and a put replaces
-  update_evaluated : {end_line : ℕ} {rest : Tree} {registers : Registers} {store last : Store} {effects : List Effect} {line reducer : ℕ} {value : Operand} →
+  update_evaluated : {end_line : ℕ} {rest : Tree} {registers : Registers}
+      {store last : Store} {effects : List Effect} {line reducer : ℕ} {value : Operand} →
       Evaluates functions monoids end_line rest (with_ok 1 registers)
-      (with_view store reducer (product_of (monoid_of monoids reducer) (view_at store reducer) (update_view (monoid_of monoids reducer) (value_of value registers)))) effects last →
+      (with_view store reducer
+      (product_of (monoid_of monoids reducer) (view_at store reducer) (update_view (monoid_of monoids reducer) (value_of value registers))))
+      effects last →
       Evaluates functions monoids end_line (Step (Update line reducer value) rest) registers store
       (effect (Act.Update reducer (value_of value registers)) line ∷ effects) last
-  put_evaluated : {end_line : ℕ} {rest : Tree} {registers : Registers} {store last : Store} {effects : List Effect} {line reducer : ℕ} {value : Operand} →
+  put_evaluated : {end_line : ℕ} {rest : Tree} {registers : Registers}
+      {store last : Store} {effects : List Effect} {line reducer : ℕ} {value : Operand} →
       Evaluates functions monoids end_line rest (with_ok 1 registers)
       (with_view store reducer (put_view (monoid_of monoids reducer) (value_of value registers))) effects last →
       Evaluates functions monoids end_line (Step (Put line reducer value) rest) registers store
       (effect (Act.Put reducer (value_of value registers)) line ∷ effects) last
-  get_evaluated : {end_line : ℕ} {rest : Tree} {registers : Registers} {store last : Store} {effects : List Effect} {line reducer : ℕ} {register : Register} →
+  get_evaluated : {end_line : ℕ} {rest : Tree} {registers : Registers} {store last : Store}
+      {effects : List Effect} {line reducer : ℕ} {register : Register} →
       Evaluates functions monoids end_line rest (with_register (with_ok 1 registers) register (got store reducer)) store effects last →
       Evaluates functions monoids end_line (Step (Get line register reducer) rest) registers store
       (valued (Act.Get reducer) line (got store reducer) ∷ effects) last
   -- the function's whole body with its own registers, and then the rest
-  spawn_evaluated : {end_line : ℕ} {rest : Tree} {registers : Registers} {store between last : Store} {inner outer effects : List Effect} {line function : ℕ} {argument : Operand} {callee : Code} →
+  spawn_evaluated : {end_line : ℕ} {rest : Tree} {registers : Registers} {store between last : Store}
+      {inner outer effects : List Effect} {line function : ℕ} {argument : Operand} {callee : Code} →
       slice_get functions function ≡ Some callee →
       Evaluates functions monoids callee.end_line (script callee) (first_registers (value_of argument registers)) store inner between →
-      Evaluates functions monoids end_line rest registers between outer last → effects ≡ inner ++ outer →
+      Evaluates functions monoids end_line rest registers between outer last →
+      effects ≡ inner ++ outer →
       Evaluates functions monoids end_line (Step (Spawn line function argument) rest) registers store (effect Act.Spawn line ∷ effects) last
-  call_evaluated : {end_line : ℕ} {rest : Tree} {registers : Registers} {store between last : Store} {inner outer effects : List Effect} {line function : ℕ} {argument : Operand} {callee : Code} →
+  call_evaluated : {end_line : ℕ} {rest : Tree} {registers : Registers} {store between last : Store}
+      {inner outer effects : List Effect} {line function : ℕ} {argument : Operand} {callee : Code} →
       slice_get functions function ≡ Some callee →
       Evaluates functions monoids callee.end_line (script callee) (first_registers (value_of argument registers)) store inner between →
-      Evaluates functions monoids end_line rest registers between outer last → effects ≡ inner ++ outer →
+      Evaluates functions monoids end_line rest registers between outer last →
+      effects ≡ inner ++ outer →
       Evaluates functions monoids end_line (Step (Call line function argument) rest) registers store (effect Act.Call line ∷ effects) last
   sync_evaluated : {end_line : ℕ} {rest : Tree} {registers : Registers} {store last : Store} {effects : List Effect} {line : ℕ} →
       Evaluates functions monoids end_line rest registers store effects last →
       Evaluates functions monoids end_line (Step (Sync line) rest) registers store (effect Act.Sync line ∷ effects) last
   -- an `if`, by what its register holds
-  first_evaluated : {end_line : ℕ} {first second rest : Tree} {registers : Registers} {store last : Store} {effects : List Effect} {line : ℕ} {register : Register} →
+  first_evaluated : {end_line : ℕ} {first second rest : Tree} {registers : Registers}
+      {store last : Store} {effects : List Effect} {line : ℕ} {register : Register} →
       slice_index registers register.index ≢ 0 →
       Evaluates functions monoids end_line (and_then first rest) registers store effects last →
       Evaluates functions monoids end_line (Choice line register first second rest) registers store effects last
-  second_evaluated : {end_line : ℕ} {first second rest : Tree} {registers : Registers} {store last : Store} {effects : List Effect} {line : ℕ} {register : Register} →
+  second_evaluated : {end_line : ℕ} {first second rest : Tree} {registers : Registers}
+      {store last : Store} {effects : List Effect} {line : ℕ} {register : Register} →
       slice_index registers register.index ≡ 0 →
       Evaluates functions monoids end_line (and_then second rest) registers store effects last →
       Evaluates functions monoids end_line (Choice line register first second rest) registers store effects last
   -- a `pfor`, whose count is evaluated once
-  pfor_evaluated : {end_line : ℕ} {rest : Tree} {registers : Registers} {store last : Store} {effects : List Effect} {line function : ℕ} {register : Register} {count : Operand} →
+  pfor_evaluated : {end_line : ℕ} {rest : Tree} {registers : Registers} {store last : Store}
+      {effects : List Effect} {line function : ℕ} {register : Register} {count : Operand} →
       Evaluates functions monoids end_line (numbers line register function 0 (value_of count registers) rest) registers store effects last →
       Evaluates functions monoids end_line (Step (ParallelFor line register count function) rest) registers store effects last
   -- the function's return, behind the sync at its end
@@ -130,11 +152,13 @@ pub record Standing : Type 0 where
 abbrev pub StackEvaluates : List Code → List Monoid → List Standing → Store → List Effect → Store → Type 0
 StackEvaluates functions monoids [] store effects last = (effects ≡ []) × (store ≡ last)
 StackEvaluates functions monoids (top ∷ callers) store effects last =
-    (inner : List Effect) × (outer : List Effect) × (between : Store) × Evaluates functions monoids top.end_line top.rest top.registers store inner between ×
+    (inner : List Effect) × (outer : List Effect) × (between : Store) ×
+    Evaluates functions monoids top.end_line top.rest top.registers store inner between ×
     StackEvaluates functions monoids callers between outer last × (effects ≡ inner ++ outer)
 
 -- the first stack has these effects and goes on as the second
-pub record Leads (functions : List Code) (monoids : List Monoid) (done : List Effect) (before : List Standing) (store : Store) (after : List Standing) (changed : Store) : Type 0 where
+pub record Leads (functions : List Code) (monoids : List Monoid) (done : List Effect)
+    (before : List Standing) (store : Store) (after : List Standing) (changed : Store) : Type 0 where
   pub on : (effects : List Effect) (last : Store) → StackEvaluates functions monoids before store effects last →
       (left : List Effect) × (effects ≡ done ++ left) × StackEvaluates functions monoids after changed left last
   pub back : (left : List Effect) (last : Store) → StackEvaluates functions monoids after changed left last →

@@ -1,5 +1,6 @@
 -- The evaluator's stack and store.
-use Rattle.std.specs.Prelude.{◌≡◌, ℕ, ◌+◌, ◌-◌, ◌<◌, ◌≤◌, ◌^◌, Bool, true, false, List, [], ◌∷◌, ◌++◌, map, reverse, Option, Some, None, length, take, drop, replicate, slice_get, slice_index_or, slice_set}
+use Rattle.std.specs.Prelude.{◌≡◌, ℕ, ◌+◌, ◌-◌, ◌<◌, ◌≤◌, ◌^◌, Bool, true, false, List, [], ◌∷◌, ◌++◌, map, reverse}
+use Rattle.std.specs.Prelude.{Option, Some, None, length, take, drop, replicate, slice_get, slice_index_or, slice_set}
 use Rattle.trace_values.specs.declared.value.Monoid.{Monoid}
 use Rattle.reducer_views.specs.declared.view.View.{View}
 use Rattle.reducer_views.specs.declared.view.View.TheVariants.{Nothing}
@@ -59,11 +60,25 @@ store_of state = record { memory = state.memory; views = state.views }
 
 -- the same with this store
 abbrev pub with_store : State → Store → State
-with_store state store = record { top = state.top; callers = state.callers; memory = store.memory; views = store.views; monoids = state.monoids; over = state.over }
+with_store state store = record {
+  top = state.top;
+  callers = state.callers;
+  memory = store.memory;
+  views = store.views;
+  monoids = state.monoids;
+  over = state.over;
+}
 
 -- the same with this topmost function
 abbrev pub with_top : State → Activation → State
-with_top state top = record { top = top; callers = state.callers; memory = state.memory; views = state.views; monoids = state.monoids; over = state.over }
+with_top state top = record {
+  top = top;
+  callers = state.callers;
+  memory = state.memory;
+  views = state.views;
+  monoids = state.monoids;
+  over = state.over;
+}
 
 -- a function at this place with these registers
 abbrev pub moved : Activation → ℕ → Registers → Activation
@@ -79,13 +94,27 @@ counted turns top = record {
   function = top.function;
   place = top.place;
   registers = slice_set top.registers turns.register.index turns.number;
-  turns = Some (record { line = turns.line; register = turns.register; function = turns.function; number = turns.number + 1; left = turns.left - 1 });
+  turns =
+      Some (record {
+        line = turns.line;
+        register = turns.register;
+        function = turns.function;
+        number = turns.number + 1;
+        left = turns.left - 1;
+      });
 }
 
 -- the same with a function begun above the topmost one
 abbrev pub with_begun : State → Activation → ℕ → ℕ → State
 with_begun state caller function argument =
-    record { top = begun function argument; callers = state.callers ++ caller ∷ []; memory = state.memory; views = state.views; monoids = state.monoids; over = state.over }
+    record {
+      top = begun function argument;
+      callers = state.callers ++ caller ∷ [];
+      memory = state.memory;
+      views = state.views;
+      monoids = state.monoids;
+      over = state.over;
+    }
 
 -- what is left of a function where these statements of its body are left
 abbrev pub left_at : (end_line : ℕ) → List Statement → Tree
@@ -94,11 +123,16 @@ left_at end_line statements = and_then (left_of statements) (closing end_line)
 -- the same where these turns come first
 abbrev pub left_in : (end_line : ℕ) → Option Turns → List Statement → Tree
 left_in end_line None statements = left_at end_line statements
-left_in end_line (Some turns) statements = numbers turns.line turns.register turns.function turns.number turns.left (left_at end_line statements)
+left_in end_line (Some turns) statements =
+    numbers turns.line turns.register turns.function turns.number turns.left (left_at end_line statements)
 
 abbrev pub standing_in : Option Code → Activation → Standing
 standing_in None activation = record { end_line = 0; rest = Done; registers = activation.registers }
-standing_in (Some code) activation = record { end_line = code.end_line; rest = left_in code.end_line activation.turns (drop activation.place code.body); registers = activation.registers }
+standing_in (Some code) activation = record {
+  end_line = code.end_line;
+  rest = left_in code.end_line activation.turns (drop activation.place code.body);
+  registers = activation.registers;
+}
 
 -- where a function stands
 abbrev pub standing : List Code → Activation → Standing
@@ -170,7 +204,14 @@ monoids_in program = map (λ reducer. reducer.monoid) program.reducers
 -- a function at its begin with argument 0, in the first store
 abbrev pub opening : (function : ℕ) → List Monoid → (cells : ℕ) → State
 opening function monoids cells =
-    record { top = begun function 0; callers = []; memory = replicate cells 0; views = map identity_of monoids; monoids = monoids; over = false }
+    record {
+      top = begun function 0;
+      callers = [];
+      memory = replicate cells 0;
+      views = map identity_of monoids;
+      monoids = monoids;
+      over = false;
+    }
 
 -- nothing has been done yet
 pub record IsOpening (functions : List Code) (monoids : List Monoid) (cells : ℕ) (state : State) : Type 0 where

@@ -1,6 +1,7 @@
 //! The elision of a program, statement by statement.
 
-ghost use Rattle.std.specs.Prelude.{◌≡◌, ◌≢◌, ◌+◌, ◌-◌, ◌%◌, ◌^◌, ◌<◌, ◌≤◌, IsTrue, false, true, Some, None, Err, map, length, replicate, slice_index, slice_get, OnOk, IfOk};
+ghost use Rattle.std.specs.Prelude.{◌≡◌, ◌≢◌, ◌+◌, ◌-◌, ◌%◌, ◌^◌, ◌<◌, ◌≤◌, IsTrue, false, true, Some};
+ghost use Rattle.std.specs.Prelude.{None, Err, map, length, replicate, slice_index, slice_get, OnOk, IfOk};
 ghost use Rattle.trace_values.specs.Declarations.{cells_of};
 ghost use Rattle.trace_values.specs.Limits.{max_cells};
 ghost use Rattle.reducer_views.specs.Products.{FitsMonoid, identity_of, product_of, put_view, update_view};
@@ -8,7 +9,8 @@ ghost use Rattle.reducer_views.specs.Touched.{monoid_of};
 ghost use Rattle.program_text.specs.Sound.{is_located};
 ghost use Rattle.program_steps.specs.Values.{cell_of, result_of, value_of, with_ok};
 ghost use Rattle.serial_elision.specs.Evaluation.{got, view_at, with_cell, with_register, with_view};
-ghost use Rattle.serial_elision.specs.States.{IsGoing, IsLeft, IsOpening, Makes, Stands, counted, moved, monoids_in, opening, state_of, store_of, top_of, turning, with_begun, with_store, with_top};
+ghost use Rattle.serial_elision.specs.States.{IsGoing, IsLeft, IsOpening, Makes, Stands, counted, moved, monoids_in, opening};
+ghost use Rattle.serial_elision.specs.States.{state_of, store_of, top_of, turning, with_begun, with_store, with_top};
 ghost use Rattle.serial_elision.specs.Statements.{is_access, is_invocation, is_reduction, is_silent};
 ghost use Rattle.serial_elision.specs.Elisions.{Elides, NeedsMore};
 
@@ -67,8 +69,10 @@ pub fn elide<A: Allocator + Clone, B: Allocator>(
     program: &Program<B>,
     limit: u32,
 ) -> Result<Elided<A>, ElideFault>
-    ensures ok { IfOk result (λ elided. (elided.requests ≤ limit) × Elides program.now.functions (monoids_in program.now) (cells_of program.now.mems) elided.memory.items elided.requests) }
-    ensures limit { result ≡ Err ElideFault.Limit → NeedsMore program.now.functions (monoids_in program.now) (cells_of program.now.mems) limit }
+    ensures ok { IfOk result (λ elided. (elided.requests ≤ limit)
+        × Elides program.now.functions (monoids_in program.now) (cells_of program.now.mems) elided.memory.items elided.requests) }
+    ensures limit { result ≡ Err ElideFault.Limit →
+        NeedsMore program.now.functions (monoids_in program.now) (cells_of program.now.mems) limit }
 {
     let mut elision = Elision::open(alloc, program)?;
     let mut requests = 0;
@@ -139,7 +143,8 @@ fn first_store<A: Allocator + Clone>(
 impl<A: Allocator + Clone> Elision<A> {
     /// `main` at its first statement.
     fn open<B: Allocator>(alloc: A, program: &Program<B>) -> Result<Elision<A>, AllocError>
-        ensures { IfOk result (λ elision. IsOpening program.now.functions (monoids_in program.now) (cells_of program.now.mems) (state_of elision)) }
+        ensures { IfOk result (λ elision.
+            IsOpening program.now.functions (monoids_in program.now) (cells_of program.now.mems) (state_of elision)) }
     {
         let shape = shape_of(&alloc, program)?;
         Elision::begin_in(alloc, program.main(), shape)
@@ -198,7 +203,8 @@ impl<A: Allocator> Elision<A> {
     fn skip(&mut self)
         requires begun { (state_of self.old).over ≡ false }
         requires place { (top_of self.old).place + 1 < 2 ^ 32 }
-        ensures { state_of self.new ≡ with_top (state_of self.old) (moved (top_of self.old) ((top_of self.old).place + 1) (top_of self.old).registers) }
+        ensures { state_of self.new ≡ with_top (state_of self.old)
+            (moved (top_of self.old) ((top_of self.old).place + 1) (top_of self.old).registers) }
     {
         let last = self.last();
         self.stack[last].skip();
@@ -208,7 +214,8 @@ impl<A: Allocator> Elision<A> {
     fn pass_granted(&mut self)
         requires begun { (state_of self.old).over ≡ false }
         requires place { (top_of self.old).place + 1 < 2 ^ 32 }
-        ensures { state_of self.new ≡ with_top (state_of self.old) (moved (top_of self.old) ((top_of self.old).place + 1) (with_ok 1 (top_of self.old).registers)) }
+        ensures { state_of self.new ≡ with_top (state_of self.old)
+            (moved (top_of self.old) ((top_of self.old).place + 1) (with_ok 1 (top_of self.old).registers)) }
     {
         let last = self.last();
         self.stack[last].pass();
@@ -218,7 +225,8 @@ impl<A: Allocator> Elision<A> {
     fn take(&mut self, register: Register, value: u64)
         requires begun { (state_of self.old).over ≡ false }
         requires place { (top_of self.old).place + 1 < 2 ^ 32 }
-        ensures { state_of self.new ≡ with_top (state_of self.old) (moved (top_of self.old) ((top_of self.old).place + 1) (with_register (top_of self.old).registers register value)) }
+        ensures { state_of self.new ≡ with_top (state_of self.old)
+            (moved (top_of self.old) ((top_of self.old).place + 1) (with_register (top_of self.old).registers register value)) }
     {
         let last = self.last();
         self.stack[last].assign(register, value);
@@ -228,7 +236,8 @@ impl<A: Allocator> Elision<A> {
     fn receive(&mut self, register: Register, value: u64)
         requires begun { (state_of self.old).over ≡ false }
         requires place { (top_of self.old).place + 1 < 2 ^ 32 }
-        ensures { state_of self.new ≡ with_top (state_of self.old) (moved (top_of self.old) ((top_of self.old).place + 1) (with_register (with_ok 1 (top_of self.old).registers) register value)) }
+        ensures { state_of self.new ≡ with_top (state_of self.old)
+            (moved (top_of self.old) ((top_of self.old).place + 1) (with_register (with_ok 1 (top_of self.old).registers) register value)) }
     {
         let last = self.last();
         self.stack[last].receive(register, value);
@@ -258,7 +267,8 @@ impl<A: Allocator> Elision<A> {
     fn assign(&mut self, register: Register, expression: Expression)
         requires begun { (state_of self.old).over ≡ false }
         requires place { (top_of self.old).place + 1 < 2 ^ 32 }
-        ensures { state_of self.new ≡ with_top (state_of self.old) (moved (top_of self.old) ((top_of self.old).place + 1) (with_register (top_of self.old).registers register (result_of expression (top_of self.old).registers))) }
+        ensures { state_of self.new ≡ with_top (state_of self.old) (moved (top_of self.old) ((top_of self.old).place + 1)
+            (with_register (top_of self.old).registers register (result_of expression (top_of self.old).registers))) }
     {
         let value = result_of(&self.top().registers, expression);
         self.take(register, value);
@@ -271,7 +281,8 @@ impl<A: Allocator> Elision<A> {
         requires located { IsTrue (is_located max_cells location) }
         requires known { cell_of location (top_of self.old).registers < length self.old.memory.items }
         ensures { state_of self.new ≡ with_top (state_of self.old) (moved (top_of self.old) ((top_of self.old).place + 1)
-            (with_register (with_ok 1 (top_of self.old).registers) register (slice_index self.old.memory.items (cell_of location (top_of self.old).registers)))) }
+            (with_register (with_ok 1 (top_of self.old).registers) register
+            (slice_index self.old.memory.items (cell_of location (top_of self.old).registers)))) }
     {
         let cell = cell_of(&self.top().registers, location);
         let value = self.memory[cell as usize];
@@ -284,8 +295,10 @@ impl<A: Allocator> Elision<A> {
         requires place { (top_of self.old).place + 1 < 2 ^ 32 }
         requires located { IsTrue (is_located max_cells location) }
         requires known { cell_of location (top_of self.old).registers < length self.old.memory.items }
-        ensures { state_of self.new ≡ with_store (with_top (state_of self.old) (moved (top_of self.old) ((top_of self.old).place + 1) (with_ok 1 (top_of self.old).registers)))
-            (with_cell (store_of (state_of self.old)) (cell_of location (top_of self.old).registers) (value_of operand (top_of self.old).registers)) }
+        ensures { state_of self.new ≡ with_store
+            (with_top (state_of self.old) (moved (top_of self.old) ((top_of self.old).place + 1) (with_ok 1 (top_of self.old).registers)))
+            (with_cell (store_of (state_of self.old)) (cell_of location (top_of self.old).registers)
+            (value_of operand (top_of self.old).registers)) }
     {
         let top = self.top();
         let cell = cell_of(&top.registers, location);
@@ -299,9 +312,11 @@ impl<A: Allocator> Elision<A> {
         requires place { (top_of self.old).place + 1 < 2 ^ 32 }
         requires located { IsTrue (is_located max_cells location) }
         requires known { cell_of location (top_of self.old).registers < length self.old.memory.items }
-        ensures { state_of self.new ≡ with_store (with_top (state_of self.old) (moved (top_of self.old) ((top_of self.old).place + 1) (with_ok 1 (top_of self.old).registers)))
+        ensures { state_of self.new ≡ with_store
+            (with_top (state_of self.old) (moved (top_of self.old) ((top_of self.old).place + 1) (with_ok 1 (top_of self.old).registers)))
             (with_cell (store_of (state_of self.old)) (cell_of location (top_of self.old).registers)
-            ((slice_index self.old.memory.items (cell_of location (top_of self.old).registers) + value_of operand (top_of self.old).registers) % 2 ^ 64)) }
+            ((slice_index self.old.memory.items (cell_of location (top_of self.old).registers)
+            + value_of operand (top_of self.old).registers) % 2 ^ 64)) }
     {
         let top = self.top();
         let cell = cell_of(&top.registers, location) as usize;
@@ -315,7 +330,8 @@ impl<A: Allocator> Elision<A> {
         requires begun { (state_of self.old).over ≡ false }
         requires place { (top_of self.old).place + 1 < 2 ^ 32 }
         requires known { reducer < length self.old.views.items }
-        ensures { state_of self.new ≡ with_store (with_top (state_of self.old) (moved (top_of self.old) ((top_of self.old).place + 1) (with_ok 1 (top_of self.old).registers)))
+        ensures { state_of self.new ≡ with_store
+            (with_top (state_of self.old) (moved (top_of self.old) ((top_of self.old).place + 1) (with_ok 1 (top_of self.old).registers)))
             (with_view (store_of (state_of self.old)) reducer view) }
     {
         self.views[reducer as usize] = view;
@@ -329,11 +345,14 @@ impl<A: Allocator> Elision<A> {
         requires known { reducer < length self.old.views.items }
         requires count { length self.old.views.items ≡ length self.old.monoids }
         requires fits { FitsMonoid (monoid_of self.old.monoids reducer) (view_at (store_of (state_of self.old)) reducer) }
-        ensures state { state_of self.new ≡ with_store (with_top (state_of self.old) (moved (top_of self.old) ((top_of self.old).place + 1) (with_ok 1 (top_of self.old).registers)))
+        ensures state { state_of self.new ≡ with_store
+            (with_top (state_of self.old) (moved (top_of self.old) ((top_of self.old).place + 1) (with_ok 1 (top_of self.old).registers)))
             (with_view (store_of (state_of self.old)) reducer
-            (product_of (monoid_of self.old.monoids reducer) (view_at (store_of (state_of self.old)) reducer) (update_view (monoid_of self.old.monoids reducer) (value_of operand (top_of self.old).registers)))) }
+            (product_of (monoid_of self.old.monoids reducer) (view_at (store_of (state_of self.old)) reducer)
+            (update_view (monoid_of self.old.monoids reducer) (value_of operand (top_of self.old).registers)))) }
         ensures fits { FitsMonoid (monoid_of self.old.monoids reducer)
-            (product_of (monoid_of self.old.monoids reducer) (view_at (store_of (state_of self.old)) reducer) (update_view (monoid_of self.old.monoids reducer) (value_of operand (top_of self.old).registers))) }
+            (product_of (monoid_of self.old.monoids reducer) (view_at (store_of (state_of self.old)) reducer)
+            (update_view (monoid_of self.old.monoids reducer) (value_of operand (top_of self.old).registers))) }
     {
         let monoid = self.monoids.as_slice()[reducer as usize];
         let value = value_of(&self.top().registers, operand);
@@ -347,9 +366,12 @@ impl<A: Allocator> Elision<A> {
         requires place { (top_of self.old).place + 1 < 2 ^ 32 }
         requires known { reducer < length self.old.views.items }
         requires count { length self.old.views.items ≡ length self.old.monoids }
-        ensures state { state_of self.new ≡ with_store (with_top (state_of self.old) (moved (top_of self.old) ((top_of self.old).place + 1) (with_ok 1 (top_of self.old).registers)))
-            (with_view (store_of (state_of self.old)) reducer (put_view (monoid_of self.old.monoids reducer) (value_of operand (top_of self.old).registers))) }
-        ensures fits { FitsMonoid (monoid_of self.old.monoids reducer) (put_view (monoid_of self.old.monoids reducer) (value_of operand (top_of self.old).registers)) }
+        ensures state { state_of self.new ≡ with_store
+            (with_top (state_of self.old) (moved (top_of self.old) ((top_of self.old).place + 1) (with_ok 1 (top_of self.old).registers)))
+            (with_view (store_of (state_of self.old)) reducer
+            (put_view (monoid_of self.old.monoids reducer) (value_of operand (top_of self.old).registers))) }
+        ensures fits { FitsMonoid (monoid_of self.old.monoids reducer)
+            (put_view (monoid_of self.old.monoids reducer) (value_of operand (top_of self.old).registers)) }
     {
         let monoid = self.monoids.as_slice()[reducer as usize];
         let value = value_of(&self.top().registers, operand);
@@ -373,8 +395,14 @@ impl<A: Allocator> Elision<A> {
         requires begun { (state_of self.old).over ≡ false }
         requires place { (top_of self.old).place + 1 < 2 ^ 32 }
         ensures fits { value_of count (top_of self.old).registers < 2 ^ 64 }
-        ensures state { state_of self.new ≡ with_top (state_of self.old) (turning (moved (top_of self.old) ((top_of self.old).place + 1) (top_of self.old).registers)
-            (Some (record { line = line; register = register; function = function; number = 0; left = value_of count (top_of self.old).registers }))) }
+        ensures state { state_of self.new ≡ with_top (state_of self.old)
+            (turning (moved (top_of self.old) ((top_of self.old).place + 1) (top_of self.old).registers) (Some (record {
+              line = line;
+              register = register;
+              function = function;
+              number = 0;
+              left = value_of count (top_of self.old).registers;
+            }))) }
     {
         let left = value_of(&self.top().registers, count);
         self.skip();
@@ -408,8 +436,10 @@ impl<A: Allocator> Elision<A> {
     fn step<B: Allocator>(&mut self, program: &Program<B>) -> Result<u32, AllocError>
         requires stands { Stands program.now.functions (monoids_in program.now) (cells_of program.now.mems) (state_of self.old) }
         requires going { (state_of self.old).over ≡ false }
-        ensures stands { OnOk result (Stands program.now.functions (monoids_in program.now) (cells_of program.now.mems) (state_of self.new)) }
-        ensures makes { IfOk result (λ asked. Makes program.now.functions (monoids_in program.now) asked (state_of self.old) (state_of self.new)) }
+        ensures stands { OnOk result
+            (Stands program.now.functions (monoids_in program.now) (cells_of program.now.mems) (state_of self.new)) }
+        ensures makes { IfOk result (λ asked.
+            Makes program.now.functions (monoids_in program.now) asked (state_of self.old) (state_of self.new)) }
     {
         let top = self.top();
         if let Some(turns) = top.turns {
@@ -430,8 +460,10 @@ impl<A: Allocator> Elision<A> {
         requires stands { Stands program.now.functions (monoids_in program.now) (cells_of program.now.mems) (state_of self.old) }
         requires going { (state_of self.old).over ≡ false }
         requires turns { (top_of self.old).turns ≡ Some turns }
-        ensures stands { OnOk result (Stands program.now.functions (monoids_in program.now) (cells_of program.now.mems) (state_of self.new)) }
-        ensures makes { IfOk result (λ asked. Makes program.now.functions (monoids_in program.now) asked (state_of self.old) (state_of self.new)) }
+        ensures stands { OnOk result
+            (Stands program.now.functions (monoids_in program.now) (cells_of program.now.mems) (state_of self.new)) }
+        ensures makes { IfOk result (λ asked.
+            Makes program.now.functions (monoids_in program.now) asked (state_of self.old) (state_of self.new)) }
     {
         if turns.left == 0 {
             self.set_turns(None);
@@ -449,10 +481,13 @@ impl<A: Allocator> Elision<A> {
         function: &Function<B>,
         statement: &Statement,
     ) -> Result<u32, AllocError>
-        requires going { IsGoing program.now.functions (monoids_in program.now) (cells_of program.now.mems) (state_of self.old) function.now }
+        requires going { IsGoing program.now.functions (monoids_in program.now)
+            (cells_of program.now.mems) (state_of self.old) function.now }
         requires at { slice_get function.now.body (top_of self.old).place ≡ Some statement.now }
-        ensures stands { OnOk result (Stands program.now.functions (monoids_in program.now) (cells_of program.now.mems) (state_of self.new)) }
-        ensures makes { IfOk result (λ asked. Makes program.now.functions (monoids_in program.now) asked (state_of self.old) (state_of self.new)) }
+        ensures stands { OnOk result
+            (Stands program.now.functions (monoids_in program.now) (cells_of program.now.mems) (state_of self.new)) }
+        ensures makes { IfOk result (λ asked.
+            Makes program.now.functions (monoids_in program.now) asked (state_of self.old) (state_of self.new)) }
     {
         match *statement {
             Statement::Read { .. } | Statement::Write { .. } | Statement::Bump { .. } => {
@@ -485,7 +520,8 @@ impl<A: Allocator> Elision<A> {
         function: &Function<B>,
         statement: &Statement,
     )
-        requires going { IsGoing program.now.functions (monoids_in program.now) (cells_of program.now.mems) (state_of self.old) function.now }
+        requires going { IsGoing program.now.functions (monoids_in program.now)
+            (cells_of program.now.mems) (state_of self.old) function.now }
         requires at { slice_get function.now.body (top_of self.old).place ≡ Some statement.now }
         requires kind { IsTrue (is_access statement.now) }
         ensures stands { Stands program.now.functions (monoids_in program.now) (cells_of program.now.mems) (state_of self.new) }
@@ -518,7 +554,8 @@ impl<A: Allocator> Elision<A> {
         function: &Function<B>,
         statement: &Statement,
     )
-        requires going { IsGoing program.now.functions (monoids_in program.now) (cells_of program.now.mems) (state_of self.old) function.now }
+        requires going { IsGoing program.now.functions (monoids_in program.now)
+            (cells_of program.now.mems) (state_of self.old) function.now }
         requires at { slice_get function.now.body (top_of self.old).place ≡ Some statement.now }
         requires kind { IsTrue (is_reduction statement.now) }
         ensures stands { Stands program.now.functions (monoids_in program.now) (cells_of program.now.mems) (state_of self.new) }
@@ -543,10 +580,12 @@ impl<A: Allocator> Elision<A> {
         function: &Function<B>,
         statement: &Statement,
     ) -> Result<(), AllocError>
-        requires going { IsGoing program.now.functions (monoids_in program.now) (cells_of program.now.mems) (state_of self.old) function.now }
+        requires going { IsGoing program.now.functions (monoids_in program.now)
+            (cells_of program.now.mems) (state_of self.old) function.now }
         requires at { slice_get function.now.body (top_of self.old).place ≡ Some statement.now }
         requires kind { IsTrue (is_invocation statement.now) }
-        ensures stands { OnOk result (Stands program.now.functions (monoids_in program.now) (cells_of program.now.mems) (state_of self.new)) }
+        ensures stands { OnOk result
+            (Stands program.now.functions (monoids_in program.now) (cells_of program.now.mems) (state_of self.new)) }
         ensures makes { OnOk result (Makes program.now.functions (monoids_in program.now) 1 (state_of self.old) (state_of self.new)) }
     {
         match *statement {
@@ -571,7 +610,8 @@ impl<A: Allocator> Elision<A> {
         function: &Function<B>,
         statement: &Statement,
     )
-        requires going { IsGoing program.now.functions (monoids_in program.now) (cells_of program.now.mems) (state_of self.old) function.now }
+        requires going { IsGoing program.now.functions (monoids_in program.now)
+            (cells_of program.now.mems) (state_of self.old) function.now }
         requires at { slice_get function.now.body (top_of self.old).place ≡ Some statement.now }
         requires kind { IsTrue (is_silent statement.now) }
         ensures stands { Stands program.now.functions (monoids_in program.now) (cells_of program.now.mems) (state_of self.new) }
@@ -605,7 +645,8 @@ impl<A: Allocator> Elision<A> {
         requires begun { (state_of self.old).over ≡ false }
         requires place { (top_of self.old).place + 1 < 2 ^ 32 }
         ensures first { slice_index (top_of self.old).registers register.index ≢ 0 →
-            state_of self.new ≡ with_top (state_of self.old) (moved (top_of self.old) ((top_of self.old).place + 1) (top_of self.old).registers) }
+            state_of self.new ≡ with_top (state_of self.old)
+            (moved (top_of self.old) ((top_of self.old).place + 1) (top_of self.old).registers) }
         ensures second { slice_index (top_of self.old).registers register.index ≡ 0 →
             state_of self.new ≡ with_top (state_of self.old) (moved (top_of self.old) otherwise (top_of self.old).registers) }
     {
@@ -621,7 +662,8 @@ impl<A: Allocator> Elision<A> {
         requires begun { (state_of self.old).over ≡ false }
         requires place { (top_of self.old).place + 1 < 2 ^ 32 }
         ensures { OnOk result (state_of self.new ≡ with_begun (state_of self.old)
-            (moved (top_of self.old) ((top_of self.old).place + 1) (top_of self.old).registers) function (value_of argument (top_of self.old).registers)) }
+            (moved (top_of self.old) ((top_of self.old).place + 1) (top_of self.old).registers)
+            function (value_of argument (top_of self.old).registers)) }
     {
         let argument = value_of(&self.top().registers, argument);
         self.skip();

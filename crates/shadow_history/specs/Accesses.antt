@@ -31,13 +31,15 @@ IsEarliest accesses access =
     (before after : List Access) × (accesses ≡ before ++ access ∷ after) ×
     ((other : Access) → IsAdded before access.location access.kind other → other.strand ≢ access.strand)
 
--- an access of the list races with a new one of this location, kind and strand: it is of the same location, its kind conflicts, and its strand is
--- parallel
+-- an access of the list races with a new one of this location, kind and strand: it is of the same location, its kind conflicts, and its
+-- strand is parallel
 abbrev pub Races : History → List Access → ℕ → Kind → ℕ → Access → Type 0
 Races history accesses location kind strand access =
-    Contains accesses access × (access.location ≡ location) × (rule_between access.kind kind ≡ Race) × IsParallel history access.strand strand
+    Contains accesses access × (access.location ≡ location)
+    × (rule_between access.kind kind ≡ Race) × IsParallel history access.strand strand
 
--- of the accesses of its location and kind none is of a strand that is later in the order, and none of its own strand is earlier in the list
+-- of the accesses of its location and kind none is of a strand that is later in the order, and none of its own strand is earlier in the
+-- list
 pub record IsExtreme (rank : Word → ℕ) (history : History) (accesses : List Access) (access : Access) : Type 0 where
   pub last : IsLast rank (λ other. address history other.strand) (IsAdded accesses access.location access.kind) access
   pub earliest : IsEarliest accesses access

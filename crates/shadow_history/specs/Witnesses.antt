@@ -26,17 +26,19 @@ abbrev pub NoneIsParallel : History → List Access → ℕ → Kind → ℕ →
 NoneIsParallel history accesses location kind strand =
     (access : Access) → IsAdded accesses location kind access → IsParallel history access.strand strand → ⊥
 
--- the access is parallel to the strand, and among those of its location and kind it is the English-last, or the Hebrew-last where the English-last
--- is not parallel
+-- the access is parallel to the strand, and among those of its location and kind it is the English-last, or the Hebrew-last where the
+-- English-last is not parallel
 pub record IsLatestParallel (history : History) (accesses : List Access) (strand : ℕ) (access : Access) : Type 0 where
   pub parallel : IsParallel history access.strand strand
   pub extreme :
       IsExtreme english history accesses access ⊎
-      (((other : Access) → other.location ≡ access.location → other.kind ≡ access.kind → IsExtreme english history accesses other → IsParallel history other.strand strand → ⊥) ×
+      (((other : Access) → other.location ≡ access.location → other.kind ≡ access.kind →
+      IsExtreme english history accesses other → IsParallel history other.strand strand → ⊥) ×
       IsExtreme hebrew history accesses access)
 
 -- the access races, no other that races is of an earlier kind of the table, and among those of its kind it is the latest parallel one
-pub record IsWitness (history : History) (accesses : List Access) (location : ℕ) (kind : Kind) (strand : ℕ) (witness : Witness) : Type 0 where
+pub record IsWitness (history : History) (accesses : List Access)
+    (location : ℕ) (kind : Kind) (strand : ℕ) (witness : Witness) : Type 0 where
   pub races : Races history accesses location kind strand (witness_of location witness)
   pub first_kind : (access : Access) → Races history accesses location kind strand access → place witness.kind ≤ place access.kind
   pub latest : IsLatestParallel history accesses strand (witness_of location witness)

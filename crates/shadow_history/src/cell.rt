@@ -27,8 +27,8 @@ pub struct Extremes {
     pub hebrew: Extreme,
 }
 
-/// Whether `a` stands before `b` in the English order. Most accesses of a cell are by the strand of the last one, which this tells without the
-/// order.
+/// Whether `a` stands before `b` in the English order. Many accesses of a cell are by the strand of the last one, which this tells
+/// without the order.
 #[inline(always)]
 fn english_before<A: Allocator>(strands: &Strands<A>, a: u32, b: u32) -> bool
     requires a_begun { HasBegun strands.now a }
@@ -59,7 +59,11 @@ impl Extremes {
     fn parallel_to<A: Allocator>(self, strands: &Strands<A>, strand: u32) -> Option<Extreme>
         requires runs { Runs strands.now strand }
         requires begun { HaveBegun strands.now (Some self) }
-        ensures { (history : History) (accesses : List Access) (location : ℕ) (kind : Kind) → Follows strands.now history → HaveAllBegun history accesses → AreExtremes history accesses location kind self → MatchOption result (NoneIsParallel history accesses location kind strand) (λ extreme. IsLatestParallel history accesses strand (access_of location kind extreme)) }
+        ensures { (history : History) (accesses : List Access) (location : ℕ) (kind : Kind) →
+            Follows strands.now history → HaveAllBegun history accesses → AreExtremes history accesses location kind self →
+            MatchOption result
+            (NoneIsParallel history accesses location kind strand)
+            (λ extreme. IsLatestParallel history accesses strand (access_of location kind extreme)) }
     {
         // A running strand leads to no other: one that is after it in either order is parallel to it.
         if english_before(strands, strand, self.english.strand) {
@@ -79,7 +83,9 @@ impl Extremes {
     fn with<A: Allocator>(self, strands: &Strands<A>, new: Extreme) -> Extremes
         requires new_begun { HasBegun strands.now new.strand }
         requires begun { HaveBegun strands.now (Some self) }
-        ensures { (history : History) (accesses : List Access) (location : ℕ) (kind : Kind) → Follows strands.now history → AreExtremes history accesses location kind self → AreExtremes history (accesses ++ access_of location kind new ∷ []) location kind result }
+        ensures { (history : History) (accesses : List Access) (location : ℕ) (kind : Kind) →
+            Follows strands.now history → AreExtremes history accesses location kind self →
+            AreExtremes history (accesses ++ access_of location kind new ∷ []) location kind result }
     {
         let english = if english_before(strands, self.english.strand, new.strand) {
             new
@@ -144,7 +150,11 @@ impl Cell {
     ) -> Option<Witness>
         requires runs { Runs strands.now strand }
         requires begun { HaveBegun strands.now (extremes_of self.now earlier) }
-        ensures { (history : History) (accesses : List Access) (location : ℕ) → Follows strands.now history → HaveAllBegun history accesses → AreKept history accesses location earlier (extremes_of self.now earlier) → MatchOption result (NoneIsParallel history accesses location earlier strand) (λ witness. (witness.kind ≡ earlier) × IsLatestParallel history accesses strand (witness_of location witness)) }
+        ensures { (history : History) (accesses : List Access) (location : ℕ) → Follows strands.now history →
+            HaveAllBegun history accesses → AreKept history accesses location earlier (extremes_of self.now earlier) →
+            MatchOption result
+            (NoneIsParallel history accesses location earlier strand)
+            (λ witness. (witness.kind ≡ earlier) × IsLatestParallel history accesses strand (witness_of location witness)) }
     {
         let found = self.extremes(earlier)?.parallel_to(strands, strand)?;
         Some(Witness {
@@ -159,7 +169,10 @@ impl Cell {
         requires memory { IsTrue (is_memory_kind kind) }
         requires new_begun { HasBegun strands.now strand }
         requires begun { HaveBegun strands.now (extremes_of self.old kind) }
-        ensures added { (history : History) (accesses : List Access) (location : ℕ) → Follows strands.now history → AreKept history accesses location kind (extremes_of self.old kind) → AreKept history (accesses ++ record { strand = strand; kind = kind; location = location; entry = entry } ∷ []) location kind (extremes_of self.new kind) }
+        ensures added { (history : History) (accesses : List Access) (location : ℕ) →
+            Follows strands.now history → AreKept history accesses location kind (extremes_of self.old kind) →
+            AreKept history (accesses ++ record { strand = strand; kind = kind; location = location; entry = entry } ∷ [])
+            location kind (extremes_of self.new kind) }
         ensures others { (other : Kind) → other ≢ kind → extremes_of self.new other ≡ extremes_of self.old other }
     {
         let new = Extreme { strand, entry };

@@ -52,8 +52,10 @@ impl<A: Allocator> Shadow<A> {
         requires memory { IsTrue (is_memory_kind kind) }
         requires runs { Runs strands.now strand }
         requires stands { StandsOn self.now strands.now }
-        ensures exact { (history : History) (accesses : List Access) → Follows strands.now history → Remembers self.now history accesses → IsSome result ↔ ((access : Access) × Races history accesses location kind strand access) }
-        ensures witness { (history : History) (accesses : List Access) → Follows strands.now history → Remembers self.now history accesses → IfSome result (IsWitness history accesses location kind strand) }
+        ensures exact { (history : History) (accesses : List Access) → Follows strands.now history → Remembers self.now history accesses →
+            IsSome result ↔ ((access : Access) × Races history accesses location kind strand access) }
+        ensures witness { (history : History) (accesses : List Access) → Follows strands.now history → Remembers self.now history accesses →
+            IfSome result (IsWitness history accesses location kind strand) }
     {
         let cell = &self.cells[location as usize];
         macro_rules! check {
@@ -89,7 +91,8 @@ impl<A: Allocator> Shadow<A> {
         requires runs { Runs strands.now strand }
         requires stands { StandsOn self.old strands.now }
         ensures locations { length self.new ≡ length self.old }
-        ensures added { (history : History) (accesses : List Access) → Follows strands.now history → Remembers self.old history accesses → Remembers self.new history (accesses ++ record { strand = strand; kind = kind; location = location; entry = entry } ∷ []) }
+        ensures added { (history : History) (accesses : List Access) → Follows strands.now history → Remembers self.old history accesses →
+            Remembers self.new history (accesses ++ record { strand = strand; kind = kind; location = location; entry = entry } ∷ []) }
     {
         let cell = &mut self.cells[location as usize];
         macro_rules! update {

@@ -11,8 +11,8 @@ abbrev pub blanks : List ℕ → ℕ
 blanks [] = 0
 blanks (byte ∷ bytes) = if is_blank byte then 1 + blanks bytes else 0
 
--- where the statement ends, which is behind the last byte before the comment that is no blank: `at` is the place of the bytes that are left,
--- `end` what was found in those before
+-- where the statement ends, which is behind the last byte before the comment that is no blank: `at` is the place of the bytes that are
+-- left, `end` what was found in those before
 abbrev pub end_from : (at end : ℕ) → List ℕ → ℕ
 end_from at end [] = end
 end_from at end (byte ∷ bytes) =

@@ -2,7 +2,8 @@
 
 ghost use Rattle.std.specs.Prelude.{◌≡◌, ◌≤◌, ◌++◌, OnOk, length, decimal, replicate, codes, take, drop};
 ghost use Rattle.source_quotes.specs.Lines.{line_in, blanks, end_from, statement_length};
-ghost use Rattle.source_quotes.specs.Quotes.{look_of, paint_code, before_paint, behind_paint, painted, numbered, gutter, quote, sign, marked, pointer, place, noted, counted};
+ghost use Rattle.source_quotes.specs.Quotes.{look_of, paint_code, before_paint, behind_paint, painted, numbered};
+ghost use Rattle.source_quotes.specs.Quotes.{gutter, quote, sign, marked, pointer, place, noted, counted};
 
 use crate::source::Source;
 use itoa::Buffer;

@@ -40,7 +40,8 @@ abbrev pub StandsFor : List (Option Scope) → (ℕ → Stack) → Scope → Sta
 StandsFor callers below_call scope root = scope ≡ Root
 StandsFor callers below_call scope (spawned number join) = scope ≡ Child join
 StandsFor callers below_call scope (called number below) =
-    (key : ℕ) × (caller : Scope) × (scope ≡ Call key) × (slice_index_or callers key None ≡ Some caller) × (below_call key ≡ below) × StandsFor callers below_call caller below
+    (key : ℕ) × (caller : Scope) × (scope ≡ Call key) × (slice_index_or callers key None ≡ Some caller)
+    × (below_call key ≡ below) × StandsFor callers below_call caller below
 StandsFor callers below_call scope (block join below) = scope ≡ Block join
 
 -- what is kept of the strand is what the history says of its number; where an ended strand stood is not kept
@@ -74,7 +75,8 @@ pub record Follows (roster : Roster) (history : History) : Type 0 where
   pub legal : Legal history
   pub count : length roster.records ≡ unused history
   pub below_call : ℕ → Stack
-  pub each : (strand : ℕ) → strand < length roster.records → IsRecord roster.callers below_call history strand (record_at roster.records strand)
+  pub each : (strand : ℕ) → strand < length roster.records →
+      IsRecord roster.callers below_call history strand (record_at roster.records strand)
   pub english : IsOrder roster.english (english_items history) (length roster.records)
   pub hebrew : IsOrder roster.hebrew (hebrew_items history) (length roster.records)
 

@@ -48,9 +48,24 @@ impl<A: Allocator> Model for Strands<A> {
 
     ghost Value = { Roster };
 
-    ghost view = { λ v. record { records = v.records.items; callers = v.callers.slots; english = v.english.items; hebrew = v.hebrew.items; has_room = v.has_room } };
+    ghost view = { λ v. record {
+      records = v.records.items;
+      callers = v.callers.slots;
+      english = v.english.items;
+      hebrew = v.hebrew.items;
+      has_room = v.has_room;
+    } };
 
-    ghost invariant = { λ v. FollowsSome (record { records = v.records.items; callers = v.callers.slots; english = v.english.items; hebrew = v.hebrew.items; has_room = v.has_room }) × IsReady v.has_room (vec_len v.records) (vec_capacity v.records) (slab_len v.callers) v.callers.capacity v.english.reserved v.hebrew.reserved };
+    ghost invariant = { λ v.
+        FollowsSome (record {
+          records = v.records.items;
+          callers = v.callers.slots;
+          english = v.english.items;
+          hebrew = v.hebrew.items;
+          has_room = v.has_room;
+        })
+        × IsReady v.has_room (vec_len v.records) (vec_capacity v.records)
+        (slab_len v.callers) v.callers.capacity v.english.reserved v.hebrew.reserved };
 }
 
 impl<A: Allocator> Strands<A> {
@@ -80,7 +95,8 @@ impl<A: Allocator> Strands<A> {
         ensures ok { OnOk result (self.new ≡ record self.old { has_room = true }) }
         ensures err { OnErr result (self.new ≡ self.old) }
         ensures causes { IfErr result (λ fault. (fault ≡ SpFault.Full) ⊎ (fault ≡ SpFault.Memory)) }
-        ensures full { (history : History) → Follows self.old history → IsErrOf result SpFault.Full ↔ (self.old.has_room ≡ false) × HasFewLeft history }
+        ensures full { (history : History) → Follows self.old history →
+            IsErrOf result SpFault.Full ↔ (self.old.has_room ≡ false) × HasFewLeft history }
         ensures memory { IsErrOf result SpFault.Memory → self.old.has_room ≡ false }
     {
         if self.has_room {
@@ -155,13 +171,16 @@ impl<A: Allocator> Strands<A> {
 
     /// `strand` spawns a function: the child runs in it, and next goes on after the spawn.
     pub fn spawn(&mut self, strand: u32) -> Result<Spawned, SpFault>
-        ensures ok { IfOk result (λ spawned. (history : History) → Follows self.old history → Follows self.new (event_of_spawn strand spawned ∷ history)) }
+        ensures ok { IfOk result (λ spawned.
+            (history : History) → Follows self.old history → Follows self.new (event_of_spawn strand spawned ∷ history)) }
         ensures room { OnOk result (self.new.has_room ≡ false) }
         ensures err { OnErr result (self.new ≡ self.old) }
 
-        ensures not_running { (history : History) → Follows self.old history → IsErrOf result SpFault.NotRunning ↔ (Running history strand → ⊥) }
+        ensures not_running { (history : History) → Follows self.old history →
+            IsErrOf result SpFault.NotRunning ↔ (Running history strand → ⊥) }
         ensures not_unsynced { result ≢ Err SpFault.Unsynced }
-        ensures full { (history : History) → Follows self.old history → IsErrOf result SpFault.Full ↔ Running history strand × (self.old.has_room ≡ false) × HasFewLeft history }
+        ensures full { (history : History) → Follows self.old history →
+            IsErrOf result SpFault.Full ↔ Running history strand × (self.old.has_room ≡ false) × HasFewLeft history }
         ensures memory { IsErrOf result SpFault.Memory → self.old.has_room ≡ false }
     {
         if !self.is_running(strand) {
@@ -244,10 +263,12 @@ impl<A: Allocator> Strands<A> {
 
     /// `strand` syncs in its innermost function.
     pub fn sync(&mut self, strand: u32) -> Result<Synced, SpFault>
-        ensures ok { IfOk result (λ synced. (history : History) → Follows self.old history → Follows self.new (event_of_sync strand synced ∷ history)) }
+        ensures ok { IfOk result (λ synced.
+            (history : History) → Follows self.old history → Follows self.new (event_of_sync strand synced ∷ history)) }
         ensures room { OnOk result (self.new.has_room ≡ false) }
         ensures err { OnErr result (self.new ≡ self.old) }
-        ensures not_running { (history : History) → Follows self.old history → IsErrOf result SpFault.NotRunning ↔ (Running history strand → ⊥) }
+        ensures not_running { (history : History) → Follows self.old history →
+            IsErrOf result SpFault.NotRunning ↔ (Running history strand → ⊥) }
         ensures causes { IfErr result (λ fault. fault ≡ SpFault.NotRunning) }
     {
         if !self.is_running(strand) {
@@ -275,7 +296,8 @@ impl<A: Allocator> Strands<A> {
         ensures room { OnOk result (self.new.has_room ≡ false) }
         ensures err { OnErr result (self.new ≡ self.old) }
 
-        ensures not_running { (history : History) → Follows self.old history → IsErrOf result SpFault.NotRunning ↔ (Running history strand → ⊥) }
+        ensures not_running { (history : History) → Follows self.old history →
+            IsErrOf result SpFault.NotRunning ↔ (Running history strand → ⊥) }
         ensures causes { IfErr result (λ fault. (fault ≡ SpFault.NotRunning) ⊎ (fault ≡ SpFault.Memory)) }
         ensures memory { IsErrOf result SpFault.Memory → self.old.has_room ≡ false }
     {
@@ -299,12 +321,15 @@ impl<A: Allocator> Strands<A> {
 
     /// The innermost function of `strand` returns.
     pub fn ret(&mut self, strand: u32) -> Result<Returned, SpFault>
-        ensures ok { IfOk result (λ returned. (history : History) → Follows self.old history → Follows self.new (event_of_return strand returned ∷ history)) }
+        ensures ok { IfOk result (λ returned.
+            (history : History) → Follows self.old history → Follows self.new (event_of_return strand returned ∷ history)) }
         ensures room { OnOk result (self.new.has_room ≡ false) }
         ensures err { OnErr result (self.new ≡ self.old) }
 
-        ensures not_running { (history : History) → Follows self.old history → IsErrOf result SpFault.NotRunning ↔ (Running history strand → ⊥) }
-        ensures unsynced { (history : History) → Follows self.old history → IsErrOf result SpFault.Unsynced ↔ Running history strand × (IsSynced (stack history strand) → ⊥) }
+        ensures not_running { (history : History) → Follows self.old history →
+            IsErrOf result SpFault.NotRunning ↔ (Running history strand → ⊥) }
+        ensures unsynced { (history : History) → Follows self.old history →
+            IsErrOf result SpFault.Unsynced ↔ Running history strand × (IsSynced (stack history strand) → ⊥) }
         ensures causes { IfErr result (λ fault. (fault ≡ SpFault.NotRunning) ⊎ (fault ≡ SpFault.Unsynced)) }
     {
         if !self.is_running(strand) {

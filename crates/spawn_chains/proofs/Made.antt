@@ -1,4 +1,6 @@
 -- What made each strand: it begins where its spawner stands, one word further.
+-- h: a history; m: the makers of strands; x, y: strands; k: the number of an event; in a split, s is the spawner, c its child, n its next
+-- and j the join
 use Rattle.std.proofs.Common.{◌≡◌, ◌≢◌, ◌⊎◌, inl, inr, ℕ, suc, ◌<◌, ◌≤◌, Bool, true, false, [], ◌∷◌, length, Option, Some, None, refl, sym, ap, ◌∙◌, subst, arith}
 use Rattle.addresses.specs.Address.{Word, child, next, join}
 use Rattle.trace_values.specs.declared.value.Act.{Act}

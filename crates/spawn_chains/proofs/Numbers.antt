@@ -1,4 +1,6 @@
 -- Entries in a slice, the oldest first, and the makers of strands as a list that grows with the entries.
+-- d: what a list gives where it has no entry; i: a place among entries; x: a strand; k: the number of an event; in a split, s is the
+-- spawner, c its child, n its next and j the join
 use Rattle.std.proofs.Common.{◌≡◌, ◌⊎◌, inl, inr, ℕ, zero, suc, ◌+◌, ◌-◌, ◌<◌, ◌≤◌, Bool, true, false, List, [], ◌∷◌, ◌++◌, length, get_or, take, drop, reverse, Option, Some, None, refl, sym, ap, ◌∙◌, subst, subst₂, arith}
 use Rattle.std.specs.Prelude.{MatchOption, if◌then◌else◌}
 use Rattle.std.proofs.Math.ListN.{get_or-append}

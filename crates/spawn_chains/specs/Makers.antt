@@ -24,9 +24,11 @@ abbrev pub IsSpawn : Entries → ℕ → ℕ → Spawned → Type 0
 IsSpawn entries number spawner spawned =
     (entry : Entry) × HasNumber entries number entry × (entry.request.strand ≡ spawner) × Began entry spawned
 
--- the makers of strands after an event with this number, which a split is of its child, its next and, where it is its block's first, its join
+-- the makers of strands after an event with this number, which a split is of its child, its next and, where it is its block's first, its
+-- join
 abbrev pub with_maker : Option Event → ℕ → (ℕ → ℕ) → ℕ → ℕ
-with_maker (Some (split strand child next join true)) number makers = updated (updated (updated makers child number) next number) join number
+with_maker (Some (split strand child next join true)) number makers =
+    updated (updated (updated makers child number) next number) join number
 with_maker (Some (split strand child next join false)) number makers = updated (updated makers child number) next number
 with_maker event number makers = makers
 

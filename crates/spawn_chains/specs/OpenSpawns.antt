@@ -15,8 +15,8 @@ IsOpposite spawned strand peer = ((strand ≡ spawned.child) × (peer ≡ spawne
 abbrev pub IsNeither : Spawned → ℕ → Type 0
 IsNeither spawned strand = (strand ≡ spawned.child → ⊥) × (strand ≡ spawned.next → ⊥)
 
--- The spawn is one of the entries. One of the two strands that it began, its child or its next, is a peer of one of the two strands and none of the
--- other's.
+-- The spawn is one of the entries. One of the two strands that it began, its child or its next, is a peer of one of the two strands and
+-- none of the other's.
 pub record IsOutstanding (entries : Entries) (first second : ℕ) (found : OpenSpawn) : Type 0 where
   pub spawn : IsSpawn entries found.entry found.spawner found.spawned
   pub side : (found.peer ≡ found.spawned.child) ⊎ (found.peer ≡ found.spawned.next)

@@ -23,7 +23,9 @@ pub enum Origin {
 
 /// Where the strand stood before a spawn by this spawner, which began these.
 fn made_by(spawner: u32, spawned: Spawned, strand: u32) -> Origin
-    ensures { (number : ℕ) (frames : ℕ → List ℕ) → with_frame (Some (split spawner spawned.child spawned.next spawned.join spawned.first)) number frames strand ≡ frames_from result strand number frames }
+    ensures { (number : ℕ) (frames : ℕ → List ℕ) →
+        with_frame (Some (split spawner spawned.child spawned.next spawned.join spawned.first)) number frames strand
+        ≡ frames_from result strand number frames }
 {
     if spawned.first && strand == spawned.join || strand == spawned.next {
         Origin::Same(spawner)
@@ -36,7 +38,8 @@ fn made_by(spawner: u32, spawned: Spawned, strand: u32) -> Origin
 
 /// Where the strand stood before the entry.
 fn before_entry(entry: Entry, strand: u32) -> Origin
-    ensures { (number : ℕ) (frames : ℕ → List ℕ) → with_frame (event_of entry) number frames strand ≡ frames_from result strand number frames }
+    ensures { (number : ℕ) (frames : ℕ → List ℕ) →
+        with_frame (event_of entry) number frames strand ≡ frames_from result strand number frames }
 {
     let asks = strand == entry.request.strand;
     match (entry.request.act, entry.answer) {

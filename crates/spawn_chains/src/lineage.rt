@@ -76,7 +76,8 @@ fn add_spawn<A: Allocator>(
     entry: usize,
     opens: bool,
 ) -> Result<(), AllocError>
-    ensures { IfOk result (λ _. makers.new.items ≡ makers.old.items ++ (if opens then entry ∷ (entry ∷ (entry ∷ [])) else entry ∷ (entry ∷ []))) }
+    ensures { IfOk result (λ _.
+        makers.new.items ≡ makers.old.items ++ (if opens then entry ∷ (entry ∷ (entry ∷ [])) else entry ∷ (entry ∷ []))) }
 {
     makers.push(entry)?;
     makers.push(entry)?;

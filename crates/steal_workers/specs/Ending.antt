@@ -36,7 +36,8 @@ pub record Ended {L : Type 0} (hired : List (Worker L)) (result : Result (Vec (W
 abbrev pub IsEnded : {L : Type 0} → List (Worker L) → Result (Vec (WorkerLog L)) RunFault → Type 0
 IsEnded hired result = (result ≡ Err Memory) ⊎ Ended hired result
 
--- what a run answers: want of memory before any worker began, or what comes of so many workers, on whose seats so much had been asked before
+-- what a run answers: want of memory before any worker began, or what comes of so many workers, on whose seats so much had been asked
+-- before
 abbrev pub IsAnswered : {L : Type 0} → (workers asked : ℕ) → Result (Vec (WorkerLog L)) RunFault → Type 0
 IsAnswered {L} workers asked result =
     (result ≡ Err Memory)

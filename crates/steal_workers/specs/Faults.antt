@@ -42,7 +42,8 @@ rank_or_last (Some fault) = rank fault
 
 -- the third is one of the other two, and neither goes before it
 abbrev pub IsFirst : Option RunFault → Option RunFault → Option RunFault → Type 0
-IsFirst one other first = ((first ≡ one) ⊎ (first ≡ other)) × (rank_or_last first ≤ rank_or_last one) × (rank_or_last first ≤ rank_or_last other)
+IsFirst one other first =
+    ((first ≡ one) ⊎ (first ≡ other)) × (rank_or_last first ≤ rank_or_last one) × (rank_or_last first ≤ rank_or_last other)
 
 -- a thread that could not be started
 abbrev pub refused_thread : Bool → Option RunFault

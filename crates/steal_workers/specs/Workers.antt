@@ -1,5 +1,6 @@
 -- What a worker keeps, and what it does at a request.
-use Rattle.std.specs.Prelude.{◌≡◌, ◌≢◌, ◌⊎◌, ◌<◌, ◌≤◌, ℕ, Bool, true, false, List, [], ◌∷◌, ◌++◌, length, map, All, Option, Some, None, Result, Ok, Err, IsOkAnd, vec_len, vec_capacity}
+use Rattle.std.specs.Prelude.{◌≡◌, ◌≢◌, ◌⊎◌, ◌<◌, ◌≤◌, ℕ, Bool, true, false, List, [], ◌∷◌, ◌++◌, length}
+use Rattle.std.specs.Prelude.{map, All, Option, Some, None, Result, Ok, Err, IsOkAnd, vec_len, vec_capacity}
 use Rattle.std.specs.List.{list_any}
 use Rattle.std.specs.Global.{Vec}
 use Rattle.trace_values.specs.declared.value.Request.{Request}
@@ -44,7 +45,12 @@ others_of = map (λ station. station.others)
 
 module _ {L : Type 0} where
   abbrev pub station_of : Worker L → Station
-  station_of worker = record { before = worker.before; place = worker.ends.place; own = own_deque worker.ends; others = deques_of worker.ends }
+  station_of worker = record {
+    before = worker.before;
+    place = worker.ends.place;
+    own = own_deque worker.ends;
+    others = deques_of worker.ends;
+  }
 
   abbrev pub stations_of : List (Worker L) → List Station
   stations_of = map station_of
@@ -80,7 +86,8 @@ module _ {L : Type 0} where
   abbrev pub AreLogsOf : List (Worker L) → List (WorkerLog L) → Type 0
   AreLogsOf workers logs = map (λ log. log.receipts) logs ≡ map (λ worker. worker.receipts) workers
 
-  -- what a run answers by the first fault that was met, and by whether its end was seen: what the workers brought, where there was none and it was
+  -- what a run answers by the first fault that was met, and by whether its end was seen: what the workers brought, where there was none and
+  -- it was
   abbrev pub Tells : Option RunFault → Bool → List (Worker L) → Result (Vec (WorkerLog L)) RunFault → Type 0
   Tells (Some fault) ended workers result = result ≡ Err fault
   Tells None true workers result = IsOkAnd result (λ logs. AreLogsOf workers logs.items)
@@ -94,7 +101,8 @@ module _ {L : Type 0} where
 -- At Ok a receipt of that request was kept, with the answer. At Err nothing was kept, and the gate's fault or want of memory is told; or
 -- the receipt that was kept is of another request, which is strange.
 abbrev pub KeepsReceipt : Request → List Receipt → List Receipt → Result Answer RunFault → Type 0
-KeepsReceipt request before after (Ok answer) = (number : ℕ) × (after ≡ before ++ record { number = number; request = request; answer = answer } ∷ [])
+KeepsReceipt request before after (Ok answer) =
+    (number : ℕ) × (after ≡ before ++ record { number = number; request = request; answer = answer } ∷ [])
 KeepsReceipt request before after (Err fault) =
     ((after ≡ before) × ((cause : GateFault) × (fault ≡ fault_of cause)))
     ⊎ ((fault ≡ Strange) × ((receipt : Receipt) × (after ≡ before ++ receipt ∷ []) × (receipt.request ≢ request)))
@@ -109,7 +117,8 @@ IsWanted task request =
 
 -- a receipt was kept of what the task asks next, on its strand
 abbrev pub AsksFor : Task → List Receipt → List Receipt → Type 0
-AsksFor task before after = (receipt : Receipt) × (after ≡ before ++ receipt ∷ []) × (receipt.request.strand ≡ task.strand) × IsWanted task receipt.request
+AsksFor task before after =
+    (receipt : Receipt) × (after ≡ before ++ receipt ∷ []) × (receipt.request.strand ≡ task.strand) × IsWanted task receipt.request
 
 -- the strand of a child that a spawn has begun
 abbrev pub child_of : Answer → List ℕ

@@ -3,7 +3,8 @@
 ghost use Rattle.std.specs.Prelude.{◌≡◌, [], All, IfOk, OnErr, OnOk, map, vec_len};
 ghost use Rattle.std.specs.List.{range_with_len};
 ghost use Rattle.steal_workers.specs.Hands.{hand, pushing};
-ghost use Rattle.steal_workers.specs.Reaches.{own_deque, own_view, deque_of, deques_of, views_of, hands_of, places_of, AllLeadTo, SameEnds, TakesFrom};
+ghost use Rattle.steal_workers.specs.Reaches.{own_deque, own_view, deque_of, deques_of, views_of};
+ghost use Rattle.steal_workers.specs.Reaches.{hands_of, places_of, AllLeadTo, SameEnds, TakesFrom};
 
 use crate::hand::{Owner, Pushed, Taken};
 use crate::reach::Reach;

@@ -8,7 +8,8 @@ ghost use Rattle.steal_workers.specs.Faults.{IsFirstOf};
 ghost use Rattle.steal_workers.specs.Finishing.{finishes, some_finished};
 ghost use Rattle.steal_workers.specs.Reaches.{own_deque, own_view, deques_of, AllLeadTo, HaveRoot};
 ghost use Rattle.steal_workers.specs.Hands.{hand};
-ghost use Rattle.steal_workers.specs.Workers.{station_of, stations_of, owns_of, others_of, faults_of, own_hands, HasRoom, IsReady, IsTold, TornAtJoin};
+ghost use Rattle.steal_workers.specs.Workers.{station_of, stations_of, owns_of, others_of, faults_of};
+ghost use Rattle.steal_workers.specs.Workers.{own_hands, HasRoom, IsReady, IsTold, TornAtJoin};
 
 use crate::ends::{Ends, make_ends};
 use crate::fault::{first_of, of_threads};
@@ -152,7 +153,8 @@ fn all_work<
 ) -> Result<Vec<WorkerLog<L>>, RunFault>
     requires { IsReady hired.items }
     ensures one_each { IfOk result (λ logs. vec_len logs ≡ vec_len hired.entry) }
-    ensures counted { IfOk result (λ logs. all_asked logs.items ≡ sum_by (λ w. w.before) hired.entry.items + length (all_receipts logs.items)) }
+    ensures counted { IfOk result (λ logs.
+        all_asked logs.items ≡ sum_by (λ w. w.before) hired.entry.items + length (all_receipts logs.items)) }
     ensures finished { IfOk result (λ logs. some_finished logs.items ≡ true) }
     ensures ended { IsEnded hired.entry.items result }
 {
@@ -201,11 +203,13 @@ fn told<'p, L: Ledger>(
     all: bool,
     room: Room<'p, L>,
 ) -> Result<Vec<WorkerLog<L>>, RunFault>
-    requires ready { all ≡ true → HasRoom (vec_len workers) room × AllLeadTo (owns_of (stations_of workers.items)) (others_of (stations_of workers.items)) }
+    requires ready { all ≡ true →
+        HasRoom (vec_len workers) room × AllLeadTo (owns_of (stations_of workers.items)) (others_of (stations_of workers.items)) }
     ensures told { IsTold all workers.entry.items result }
     ensures all { OnOk result (all ≡ true) }
     ensures one_each { IfOk result (λ logs. vec_len logs ≡ vec_len workers.entry) }
-    ensures counted { IfOk result (λ logs. all_asked logs.items ≡ sum_by (λ w. w.before) workers.entry.items + length (all_receipts logs.items)) }
+    ensures counted { IfOk result (λ logs.
+        all_asked logs.items ≡ sum_by (λ w. w.before) workers.entry.items + length (all_receipts logs.items)) }
     ensures finished { IfOk result (λ logs. some_finished logs.items ≡ true) }
 {
     if let Some(fault) = first_fault(of_threads(all), workers.as_slice()) {
@@ -220,9 +224,9 @@ fn told<'p, L: Ledger>(
 }
 
 /// Runs the program by so many workers, which ask the gate on parts of the seat. At Ok the run came to its end, and there is one log for
-/// each worker, with what it brought back. Otherwise the answer is Limit, Torn, Strange or Memory, the first of these that a worker met, and
-/// Stopped where none met another; a thread that can't be started counts as a worker that met Memory. It is Memory too where there is none
-/// before a worker begins, and Strange where no worker met a fault and none saw the run's end.
+/// each worker, with what it brought back. Otherwise the answer is Limit, Torn, Strange or Memory, the first of these that a worker met,
+/// and Stopped where none met another; a thread that can't be started counts as a worker that met Memory. It is Memory too where there is
+/// none before a worker begins, and Strange where no worker met a fault and none saw the run's end.
 pub fn run<L: Ledger + Send + Sync, G: Ask<L> + Sync, R: Threads + Wait + Sync>(
     rt: &R,
     alloc: Global,
@@ -246,7 +250,9 @@ pub fn run<L: Ledger + Send + Sync, G: Ask<L> + Sync, R: Threads + Wait + Sync>(
         rt,
         move |scope| -> Result<Vec<WorkerLog<L>>, RunFault>
             requires { IsReady hired.items }
-            ensures logs { IfOk result (λ logs. (vec_len logs ≡ vec_len hired.entry) × (all_asked logs.items ≡ sum_by (λ w. w.before) hired.entry.items + length (all_receipts logs.items)) × (some_finished logs.items ≡ true)) }
+            ensures logs { IfOk result (λ logs. (vec_len logs ≡ vec_len hired.entry)
+                × (all_asked logs.items ≡ sum_by (λ w. w.before) hired.entry.items + length (all_receipts logs.items))
+                × (some_finished logs.items ≡ true)) }
             ensures ended { IsEnded hired.entry.items result }
         { all_work(rt, alloc, scope, program, hired, gate, shared) },
     )

@@ -33,7 +33,9 @@ impl<'p> Reach<'p> {
     /// Takes the first task of the deque. None says nothing of what it holds.
     pub(crate) fn steal(&mut self) -> Option<Task<'p>>
         ensures deque { deque_of self.new ≡ deque_of self.old }
-        ensures view { MatchOption result (view_of self.new ≡ view_of self.old) (λ task. view_of self.new ≡ taking task.strand (view_of self.old)) }
+        ensures view { MatchOption result
+            (view_of self.new ≡ view_of self.old)
+            (λ task. view_of self.new ≡ taking task.strand (view_of self.old)) }
     {
         let Reach { thief, hold } = self;
         match thief.steal_as::<Taken>(hold) {

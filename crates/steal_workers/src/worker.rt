@@ -1,6 +1,7 @@
 //! A worker.
 
-ghost use Rattle.std.specs.Prelude.{◌≡◌, ◌↔◌, ◌+◌, ◌<◌, [], ◌∷◌, ◌++◌, Err, IfErr, IfOk, IfSome, IsTrue, MatchOption, OnOk, length, vec_len};
+ghost use Rattle.std.specs.Prelude.{◌≡◌, ◌↔◌, ◌+◌, ◌<◌, [], ◌∷◌, ◌++◌, Err, IfErr, IfOk};
+ghost use Rattle.std.specs.Prelude.{IfSome, IsTrue, MatchOption, OnOk, length, vec_len};
 ghost use Rattle.locked_replay.specs.declared.fault.RunFault.{RunFault};
 ghost use Rattle.steal_workers.specs.Hands.{pushing};
 ghost use Rattle.steal_workers.specs.Goings.{GoesOn, HandsOut, IsAtJoin};

@@ -15,7 +15,8 @@ pub record IsSameReducer (one other : Reducer) : Type 0 where
   pub name : one.name ≡ other.name
   pub monoid : one.monoid ≡ other.monoid
 
--- The memories are the same, one by one, and so are the reducers. The versions may differ, and how memories and reducers stand between each other.
+-- The memories are the same, one by one, and so are the reducers. The versions may differ, and how memories and reducers stand between each
+-- other.
 pub record DeclareSame (one other : Known) : Type 0 where
   pub mems : AllZip IsSameMem one.mems other.mems
   pub reducers : AllZip IsSameReducer one.reducers other.reducers

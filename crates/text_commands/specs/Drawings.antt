@@ -21,8 +21,8 @@ most_strands = 10_000
 
 -- ---- the drawing of a trace
 
--- A gate answered each request of the trace, and the text is that of the drawing of the gate's history, by the names that the trace declares. The status
--- tells whether something was refused in it.
+-- A gate answered each request of the trace, and the text is that of the drawing of the gate's history, by the names that the trace
+-- declares. The status tells whether something was refused in it.
 pub record DrawsContents (trace : Contents) (text : List ℕ) (status : ℕ) : Type 0 where
   pub gate : State
   pub answers : AnswersAll trace gate

@@ -4,9 +4,11 @@ use Rattle.std.specs.String.{string_bytes}
 use Rattle.trace_values.specs.declared.fault.TextFault.{TextFault}
 use Rattle.trace_values.specs.declared.fault.TextFault.TheVariants.{Memory as TextMemory}
 use Rattle.text_commands.specs.declared.fault.CliFault.{CliFault}
-use Rattle.text_commands.specs.declared.fault.CliFault.TheVariants.{Usage, Trace, Program, Limit, TooManyStrands, Stopped, Torn, Strange, Memory}
+use Rattle.text_commands.specs.declared.fault.CliFault.TheVariants.{Usage, Trace, Program, Limit, TooManyStrands}
+use Rattle.text_commands.specs.declared.fault.CliFault.TheVariants.{Stopped, Torn, Strange, Memory}
 
--- the exit status: 3 for want of memory, 4 where the limit was passed, there is too much to draw or a run did not come to its end, and else 2
+-- the exit status: 3 for want of memory, 4 where the limit was passed, there is too much to draw or a run did not come to its end, and else
+-- 2
 abbrev pub status_of_fault : CliFault → ℕ
 status_of_fault Memory = 3
 status_of_fault (Trace TextMemory) = 3

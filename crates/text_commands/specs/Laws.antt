@@ -16,8 +16,9 @@ use Rattle.text_commands.specs.Elided.{monoids_of}
 use Rattle.text_commands.specs.Replays.{shape_of_program}
 use Rattle.text_commands.specs.Runs.{run_line, TellsRun}
 
--- The line tells so many entries and this memory, and that the program is clean for every schedule. And so it is: the program's serial elision makes as
--- many requests and leaves this memory, nothing is refused in any run of the program, and each that is finished leaves this memory.
+-- The line tells so many entries and this memory, and that the program is clean for every schedule. And so it is: the program's serial
+-- elision makes as many requests and leaves this memory, nothing is refused in any run of the program, and each that is finished leaves
+-- this memory.
 pub record TellsEverySchedule (program : Contents) (line : List ℕ) : Type 0 where
   pub entries : List Entry
   pub memory : List ℕ
@@ -27,15 +28,18 @@ pub record TellsEverySchedule (program : Contents) (line : List ℕ) : Type 0 wh
   pub is_main : HasMain program.functions main
   pub effects : List Effect
   pub views : List View
-  pub evaluates : EvaluatesProgram program.functions (monoids_of program) (cells_of program.known.mems) main effects (record { memory = memory; views = views })
+  pub evaluates : EvaluatesProgram program.functions (monoids_of program)
+      (cells_of program.known.mems) main effects (record { memory = memory; views = views })
   pub count : length effects ≡ length entries
   -- what `elide` tells of the program
   pub elides : (held : List ℕ) (requests : ℕ) → Elides program.functions (monoids_of program) (cells_of program.known.mems) held requests →
       (held ≡ memory) × (requests ≡ length entries)
   pub clean : (other : Entries) → IsRun program.functions (shape_of_program program) other → IsClean other
-  pub leaves : (other : Entries) → IsFinishedRun program.functions (shape_of_program program) other → IsMemory (cells_of program.known.mems) other memory
+  pub leaves : (other : Entries) → IsFinishedRun program.functions (shape_of_program program) other →
+      IsMemory (cells_of program.known.mems) other memory
 
 -- so it is with each line that tells a run at status 0
 abbrev pub CleanReportLaw : Type 0
 CleanReportLaw =
-    (program : Contents) (limit : ℕ) (line : List ℕ) (status : ℕ) → TellsRun program limit line status → status ≡ 0 → TellsEverySchedule program line
+    (program : Contents) (limit : ℕ) (line : List ℕ) (status : ℕ) →
+    TellsRun program limit line status → status ≡ 0 → TellsEverySchedule program line

@@ -36,7 +36,8 @@ module _ {A : Type 0} where
     pub met : HasMet replies verdicts.met
 
   -- from this state on a core has judged the requests with these replies, which are told
-  pub record HasJudged (start : State) (requests : List Request) (replies : List Reply) (core : CoreState) (verdicts : Verdicts A) (wrote writes : Option (List ℕ)) (failed : Bool) : Type 0 where
+  pub record HasJudged (start : State) (requests : List Request) (replies : List Reply) (core : CoreState)
+      (verdicts : Verdicts A) (wrote writes : Option (List ℕ)) (failed : Bool) : Type 0 where
     pub last : State
     pub judges : JudgesAll start requests replies last
     pub fits : IsCoreOf core last
@@ -44,4 +45,5 @@ module _ {A : Type 0} where
 
   -- the replies to the requests of a trace are told
   abbrev pub TellsTrace : Contents → (limit : ℕ) → (wrote writes : Option (List ℕ)) → (failed : Bool) → Verdicts A → Type 0
-  TellsTrace contents limit wrote writes failed verdicts = (replies : List Reply) × AreReplies contents limit replies × Tells replies verdicts wrote writes failed
+  TellsTrace contents limit wrote writes failed verdicts =
+      (replies : List Reply) × AreReplies contents limit replies × Tells replies verdicts wrote writes failed

@@ -31,7 +31,8 @@ IsMannerOf file color manner = (manner.file ≡ file) × IsPaintedBy color manne
 
 -- The job was done at this status. What a reader leaves behind is the end of what its source holds, where that is known.
 abbrev pub IsPerformed : Sources → Job → (wrote writes : Option (List ℕ)) → (status : ℕ) → Type 0
-IsPerformed sources (Judge file limit) wrote writes status = (behind : Option (List ℕ)) × (replies : List Reply) × (status ≡ status_of_replies replies) ×
+IsPerformed sources (Judge file limit) wrote writes status =
+    (behind : Option (List ℕ)) × (replies : List Reply) × (status ≡ status_of_replies replies) ×
     IsAnswered (source_of sources file) behind wrote writes limit replies
 IsPerformed sources (Elide file limit) wrote writes status = (behind : Option (List ℕ)) × (status ≡ 0) ×
     IsElided (sources.file (string_bytes file)) behind wrote writes limit
@@ -57,7 +58,8 @@ HasJobCause sources (Elide file limit) wrote writes fault = (behind : Option (Li
     HasElisionCause (sources.file (string_bytes file)) behind wrote writes limit fault
 HasJobCause sources (Run file workers limit) wrote writes fault = (behind : Option (List ℕ)) ×
     HasRunCause (reading (sources.file (string_bytes file)) behind) wrote writes limit fault
-HasJobCause sources (Record file workers limit trace) wrote writes fault = (behind : Option (List ℕ)) × (traced : Option (List ℕ)) × (traces : Option (List ℕ)) ×
+HasJobCause sources (Record file workers limit trace) wrote writes fault =
+    (behind : Option (List ℕ)) × (traced : Option (List ℕ)) × (traces : Option (List ℕ)) ×
     HasTracedCause (reading (sources.file (string_bytes file)) behind) traced traces wrote writes limit fault
 HasJobCause sources (Explain file workers limit color) wrote writes fault = (behind : Option (List ℕ)) × (manner : Manner) ×
     IsMannerOf (string_bytes file) color manner ×
@@ -70,13 +72,15 @@ HasJobCause sources (Draw file) wrote writes fault = (behind : Option (List ℕ)
 HasJobCause sources (Show text) wrote writes fault = StopsWriting wrote writes (string_bytes text) fault
 
 -- Of a job that records: the file of the trace, which held `blank` when it was made, has the trace of the run that is reported.
-abbrev pub IsRecorded : Sources → Job → (blank : Option (List ℕ)) → (made : List ℕ → Option (List ℕ)) → (wrote writes : Option (List ℕ)) → (status : ℕ) → Type 0
+abbrev pub IsRecorded : Sources → Job → (blank : Option (List ℕ)) →
+    (made : List ℕ → Option (List ℕ)) → (wrote writes : Option (List ℕ)) → (status : ℕ) → Type 0
 IsRecorded sources (Record file workers limit trace) blank made wrote writes status = (behind : Option (List ℕ)) ×
     IsTraced (reading (sources.file (string_bytes file)) behind) blank (made (string_bytes trace)) wrote writes limit status
 IsRecorded sources job blank made wrote writes status = Unit {0}
 
 -- Of a job that records, where only a part of the report could be written: the file has the trace of the run that was to be reported.
-abbrev pub IsRecordedFirst : Sources → Job → (blank : Option (List ℕ)) → (made : List ℕ → Option (List ℕ)) → (wrote writes : Option (List ℕ)) → Type 0
+abbrev pub IsRecordedFirst : Sources → Job → (blank : Option (List ℕ)) →
+    (made : List ℕ → Option (List ℕ)) → (wrote writes : Option (List ℕ)) → Type 0
 IsRecordedFirst sources (Record file workers limit trace) blank made wrote writes = (behind : Option (List ℕ)) ×
     IsReportCut (reading (sources.file (string_bytes file)) behind) blank (made (string_bytes trace)) wrote writes limit
 IsRecordedFirst sources job blank made wrote writes = Unit {0}

@@ -17,7 +17,8 @@ use Rattle.race_gate.specs.Faults.{IsFirstFault}
 use Rattle.race_gate.specs.Shapes.{Shape, most_entries}
 use Rattle.race_gate.specs.States.{State}
 use Rattle.text_commands.specs.declared.fault.CliFault.{CliFault}
-use Rattle.text_commands.specs.declared.fault.CliFault.TheVariants.{Usage, Read, Write, TooLong, Trace, Program, Shape as ShapeFault, Illegal, Limit, Memory}
+use Rattle.text_commands.specs.declared.fault.CliFault.TheVariants.{Usage, Read, Write, TooLong, Trace, Program}
+use Rattle.text_commands.specs.declared.fault.CliFault.TheVariants.{Shape as ShapeFault, Illegal, Limit, Memory}
 use Rattle.text_commands.specs.declared.outcome.Outcome.{Outcome}
 use Rattle.text_commands.specs.Declarations.{DeclareSame}
 use Rattle.text_commands.specs.Elided.{IsFaultyProgram, monoids_of}
@@ -61,7 +62,8 @@ pub record StopsGate (trace : TraceContents) (fault : CliFault) : Type 0 where
 abbrev pub shape_of_program : Contents → Shape
 shape_of_program program = record { cells = cells_of program.known.mems; monoids = monoids_of program }
 
--- The trace has the program's declarations, a gate answered all of its requests, and the line and the status tell of the gate's entries what is so.
+-- The trace has the program's declarations, a gate answered all of its requests, and the line and the status tell of the gate's entries
+-- what is so.
 pub record ReplaysContents (program : Contents) (trace : TraceContents) (line : List ℕ) (status : ℕ) : Type 0 where
   pub same : DeclareSame program.known trace.known
   pub gate : State

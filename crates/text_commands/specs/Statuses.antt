@@ -32,8 +32,8 @@ abbrev pub is_refusal : Reply → Bool
 is_refusal (Done receipt) = is_refused receipt.answer
 is_refusal reply = false
 
--- 3 where memory was wanting, else 4 where the limit was passed, else 2 where a request was illegal for another reason, else 1 where an access was
--- refused, else 0
+-- 3 where memory was wanting, else 4 where the limit was passed, else 2 where a request was illegal for another reason, else 1 where an
+-- access was refused, else 0
 abbrev pub status_of_replies : List Reply → ℕ
 status_of_replies replies =
     if list_any is_illegal replies

@@ -135,5 +135,6 @@ StopsWriting wrote writes text fault = ⊥
 
 -- Why a text is not answered, or not wholly: a write failed, or the fault is that of the text.
 abbrev pub StopsAnswer : List ℕ → (limit : ℕ) → (wrote writes : Option (List ℕ)) → CliFault → Type 0
-StopsAnswer text limit wrote writes Write = (replies : List Reply) × AnswersText text limit replies × StopsWriting wrote writes (verdict_text replies) Write
+StopsAnswer text limit wrote writes Write =
+    (replies : List Reply) × AnswersText text limit replies × StopsWriting wrote writes (verdict_text replies) Write
 StopsAnswer text limit wrote writes fault = IsFaultOf text fault

@@ -64,8 +64,10 @@ pub fn draw_text<R: Read, W: Write>(
 ) -> Result<u8, CliFault>
     requires reader { has_failed input.old ≡ false }
     requires writer { has_failed output.old ≡ false }
-    ensures answered { IfOk result (IsDrawn (reading (R.remaining (held input.old)) (R.remaining (held input.new))) (W.contents (held output.old)) (W.contents (held output.new))) }
-    ensures fault { IfErr result (HasDrawingCause (reading (R.remaining (held input.old)) (R.remaining (held input.new))) (W.contents (held output.old)) (W.contents (held output.new))) }
+    ensures answered { IfOk result (IsDrawn (reading (R.remaining (held input.old)) (R.remaining (held input.new)))
+        (W.contents (held output.old)) (W.contents (held output.new))) }
+    ensures fault { IfErr result (HasDrawingCause (reading (R.remaining (held input.old)) (R.remaining (held input.new)))
+        (W.contents (held output.old)) (W.contents (held output.new))) }
     ensures read_failed { IsErrOf result CliFault.Read ↔ IsTrue (has_failed input.new) }
     ensures delivered { OnOk result (is_delivered output.new ≡ true) }
     ensures write_failed { IsErrOf result CliFault.Write ↔ IsTrue (has_failed output.new) }

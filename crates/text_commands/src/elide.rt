@@ -138,8 +138,11 @@ pub fn elide_text<A: Allocator + Copy, R: Read, W: Write>(
     requires reader { has_failed program.old ≡ false }
     requires writer { has_failed output.old ≡ false }
     requires limit { limit ≤ most_entries }
-    ensures answered { IfOk result (λ status. (status ≡ 0) × IsElided (R.remaining (held program.old)) (R.remaining (held program.new)) (W.contents (held output.old)) (W.contents (held output.new)) limit) }
-    ensures fault { IfErr result (HasElisionCause (R.remaining (held program.old)) (R.remaining (held program.new)) (W.contents (held output.old)) (W.contents (held output.new)) limit) }
+    ensures answered { IfOk result (λ status. (status ≡ 0)
+        × IsElided (R.remaining (held program.old)) (R.remaining (held program.new))
+        (W.contents (held output.old)) (W.contents (held output.new)) limit) }
+    ensures fault { IfErr result (HasElisionCause (R.remaining (held program.old)) (R.remaining (held program.new))
+        (W.contents (held output.old)) (W.contents (held output.new)) limit) }
     ensures read_failed { IsErrOf result CliFault.Read ↔ IsTrue (has_failed program.new) }
     ensures delivered { OnOk result (is_delivered output.new ≡ true) }
     ensures write_failed { IsErrOf result CliFault.Write ↔ IsTrue (has_failed output.new) }

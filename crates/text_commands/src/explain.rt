@@ -1,6 +1,7 @@
 //! Explaining a run of the program that a reader gives.
 
-ghost use Rattle.std.specs.Prelude.{◌≡◌, ◌↔◌, ◌<◌, ◌≤◌, ◌≢◌, ◌++◌, true, false, length, reverse, decimal, IfOk, IfErr, OnOk, IsErrOf, IsTrue};
+ghost use Rattle.std.specs.Prelude.{◌≡◌, ◌↔◌, ◌<◌, ◌≤◌, ◌≢◌, ◌++◌, true, false, length};
+ghost use Rattle.std.specs.Prelude.{reverse, decimal, IfOk, IfErr, OnOk, IsErrOf, IsTrue};
 ghost use Rattle.program_text.specs.Grammar.{TextMeans};
 ghost use Rattle.program_text.specs.Faults.{TextFaults};
 ghost use Rattle.program_text.specs.Programs.{contents};
@@ -13,7 +14,8 @@ ghost use Rattle.text_commands.specs.Watched.{held, has_failed, is_delivered, ca
 ghost use Rattle.text_commands.specs.Streams.{most_reads};
 ghost use Rattle.text_commands.specs.Replays.{reading};
 ghost use Rattle.text_commands.specs.Runs.{IsRunFault, WantsMore};
-ghost use Rattle.text_commands.specs.Explanations.{Manner as SpecManner, clean_words, clean_text, cut_words, cut_behind, cut_text, TellsEnd, status_of_end, Explains, StopsTelling, IsExplained, HasExplanationCause};
+ghost use Rattle.text_commands.specs.Explanations.{Manner as SpecManner, clean_words, clean_text, cut_words, cut_behind, cut_text};
+ghost use Rattle.text_commands.specs.Explanations.{TellsEnd, status_of_end, Explains, StopsTelling, IsExplained, HasExplanationCause};
 
 use crate::elide::push_memory;
 use crate::fault::CliFault;

@@ -1,6 +1,7 @@
 //! Judging the trace that a reader gives.
 
-ghost use Rattle.std.specs.Prelude.{◌≡◌, ◌↔◌, ◌≤◌, ◌≢◌, ◌++◌, ◌∷◌, ◌+◌, ◌<◌, ℕ, List, [], Option, true, false, length, map, IfOk, IfErr, OnOk, OnErr, IsErrOf, IsTrue, MatchResult};
+ghost use Rattle.std.specs.Prelude.{◌≡◌, ◌↔◌, ◌≤◌, ◌≢◌, ◌++◌, ◌∷◌, ◌+◌, ◌<◌, ℕ, List, [], Option, true, false, length};
+ghost use Rattle.std.specs.Prelude.{map, IfOk, IfErr, OnOk, OnErr, IsErrOf, IsTrue, MatchResult};
 ghost use Rattle.std.specs.Io.KnownBytes.{Appends};
 ghost use Rattle.trace_text.specs.Grammar.{TextMeans};
 ghost use Rattle.trace_values.specs.Limits.{max_requests};
@@ -15,7 +16,8 @@ ghost use Rattle.text_commands.specs.Waiting.{most_filled};
 ghost use Rattle.text_commands.specs.Meetings.{IsTold, HasJudged, Tells, TellsTrace};
 ghost use Rattle.race_report.specs.VerdictText.{HasWords, line_of, verdict_text};
 ghost use Rattle.text_commands.specs.Statuses.{status_of_replies};
-ghost use Rattle.text_commands.specs.Streams.{most_reads, declared_shape, requests_of, IsJudgedBy, JudgesTrace, AreReplies, AnswersText, IsAnswered, StopsWriting, StopsAnswer, HasCause};
+ghost use Rattle.text_commands.specs.Streams.{most_reads, declared_shape, requests_of, IsJudgedBy, JudgesTrace};
+ghost use Rattle.text_commands.specs.Streams.{AreReplies, AnswersText, IsAnswered, StopsWriting, StopsAnswer, HasCause};
 
 use crate::fault::CliFault;
 use crate::status::Met;
@@ -37,7 +39,8 @@ struct Verdicts<A: Allocator> {
 
 /// Writes the lines that wait, where no write has failed, and lets them go.
 fn give<A: Allocator, W: Write>(output: &mut Watched<W>, lines: &mut Waiting<A>)
-    ensures told { (wrote : Option (List ℕ)) (text : List ℕ) → IsTold wrote (W.contents (held output.old)) (has_failed output.old) lines.old.text text →
+    ensures told { (wrote : Option (List ℕ)) (text : List ℕ) →
+        IsTold wrote (W.contents (held output.old)) (has_failed output.old) lines.old.text text →
         IsTold wrote (W.contents (held output.new)) (has_failed output.new) lines.new.text text }
     ensures none { lines.new.text ≡ [] }
     ensures room { lines.new.filled ≤ most_filled }
@@ -52,7 +55,8 @@ fn give<A: Allocator, W: Write>(output: &mut Watched<W>, lines: &mut Waiting<A>)
 /// Adds the verdict line of a reply to those that wait, which are written first where it might not fit.
 fn put<A: Allocator, W: Write>(output: &mut Watched<W>, lines: &mut Waiting<A>, reply: &Reply)
     requires { HasWords reply.now }
-    ensures { (wrote : Option (List ℕ)) (text : List ℕ) → IsTold wrote (W.contents (held output.old)) (has_failed output.old) lines.old.text text →
+    ensures { (wrote : Option (List ℕ)) (text : List ℕ) →
+        IsTold wrote (W.contents (held output.old)) (has_failed output.old) lines.old.text text →
         IsTold wrote (W.contents (held output.new)) (has_failed output.new) lines.new.text (text ++ line_of reply.now) }
 {
     if !lines.has_room() {
@@ -71,7 +75,8 @@ fn tell<A: Allocator + Clone, W: Write>(
     requires { IsCore core.old }
     ensures { (start : State) (wrote : Option (List ℕ)) (requests : List SpecRequest) (replies : List SpecReply) →
         HasJudged start requests replies core.old verdicts.old wrote (W.contents (held output.old)) (has_failed output.old) →
-        (reply : SpecReply) × HasJudged start (requests ++ request ∷ []) (replies ++ reply ∷ []) core.new verdicts.new wrote (W.contents (held output.new)) (has_failed output.new) }
+        (reply : SpecReply) × HasJudged start (requests ++ request ∷ []) (replies ++ reply ∷ []) core.new verdicts.new
+        wrote (W.contents (held output.new)) (has_failed output.new) }
 {
     let reply = core.reply(request);
     put(output, &mut verdicts.lines, &reply);
@@ -87,7 +92,8 @@ fn judge<A: Allocator + Copy, W: Write>(
     limit: u32,
 ) -> Result<Verdicts<A>, AllocError>
     requires limit { limit ≤ most_entries }
-    ensures told { IfOk result (TellsTrace (contents trace.now) limit (W.contents (held output.old)) (W.contents (held output.new)) (has_failed output.new)) }
+    ensures told { IfOk result
+        (TellsTrace (contents trace.now) limit (W.contents (held output.old)) (W.contents (held output.new)) (has_failed output.new)) }
     ensures unwritten { OnErr result (output.new ≡ output.old) }
 {
     let shape = trace.shape(alloc)?;
@@ -109,9 +115,11 @@ fn finish<A: Allocator, W: Write>(
     output: &mut Watched<W>,
     mut verdicts: Verdicts<A>,
 ) -> Result<u8, CliFault>
-    ensures answered { IfOk result (λ status. (wrote : Option (List ℕ)) (replies : List SpecReply) → Tells replies verdicts wrote (W.contents (held output.old)) (has_failed output.old) →
+    ensures answered { IfOk result (λ status. (wrote : Option (List ℕ)) (replies : List SpecReply) →
+        Tells replies verdicts wrote (W.contents (held output.old)) (has_failed output.old) →
         (status ≡ status_of_replies replies) × Appends wrote (W.contents (held output.new)) (verdict_text replies)) }
-    ensures fault { IfErr result (λ fault. (wrote : Option (List ℕ)) (replies : List SpecReply) → Tells replies verdicts wrote (W.contents (held output.old)) (has_failed output.old) →
+    ensures fault { IfErr result (λ fault. (wrote : Option (List ℕ)) (replies : List SpecReply) →
+        Tells replies verdicts wrote (W.contents (held output.old)) (has_failed output.old) →
         StopsWriting wrote (W.contents (held output.new)) (verdict_text replies) fault) }
     ensures only { IfErr result (λ fault. fault ≡ CliFault.Write) }
     ensures delivered { OnOk result (is_delivered output.new ≡ true) }
@@ -134,7 +142,8 @@ fn answer_text<A: Allocator + Copy, W: Write>(
 ) -> Result<u8, CliFault>
     requires writer { has_failed output.old ≡ false }
     requires limit { limit ≤ most_entries }
-    ensures answered { IfOk result (λ status. (replies : List SpecReply) × (status ≡ status_of_replies replies) × AnswersText text.items limit replies
+    ensures answered { IfOk result (λ status. (replies : List SpecReply) × (status ≡ status_of_replies replies)
+        × AnswersText text.items limit replies
         × Appends (W.contents (held output.old)) (W.contents (held output.new)) (verdict_text replies)) }
     ensures fault { IfErr result (StopsAnswer text.items limit (W.contents (held output.old)) (W.contents (held output.new))) }
     ensures delivered { OnOk result (is_delivered output.new ≡ true) }
@@ -164,8 +173,10 @@ pub fn judge_stream<A: Allocator + Copy, R: Read, W: Write>(
     requires writer { has_failed output.old ≡ false }
     requires limit { limit ≤ most_entries }
     ensures answered { IfOk result (λ status. (replies : List SpecReply) × (status ≡ status_of_replies replies)
-        × IsAnswered (R.remaining (held input.old)) (R.remaining (held input.new)) (W.contents (held output.old)) (W.contents (held output.new)) limit replies) }
-    ensures fault { IfErr result (HasCause (R.remaining (held input.old)) (R.remaining (held input.new)) (W.contents (held output.old)) (W.contents (held output.new)) limit) }
+        × IsAnswered (R.remaining (held input.old)) (R.remaining (held input.new))
+        (W.contents (held output.old)) (W.contents (held output.new)) limit replies) }
+    ensures fault { IfErr result (HasCause (R.remaining (held input.old)) (R.remaining (held input.new))
+        (W.contents (held output.old)) (W.contents (held output.new)) limit) }
     ensures read_failed { IsErrOf result CliFault.Read ↔ IsTrue (has_failed input.new) }
     ensures delivered { OnOk result (is_delivered output.new ≡ true) }
     ensures write_failed { IsErrOf result CliFault.Write ↔ IsTrue (has_failed output.new) }

@@ -7,7 +7,8 @@ ghost use Rattle.std.specs.Io.KnownBytes.{Appends};
 ghost use Rattle.text_commands.specs.Jobs.{IsInRange};
 ghost use Rattle.text_commands.specs.Streams.{StopsWriting};
 ghost use Rattle.text_commands.specs.Watched.{held, has_failed, is_delivered};
-ghost use Rattle.text_commands.specs.Performed.{IsPerformed, IsPaintedBy, HasJobCause, IsRecorded, IsRecordedFirst, BarsTrace, LacksFile, IsAlone, status_of_answer};
+ghost use Rattle.text_commands.specs.Performed.{IsPerformed, IsPaintedBy, HasJobCause, IsRecorded};
+ghost use Rattle.text_commands.specs.Performed.{IsRecordedFirst, BarsTrace, LacksFile, IsAlone, status_of_answer};
 
 use crate::draw::draw_text;
 use crate::elide::elide_text;
@@ -36,8 +37,10 @@ fn judge_input<H: Host, W: Write>(
     requires host { has_failed host.old ≡ false }
     requires writer { has_failed output.old ≡ false }
     requires limit { limit ≤ most_entries }
-    ensures done { IfOk result (IsPerformed (H.sources (held host.old)) (Job.Judge None limit) (W.contents (held output.old)) (W.contents (held output.new))) }
-    ensures fault { IfErr result (HasJobCause (H.sources (held host.old)) (Job.Judge None limit) (W.contents (held output.old)) (W.contents (held output.new))) }
+    ensures done { IfOk result (IsPerformed (H.sources (held host.old)) (Job.Judge None limit)
+        (W.contents (held output.old)) (W.contents (held output.new))) }
+    ensures fault { IfErr result (HasJobCause (H.sources (held host.old)) (Job.Judge None limit)
+        (W.contents (held output.old)) (W.contents (held output.new))) }
     ensures delivered { OnOk result (is_delivered output.new ≡ true) }
     ensures read_failed { IsErrOf result CliFault.Read ↔ IsTrue (has_failed host.new) }
     ensures write_failed { IsErrOf result CliFault.Write ↔ IsTrue (has_failed output.new) }
@@ -60,8 +63,10 @@ fn judge_file<H: Host, W: Write>(
     requires host { has_failed host.old ≡ false }
     requires writer { has_failed output.old ≡ false }
     requires limit { limit ≤ most_entries }
-    ensures done { IfOk result (IsPerformed (H.sources (held host.old)) (Job.Judge (Some file.now) limit) (W.contents (held output.old)) (W.contents (held output.new))) }
-    ensures fault { IfErr result (HasJobCause (H.sources (held host.old)) (Job.Judge (Some file.now) limit) (W.contents (held output.old)) (W.contents (held output.new))) }
+    ensures done { IfOk result (IsPerformed (H.sources (held host.old)) (Job.Judge (Some file.now) limit)
+        (W.contents (held output.old)) (W.contents (held output.new))) }
+    ensures fault { IfErr result (HasJobCause (H.sources (held host.old)) (Job.Judge (Some file.now) limit)
+        (W.contents (held output.old)) (W.contents (held output.new))) }
     ensures delivered { OnOk result (is_delivered output.new ≡ true) }
     ensures read_failed { IsErrOf result CliFault.Read ↔ IsTrue (has_failed host.new) }
     ensures write_failed { IsErrOf result CliFault.Write ↔ IsTrue (has_failed output.new) }
@@ -85,8 +90,10 @@ fn elide_file<H: Host, W: Write>(
     requires host { has_failed host.old ≡ false }
     requires writer { has_failed output.old ≡ false }
     requires limit { limit ≤ most_entries }
-    ensures done { IfOk result (IsPerformed (H.sources (held host.old)) (Job.Elide file.now limit) (W.contents (held output.old)) (W.contents (held output.new))) }
-    ensures fault { IfErr result (HasJobCause (H.sources (held host.old)) (Job.Elide file.now limit) (W.contents (held output.old)) (W.contents (held output.new))) }
+    ensures done { IfOk result (IsPerformed (H.sources (held host.old)) (Job.Elide file.now limit)
+        (W.contents (held output.old)) (W.contents (held output.new))) }
+    ensures fault { IfErr result (HasJobCause (H.sources (held host.old)) (Job.Elide file.now limit)
+        (W.contents (held output.old)) (W.contents (held output.new))) }
     ensures delivered { OnOk result (is_delivered output.new ≡ true) }
     ensures read_failed { IsErrOf result CliFault.Read ↔ IsTrue (has_failed host.new) }
     ensures write_failed { IsErrOf result CliFault.Write ↔ IsTrue (has_failed output.new) }
@@ -113,8 +120,10 @@ fn run_file<H: Host, W: Write, R: Threads + Wait + Sync>(
     requires writer { has_failed output.old ≡ false }
     requires workers { (0 < workers) × (workers ≤ 64) }
     requires limit { limit ≤ most_entries }
-    ensures done { IfOk result (IsPerformed (H.sources (held host.old)) (Job.Run file.now workers limit) (W.contents (held output.old)) (W.contents (held output.new))) }
-    ensures fault { IfErr result (HasJobCause (H.sources (held host.old)) (Job.Run file.now workers limit) (W.contents (held output.old)) (W.contents (held output.new))) }
+    ensures done { IfOk result (IsPerformed (H.sources (held host.old)) (Job.Run file.now workers limit)
+        (W.contents (held output.old)) (W.contents (held output.new))) }
+    ensures fault { IfErr result (HasJobCause (H.sources (held host.old)) (Job.Run file.now workers limit)
+        (W.contents (held output.old)) (W.contents (held output.new))) }
     ensures delivered { OnOk result (is_delivered output.new ≡ true) }
     ensures read_failed { IsErrOf result CliFault.Read ↔ IsTrue (has_failed host.new) }
     ensures write_failed { IsErrOf result CliFault.Write ↔ IsTrue (has_failed output.new) }
@@ -161,8 +170,10 @@ fn explain_file<H: Host, W: Write, R: Threads + Wait + Sync>(
     requires writer { has_failed output.old ≡ false }
     requires workers { (0 < workers) × (workers ≤ 64) }
     requires limit { limit ≤ most_entries }
-    ensures done { IfOk result (IsPerformed (H.sources (held host.old)) (Job.Explain file.now workers limit color) (W.contents (held output.old)) (W.contents (held output.new))) }
-    ensures fault { IfErr result (HasJobCause (H.sources (held host.old)) (Job.Explain file.now workers limit color) (W.contents (held output.old)) (W.contents (held output.new))) }
+    ensures done { IfOk result (IsPerformed (H.sources (held host.old)) (Job.Explain file.now workers limit color)
+        (W.contents (held output.old)) (W.contents (held output.new))) }
+    ensures fault { IfErr result (HasJobCause (H.sources (held host.old)) (Job.Explain file.now workers limit color)
+        (W.contents (held output.old)) (W.contents (held output.new))) }
     ensures delivered { OnOk result (is_delivered output.new ≡ true) }
     ensures read_failed { IsErrOf result CliFault.Read ↔ IsTrue (has_failed host.new) }
     ensures write_failed { IsErrOf result CliFault.Write ↔ IsTrue (has_failed output.new) }
@@ -204,8 +215,10 @@ fn record_file<H: Host, W: Write, R: Threads + Wait + Sync>(
     requires writer { has_failed output.old ≡ false }
     requires workers { (0 < workers) × (workers ≤ 64) }
     requires limit { limit ≤ most_entries }
-    ensures done { IfOk result (IsPerformed (H.sources (held host.old)) (Job.Record file.now workers limit trace.now) (W.contents (held output.old)) (W.contents (held output.new))) }
-    ensures fault { IfErr result (HasJobCause (H.sources (held host.old)) (Job.Record file.now workers limit trace.now) (W.contents (held output.old)) (W.contents (held output.new))) }
+    ensures done { IfOk result (IsPerformed (H.sources (held host.old)) (Job.Record file.now workers limit trace.now)
+        (W.contents (held output.old)) (W.contents (held output.new))) }
+    ensures fault { IfErr result (HasJobCause (H.sources (held host.old)) (Job.Record file.now workers limit trace.now)
+        (W.contents (held output.old)) (W.contents (held output.new))) }
     ensures delivered { OnOk result (is_delivered output.new ≡ true) }
     ensures read_failed { IsErrOf result CliFault.Read ↔ IsTrue (has_failed host.new) }
     ensures write_failed { IsErrOf result CliFault.Write ↔ IsTrue (has_failed output.new) }
@@ -213,7 +226,8 @@ fn record_file<H: Host, W: Write, R: Threads + Wait + Sync>(
     ensures lacking { LacksFile (H.lacks (held host.old)) (Job.Record file.now workers limit trace.now) → IsErrOf result CliFault.Read }
     ensures recorded { IfOk result (IsRecorded (H.sources (held host.old)) (Job.Record file.now workers limit trace.now)
         (H.blank (held host.old)) (H.made (held host.new)) (W.contents (held output.old)) (W.contents (held output.new))) }
-    ensures recorded_first { IfErr result (λ fault. fault ≡ CliFault.Write → IsRecordedFirst (H.sources (held host.old)) (Job.Record file.now workers limit trace.now)
+    ensures recorded_first { IfErr result (λ fault. fault ≡ CliFault.Write →
+        IsRecordedFirst (H.sources (held host.old)) (Job.Record file.now workers limit trace.now)
         (H.blank (held host.old)) (H.made (held host.new)) (W.contents (held output.old)) (W.contents (held output.new))) }
     ensures barred { BarsTrace (H.bars (held host.old)) (Job.Record file.now workers limit trace.now) → IsErr result }
 {
@@ -246,8 +260,10 @@ fn replay_files<H: Host, W: Write>(
 ) -> Result<u8, CliFault>
     requires host { has_failed host.old ≡ false }
     requires writer { has_failed output.old ≡ false }
-    ensures done { IfOk result (IsPerformed (H.sources (held host.old)) (Job.Replay file.now trace.now) (W.contents (held output.old)) (W.contents (held output.new))) }
-    ensures fault { IfErr result (HasJobCause (H.sources (held host.old)) (Job.Replay file.now trace.now) (W.contents (held output.old)) (W.contents (held output.new))) }
+    ensures done { IfOk result (IsPerformed (H.sources (held host.old)) (Job.Replay file.now trace.now)
+        (W.contents (held output.old)) (W.contents (held output.new))) }
+    ensures fault { IfErr result (HasJobCause (H.sources (held host.old)) (Job.Replay file.now trace.now)
+        (W.contents (held output.old)) (W.contents (held output.new))) }
     ensures delivered { OnOk result (is_delivered output.new ≡ true) }
     ensures read_failed { IsErrOf result CliFault.Read ↔ IsTrue (has_failed host.new) }
     ensures write_failed { IsErrOf result CliFault.Write ↔ IsTrue (has_failed output.new) }
@@ -271,8 +287,10 @@ fn draw_file<H: Host, W: Write>(
 ) -> Result<u8, CliFault>
     requires host { has_failed host.old ≡ false }
     requires writer { has_failed output.old ≡ false }
-    ensures done { IfOk result (IsPerformed (H.sources (held host.old)) (Job.Draw file.now) (W.contents (held output.old)) (W.contents (held output.new))) }
-    ensures fault { IfErr result (HasJobCause (H.sources (held host.old)) (Job.Draw file.now) (W.contents (held output.old)) (W.contents (held output.new))) }
+    ensures done { IfOk result (IsPerformed (H.sources (held host.old)) (Job.Draw file.now)
+        (W.contents (held output.old)) (W.contents (held output.new))) }
+    ensures fault { IfErr result (HasJobCause (H.sources (held host.old)) (Job.Draw file.now)
+        (W.contents (held output.old)) (W.contents (held output.new))) }
     ensures delivered { OnOk result (is_delivered output.new ≡ true) }
     ensures read_failed { IsErrOf result CliFault.Read ↔ IsTrue (has_failed host.new) }
     ensures write_failed { IsErrOf result CliFault.Write ↔ IsTrue (has_failed output.new) }
@@ -288,7 +306,8 @@ fn draw_file<H: Host, W: Write>(
 /// Writes a text.
 fn show<W: Write>(text: &String, output: &mut Watched<W>) -> Result<u8, CliFault>
     requires { has_failed output.old ≡ false }
-    ensures done { IfOk result (λ status. (status ≡ 0) × Appends (W.contents (held output.old)) (W.contents (held output.new)) (string_bytes text.now)) }
+    ensures done { IfOk result (λ status.
+        (status ≡ 0) × Appends (W.contents (held output.old)) (W.contents (held output.new)) (string_bytes text.now)) }
     ensures fault { IfErr result (StopsWriting (W.contents (held output.old)) (W.contents (held output.new)) (string_bytes text.now)) }
     ensures delivered { OnOk result (is_delivered output.new ≡ true) }
     ensures write_failed { IsErrOf result CliFault.Write ↔ IsTrue (has_failed output.new) }
@@ -309,8 +328,10 @@ pub fn perform_alone<H: Host, W: Write>(
     requires writer { has_failed output.old ≡ false }
     requires ranges { IsInRange job.now }
     requires alone { IsAlone job.now }
-    ensures done { IfOk result (IsPerformed (H.sources (held host.old)) job.now (W.contents (held output.old)) (W.contents (held output.new))) }
-    ensures fault { IfErr result (HasJobCause (H.sources (held host.old)) job.now (W.contents (held output.old)) (W.contents (held output.new))) }
+    ensures done { IfOk result (IsPerformed (H.sources (held host.old)) job.now
+        (W.contents (held output.old)) (W.contents (held output.new))) }
+    ensures fault { IfErr result (HasJobCause (H.sources (held host.old)) job.now
+        (W.contents (held output.old)) (W.contents (held output.new))) }
     ensures status { IfOk result (λ status. status ≤ 4) }
     ensures delivered { OnOk result (is_delivered output.new ≡ true) }
     ensures read_failed { IsErrOf result CliFault.Read ↔ IsTrue (has_failed host.new) }
@@ -351,8 +372,10 @@ pub fn perform<H: Host, W: Write, R: Threads + Wait + Sync>(
     requires host { has_failed host.old ≡ false }
     requires writer { has_failed output.old ≡ false }
     requires ranges { IsInRange job.now }
-    ensures done { IfOk result (IsPerformed (H.sources (held host.old)) job.now (W.contents (held output.old)) (W.contents (held output.new))) }
-    ensures fault { IfErr result (HasJobCause (H.sources (held host.old)) job.now (W.contents (held output.old)) (W.contents (held output.new))) }
+    ensures done { IfOk result (IsPerformed (H.sources (held host.old)) job.now
+        (W.contents (held output.old)) (W.contents (held output.new))) }
+    ensures fault { IfErr result (HasJobCause (H.sources (held host.old)) job.now
+        (W.contents (held output.old)) (W.contents (held output.new))) }
     ensures status { IfOk result (λ status. status ≤ 4) }
     ensures delivered { OnOk result (is_delivered output.new ≡ true) }
     ensures read_failed { IsErrOf result CliFault.Read ↔ IsTrue (has_failed host.new) }

@@ -5,7 +5,8 @@ ghost use Rattle.trace_text.specs.Traces.{contents as trace_contents};
 ghost use Rattle.program_text.specs.Programs.{contents};
 ghost use Rattle.text_commands.specs.Watched.{held, has_failed, is_delivered, calls_of, IsCalledAtMost};
 ghost use Rattle.text_commands.specs.Streams.{most_reads};
-ghost use Rattle.text_commands.specs.Replays.{fault_of_request as request_fault_spec, AnswersAll, StopsGate, ReplaysContents, StopsReplay, reading, IsReplayed, HasReplayCause};
+ghost use Rattle.text_commands.specs.Replays.{fault_of_request as request_fault_spec, AnswersAll, StopsGate};
+ghost use Rattle.text_commands.specs.Replays.{ReplaysContents, StopsReplay, reading, IsReplayed, HasReplayCause};
 
 use crate::declarations::declare_same;
 use crate::fault::CliFault;

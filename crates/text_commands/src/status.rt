@@ -2,7 +2,8 @@
 
 ghost use Rattle.std.specs.Prelude.{◌≡◌, ◌++◌, ◌∷◌, [], List};
 ghost use Rattle.race_gate.specs.declared.answer.Reply.{Reply as SpecReply};
-ghost use Rattle.text_commands.specs.Statuses.{is_memory as memory_spec, is_limit as limit_spec, is_illegal as illegal_spec, is_refusal as refusal_spec, status_of_replies};
+ghost use Rattle.text_commands.specs.Statuses.{is_memory as memory_spec, is_limit as limit_spec};
+ghost use Rattle.text_commands.specs.Statuses.{is_illegal as illegal_spec, is_refusal as refusal_spec, status_of_replies};
 ghost use Rattle.text_commands.specs.Meetings.{HasMet};
 
 use race_gate::{Answer, GateFault, Reply};

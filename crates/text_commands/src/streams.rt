@@ -35,7 +35,8 @@ fn read_piece<A: Allocator, R: Read>(
 ) -> Result<bool, CliFault>
     requires fresh { has_failed input.old ≡ false }
     requires room { 0 < length piece.old }
-    ensures taken { IfOk result (λ more. TakesPiece (R.remaining (held input.old)) (R.remaining (held input.new)) text.old.items text.new.items more) }
+    ensures taken { IfOk result (λ more.
+        TakesPiece (R.remaining (held input.old)) (R.remaining (held input.new)) text.old.items text.new.items more) }
     ensures fault { IfErr result (StopsPiece (R.remaining (held input.old)) (R.remaining (held input.new)) text.old.items) }
     ensures fresh { OnOk result (has_failed input.new ≡ false) }
     ensures failed { IsErrOf result CliFault.Read ↔ IsTrue (has_failed input.new) }

@@ -75,12 +75,17 @@ rest_in head = head / strands / acts
 -- the unmarked line of a head that is enough, behind the line with the number `last`
 abbrev pub line_of_head : (last head : ℕ) → TraceLine
 line_of_head last head = record {
-  request = record { strand = strand_in head; line = (last + 1) % 2 ^ 32; act = act_of (tag_in head) (rest_in head % places) (rest_in head / places) };
+  request = record {
+    strand = strand_in head;
+    line = (last + 1) % 2 ^ 32;
+    act = act_of (tag_in head) (rest_in head % places) (rest_in head / places);
+  };
   at = (last + 1) % 2 ^ 32;
   marked = false;
 }
 
--- the line of a head and three numbers more: the value, the strand and the line of the program, and the line of the trace and whether it is marked
+-- the line of a head and three numbers more: the value, the strand and the line of the program, and the line of the trace and whether it is
+-- marked
 abbrev pub line_of_numbers : (head value who spot : ℕ) → TraceLine
 line_of_numbers head value who spot = record {
   request = record { strand = who / 2 ^ 32 % 2 ^ 32; line = who % 2 ^ 32; act = act_of (tag_in head) (rest_in head % 2 ^ 32) value };

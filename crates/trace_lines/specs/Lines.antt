@@ -4,12 +4,14 @@ use Rattle.trace_values.specs.declared.value.TraceLine.{TraceLine}
 use Rattle.trace_lines.specs.declared.lines.Iter.{Iter}
 use Rattle.trace_lines.specs.Heads.{marker, strand_in, line_of_head, line_of_numbers}
 
--- the lines of the heads, behind the line with the number `last`; each head that is not enough takes three of the numbers, or 0 for those that are not there
+-- the lines of the heads, behind the line with the number `last`; each head that is not enough takes three of the numbers, or 0 for those
+-- that are not there
 abbrev pub lines_from : (last : ℕ) (heads numbers : List ℕ) → List TraceLine
 lines_from last [] numbers = []
 lines_from last (head ∷ heads) numbers =
     if strand_in head == marker
-    then line_of_numbers head (get_or numbers 0 0) (get_or numbers 1 0) (get_or numbers 2 0) ∷ lines_from (get_or numbers 2 0 / 2 % 2 ^ 32) heads (drop 3 numbers)
+    then line_of_numbers head (get_or numbers 0 0) (get_or numbers 1 0) (get_or numbers 2 0) ∷
+    lines_from (get_or numbers 2 0 / 2 % 2 ^ 32) heads (drop 3 numbers)
     else line_of_head last head ∷ lines_from ((last + 1) % 2 ^ 32) heads numbers
 
 -- no line is broken off at the end, and the last one has the number `last`: what is put behind is read behind it

@@ -1,4 +1,5 @@
 -- Words in their places: what means something has no fault, and the lowest cause of more words is the lower one.
+-- n: a number; A, B: the types of values; a, b: results, each a value or a cause
 use Rattle.std.proofs.Common.{◌≡◌, ℕ, ◌<◌, ◌≤◌, ◌∷◌, ◌++◌, [], List, true, false, Bool, cond, arith, refl, sym, ap, subst, inl, inr}
 use Rattle.std.specs.Prelude.{Option, Some, None, Result, Ok, Err, option_map, codes, nat_lt}
 use Rattle.std.proofs.lemmas.Bool.Decides.{nat_tests}

@@ -1,4 +1,5 @@
 -- A text means at most one trace, and never a trace and a fault.
+-- v, w: what a text means; m, n: numbers of faulty lines; c, d: causes
 use Rattle.std.proofs.Common.{rules, ◌≡◌, ℕ, ◌<◌, ◌+◌, ◌∷◌, [], List, get_or, arith, refl, sym, ◌∙◌, ap, subst, inl, inr}
 use Rattle.std.specs.Prelude.{codes}
 use Rattle.trace_values.specs.declared.value.Version.{Version}

@@ -1,7 +1,8 @@
 -- What is wrong with a text that means no trace: the first faulty line, and the lowest cause in it.
 use Rattle.std.specs.Prelude.{◌≡◌, ◌≢◌, ℕ, ◌+◌, ◌<◌, ◌≤◌, Bool, true, false, ◌⊎◌, None, List, [], ◌∷◌, ◌++◌, length, codes}
 use Rattle.trace_values.specs.declared.fault.Cause.{Cause}
-use Rattle.trace_values.specs.declared.fault.Cause.TheVariants.{NotText, BadHeader, BadWord, BadNumber, UnknownName, TwiceNamed, BadNesting, TooMany}
+use Rattle.trace_values.specs.declared.fault.Cause.TheVariants.{NotText, BadHeader, BadWord, BadNumber}
+use Rattle.trace_values.specs.declared.fault.Cause.TheVariants.{UnknownName, TwiceNamed, BadNesting, TooMany}
 use Rattle.trace_values.specs.declared.value.Version.{Version}
 use Rattle.trace_values.specs.declared.value.Monoid.{Monoid}
 use Rattle.trace_values.specs.declared.value.Mem.{Mem}
@@ -69,7 +70,8 @@ SomeFault known (pair ∷ pairs) cause = WordFault known pair.0 pair.1 cause ⊎
 -- arrangement some word is.
 abbrev pub WordsFault : Known → List (List ℕ) → Cause → Type 0
 WordsFault known ws BadWord =
-    (0 < length ws) × ((keyword : Keyword) (pairs : List Placed) → IsArranged known.version ws keyword pairs → SomeFault known pairs BadWord)
+    (0 < length ws)
+    × ((keyword : Keyword) (pairs : List Placed) → IsArranged known.version ws keyword pairs → SomeFault known pairs BadWord)
 WordsFault known ws cause =
     (keyword : Keyword) × (pairs : List Placed) × IsArranged known.version ws keyword pairs × SomeFault known pairs cause
 
@@ -79,7 +81,8 @@ WordsFault known ws cause =
 abbrev pub LineFault : ℕ → Contents → List ℕ → Cause → Type 0
 LineFault at so_far line NotText = IsTextLine line → ⊥
 LineFault at so_far line BadNesting =
-    (keyword : Keyword) × (pairs : List Placed) × IsArranged so_far.known.version (words line) keyword pairs × (declares keyword ≡ true) × (so_far.lines ≢ [])
+    (keyword : Keyword) × (pairs : List Placed) × IsArranged so_far.known.version (words line) keyword pairs
+    × (declares keyword ≡ true) × (so_far.lines ≢ [])
 LineFault at so_far line TooMany =
     (max_lines < at) ⊎ ((item : Item) × ItemMeans at so_far.known (words line) item × (HasRoom so_far item → ⊥))
 LineFault at so_far line cause = WordsFault so_far.known (words line) cause

@@ -11,12 +11,16 @@ OneMeaning = (text : List ℕ) (one other : Contents) → TextMeans text one →
 
 -- Each text means a trace or has a fault.
 abbrev pub MeaningOrFault : Type 0
-MeaningOrFault = (text : List ℕ) → ((contents : Contents) × TextMeans text contents) ⊎ ((line : ℕ) × (why : Cause) × TextFaults text line why)
+MeaningOrFault =
+    (text : List ℕ) → ((contents : Contents) × TextMeans text contents) ⊎ ((line : ℕ) × (why : Cause) × TextFaults text line why)
 
 -- No text has both.
 abbrev pub MeaningExcludesFault : Type 0
-MeaningExcludesFault = (text : List ℕ) (contents : Contents) (line : ℕ) (why : Cause) → TextMeans text contents → TextFaults text line why → ⊥
+MeaningExcludesFault =
+    (text : List ℕ) (contents : Contents) (line : ℕ) (why : Cause) → TextMeans text contents → TextFaults text line why → ⊥
 
 -- A text has at most one fault.
 abbrev pub OneFault : Type 0
-OneFault = (text : List ℕ) (line other : ℕ) (why cause : Cause) → TextFaults text line why → TextFaults text other cause → (line ≡ other) × (why ≡ cause)
+OneFault =
+    (text : List ℕ) (line other : ℕ) (why cause : Cause) →
+    TextFaults text line why → TextFaults text other cause → (line ≡ other) × (why ≡ cause)

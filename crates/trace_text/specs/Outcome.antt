@@ -9,7 +9,8 @@ use Rattle.trace_text.specs.Faults.{WordFault, SomeFault}
 
 -- The answer is what the word means in its place, or the lowest cause why it means nothing.
 abbrev pub Reads : {A : Type 0} → Known → Place → List ℕ → Result A Cause → (A → Value) → Type 0
-Reads known place word answer value = MatchResult answer (λ x. WordMeans known place word (value x)) (λ cause. IsLowest (WordFault known place word) cause)
+Reads known place word answer value =
+    MatchResult answer (λ x. WordMeans known place word (value x)) (λ cause. IsLowest (WordFault known place word) cause)
 
 -- The first word is taken, and the answer is what it means in its place; or there is none.
 abbrev pub TakesWord : {A : Type 0} → Known → Place → List (List ℕ) → List (List ℕ) → Result A Cause → (A → Value) → Type 0

@@ -46,7 +46,8 @@ HasIndex bytes first cells cell rest =
     (digits : List ℕ) × (i : ℕ) × (bytes ≡ 91 ∷ (digits ++ 93 ∷ rest)) × IsNumber digits i × (i < cells) × (cell ≡ first + i)
 
 -- The bytes begin with plain words, each behind one space, and a line feed. In these places the words mean these values.
-pub record HasEnd (known : Known) (places : List Place) (last : Option Place) (bytes : List ℕ) (values : List Value) (rest : List ℕ) : Type 0 where
+pub record HasEnd (known : Known) (places : List Place) (last : Option Place)
+    (bytes : List ℕ) (values : List Value) (rest : List ℕ) : Type 0 where
   pub ws : List (List ℕ)
   pub pairs : List Placed
   pub split : bytes ≡ behind_space ws ++ 10 ∷ rest
@@ -64,4 +65,5 @@ HasOperands known keyword bytes act rest =
 -- The bytes begin with a line that asks for this, on whatever line of the text it stands.
 abbrev pub HasRequest : Known → List ℕ → ℕ → Act → Option ℕ → List ℕ → Type 0
 HasRequest known bytes strand act mark rest =
-    (line : List ℕ) × (bytes ≡ line ++ 10 ∷ rest) × IsTextLine line × ((at : ℕ) → ItemMeans at known (words line) (line_asked at strand act mark))
+    (line : List ℕ) × (bytes ≡ line ++ 10 ∷ rest) × IsTextLine line
+    × ((at : ℕ) → ItemMeans at known (words line) (line_asked at strand act mark))

@@ -1,5 +1,6 @@
 -- The plain text of a trace: each item on its own line, words separated by one space, numbers without leading zeros.
-use Rattle.std.specs.Prelude.{◌≡◌, ℕ, ◌+◌, ◌-◌, ◌<◌, ◌≤◌, nat_lt, Option, Some, None, List, [], ◌∷◌, ◌++◌, codes, cond, map, flat_map, replicate, slice_index_or}
+use Rattle.std.specs.Prelude.{◌≡◌, ℕ, ◌+◌, ◌-◌, ◌<◌, ◌≤◌, nat_lt, Option, Some, None, List, []}
+use Rattle.std.specs.Prelude.{◌∷◌, ◌++◌, codes, cond, map, flat_map, replicate, slice_index_or}
 use Rattle.std.specs.Fmt.{decimal}
 use Rattle.trace_text.specs.declared.keyword.Keyword.{Keyword}
 use Rattle.trace_text.specs.declared.keyword.Keyword.TheVariants.{Mem as MemWord, Reducer as ReducerWord}
@@ -10,7 +11,8 @@ use Rattle.trace_values.specs.declared.value.Mem.{Mem}
 use Rattle.trace_values.specs.declared.value.Reducer.{Reducer}
 use Rattle.trace_values.specs.declared.value.TraceLine.{TraceLine}
 use Rattle.trace_values.specs.Values.{Known, Contents, version_spelling, monoid_spelling}
-use Rattle.trace_text.specs.Lines.{Place, Cell, ReducerName, Mark, Value, OfName, OfNumber, OfMonoid, spelling, wanted, optional, asks, operands, if_there}
+use Rattle.trace_text.specs.Lines.{Place, Cell, ReducerName, Mark, Value, OfName, OfNumber}
+use Rattle.trace_text.specs.Lines.{OfMonoid, spelling, wanted, optional, asks, operands, if_there}
 use Rattle.trace_text.specs.Grammar.{TextMeans}
 use Rattle.trace_text.specs.Shapes.{name_of_cell}
 
@@ -90,7 +92,8 @@ entries contents = declarations contents.known.mems contents.known.reducers ++ m
 -- The entries from the line with the number `at` on, with a blank line where none stands.
 abbrev pub lines_from : Known → ℕ → List Entry → List (List ℕ)
 lines_from known at [] = []
-lines_from known at (entry ∷ entries) = replicate (line_of entry - at) [] ++ entry_text known entry ∷ lines_from known (line_of entry + 1) entries
+lines_from known at (entry ∷ entries) =
+    replicate (line_of entry - at) [] ++ entry_text known entry ∷ lines_from known (line_of entry + 1) entries
 
 abbrev pub plain_lines : Contents → List (List ℕ)
 plain_lines contents = spaced (codes "cilk" ∷ version_spelling contents.known.version ∷ []) ∷ lines_from contents.known 2 (entries contents)
@@ -105,7 +108,8 @@ PlainMeaning = (text : List ℕ) (contents : Contents) → TextMeans text conten
 
 -- And it means nothing else, so what is printed and read again is the same.
 abbrev pub NoOtherMeaning : Type 0
-NoOtherMeaning = (text : List ℕ) (contents other : Contents) → TextMeans text contents → TextMeans (plain_text contents) other → other ≡ contents
+NoOtherMeaning =
+    (text : List ℕ) (contents other : Contents) → TextMeans text contents → TextMeans (plain_text contents) other → other ≡ contents
 
 -- ---- what is printed so far
 
@@ -137,4 +141,5 @@ StartsPast bound (reducer ∷ reducers) = bound < reducer.line
 
 -- Entries that begin with the reducers up to the bound.
 abbrev pub TakesReducers : ℕ → (List Reducer → List Entry) → Type 0
-TakesReducers bound merged = (reducer : Reducer) (reducers : List Reducer) → reducer.line ≤ bound → merged (reducer ∷ reducers) ≡ OfReducer reducer ∷ merged reducers
+TakesReducers bound merged =
+    (reducer : Reducer) (reducers : List Reducer) → reducer.line ≤ bound → merged (reducer ∷ reducers) ≡ OfReducer reducer ∷ merged reducers

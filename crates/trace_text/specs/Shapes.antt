@@ -1,5 +1,6 @@
 -- What every trace keeps: its cells are numbered, its requests name cells and reducers that there are, and no limit is passed.
-use Rattle.std.specs.Prelude.{ℕ, suc, ◌+◌, ◌-◌, ◌≤◌, ◌==◌, Bool, true, not, ◌&&◌, Option, Some, None, List, [], ◌∷◌, ◌++◌, codes, if◌then◌else◌, nat_lt}
+use Rattle.std.specs.Prelude.{ℕ, suc, ◌+◌, ◌-◌, ◌≤◌, ◌==◌, Bool, true, not, ◌&&◌, Option}
+use Rattle.std.specs.Prelude.{Some, None, List, [], ◌∷◌, ◌++◌, codes, if◌then◌else◌, nat_lt}
 use Rattle.std.specs.List.{find}
 use Rattle.std.specs.Fmt.{decimal}
 use Rattle.trace_values.specs.declared.value.Act.{Act}

@@ -29,7 +29,7 @@ pub use print::{
 };
 pub use trace::{LINES, REDUCERS, Trace, header};
 pub use trace_values::{
-    Act, Cause, Items, Mem, Mems, Monoid, Monoids, NAME_LEN, Name, Named, Names, Reducer,
-    Reducers, Request, Shape, TextFault, TraceLine, Version, Words, as_text, both, is_name,
-    monoid_of, monoid_word, split_line, version_word, without_return,
+    Act, Cause, Items, Mem, Mems, Monoid, Monoids, NAME_LEN, Name, Named, Names, Reducer, Reducers,
+    Request, Shape, TextFault, TraceLine, Version, Words, as_text, both, is_name, monoid_of,
+    monoid_word, split_line, version_word, without_return,
 };

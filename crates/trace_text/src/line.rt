@@ -4,7 +4,8 @@ ghost use Rattle.std.specs.Prelude.{◌≡◌, ◌∷◌, [], Some, None, MatchR
 ghost use Rattle.access_table.specs.declared.kind.Kind.TheVariants as kind;
 ghost use Rattle.trace_text.specs.declared.keyword.Keyword.TheVariants.{Access};
 ghost use Rattle.trace_values.specs.Values.{Known};
-ghost use Rattle.trace_text.specs.Lines.{Cell, ReducerName, FreshName, MonoidWord, Number, Mark, a_strand, a_value, OfName, OfNumber, OfMonoid, if_there, asks, IsControl, HasKeyword};
+ghost use Rattle.trace_text.specs.Lines.{Cell, ReducerName, FreshName, MonoidWord, Number, Mark, a_strand, a_value};
+ghost use Rattle.trace_text.specs.Lines.{OfName, OfNumber, OfMonoid, if_there, asks, IsControl, HasKeyword};
 ghost use Rattle.trace_values.specs.Limits.{max_cells};
 ghost use Rattle.trace_text.specs.Grammar.{Asked as AskedLine, ItemMeans};
 ghost use Rattle.trace_values.specs.Causes.{IsLowest};
@@ -105,7 +106,8 @@ fn of_cell_and_value<A: Allocator + Copy>(
     names: &Names<'_, A>,
     words: &mut Words<'_>,
 ) -> Result<(u32, (u32, (u64, Option<u32>))), Cause>
-    ensures { Fits names.now (a_strand ∷ Cell ∷ a_value ∷ []) (Some Mark) words.old result (λ r. OfNumber r.0 ∷ OfNumber r.1.0 ∷ OfNumber r.1.1.0 ∷ if_there r.1.1.1) }
+    ensures { Fits names.now (a_strand ∷ Cell ∷ a_value ∷ []) (Some Mark) words.old result
+        (λ r. OfNumber r.0 ∷ OfNumber r.1.0 ∷ OfNumber r.1.1.0 ∷ if_there r.1.1.1) }
 {
     let by = strand(words);
     let cell = cell(names, words);
@@ -119,7 +121,8 @@ fn of_reducer<A: Allocator + Copy>(
     names: &Names<'_, A>,
     words: &mut Words<'_>,
 ) -> Result<(u32, (u32, Option<u32>)), Cause>
-    ensures { Fits names.now (a_strand ∷ ReducerName ∷ []) (Some Mark) words.old result (λ r. OfNumber r.0 ∷ OfNumber r.1.0 ∷ if_there r.1.1) }
+    ensures { Fits names.now (a_strand ∷ ReducerName ∷ []) (Some Mark) words.old result
+        (λ r. OfNumber r.0 ∷ OfNumber r.1.0 ∷ if_there r.1.1) }
 {
     let by = strand(words);
     let reducer = reducer(names, words);
@@ -132,7 +135,8 @@ fn of_reducer_and_value<A: Allocator + Copy>(
     names: &Names<'_, A>,
     words: &mut Words<'_>,
 ) -> Result<(u32, (u32, (u64, Option<u32>))), Cause>
-    ensures { Fits names.now (a_strand ∷ ReducerName ∷ a_value ∷ []) (Some Mark) words.old result (λ r. OfNumber r.0 ∷ OfNumber r.1.0 ∷ OfNumber r.1.1.0 ∷ if_there r.1.1.1) }
+    ensures { Fits names.now (a_strand ∷ ReducerName ∷ a_value ∷ []) (Some Mark) words.old result
+        (λ r. OfNumber r.0 ∷ OfNumber r.1.0 ∷ OfNumber r.1.1.0 ∷ if_there r.1.1.1) }
 {
     let by = strand(words);
     let reducer = reducer(names, words);
@@ -225,7 +229,9 @@ pub fn read_line<'a, A: Allocator + Copy>(
     names: &Names<'_, A>,
     words: &mut Words<'a>,
 ) -> Result<Item<'a>, Cause>
-    ensures { MatchResult result (λ item. ItemMeans at names.now words.old (item_of item)) (λ cause. IsLowest (WordsFault names.now words.old) cause) }
+    ensures { MatchResult result
+        (λ item. ItemMeans at names.now words.old (item_of item))
+        (λ cause. IsLowest (WordsFault names.now words.old) cause) }
 {
     match words.take() {
         None => Ok(Item::Blank),

@@ -4,7 +4,8 @@ ghost use Rattle.std.specs.Prelude.{◌≡◌, ◌+◌, ◌<◌, ◌≤◌, ◌^
 ghost use Rattle.trace_values.specs.Values.{Known};
 ghost use Rattle.trace_values.specs.Limits.{max_cells};
 ghost use Rattle.trace_values.specs.Names.{SingleMeans, ElementMeans};
-ghost use Rattle.trace_text.specs.Lines.{FreshName, Number, Cell, ReducerName, MonoidWord, Mark, a_strand, a_value, OfName, OfNumber, OfMonoid, if_there};
+ghost use Rattle.trace_text.specs.Lines.{FreshName, Number, Cell, ReducerName, MonoidWord, Mark};
+ghost use Rattle.trace_text.specs.Lines.{a_strand, a_value, OfName, OfNumber, OfMonoid, if_there};
 ghost use Rattle.trace_text.specs.Cells.{IsSingleFault, IsElementFault};
 ghost use Rattle.trace_text.specs.Outcome.{TakesWord, Fits, Reads};
 

@@ -1,12 +1,14 @@
 //! A trace as text.
 
-ghost use Rattle.std.specs.Prelude.{◌≡◌, ◌++◌, ◌∷◌, ◌+◌, ◌-◌, ◌<◌, ◌≤◌, ℕ, [], List, OnOk, IfOk, IsTrue, replicate, string_bytes, cond, map};
+ghost use Rattle.std.specs.Prelude.{◌≡◌, ◌++◌, ◌∷◌, ◌+◌, ◌-◌, ◌<◌, ◌≤◌, ℕ, [], List, OnOk};
+ghost use Rattle.std.specs.Prelude.{IfOk, IsTrue, replicate, string_bytes, cond, map};
 ghost use Rattle.std.specs.Fmt.{decimal};
 ghost use Rattle.trace_values.specs.declared.value.Version.{Version};
 ghost use Rattle.trace_values.specs.declared.value.Reducer.{Reducer};
 ghost use Rattle.trace_values.specs.Values.{Known};
 ghost use Rattle.trace_text.specs.Shapes.{is_numbered, name_of_cell};
-ghost use Rattle.trace_text.specs.Printing.{Entry, OfMemory, OfReducer, OfRequest, declarations, entry_text, name_of_reducer, operand_text, known_of, text_from, PrintsEntry, StartsPast, TakesReducers};
+ghost use Rattle.trace_text.specs.Printing.{Entry, OfMemory, OfReducer, OfRequest, declarations, entry_text, name_of_reducer};
+ghost use Rattle.trace_text.specs.Printing.{operand_text, known_of, text_from, PrintsEntry, StartsPast, TakesReducers};
 
 use crate::cell::memory_at;
 use crate::keyword::{keyword_for, keyword_word};
@@ -73,7 +75,8 @@ fn put_operands<A: Allocator>(
     act: Act,
 ) -> Result<(), AllocError>
     requires numbered { IsTrue (is_numbered 0 mems.now) }
-    ensures { (version : Version) → OnOk result (string_bytes out.new ≡ string_bytes out.old ++ operand_text (known_of version mems.now reducers.now) act) }
+    ensures { (version : Version) →
+        OnOk result (string_bytes out.new ≡ string_bytes out.old ++ operand_text (known_of version mems.now reducers.now) act) }
 {
     match act {
         Act::Spawn => Ok(()),
@@ -103,7 +106,8 @@ fn put_operands<A: Allocator>(
 
 /// Appends the mark of a request.
 fn put_mark<A: Allocator>(out: &mut String<A>, line: &TraceLine) -> Result<(), AllocError>
-    ensures { OnOk result (string_bytes out.new ≡ string_bytes out.old ++ cond line.now.marked (32 ∷ 64 ∷ decimal line.now.request.line) []) }
+    ensures { OnOk result (string_bytes out.new
+        ≡ string_bytes out.old ++ cond line.now.marked (32 ∷ 64 ∷ decimal line.now.request.line) []) }
 {
     if line.marked {
         let mark = line.request.line;
@@ -120,7 +124,9 @@ fn put_request<A: Allocator>(
     line: &TraceLine,
 ) -> Result<(), AllocError>
     requires numbered { IsTrue (is_numbered 0 mems.now) }
-    ensures { (version : Version) → OnOk result (string_bytes out.new ≡ string_bytes out.old ++ entry_text (known_of version mems.now reducers.now) (OfRequest line.now)) }
+    ensures { (version : Version) →
+        OnOk result (string_bytes out.new
+        ≡ string_bytes out.old ++ entry_text (known_of version mems.now reducers.now) (OfRequest line.now)) }
 {
     out.push_str(keyword_word(keyword_for(line.request.act)))?;
     put_number(out, u64::from(line.request.strand))?;
@@ -163,7 +169,8 @@ pub fn put_feeds<A: Allocator>(out: &mut String<A>, from: u64, to: u64) -> Resul
 
 /// Appends the line of a memory, where the next line has the number `at`, and gives the number of the line behind it.
 fn put_memory_line<A: Allocator>(out: &mut String<A>, at: u64, mem: &Mem) -> Result<u64, AllocError>
-    ensures { (known : Known) → IfOk result (λ next. PrintsEntry known (string_bytes out.old) at (OfMemory mem.now) (string_bytes out.new) next) }
+    ensures { (known : Known) →
+        IfOk result (λ next. PrintsEntry known (string_bytes out.old) at (OfMemory mem.now) (string_bytes out.new) next) }
 {
     put_feeds(out, at, u64::from(mem.line))?;
     put_memory(out, mem)?;
@@ -177,7 +184,8 @@ fn put_reducer_line<A: Allocator>(
     at: u64,
     reducer: &Reducer,
 ) -> Result<u64, AllocError>
-    ensures { (known : Known) → IfOk result (λ next. PrintsEntry known (string_bytes out.old) at (OfReducer reducer.now) (string_bytes out.new) next) }
+    ensures { (known : Known) →
+        IfOk result (λ next. PrintsEntry known (string_bytes out.old) at (OfReducer reducer.now) (string_bytes out.new) next) }
 {
     put_feeds(out, at, u64::from(reducer.line))?;
     put_reducer(out, reducer)?;
@@ -194,7 +202,9 @@ fn put_request_line<A: Allocator>(
     line: &TraceLine,
 ) -> Result<u64, AllocError>
     requires numbered { IsTrue (is_numbered 0 mems.now) }
-    ensures { (version : Version) → IfOk result (λ next. PrintsEntry (known_of version mems.now reducers.now) (string_bytes out.old) at (OfRequest line.now) (string_bytes out.new) next) }
+    ensures { (version : Version) →
+        IfOk result (λ next. PrintsEntry (known_of version mems.now reducers.now)
+        (string_bytes out.old) at (OfRequest line.now) (string_bytes out.new) next) }
 {
     put_feeds(out, at, u64::from(line.at))?;
     put_request(out, mems, reducers, line)?;
@@ -211,7 +221,9 @@ fn put_reducers_until<'a, A: Allocator>(
     reducers: &'a [Reducer],
 ) -> Result<(u64, &'a [Reducer]), AllocError>
     ensures past { IfOk result (λ r. StartsPast bound r.1.now) }
-    ensures prints { (known : Known) (merged : List Reducer → List Entry) → TakesReducers bound merged → IfOk result (λ r. string_bytes out.new ++ text_from known r.0 (merged r.1.now) ≡ string_bytes out.old ++ text_from known from (merged reducers.now)) }
+    ensures prints { (known : Known) (merged : List Reducer → List Entry) → TakesReducers bound merged →
+        IfOk result (λ r. string_bytes out.new ++ text_from known r.0 (merged r.1.now)
+        ≡ string_bytes out.old ++ text_from known from (merged reducers.now)) }
 {
     let mut at = from;
     let mut rest = reducers;
@@ -231,7 +243,9 @@ fn put_reducers<A: Allocator>(
     from: u64,
     reducers: &[Reducer],
 ) -> Result<u64, AllocError>
-    ensures { (known : Known) (requests : List Entry) → IfOk result (λ next. string_bytes out.new ++ text_from known next requests ≡ string_bytes out.old ++ text_from known from (map OfReducer reducers.now ++ requests)) }
+    ensures { (known : Known) (requests : List Entry) →
+        IfOk result (λ next. string_bytes out.new ++ text_from known next requests
+        ≡ string_bytes out.old ++ text_from known from (map OfReducer reducers.now ++ requests)) }
 {
     let mut at = from;
     for reducer in reducers {
@@ -246,7 +260,9 @@ pub fn put_declarations<A: Allocator>(
     mems: &[Mem],
     reducers: &[Reducer],
 ) -> Result<u64, AllocError>
-    ensures { (known : Known) (requests : List Entry) → IfOk result (λ next. string_bytes out.new ++ text_from known next requests ≡ string_bytes out.old ++ text_from known 2 (declarations mems.now reducers.now ++ requests)) }
+    ensures { (known : Known) (requests : List Entry) →
+        IfOk result (λ next. string_bytes out.new ++ text_from known next requests
+        ≡ string_bytes out.old ++ text_from known 2 (declarations mems.now reducers.now ++ requests)) }
 {
     let mut at = 2;
     let mut rest = reducers;
@@ -267,7 +283,9 @@ fn put_requests<A: Allocator, B: Allocator>(
     lines: &TraceLines<B>,
 ) -> Result<(), AllocError>
     requires numbered { IsTrue (is_numbered 0 mems.now) }
-    ensures { (version : Version) → OnOk result (string_bytes out.new ≡ string_bytes out.old ++ text_from (known_of version mems.now reducers.now) from (map OfRequest lines.now)) }
+    ensures { (version : Version) →
+        OnOk result (string_bytes out.new
+        ≡ string_bytes out.old ++ text_from (known_of version mems.now reducers.now) from (map OfRequest lines.now)) }
 {
     let mut at = from;
     for line in lines.iter() {

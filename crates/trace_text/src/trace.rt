@@ -6,9 +6,11 @@ ghost use Rattle.trace_values.specs.Limits.{max_cells, max_reducers, max_request
 ghost use Rattle.trace_text.specs.Shapes.{is_numbered, IsWithin};
 ghost use Rattle.trace_values.specs.Text.{lines};
 ghost use Rattle.trace_values.specs.Declarations.{cells_of};
-ghost use Rattle.trace_text.specs.Grammar.{Item as SpecItem, Declared, Reduces, Asked, LineMeans, LinesMean, TextMeans, extended, nothing, IsHeader};
+ghost use Rattle.trace_text.specs.Grammar.{Item as SpecItem, Declared, Reduces, Asked, LineMeans};
+ghost use Rattle.trace_text.specs.Grammar.{LinesMean, TextMeans, extended, nothing, IsHeader};
 ghost use Rattle.trace_text.specs.Items.{item_of};
-ghost use Rattle.trace_text.specs.Drafts.{so_far, Extends, IsRoomFault, IsLineFault, IsHeaderFault, IsBodyFault, IsTextFault, IsTaken, IsStopped, SaysSo};
+ghost use Rattle.trace_text.specs.Drafts.{so_far, Extends, IsRoomFault, IsLineFault, IsHeaderFault};
+ghost use Rattle.trace_text.specs.Drafts.{IsBodyFault, IsTextFault, IsTaken, IsStopped, SaysSo};
 
 use crate::line::{Item, read_line, request_on};
 use crate::place::CELLS;
@@ -216,7 +218,8 @@ pub struct Trace<A: Allocator> {
     pub reducers: Reducers<A>,
     /// The requests.
     pub lines: TraceLines<A>,
-    ghost meant: { ∥ ((text : List ℕ) × TextMeans text (record { known = record { version = version; mems = mems; reducers = reducers }; lines = lines })) ∥₁ },
+    ghost meant: { ∥ ((text : List ℕ)
+        × TextMeans text (record { known = record { version = version; mems = mems; reducers = reducers }; lines = lines })) ∥₁ },
     ghost numbered: { IsTrue (is_numbered 0 mems) },
     ghost few_cells: { cells_of mems ≤ max_cells },
     ghost few_reducers: { length reducers ≤ max_reducers },

@@ -1,7 +1,8 @@
 -- Causes in their order, and the lowest of them.
 use Rattle.std.specs.Prelude.{ℕ, ◌<◌, Result, Ok, Err, nat_lt, cond}
 use Rattle.trace_values.specs.declared.fault.Cause.{Cause}
-use Rattle.trace_values.specs.declared.fault.Cause.TheVariants.{NotText, BadHeader, BadWord, BadNumber, UnknownName, TwiceNamed, BadNesting, NoMain, TooMany}
+use Rattle.trace_values.specs.declared.fault.Cause.TheVariants.{NotText, BadHeader, BadWord, BadNumber, UnknownName}
+use Rattle.trace_values.specs.declared.fault.Cause.TheVariants.{TwiceNamed, BadNesting, NoMain, TooMany}
 
 abbrev pub cause_number : Cause → ℕ
 cause_number NotText = 1

@@ -38,7 +38,8 @@ SingleMeans mems name cell = IsName name × (mem : Mem) × IsDeclared mems name 
 -- The name of an array and an index below its length name a cell of it.
 abbrev pub ElementMeans : List Mem → List ℕ → List ℕ → ℕ → Type 0
 ElementMeans mems name index cell =
-    IsName name × (mem : Mem) × (i : ℕ) × IsDeclared mems name true mem × IsNumberIn 0 max_value index i × (i < mem.cells) × (cell ≡ mem.first + i)
+    IsName name × (mem : Mem) × (i : ℕ) × IsDeclared mems name true mem
+    × IsNumberIn 0 max_value index i × (i < mem.cells) × (cell ≡ mem.first + i)
 
 abbrev pub CellMeans : List Mem → List ℕ → ℕ → Type 0
 CellMeans mems word cell =

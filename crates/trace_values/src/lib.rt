@@ -4,8 +4,9 @@
 //! `specs/`, over the bytes of a text. [`split_line`] gives the lines of a text one by one and [`Words::take`] the words of a line, each
 //! with the contract that it is the next one by that definition; [`is_name`] decides what a name is. [`Names::find`], and
 //! [`Names::find_bytes`] of bytes that need be no text, carry the theorem that what is found is what a name stands for behind the
-//! declarations so far, which [`Names::add_memory`] and [`Names::add_reducer`] extend by just one, or not at all where memory runs out. [`monoid_of`] and [`monoid_word`] are the spelling of
-//! monoids, [`access_asked`] says which access an act is, and [`both`] is the lower of two causes.
+//! declarations so far, which [`Names::add_memory`] and [`Names::add_reducer`] extend by just one, or not at all where memory runs out.
+//! [`monoid_of`] and [`monoid_word`] are the spelling of monoids, [`access_asked`] says which access an act is, and [`both`] is the lower
+//! of two causes.
 #![tactic(auto)]
 
 mod asked;
@@ -22,7 +23,6 @@ pub use name::{NAME_LEN, Name, is_name};
 pub use names::{Named, Names};
 pub use spelling::{monoid_of, monoid_word, version_word};
 pub use value::{
-    Act, Items, Lines, Mem, Mems, Monoid, Monoids, Reducer, Reducers, Request, Shape, TraceLine,
-    Version,
+    Act, Items, Mem, Mems, Monoid, Monoids, Reducer, Reducers, Request, Shape, TraceLine, Version,
 };
 pub use words::{Words, as_text, split_line, without_return};

@@ -92,7 +92,9 @@ impl<'a, A: Allocator> Model for Names<'a, A> {
 
     ghost view = { λ names. record { version = names.version; mems = names.mems.items; reducers = names.reducers.items } };
 
-    ghost invariant = { λ names. IsIndexed (record { version = names.version; mems = names.mems.items; reducers = names.reducers.items }) names.cells names.index.entries };
+    ghost invariant = { λ names.
+        IsIndexed (record { version = names.version; mems = names.mems.items; reducers = names.reducers.items })
+        names.cells names.index.entries };
 }
 
 impl<'a, A: Allocator + Copy> Names<'a, A> {

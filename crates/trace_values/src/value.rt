@@ -115,9 +115,6 @@ pub type Mems<A> = Items<Mem, A>;
 /// Reducers in order of declaration.
 pub type Reducers<A> = Items<Reducer, A>;
 
-/// The lines of a trace that ask for something, in their order.
-pub type Lines<A> = Items<TraceLine, A>;
-
 /// The monoids of the reducers in order of declaration.
 pub type Monoids<A> = Items<Monoid, A>;
 

@@ -11,8 +11,10 @@ use Rattle.view_read_rule.specs.Reads.{ReducerRead, IsReadOf, AreOfOneBranch}
 abbrev pub AddedLaw : Type 0
 AddedLaw =
     ((history : History) (reducer : ℕ) → AreOfOneBranch history [] reducer) ×
-    ((history : History) (reads : List ReducerRead) (reducer : ℕ) (read : ReducerRead) → AreOfOneBranch history reads reducer → Begun history read.strand →
-    (read.reducer ≡ reducer → (other : ReducerRead) → IsReadOf reads reducer other → branch history other.strand ≡ branch history read.strand) →
+    ((history : History) (reads : List ReducerRead) (reducer : ℕ) (read : ReducerRead) →
+    AreOfOneBranch history reads reducer → Begun history read.strand →
+    (read.reducer ≡ reducer → (other : ReducerRead) → IsReadOf reads reducer other →
+    branch history other.strand ≡ branch history read.strand) →
     AreOfOneBranch history (reads ++ read ∷ []) reducer)
 
 -- later events change nothing

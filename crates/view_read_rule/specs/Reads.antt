@@ -46,9 +46,11 @@ pub record Remembers (firsts : List (Option Witness)) (reads : List ReducerRead)
 
 -- the branches are those of the strands whose reads were taken in
 abbrev pub StandsOn : List (Option Witness) → Names → Type 0
-StandsOn firsts branches = (reads : List ReducerRead) × Remembers firsts reads × ((read : ReducerRead) → Contains reads read → IsNamed branches read.strand)
+StandsOn firsts branches =
+    (reads : List ReducerRead) × Remembers firsts reads × ((read : ReducerRead) → Contains reads read → IsNamed branches read.strand)
 
 -- the reads of the reducer are of begun strands with one branch, as those that were granted
 pub record AreOfOneBranch (history : History) (reads : List ReducerRead) (reducer : ℕ) : Type 0 where
   pub begun : (read : ReducerRead) → IsReadOf reads reducer read → Begun history read.strand
-  pub one_branch : (first second : ReducerRead) → IsReadOf reads reducer first → IsReadOf reads reducer second → branch history first.strand ≡ branch history second.strand
+  pub one_branch : (first second : ReducerRead) →
+      IsReadOf reads reducer first → IsReadOf reads reducer second → branch history first.strand ≡ branch history second.strand

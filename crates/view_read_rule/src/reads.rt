@@ -7,7 +7,8 @@ ghost use Rattle.control_history.specs.Legal.{Legal};
 ghost use Rattle.control_history.specs.Extensions.{Extends};
 ghost use Rattle.branch_names.specs.Names.{Follows, IsNamed};
 ghost use Rattle.shadow_history.specs.declared.witness.Witness.{Witness};
-ghost use Rattle.view_read_rule.specs.Reads.{ReducerRead, first_read, witness_of, IsReadOf, IsOfBranch, IsOfOtherBranch, HasOtherPeers, Remembers, StandsOn, AreOfOneBranch};
+ghost use Rattle.view_read_rule.specs.Reads.{ReducerRead, first_read, witness_of, IsReadOf, IsOfBranch};
+ghost use Rattle.view_read_rule.specs.Reads.{IsOfOtherBranch, HasOtherPeers, Remembers, StandsOn, AreOfOneBranch};
 ghost use Rattle.view_read_rule.specs.Verdicts.{IsRefused};
 
 use access_table::Kind;
@@ -70,9 +71,11 @@ impl<A: Allocator> ReadPeers<A> {
 
         ensures unset { (reads : List ReducerRead) → Remembers self.now reads →
             (result ≡ ViewVerdict.Unset) ↔ ((kind ≡ Kind.Get) × IsNone (first_read reads reducer)) }
-        ensures refused { (reads : List ReducerRead) (history : History) → Remembers self.now reads → Follows branches.now history → (witness : Witness) →
+        ensures refused { (reads : List ReducerRead) (history : History) →
+            Remembers self.now reads → Follows branches.now history → (witness : Witness) →
             (result ≡ ViewVerdict.Refused witness) ↔
-            ((read : ReducerRead) × (first_read reads reducer ≡ Some read) × (witness ≡ witness_of read) × IsOfOtherBranch history strand read) }
+            ((read : ReducerRead) × (first_read reads reducer ≡ Some read) ×
+            (witness ≡ witness_of read) × IsOfOtherBranch history strand read) }
         ensures granted { (reads : List ReducerRead) (history : History) → Remembers self.now reads → Follows branches.now history →
             (result ≡ ViewVerdict.Granted) ↔
             MatchOption (first_read reads reducer) (kind ≡ Kind.Put) (IsOfBranch history strand) }
