@@ -1,11 +1,11 @@
 -- The list of conflicts against the rule by cases.
 use Rattle.std.proofs.Common.{rules, ◌≡◌, true, refl, sym, ap, ◌∙◌, subst, lit<, Contains}
 use Rattle.std.proofs.lemmas.List.Elements.{All-nil, All-cons, All-contains}
-use Rattle.access_table.specs.declared.kind.Kind.{Kind}
-use Rattle.access_table.specs.declared.kind.Kind.TheVariants.{Write, Bump, Read, Put, Get}
-use Rattle.access_table.specs.declared.kind.Rule.{Rule}
-use Rattle.access_table.specs.declared.kind.Rule.TheVariants.{Free, Race, View}
-use Rattle.access_table.specs.Table.{conflicts, rule_between, is_conflict}
+use Rattle.model_accesses.specs.declared.kind.Kind.{Kind}
+use Rattle.model_accesses.specs.declared.kind.Kind.TheVariants.{Write, Bump, Read, Put, Get}
+use Rattle.model_accesses.specs.declared.kind.Rule.{Rule}
+use Rattle.model_accesses.specs.declared.kind.Rule.TheVariants.{Free, Race, View}
+use Rattle.model_accesses.specs.Table.{conflicts, rule_between, is_conflict}
 use Rattle.access_table.specs.Laws.{EachPairHasOneRule, RuleIsSymmetric, RacesAreOfMemory, ViewsAreOfReducerReads}
 
 -- where two kinds stand in the list

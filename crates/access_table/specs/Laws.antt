@@ -1,9 +1,9 @@
 -- What holds of the table as a whole.
 use Rattle.std.specs.Prelude.{◌≡◌, ◌↔◌, IsTrue}
-use Rattle.access_table.specs.declared.kind.Kind.{Kind}
-use Rattle.access_table.specs.declared.kind.Rule.{Rule}
-use Rattle.access_table.specs.declared.kind.Rule.TheVariants.{Race, View}
-use Rattle.access_table.specs.Table.{HasRule, rule_between, is_memory_kind, is_reducer_read}
+use Rattle.model_accesses.specs.declared.kind.Kind.{Kind}
+use Rattle.model_accesses.specs.declared.kind.Rule.{Rule}
+use Rattle.model_accesses.specs.declared.kind.Rule.TheVariants.{Race, View}
+use Rattle.model_accesses.specs.Table.{HasRule, rule_between, is_memory_kind, is_reducer_read}
 
 -- The list has no more than one rule for a pair, and the cases are those of the list.
 abbrev pub EachPairHasOneRule : Type 0

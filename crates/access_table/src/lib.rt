@@ -1,15 +1,14 @@
 //! The kinds of access that a strand makes, and the table that says which of them conflict.
 //!
-//! The specification lists the conflicts as triples: an earlier kind, a new kind, and the rule that the two come
-//! under. [`rule`] carries the theorem that the code agrees with that list: a pair comes under the rule that is
+//! `Table` of `model_accesses` lists the conflicts as triples: an earlier kind, a new kind, and the rule that the two
+//! come under. [`rule`] carries the theorem that the code agrees with that list: a pair comes under the rule that is
 //! listed for it, and is free where none is. Races are those of Feng and Leiserson 1997, view-read races those of
 //! Lee and Schardl 2015. The macro [`access_table`] is the one place in the code where the table stands: all
 //! bodies here are made by it, and crates above expand it in theirs.
 #![tactic(auto)]
 
-mod kind;
 pub mod laws;
 mod table;
 
-pub use kind::{Kind, Rule};
+pub use model_accesses::{Kind, Rule};
 pub use table::{N, conflicting, is_memory, kind_of, rule, rule_word, word};

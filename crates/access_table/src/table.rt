@@ -1,8 +1,8 @@
 ghost use Rattle.std.specs.Prelude.{◌≡◌, ◌↔◌, option_map, map};
-ghost use Rattle.access_table.specs.declared.kind.Kind.{Kind};
-ghost use Rattle.access_table.specs.Table.{kinds, HasRule, rule_between, is_conflict, spelling, rule_spelling, is_memory_kind};
+ghost use Rattle.model_accesses.specs.declared.kind.Kind.{Kind};
+ghost use Rattle.model_accesses.specs.Table.{kinds, HasRule, rule_between, is_conflict, spelling, rule_spelling, is_memory_kind};
 
-use crate::kind::{Kind, Rule};
+use model_accesses::{Kind, Rule};
 
 /// Hands the table to the macro `$callback`, behind the arguments in brackets: a row in braces for each kind, in
 /// order, with its word, its sort (`memory` or `reducer`), and in brackets each earlier kind with which it

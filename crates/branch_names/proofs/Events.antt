@@ -2,18 +2,18 @@
 use Rattle.std.proofs.Common.{◌≡◌, ◌≢◌, ◌⊎◌, ◌↔◌, inl, inr, ℕ, suc, ◌+◌, ◌<◌, Bool, true, false, List, [], ◌∷◌, ◌++◌, length, get_or, refl, sym, ap, ◌∙◌, subst, arith, length-append}
 use Rattle.std.proofs.Math.ListN.{set}
 use Rattle.std.proofs.lemmas.List.{length-set, get_or_append_left, get_or_read}
-use Rattle.control_history.specs.History.{Event, split, same, joined, waits, call, resumed, ended, ended_joined, finished, History}
-use Rattle.control_history.specs.Updated.{updated}
-use Rattle.control_history.specs.Strands.{Status, absent, reserved, running, over, status, unused, Begun, Running}
-use Rattle.control_history.specs.Legal.{Allowed, open_split, Legal, start, then}
-use Rattle.control_history.specs.Branches.{left, right, branch}
-use Rattle.control_history.proofs.Updates.{same_or_not, updated_at, updated_off, updated_case}
-use Rattle.control_history.proofs.Places.{Seen, at_child, at_next, at_join, at_spawner, elsewhere}
-use Rattle.control_history.proofs.Range.{Numbered, ranges, numbered}
-use Rattle.control_history.proofs.Law.{begun_below}
-use Rattle.control_history.proofs.Kept.{begun_stays}
-use Rattle.control_history.proofs.Finish.{running_of}
-use Rattle.control_history.proofs.Branches.{branch_names, branch_stays}
+use Rattle.model_strands.specs.History.{Event, split, same, joined, waits, call, resumed, ended, ended_joined, finished, History}
+use Rattle.model_strands.specs.Updated.{updated}
+use Rattle.model_strands.specs.Strands.{Status, absent, reserved, running, over, status, unused, Begun, Running}
+use Rattle.model_strands.specs.Legal.{Allowed, open_split, Legal, start, then}
+use Rattle.law_strands.specs.Branches.{left, right, branch}
+use Rattle.law_strands.proofs.Updates.{same_or_not, updated_at, updated_off, updated_case}
+use Rattle.law_strands.proofs.Places.{Seen, at_child, at_next, at_join, at_spawner, elsewhere}
+use Rattle.law_strands.proofs.Range.{Numbered, ranges, numbered}
+use Rattle.law_strands.proofs.Law.{begun_below}
+use Rattle.law_strands.proofs.Kept.{begun_stays}
+use Rattle.law_strands.proofs.Finish.{running_of}
+use Rattle.law_strands.proofs.Branches.{branch_names, branch_stays}
 use Rattle.branch_names.specs.declared.branches.Name.{Name}
 use Rattle.branch_names.specs.declared.branches.Name.TheVariants.{Given, Kept}
 use Rattle.branch_names.specs.Names.{Names, Follows, Takes, TakesJoin, Begins, OtherEventsLaw, number_of, name_at}

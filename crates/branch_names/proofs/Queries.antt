@@ -1,14 +1,14 @@
 -- What the names answer.
 use Rattle.std.proofs.Common.{◌≡◌, ◌↔◌, ℕ, ◌<◌, length, arith}
-use Rattle.control_history.specs.History.{History}
-use Rattle.control_history.specs.Strands.{Begun}
-use Rattle.control_history.specs.Legal.{Legal}
-use Rattle.control_history.specs.Extensions.{Extends}
-use Rattle.control_history.specs.Branches.{branch}
-use Rattle.control_history.specs.Peers.{HaveSamePeers}
-use Rattle.control_history.proofs.Range.{ranges}
-use Rattle.control_history.proofs.Law.{begun_below}
-use Rattle.control_history.proofs.Branches.{branch_law}
+use Rattle.model_strands.specs.History.{History}
+use Rattle.model_strands.specs.Strands.{Begun}
+use Rattle.model_strands.specs.Legal.{Legal}
+use Rattle.model_strands.specs.Extensions.{Extends}
+use Rattle.law_strands.specs.Branches.{branch}
+use Rattle.model_strands.specs.Peers.{HaveSamePeers}
+use Rattle.law_strands.proofs.Range.{ranges}
+use Rattle.law_strands.proofs.Law.{begun_below}
+use Rattle.law_strands.proofs.Branches.{branch_law}
 use Rattle.branch_names.specs.Names.{Names, Follows, IsNamed, number_of, name_at}
 
 -- A begun strand has a name.

@@ -3,8 +3,8 @@ use Rattle.std.proofs.Common.{◌≡◌, ◌≢◌, ◌⊎◌, ◌↔◌, inl, i
 use Rattle.std.proofs.lemmas.List.{get_or_append_left, get_or_push, get_or-set_same, get_or-set_other, length-set}
 use Rattle.std.proofs.Math.ListN.{set}
 use Rattle.std.proofs.Common.{length-append}
-use Rattle.control_history.specs.Branches.{Branch}
-use Rattle.control_history.proofs.Updates.{same_or_not}
+use Rattle.law_strands.specs.Branches.{Branch}
+use Rattle.law_strands.proofs.Updates.{same_or_not}
 use Rattle.branch_names.specs.declared.branches.Name.{Name}
 use Rattle.branch_names.specs.declared.branches.Name.TheVariants.{Given, Kept}
 use Rattle.branch_names.specs.Names.{number_of, IsGiven, name_at}

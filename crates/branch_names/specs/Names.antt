@@ -2,10 +2,10 @@
 use Rattle.std.specs.Prelude.{◌≡◌, ◌↔◌, ◌<◌, ◌≤◌, ◌+◌, ◌∷◌, ℕ, Bool, true, List, length, slice_index_or}
 use Rattle.branch_names.specs.declared.branches.Name.{Name}
 use Rattle.branch_names.specs.declared.branches.Name.TheVariants.{Given, Kept}
-use Rattle.control_history.specs.History.{Event, split, joined, ended_joined, History}
-use Rattle.control_history.specs.Strands.{unused, Begun}
-use Rattle.control_history.specs.Legal.{Legal}
-use Rattle.control_history.specs.Branches.{branch}
+use Rattle.model_strands.specs.History.{Event, split, joined, ended_joined, History}
+use Rattle.model_strands.specs.Strands.{unused, Begun}
+use Rattle.model_strands.specs.Legal.{Legal}
+use Rattle.law_strands.specs.Branches.{branch}
 
 -- The names of strands and of joins that have not begun, by their numbers, and whether the next event that begins strands
 -- needs no memory.

@@ -1,15 +1,15 @@
 //! One number for each strand.
 
 ghost use Rattle.std.specs.Prelude.{◌≡◌, ◌↔◌, [], ◌∷◌, true, false, IsTrue, IfOk, OnOk, OnErr, vec_len, vec_capacity};
-ghost use Rattle.control_history.specs.History.{Event, split, History};
-ghost use Rattle.control_history.specs.Strands.{Begun};
-ghost use Rattle.control_history.specs.Legal.{Legal};
-ghost use Rattle.control_history.specs.Extensions.{Extends};
-ghost use Rattle.control_history.specs.Branches.{branch};
-ghost use Rattle.control_history.specs.Peers.{HaveSamePeers};
+ghost use Rattle.model_strands.specs.History.{Event, split, History};
+ghost use Rattle.model_strands.specs.Strands.{Begun};
+ghost use Rattle.model_strands.specs.Legal.{Legal};
+ghost use Rattle.model_strands.specs.Extensions.{Extends};
+ghost use Rattle.law_strands.specs.Branches.{branch};
+ghost use Rattle.model_strands.specs.Peers.{HaveSamePeers};
 ghost use Rattle.branch_names.specs.Names.{Names, Follows, FollowsSome, FollowsOn, IsNamed, Takes, TakesJoin, Begins, IsReady, number_of};
 
-use sp_labels::Spawned;
+use model_strands::Spawned;
 use std::alloc::{AllocError, Allocator};
 use std::marker::Model;
 

@@ -1,6 +1,7 @@
 //! What holds of branches, as contracts of functions that do nothing.
 
-ghost use Rattle.control_history.specs.Laws.{FinishLaw, BranchLaw, FinishedBranchLaw, BranchAddressLaw};
+ghost use Rattle.model_strands.specs.Laws.{FinishLaw};
+ghost use Rattle.law_strands.specs.Laws.{BranchLaw, FinishedBranchLaw, BranchAddressLaw};
 ghost use Rattle.branch_names.specs.Names.{OtherEventsLaw};
 
 /// Every legal history has a finished extension. Two begun strands have one branch exactly where they have the same peers

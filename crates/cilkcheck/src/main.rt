@@ -8,15 +8,15 @@
 #![tactic(auto)]
 
 ghost use Rattle.std.specs.Prelude.{⊤, None, IfOk};
-ghost use Rattle.text_commands.specs.Jobs.{IsInRange};
-ghost use Rattle.text_commands.specs.Names.{SparesProgram};
-ghost use Rattle.text_commands.specs.Sources.{unknown_sources};
+ghost use Rattle.tool_commands.specs.Jobs.{IsInRange};
+ghost use Rattle.tool_commands.specs.Names.{SparesProgram};
+ghost use Rattle.tool_commands.specs.Sources.{unknown_sources};
 
 use std::fs::{self, File};
 use std::io::{self, IsTerminal};
 use std::os::unix::fs::MetadataExt;
 use std::process::ExitCode;
-use text_commands::{
+use tool_commands::{
     CliFault, Host, Job, Watched, check_names, exit_of, perform, perform_alone, read_args,
 };
 

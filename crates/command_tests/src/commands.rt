@@ -1,7 +1,7 @@
 //! The commands, from texts that are read to texts that are written.
 
 ghost use Rattle.std.specs.Prelude.{◌≤◌};
-ghost use Rattle.race_gate.specs.Shapes.{most_entries};
+ghost use Rattle.model_histories.specs.Shapes.{most_entries};
 
 mod drawings;
 mod elisions;
@@ -17,13 +17,13 @@ mod worked;
 
 use crate::checks::equal;
 use crate::devices::Filling;
-use race_gate::{Answer, GateFault, Receipt, Reply};
+use model_histories::{Answer, GateFault, Receipt, Reply};
 use std::alloc::{AllocError, Global};
 use std::io::{Read, Write};
 use std::process::Abort;
 use std::test::Fail;
-use text_commands::{CliFault, Watched, judge_stream, status_of};
-use trace_values::{Act, Request, TextFault};
+use text_words::{Act, Request, TextFault};
+use tool_commands::{CliFault, Watched, judge_stream, status_of};
 
 const MOST: u32 = 1_000_000;
 

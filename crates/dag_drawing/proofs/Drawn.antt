@@ -2,12 +2,12 @@
 -- h: a history; s, o: strands, from which and to which an edge goes; t: a status; n: the number of a list's first mark; i, k: places in
 -- lists
 use Rattle.std.proofs.Common.{◌≡◌, ◌⊎◌, inl, inr, ℕ, zero, suc, ◌+◌, ◌<◌, ◌≤◌, Bool, true, false, cond, List, [], ◌∷◌, length, get_or, filter, Option, refl, sym, ap, ◌∙◌, subst, arith}
-use Rattle.control_history.specs.History.{History}
-use Rattle.control_history.specs.Strands.{Status, absent, reserved, running, over, status, Begun, unused}
-use Rattle.control_history.proofs.Members.{Present, contains_present}
-use Rattle.control_history.proofs.Law.{begun_below}
-use Rattle.control_history.proofs.Range.{ranges}
-use Rattle.control_history.proofs.Sinks.{forked_begun}
+use Rattle.model_strands.specs.History.{History}
+use Rattle.model_strands.specs.Strands.{Status, absent, reserved, running, over, status, Begun, unused}
+use Rattle.law_strands.proofs.Members.{Present, contains_present}
+use Rattle.law_strands.proofs.Law.{begun_below}
+use Rattle.law_strands.proofs.Range.{ranges}
+use Rattle.law_strands.proofs.Sinks.{forked_begun}
 use Rattle.dag_drawing.specs.declared.drawing.Edge.{Edge}
 use Rattle.dag_drawing.specs.declared.drawing.EdgeKind.{EdgeKind}
 use Rattle.dag_drawing.specs.declared.drawing.EdgeKind.TheVariants.{Child, Next, Join}

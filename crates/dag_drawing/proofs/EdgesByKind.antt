@@ -1,10 +1,10 @@
 -- The edges of the dag, told apart by their kinds, and as a list.
 -- h: a history; s, o: strands, from which and to which an edge goes; x: a strand; j: a join; in a split, c is the child and n the next
 use Rattle.std.proofs.Common.{◌≡◌, ◌⊎◌, inl, inr, ℕ, List, [], ◌∷◌, ◌++◌, Bool, Option, Some, None, refl, sym, subst}
-use Rattle.control_history.specs.History.{Event, split, same, joined, waits, call, resumed, ended, ended_joined, finished, History}
-use Rattle.control_history.specs.Blocks.{stack, enclosing}
-use Rattle.control_history.specs.Dag.{Forks, Arrives, Edge as EdgeOfDag}
-use Rattle.control_history.proofs.Members.{Present, present_append}
+use Rattle.model_strands.specs.History.{Event, split, same, joined, waits, call, resumed, ended, ended_joined, finished, History}
+use Rattle.model_strands.specs.Blocks.{stack, enclosing}
+use Rattle.model_strands.specs.Dag.{Forks, Arrives, Edge as EdgeOfDag}
+use Rattle.law_strands.proofs.Members.{Present, present_append}
 use Rattle.dag_drawing.specs.declared.drawing.Edge.{Edge}
 use Rattle.dag_drawing.specs.declared.drawing.EdgeKind.{EdgeKind}
 use Rattle.dag_drawing.specs.declared.drawing.EdgeKind.TheVariants.{Child, Next, Join}

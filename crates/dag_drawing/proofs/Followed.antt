@@ -3,21 +3,21 @@
 use Rattle.std.proofs.Common.{◌≡◌, ◌⊎◌, inl, inr, ℕ, ◌+◌, ◌<◌, Bool, true, List, [], ◌∷◌, ◌++◌, length, get_or, set, take, drop, reverse, Option, Some, None, refl, sym, ap, ◌∙◌, subst, arith}
 use Rattle.std.specs.Prelude.{MatchOption}
 use Rattle.std.proofs.lemmas.List.{reverse-append, take-append-drop, take_more}
-use Rattle.trace_values.specs.declared.value.Act.{Act}
-use Rattle.trace_values.specs.declared.value.Act.TheVariants.{Spawn, Sync, Call, Return, Read, Write, Bump, Update, Put, Get}
-use Rattle.sp_labels.specs.declared.answer.Spawned.{Spawned}
-use Rattle.control_history.specs.History.{Event, joined, ended_joined, History}
-use Rattle.control_history.specs.Strands.{Running, unused}
-use Rattle.control_history.specs.Blocks.{stack, enclosing}
-use Rattle.control_history.specs.Legal.{Allowed, sync_joined, last_return}
-use Rattle.control_history.proofs.Places.{running_below}
-use Rattle.control_history.proofs.Range.{ranges}
-use Rattle.race_gate.specs.declared.answer.Answer.{Answer}
-use Rattle.race_gate.specs.declared.answer.Answer.TheVariants.{Split, Same, Joined, Waits, Resumed, Ended, EndedJoined, Finished, Granted, Value, Refused, Unset}
-use Rattle.race_gate.specs.declared.answer.Entry.{Entry}
-use Rattle.race_gate.specs.Entries.{Entries, event_between, with_event, control_part}
-use Rattle.race_gate.specs.Shapes.{Shape}
-use Rattle.race_gate.specs.Legal.{Belongs, IsLegal}
+use Rattle.model_accesses.specs.declared.request.Act.{Act}
+use Rattle.model_accesses.specs.declared.request.Act.TheVariants.{Spawn, Sync, Call, Return, Read, Write, Bump, Update, Put, Get}
+use Rattle.model_strands.specs.declared.spawned.Spawned.{Spawned}
+use Rattle.model_strands.specs.History.{Event, joined, ended_joined, History}
+use Rattle.model_strands.specs.Strands.{Running, unused}
+use Rattle.model_strands.specs.Blocks.{stack, enclosing}
+use Rattle.model_strands.specs.Legal.{Allowed, sync_joined, last_return}
+use Rattle.law_strands.proofs.Places.{running_below}
+use Rattle.law_strands.proofs.Range.{ranges}
+use Rattle.model_histories.specs.declared.answer.Answer.{Answer}
+use Rattle.model_histories.specs.declared.answer.Answer.TheVariants.{Split, Same, Joined, Waits, Resumed, Ended, EndedJoined, Finished, Granted, Value, Refused, Unset}
+use Rattle.model_histories.specs.declared.answer.Entry.{Entry}
+use Rattle.model_histories.specs.Entries.{Entries, event_between, with_event, control_part}
+use Rattle.model_histories.specs.Shapes.{Shape}
+use Rattle.model_histories.specs.Legal.{Belongs, IsLegal}
 use Rattle.dag_drawing.specs.declared.drawing.Edge.{Edge}
 use Rattle.dag_drawing.specs.Arrows.{forks, arrival}
 use Rattle.dag_drawing.specs.Walks.{IsLegalHistory, marks_of, blocks_of, IsWalk}

@@ -5,15 +5,15 @@ use Rattle.std.proofs.Math.ListN.{get_or-append}
 use Rattle.std.proofs.Math.Seq.{get_or-append_right}
 use Rattle.std.proofs.lemmas.List.{length-append, length-set, get_or-set_other}
 use Rattle.std.proofs.lemmas.Grind.{get_or-set_at}
-use Rattle.control_history.specs.Updated.{updated}
-use Rattle.control_history.specs.History.{split, same, joined, waits, call, resumed, ended, ended_joined, finished, History}
-use Rattle.control_history.specs.Strands.{absent, running, over, status, Running, unused}
-use Rattle.control_history.specs.Blocks.{stack, enclosing}
-use Rattle.control_history.specs.Legal.{Allowed, open_split, next_split, Legal, start, then as later}
-use Rattle.control_history.proofs.Updates.{same_or_not, updated_at, updated_case}
-use Rattle.control_history.proofs.Places.{place, join_of, enclosing_is, place_called, place_resumed, below_or_beyond, running_below, Seen, at_child, at_next, at_join, at_spawner, elsewhere}
-use Rattle.control_history.proofs.Range.{Numbered, numbered, block_below, ranges}
-use Rattle.control_history.proofs.Holders.{holders, splitting}
+use Rattle.model_strands.specs.Updated.{updated}
+use Rattle.model_strands.specs.History.{split, same, joined, waits, call, resumed, ended, ended_joined, finished, History}
+use Rattle.model_strands.specs.Strands.{absent, running, over, status, Running, unused}
+use Rattle.model_strands.specs.Blocks.{stack, enclosing}
+use Rattle.model_strands.specs.Legal.{Allowed, open_split, next_split, Legal, start, then as later}
+use Rattle.law_strands.proofs.Updates.{same_or_not, updated_at, updated_case}
+use Rattle.law_strands.proofs.Places.{place, join_of, enclosing_is, place_called, place_resumed, below_or_beyond, running_below, Seen, at_child, at_next, at_join, at_spawner, elsewhere}
+use Rattle.law_strands.proofs.Range.{Numbered, numbered, block_below, ranges}
+use Rattle.law_strands.proofs.Holders.{holders, splitting}
 use Rattle.dag_drawing.specs.declared.drawing.Edge.{Edge}
 use Rattle.dag_drawing.specs.Arrows.{forks, arrival, arrows, has_begun}
 use Rattle.dag_drawing.specs.Walks.{marks_of, blocks_of, IsWalk}

@@ -1,9 +1,9 @@
 -- The edges of the dag by their kinds.
 use Rattle.std.specs.Prelude.{◌≡◌, ◌⊎◌, ℕ, List, [], ◌∷◌, ◌++◌, Option, Some, None, Bool, true, false}
-use Rattle.control_history.specs.History.{split, joined, waits, ended, ended_joined, History}
-use Rattle.control_history.specs.Strands.{Status, absent, reserved, running, over, Begun}
-use Rattle.control_history.specs.Blocks.{stack, enclosing}
-use Rattle.control_history.specs.Dag.{Arrives}
+use Rattle.model_strands.specs.History.{split, joined, waits, ended, ended_joined, History}
+use Rattle.model_strands.specs.Strands.{Status, absent, reserved, running, over, Begun}
+use Rattle.model_strands.specs.Blocks.{stack, enclosing}
+use Rattle.model_strands.specs.Dag.{Arrives}
 use Rattle.dag_drawing.specs.declared.drawing.Edge.{Edge}
 use Rattle.dag_drawing.specs.declared.drawing.EdgeKind.{EdgeKind}
 use Rattle.dag_drawing.specs.declared.drawing.EdgeKind.TheVariants.{Child, Next, Join}

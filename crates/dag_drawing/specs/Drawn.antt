@@ -2,10 +2,10 @@
 use Rattle.std.specs.Prelude.{◌≡◌, ◌↔◌, ◌<◌, ℕ, ◌+◌, List, [], ◌∷◌, length, reverse, Bool, true, false, Contains, slice_index_or}
 use Rattle.std.specs.Ordering.{nat_cmp}
 use Rattle.std.specs.List.Sorted.{IsStrictlyIncreasing, IsNonDecreasingBy, IsPermutation, IsStableByKey}
-use Rattle.control_history.specs.History.{History}
-use Rattle.control_history.specs.Strands.{Begun}
-use Rattle.race_gate.specs.declared.answer.Entry.{Entry}
-use Rattle.race_gate.specs.Entries.{control_part}
+use Rattle.model_strands.specs.History.{History}
+use Rattle.model_strands.specs.Strands.{Begun}
+use Rattle.model_histories.specs.declared.answer.Entry.{Entry}
+use Rattle.model_histories.specs.Entries.{control_part}
 use Rattle.dag_drawing.specs.declared.drawing.Edge.{Edge}
 use Rattle.dag_drawing.specs.declared.drawing.Drawing.{Drawing}
 use Rattle.dag_drawing.specs.declared.drawing.Access.{Access}

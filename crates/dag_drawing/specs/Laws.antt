@@ -1,7 +1,7 @@
 -- What holds of all control histories.
 use Rattle.std.specs.Prelude.{◌↔◌, ℕ}
-use Rattle.control_history.specs.History.{History}
-use Rattle.control_history.specs.Dag.{Edge}
+use Rattle.model_strands.specs.History.{History}
+use Rattle.model_strands.specs.Dag.{Edge}
 use Rattle.dag_drawing.specs.declared.drawing.EdgeKind.{EdgeKind}
 use Rattle.dag_drawing.specs.Arrows.{EdgeOf}
 

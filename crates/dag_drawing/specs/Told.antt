@@ -1,11 +1,11 @@
 -- The accesses and the races among entries.
 use Rattle.std.specs.Prelude.{ℕ, ◌+◌, List, [], ◌∷◌, ◌++◌, Option, Some, None}
 use Rattle.std.specs.Option.{option_map, option_to_list}
-use Rattle.trace_values.specs.declared.value.Request.{Request}
-use Rattle.trace_values.specs.Asking.{access_asked}
-use Rattle.race_gate.specs.declared.answer.Answer.{Answer}
-use Rattle.race_gate.specs.declared.answer.Answer.TheVariants.{Refused}
-use Rattle.race_gate.specs.declared.answer.Entry.{Entry}
+use Rattle.model_accesses.specs.declared.request.Request.{Request}
+use Rattle.model_accesses.specs.Asking.{access_asked}
+use Rattle.model_histories.specs.declared.answer.Answer.{Answer}
+use Rattle.model_histories.specs.declared.answer.Answer.TheVariants.{Refused}
+use Rattle.model_histories.specs.declared.answer.Entry.{Entry}
 use Rattle.dag_drawing.specs.declared.drawing.Access.{Access}
 use Rattle.dag_drawing.specs.declared.drawing.Race.{Race}
 

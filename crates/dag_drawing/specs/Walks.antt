@@ -1,12 +1,12 @@
 -- What is known of strands and edges after some entries.
 use Rattle.std.specs.Prelude.{◌≡◌, ◌<◌, ℕ, List, [], ◌∷◌, length, slice_index_or, Option, Some, None, Bool, true, false}
-use Rattle.control_history.specs.History.{History}
-use Rattle.control_history.specs.Strands.{status, unused}
-use Rattle.control_history.specs.Blocks.{stack, enclosing}
-use Rattle.control_history.specs.Legal.{Legal}
-use Rattle.race_gate.specs.Entries.{Entries}
-use Rattle.race_gate.specs.Shapes.{Shape}
-use Rattle.race_gate.specs.Legal.{IsLegal}
+use Rattle.model_strands.specs.History.{History}
+use Rattle.model_strands.specs.Strands.{status, unused}
+use Rattle.model_strands.specs.Blocks.{stack, enclosing}
+use Rattle.model_strands.specs.Legal.{Legal}
+use Rattle.model_histories.specs.Entries.{Entries}
+use Rattle.model_histories.specs.Shapes.{Shape}
+use Rattle.model_histories.specs.Legal.{IsLegal}
 use Rattle.dag_drawing.specs.declared.drawing.Edge.{Edge}
 use Rattle.dag_drawing.specs.Arrows.{arrows, has_begun}
 

@@ -1,16 +1,16 @@
 //! What is drawn of a history.
 
 ghost use Rattle.std.specs.Prelude.{◌≡◌, filter, reverse, IfOk, MatchOption};
-ghost use Rattle.race_gate.specs.Entries.{control_part};
+ghost use Rattle.model_histories.specs.Entries.{control_part};
 ghost use Rattle.dag_drawing.specs.Walks.{IsLegalHistory};
 ghost use Rattle.dag_drawing.specs.Told.{access_told, accesses_told, race_told, races_told};
 ghost use Rattle.dag_drawing.specs.Drawn.{IsDrawing, HasMoreStrands, marked_from, has_mark};
 
 use crate::walk::walked;
+use model_accesses::Witness;
 use race_gate::{Answer, Entry};
-use shadow_history::Witness;
 use std::alloc::{AllocError, Global};
-use trace_values::{Request, access_asked};
+use text_words::{Request, access_asked};
 
 /// The most strands of a drawing.
 pub const MOST_STRANDS: usize = 10_000;

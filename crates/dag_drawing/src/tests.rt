@@ -5,7 +5,7 @@ use race_gate::{Entry, Gate};
 use std::alloc::{AllocError, Global};
 use std::process::Abort;
 use std::test::Fail;
-use trace_values::{Act, Monoid, Monoids, Name, Reducer, Request, Shape};
+use text_words::{Act, Monoid, Monoids, Name, Reducer, Request, Shape};
 
 /// The text of the drawing of these entries, with these reducers.
 fn drawn(alloc: Global, gate: &Gate<Global>, reducers: &[Reducer]) -> Result<Vec<u8>, AllocError> {

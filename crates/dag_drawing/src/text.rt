@@ -11,8 +11,8 @@ use access_table::{Kind, rule_word, word};
 use race_gate::Answer;
 use race_report::{push_number, push_words};
 use std::alloc::{AllocError, Global};
+use text_words::{Act, Mem, Reducer, access_asked};
 use trace_text::memory_at;
-use trace_values::{Act, Mem, Reducer, access_asked};
 
 /// Adds a name as it stands between quotation marks.
 fn push_escaped(text: &mut Vec<u8>, name: &str) -> Result<(), AllocError>

@@ -2,13 +2,13 @@
 
 ghost use Rattle.std.specs.Prelude.{◌≡◌, ◌<◌, ◌++◌, ◌∷◌, ◌+◌, [], ℕ, true, false, Some, None};
 ghost use Rattle.std.specs.Prelude.{length, reverse, take, slice_index_or, slice_set, IfOk, OnOk};
-ghost use Rattle.race_gate.specs.Entries.{control_part};
+ghost use Rattle.model_histories.specs.Entries.{control_part};
 ghost use Rattle.dag_drawing.specs.Arrows.{forks, arrival};
 ghost use Rattle.dag_drawing.specs.Walks.{IsLegalHistory, marks_of, blocks_of, IsWalk};
 
 use crate::drawing::{Edge, EdgeKind};
+use model_strands::Spawned;
 use race_gate::{Answer, Entry};
-use sp_labels::Spawned;
 use std::alloc::{AllocError, Global};
 
 /// What is known of strands and edges after some entries.

@@ -3,18 +3,18 @@ use Rattle.std.proofs.Common.{◌≡◌, ℕ, false, List, Some, None, refl, sym
 use Rattle.std.proofs.Common.{Result, Ok, Err}
 use Rattle.std.specs.Prelude.{OnOk, OnErr, IfErr, IsTrue}
 use Rattle.std.proofs.lemmas.Option.{slice_get_within}
-use Rattle.program_lines.specs.declared.statement.Operand.{Operand}
-use Rattle.program_lines.specs.declared.statement.Statement.{Statement}
-use Rattle.program_lines.specs.declared.statement.Statement.TheVariants.{Call}
-use Rattle.program_text.specs.Codes.{Code}
-use Rattle.program_text.specs.Sound.{IsSound}
-use Rattle.program_text.specs.Trees.{Step}
-use Rattle.race_gate.specs.declared.answer.Answer.{Answer}
-use Rattle.race_gate.specs.declared.answer.Answer.TheVariants.{Same}
-use Rattle.program_steps.specs.Values.{Registers, value_of}
-use Rattle.program_steps.specs.Answers.{IsReturned}
-use Rattle.program_steps.specs.Requests.{answered}
-use Rattle.program_steps.specs.Activations.{left, statement_of, is_plain, IsInPlace}
+use Rattle.model_bodies.specs.declared.statement.Operand.{Operand}
+use Rattle.model_bodies.specs.declared.statement.Statement.{Statement}
+use Rattle.model_bodies.specs.declared.statement.Statement.TheVariants.{Call}
+use Rattle.model_bodies.specs.Codes.{Code}
+use Rattle.model_bodies.specs.Sound.{IsSound}
+use Rattle.model_bodies.specs.Trees.{Step}
+use Rattle.model_histories.specs.declared.answer.Answer.{Answer}
+use Rattle.model_histories.specs.declared.answer.Answer.TheVariants.{Same}
+use Rattle.model_programs.specs.Values.{Registers, value_of}
+use Rattle.model_programs.specs.Answers.{IsReturned}
+use Rattle.function_steps.specs.Requests.{answered}
+use Rattle.function_steps.specs.Activations.{left, statement_of, is_plain, IsInPlace}
 use Rattle.frame_steps.specs.declared.frame.FrameFault.{FrameFault}
 use Rattle.frame_steps.specs.declared.phase.Phase.TheVariants.{Running, Wanting}
 use Rattle.frame_steps.specs.Joins.{join_after}

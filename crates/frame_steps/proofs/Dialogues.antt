@@ -1,21 +1,22 @@
 -- Dialogues statement by statement.
 use Rattle.std.proofs.Common.{◌≡◌, ℕ, List, [], ◌∷◌, ◌++◌, ◌⊎◌, inl, inr, Option, Some, None, refl, sym, ap, ◌∙◌, subst, append_assoc}
 use Rattle.std.specs.Prelude.{slice_get}
-use Rattle.program_lines.specs.declared.statement.Operand.{Operand}
-use Rattle.program_lines.specs.declared.statement.Statement.{Statement}
-use Rattle.program_lines.specs.declared.statement.Statement.TheVariants.{Let, Read, Write, Bump, Update, Put, Get, Spawn, Call, Sync, ParallelFor, If, Else, End}
-use Rattle.program_text.specs.Codes.{Code}
-use Rattle.program_text.specs.Trees.{Tree, Done, Step}
-use Rattle.trace_values.specs.declared.value.Act.{Act}
-use Rattle.race_gate.specs.declared.answer.Answer.{Answer}
-use Rattle.race_gate.specs.declared.answer.Answer.TheVariants.{Same, Resumed}
-use Rattle.program_steps.specs.Values.{Registers, first_registers, value_of}
-use Rattle.program_steps.specs.Scripts.{script, Passes, assigned, first_part, second_part, counted, PassesAll, none_passed, one_more}
-use Rattle.program_steps.specs.Answers.{Origin, FromCall, FromSpawn, IsReturned}
-use Rattle.program_steps.specs.Exchanges.{Exchange, exchange}
-use Rattle.program_steps.specs.Dialogue.{Extent, Whole, Part, Dialogue, stopped, passed, read, write, bump, update, put, get, spawned, called, in_call, synced, returned}
-use Rattle.program_steps.specs.Requests.{act_of, answered}
-use Rattle.program_steps.specs.Activations.{asked_act}
+use Rattle.model_bodies.specs.declared.statement.Operand.{Operand}
+use Rattle.model_bodies.specs.declared.statement.Statement.{Statement}
+use Rattle.model_bodies.specs.declared.statement.Statement.TheVariants.{Let, Read, Write, Bump, Update, Put, Get, Spawn, Call, Sync, ParallelFor, If, Else, End}
+use Rattle.model_bodies.specs.Codes.{Code}
+use Rattle.model_bodies.specs.Trees.{Tree, Done, Step}
+use Rattle.model_accesses.specs.declared.request.Act.{Act}
+use Rattle.model_histories.specs.declared.answer.Answer.{Answer}
+use Rattle.model_histories.specs.declared.answer.Answer.TheVariants.{Same, Resumed}
+use Rattle.model_programs.specs.Values.{Registers, first_registers, value_of}
+use Rattle.model_programs.specs.Scripts.{script, Passes, assigned, first_part, second_part, counted}
+use Rattle.function_steps.specs.Scripts.{PassesAll, none_passed, one_more}
+use Rattle.model_programs.specs.Answers.{Origin, FromCall, FromSpawn, IsReturned}
+use Rattle.model_programs.specs.Exchanges.{Exchange, exchange}
+use Rattle.model_programs.specs.Dialogue.{Extent, Whole, Part, Dialogue, stopped, passed, read, write, bump, update, put, get, spawned, called, in_call, synced, returned}
+use Rattle.function_steps.specs.Requests.{act_of, answered}
+use Rattle.function_steps.specs.Activations.{asked_act}
 use Rattle.frame_steps.specs.Requests.{Belongs, Follows, asked, tree_at}
 use Rattle.frame_steps.specs.Stacks.{Standing, StackDialogue, SameStack, NextStack, origin_of}
 use Rattle.frame_steps.proofs.Replies.{was_read, was_got, was_written, was_updated, was_split, was_synced, act_is, is_same, belongs_answered}

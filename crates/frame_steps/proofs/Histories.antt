@@ -2,35 +2,35 @@
 use Rattle.std.proofs.Common.{◌≡◌, ◌≢◌, ℕ, ◌<◌, ◌↔◌, List, [], ◌∷◌, ◌++◌, Option, Some, None, inl, inr, refl, sym, ap, ◌∙◌, subst, map, reverse, length, append_assoc, append-nil}
 use Rattle.std.specs.Prelude.{slice_get, IsTrue}
 use Rattle.std.proofs.lemmas.List.{reverse-append}
-use Rattle.program_lines.specs.declared.statement.Operand.{Operand}
-use Rattle.program_lines.specs.declared.statement.Statement.{Statement}
-use Rattle.program_lines.specs.declared.statement.Statement.TheVariants.{Call}
-use Rattle.program_text.specs.Codes.{Code}
-use Rattle.program_text.specs.Sound.{IsSound}
-use Rattle.program_text.specs.Trees.{Step}
-use Rattle.trace_values.specs.declared.value.Act.{Act}
-use Rattle.race_gate.specs.declared.answer.Answer.{Answer}
-use Rattle.race_gate.specs.declared.answer.Answer.TheVariants.{Same, Resumed, Ended, EndedJoined, Finished}
-use Rattle.program_steps.specs.declared.request.Want.{Want}
-use Rattle.program_steps.specs.declared.activation.Turn.TheVariants.{Plainly}
-use Rattle.program_steps.specs.declared.activation.Activation.{Activation}
-use Rattle.program_steps.specs.Values.{Registers, first_registers, value_of}
-use Rattle.program_steps.specs.Scripts.{PassesAll}
-use Rattle.program_steps.specs.Answers.{FromSpawn, IsReturned}
-use Rattle.program_steps.specs.Exchanges.{Exchange}
-use Rattle.program_steps.specs.Dialogue.{Extent, Whole, Part, Dialogue}
-use Rattle.program_steps.specs.Requests.{Asks, act_of, next_line, answered}
-use Rattle.program_steps.specs.Activations.{left, end_line_of, statement_of, asked_act, is_plain, IsInPlace}
-use Rattle.program_steps.specs.Scripts.{script}
-use Rattle.program_steps.proofs.Places.{found}
-use Rattle.program_steps.proofs.Turns.{asks_plain}
+use Rattle.model_bodies.specs.declared.statement.Operand.{Operand}
+use Rattle.model_bodies.specs.declared.statement.Statement.{Statement}
+use Rattle.model_bodies.specs.declared.statement.Statement.TheVariants.{Call}
+use Rattle.model_bodies.specs.Codes.{Code}
+use Rattle.model_bodies.specs.Sound.{IsSound}
+use Rattle.model_bodies.specs.Trees.{Step}
+use Rattle.model_accesses.specs.declared.request.Act.{Act}
+use Rattle.model_histories.specs.declared.answer.Answer.{Answer}
+use Rattle.model_histories.specs.declared.answer.Answer.TheVariants.{Same, Resumed, Ended, EndedJoined, Finished}
+use Rattle.function_steps.specs.declared.request.Want.{Want}
+use Rattle.function_steps.specs.declared.activation.Turn.TheVariants.{Plainly}
+use Rattle.function_steps.specs.declared.activation.Activation.{Activation}
+use Rattle.model_programs.specs.Values.{Registers, first_registers, value_of}
+use Rattle.function_steps.specs.Scripts.{PassesAll}
+use Rattle.model_programs.specs.Answers.{FromSpawn, IsReturned}
+use Rattle.model_programs.specs.Exchanges.{Exchange}
+use Rattle.model_programs.specs.Dialogue.{Extent, Whole, Part, Dialogue, DialogueOf}
+use Rattle.function_steps.specs.Requests.{Asks, act_of, next_line, answered}
+use Rattle.function_steps.specs.Activations.{left, end_line_of, statement_of, asked_act, is_plain, IsInPlace}
+use Rattle.model_programs.specs.Scripts.{script}
+use Rattle.function_steps.proofs.Places.{found}
+use Rattle.function_steps.proofs.Turns.{asks_plain}
 use Rattle.frame_steps.specs.declared.phase.Phase.{Phase}
 use Rattle.frame_steps.specs.declared.phase.Phase.TheVariants.{Running, Wanting, Over}
 use Rattle.frame_steps.specs.Requests.{Belongs, Follows, asked_line, asked_target}
 use Rattle.frame_steps.specs.Stacks.{StackDialogue, SameStack, NextStack, origin_of}
 use Rattle.frame_steps.specs.Joins.{join_after, joins_step, joins_after}
 use Rattle.frame_steps.specs.States.{State}
-use Rattle.frame_steps.specs.Frames.{DialogueOf, standing, callers_of, stack_in, stack_of, joins_in, joins_of, Stands, Wants, IsAfter, CanFollow, MayAnswer, IsCalled, IsLeft, began_by}
+use Rattle.frame_steps.specs.Frames.{standing, callers_of, stack_in, stack_of, joins_in, joins_of, Stands, Wants, IsAfter, CanFollow, MayAnswer, IsCalled, IsLeft, began_by}
 use Rattle.frame_steps.proofs.Replies.{act_is, is_same, answered_belongs, belongs_answered}
 use Rattle.frame_steps.proofs.Dialogues.{stack_only, stack_may, stack_stopped}
 use Rattle.frame_steps.proofs.Standings.{begun_standing, begun_place, return_left, asking_tree, called_there, callers_pushed, goes_to, goes_on, calls, returned_by, resumes, ends, origins, line_at, item_of_pushed, item_kept, item_pushed, no_item}

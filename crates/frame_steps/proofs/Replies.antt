@@ -1,15 +1,15 @@
 -- Which answers belong to a statement, and what they do to the registers.
 use Rattle.std.proofs.Common.{◌≡◌, ℕ, ◌⊎◌, inl, inr, Some, refl, sym, subst}
-use Rattle.program_lines.specs.declared.statement.Register.{Register}
-use Rattle.program_lines.specs.declared.statement.Operand.{Operand}
-use Rattle.program_lines.specs.declared.statement.Statement.{Statement}
-use Rattle.program_lines.specs.declared.statement.Statement.TheVariants.{Read, Write, Bump, Update, Put, Get, Spawn, Call, Sync}
-use Rattle.trace_values.specs.declared.value.Act.{Act}
-use Rattle.race_gate.specs.declared.answer.Answer.{Answer}
-use Rattle.race_gate.specs.declared.answer.Answer.TheVariants.{Split, Same, Joined, Waits, Granted, Value, Refused, Unset}
-use Rattle.program_steps.specs.Values.{Registers}
-use Rattle.program_steps.specs.Answers.{Origin, after_read, after_get, after_write, after_update, after_spawn, after_sync}
-use Rattle.program_steps.specs.Requests.{act_of, answered}
+use Rattle.model_bodies.specs.declared.statement.Register.{Register}
+use Rattle.model_bodies.specs.declared.statement.Operand.{Operand}
+use Rattle.model_bodies.specs.declared.statement.Statement.{Statement}
+use Rattle.model_bodies.specs.declared.statement.Statement.TheVariants.{Read, Write, Bump, Update, Put, Get, Spawn, Call, Sync}
+use Rattle.model_accesses.specs.declared.request.Act.{Act}
+use Rattle.model_histories.specs.declared.answer.Answer.{Answer}
+use Rattle.model_histories.specs.declared.answer.Answer.TheVariants.{Split, Same, Joined, Waits, Granted, Value, Refused, Unset}
+use Rattle.model_programs.specs.Values.{Registers}
+use Rattle.model_programs.specs.Answers.{Origin, after_read, after_get, after_write, after_update, after_spawn, after_sync}
+use Rattle.function_steps.specs.Requests.{act_of, answered}
 use Rattle.frame_steps.specs.Requests.{IsSplit, IsSynced, IsCalled, IsWritten, IsUpdated, IsRead, IsGot, Belongs}
 
 pub was_read : (register : Register) (answer : Answer) (registers after : Registers) → after_read register answer registers ≡ Some after → IsRead answer

@@ -4,26 +4,27 @@ use Rattle.std.specs.Prelude.{slice_get, OnOk, OnErr, IfErr}
 use Rattle.std.proofs.Common.{Result, Ok, Err}
 use Rattle.std.proofs.lemmas.List.{reverse-append}
 use Rattle.std.proofs.lemmas.Bool.{ltb-true}
-use Rattle.program_lines.specs.declared.statement.Operand.{Operand}
-use Rattle.program_lines.specs.declared.statement.Statement.{Statement}
-use Rattle.program_lines.specs.declared.statement.Statement.TheVariants.{Call}
-use Rattle.program_text.specs.Codes.{Code}
-use Rattle.program_text.specs.Sound.{IsSound}
-use Rattle.program_text.specs.Trees.{Tree, Done, Step}
-use Rattle.trace_values.specs.declared.value.Act.{Act}
-use Rattle.race_gate.specs.declared.answer.Answer.{Answer}
-use Rattle.race_gate.specs.declared.answer.Answer.TheVariants.{Same, Resumed}
-use Rattle.program_steps.specs.declared.activation.Turn.TheVariants.{Plainly}
-use Rattle.program_steps.specs.declared.activation.Activation.{Activation}
-use Rattle.program_steps.specs.Values.{Registers, first_registers, value_of}
-use Rattle.program_steps.specs.Scripts.{script, PassesAll}
-use Rattle.program_steps.specs.Answers.{Origin, FromCall, FromSpawn, IsReturned}
-use Rattle.program_steps.specs.Exchanges.{Exchange, exchange}
-use Rattle.program_steps.specs.Requests.{next_line, answered}
-use Rattle.program_steps.specs.Activations.{left_on, left_by, left, end_line_by, end_line_of, statement_of, asked_act, IsTurn, IsInPlace}
-use Rattle.program_steps.proofs.Places.{found}
-use Rattle.program_steps.proofs.Turns.{none_left, asking_left}
-use Rattle.program_steps.proofs.Located.{left_is, statement_is, sound_of, statement_within}
+use Rattle.model_bodies.specs.declared.statement.Operand.{Operand}
+use Rattle.model_bodies.specs.declared.statement.Statement.{Statement}
+use Rattle.model_bodies.specs.declared.statement.Statement.TheVariants.{Call}
+use Rattle.model_bodies.specs.Codes.{Code}
+use Rattle.model_bodies.specs.Sound.{IsSound}
+use Rattle.model_bodies.specs.Trees.{Tree, Done, Step}
+use Rattle.model_accesses.specs.declared.request.Act.{Act}
+use Rattle.model_histories.specs.declared.answer.Answer.{Answer}
+use Rattle.model_histories.specs.declared.answer.Answer.TheVariants.{Same, Resumed}
+use Rattle.function_steps.specs.declared.activation.Turn.TheVariants.{Plainly}
+use Rattle.function_steps.specs.declared.activation.Activation.{Activation}
+use Rattle.model_programs.specs.Values.{Registers, first_registers, value_of}
+use Rattle.model_programs.specs.Scripts.{script}
+use Rattle.function_steps.specs.Scripts.{PassesAll}
+use Rattle.model_programs.specs.Answers.{Origin, FromCall, FromSpawn, IsReturned}
+use Rattle.model_programs.specs.Exchanges.{Exchange, exchange}
+use Rattle.function_steps.specs.Requests.{next_line, answered}
+use Rattle.function_steps.specs.Activations.{left_on, left_by, left, end_line_by, end_line_of, statement_of, asked_act, IsTurn, IsInPlace}
+use Rattle.function_steps.proofs.Places.{found}
+use Rattle.function_steps.proofs.Turns.{none_left, asking_left}
+use Rattle.function_steps.proofs.Located.{left_is, statement_is, sound_of, statement_within}
 use Rattle.frame_steps.specs.Requests.{Belongs, Follows, asked_line, tree_at}
 use Rattle.frame_steps.specs.Stacks.{Standing, SameStack, NextStack, origin_of}
 use Rattle.frame_steps.specs.Frames.{standing, callers_of, began_by}

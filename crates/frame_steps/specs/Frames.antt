@@ -1,20 +1,19 @@
 -- A frame's stack, and the dialogue after which it stands.
 use Rattle.std.specs.Prelude.{ℕ, ◌≡◌, ◌↔◌, false, Result, Err, OnOk, OnErr, List, [], ◌∷◌}
 use Rattle.std.specs.Prelude.{◌++◌, map, reverse, Option, Some, None, slice_get, IsTrue}
-use Rattle.program_text.specs.Codes.{Code}
-use Rattle.program_lines.specs.declared.statement.Statement.{Statement}
-use Rattle.program_text.specs.Trees.{Step}
-use Rattle.trace_values.specs.declared.value.Act.{Act}
-use Rattle.race_gate.specs.declared.answer.Answer.{Answer}
-use Rattle.race_gate.specs.declared.answer.Answer.TheVariants.{Resumed, Ended, EndedJoined, Finished}
-use Rattle.program_steps.specs.declared.activation.Turn.{Turn}
-use Rattle.program_steps.specs.declared.activation.Activation.{Activation}
-use Rattle.program_steps.specs.Values.{first_registers}
-use Rattle.program_steps.specs.Scripts.{script}
-use Rattle.program_steps.specs.Answers.{Origin, FromCall, FromSpawn}
-use Rattle.program_steps.specs.Exchanges.{Exchange}
-use Rattle.program_steps.specs.Dialogue.{Extent, Part, Dialogue}
-use Rattle.program_steps.specs.Activations.{left, end_line_of, statement_of, asked_act, is_plain, IsInPlace}
+use Rattle.model_programs.specs.Dialogue.{DialogueOf, Extent, Part}
+use Rattle.model_bodies.specs.Codes.{Code}
+use Rattle.model_bodies.specs.declared.statement.Statement.{Statement}
+use Rattle.model_bodies.specs.Trees.{Step}
+use Rattle.model_accesses.specs.declared.request.Act.{Act}
+use Rattle.model_histories.specs.declared.answer.Answer.{Answer}
+use Rattle.model_histories.specs.declared.answer.Answer.TheVariants.{Resumed, Ended, EndedJoined, Finished}
+use Rattle.function_steps.specs.declared.activation.Turn.{Turn}
+use Rattle.function_steps.specs.declared.activation.Activation.{Activation}
+use Rattle.model_programs.specs.Values.{first_registers}
+use Rattle.model_programs.specs.Answers.{Origin, FromCall, FromSpawn}
+use Rattle.model_programs.specs.Exchanges.{Exchange}
+use Rattle.function_steps.specs.Activations.{left, end_line_of, statement_of, asked_act, is_plain, IsInPlace}
 use Rattle.frame_steps.specs.declared.frame.FrameFault.{FrameFault}
 use Rattle.frame_steps.specs.declared.phase.Phase.{Phase}
 use Rattle.frame_steps.specs.declared.phase.Phase.TheVariants.{Running, Wanting, Over}
@@ -22,12 +21,6 @@ use Rattle.frame_steps.specs.Requests.{Follows}
 use Rattle.frame_steps.specs.Stacks.{Standing, StackDialogue, origin_of}
 use Rattle.frame_steps.specs.Joins.{joins_after}
 use Rattle.frame_steps.specs.States.{State}
-
--- The dialogues of a function that is spawned with an argument. The function is there: one that is absent has none.
-pub record DialogueOf (functions : List Code) (function argument : ℕ) (extent : Extent) (said : List Exchange) : Type 0 where
-  pub code : Code
-  pub there : slice_get functions function ≡ Some code
-  pub says : Dialogue functions FromSpawn extent code.end_line (script code) (first_registers argument) said
 
 -- Where an activation stands.
 abbrev pub standing : List Code → Activation → Standing

@@ -1,9 +1,9 @@
 -- The open blocks of functions that have called one another.
 use Rattle.std.specs.Prelude.{ℕ, List, [], ◌∷◌, Option, Some, None}
-use Rattle.trace_values.specs.declared.value.Act.{Act}
-use Rattle.race_gate.specs.declared.answer.Answer.{Answer}
-use Rattle.race_gate.specs.declared.answer.Answer.TheVariants.{Split, Same, Joined, Waits}
-use Rattle.program_steps.specs.Exchanges.{Exchange}
+use Rattle.model_accesses.specs.declared.request.Act.{Act}
+use Rattle.model_histories.specs.declared.answer.Answer.{Answer}
+use Rattle.model_histories.specs.declared.answer.Answer.TheVariants.{Split, Same, Joined, Waits}
+use Rattle.model_programs.specs.Exchanges.{Exchange}
 
 -- The join of a function's open block after an answer to an act other than a call or a return.
 abbrev pub join_after : Answer → Option ℕ → Option ℕ

@@ -1,16 +1,16 @@
 -- Which answers belong to an act, and the exchanges that can come next.
 use Rattle.std.specs.Prelude.{ℕ, ◌≡◌, Option, Some, None}
-use Rattle.program_lines.specs.declared.statement.Statement.{Statement}
-use Rattle.program_text.specs.Trees.{Tree, Done, Step}
-use Rattle.trace_values.specs.declared.value.Act.{Act}
-use Rattle.race_gate.specs.declared.answer.Answer.{Answer}
-use Rattle.race_gate.specs.declared.answer.Answer.TheVariants.{Split, Same, Joined, Waits, Granted, Value, Refused, Unset}
-use Rattle.program_steps.specs.declared.request.Target.{Target}
-use Rattle.program_steps.specs.Values.{Registers}
-use Rattle.program_steps.specs.Answers.{Origin, IsReturned}
-use Rattle.program_steps.specs.Exchanges.{Exchange}
-use Rattle.program_steps.specs.Requests.{line_of, spawned_by}
-use Rattle.program_steps.specs.Activations.{asked_act}
+use Rattle.model_bodies.specs.declared.statement.Statement.{Statement}
+use Rattle.model_bodies.specs.Trees.{Tree, Done, Step}
+use Rattle.model_accesses.specs.declared.request.Act.{Act}
+use Rattle.model_histories.specs.declared.answer.Answer.{Answer}
+use Rattle.model_histories.specs.declared.answer.Answer.TheVariants.{Split, Same, Joined, Waits, Granted, Value, Refused, Unset}
+use Rattle.model_programs.specs.declared.target.Target.{Target}
+use Rattle.model_programs.specs.Values.{Registers}
+use Rattle.model_programs.specs.Answers.{Origin, IsReturned}
+use Rattle.model_programs.specs.Exchanges.{Exchange}
+use Rattle.function_steps.specs.Requests.{line_of, spawned_by}
+use Rattle.function_steps.specs.Activations.{asked_act}
 
 abbrev pub IsSplit : Answer → Type 0
 IsSplit (Split strands) = Unit {0}

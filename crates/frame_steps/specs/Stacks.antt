@@ -1,11 +1,11 @@
 -- Functions that have called one another, and their dialogues.
 use Rattle.std.specs.Prelude.{ℕ, ◌≡◌, List, [], ◌∷◌, ◌++◌, ◌⊎◌}
-use Rattle.program_text.specs.Codes.{Code}
-use Rattle.program_text.specs.Trees.{Tree}
-use Rattle.program_steps.specs.Values.{Registers}
-use Rattle.program_steps.specs.Answers.{Origin, FromCall, FromSpawn}
-use Rattle.program_steps.specs.Exchanges.{Exchange}
-use Rattle.program_steps.specs.Dialogue.{Extent, Whole, Part, Dialogue}
+use Rattle.model_bodies.specs.Codes.{Code}
+use Rattle.model_bodies.specs.Trees.{Tree}
+use Rattle.model_programs.specs.Values.{Registers}
+use Rattle.model_programs.specs.Answers.{Origin, FromCall, FromSpawn}
+use Rattle.model_programs.specs.Exchanges.{Exchange}
+use Rattle.model_programs.specs.Dialogue.{Extent, Whole, Part, Dialogue}
 
 -- A function with what is left of it.
 pub record Standing : Type 0 where

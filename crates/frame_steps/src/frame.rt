@@ -2,24 +2,23 @@
 
 ghost use Rattle.std.specs.Prelude.{◌≡◌, ◌≢◌, ℕ, ◌<◌, ◌↔◌, Bool, true, false, IsTrue, List, []};
 ghost use Rattle.std.specs.Prelude.{◌∷◌, ◌++◌, Some, None, length, IfSome, OnOk, OnErr, IfErr, Err};
-ghost use Rattle.program_lines.specs.declared.statement.Statement.{Statement};
-ghost use Rattle.trace_values.specs.declared.value.Act.{Act};
-ghost use Rattle.program_text.specs.Codes.{Code};
-ghost use Rattle.program_text.specs.Trees.{Step};
-ghost use Rattle.program_steps.specs.Values.{first_registers};
-ghost use Rattle.program_steps.specs.Answers.{IsReturned};
-ghost use Rattle.program_steps.specs.Exchanges.{Exchange};
-ghost use Rattle.program_steps.specs.Dialogue.{Whole, Part};
-ghost use Rattle.program_steps.specs.Activations.{left, statement_of, is_plain, IsInPlace};
+ghost use Rattle.model_bodies.specs.declared.statement.Statement.{Statement};
+ghost use Rattle.model_accesses.specs.declared.request.Act.{Act};
+ghost use Rattle.model_bodies.specs.Codes.{Code};
+ghost use Rattle.model_bodies.specs.Trees.{Step};
+ghost use Rattle.model_programs.specs.Values.{first_registers};
+ghost use Rattle.model_programs.specs.Answers.{IsReturned};
+ghost use Rattle.model_programs.specs.Exchanges.{Exchange};
+ghost use Rattle.model_programs.specs.Dialogue.{Whole, Part, DialogueOf};
+ghost use Rattle.function_steps.specs.Activations.{left, statement_of, is_plain, IsInPlace};
 ghost use Rattle.frame_steps.specs.Joins.{join_after, open_join};
 ghost use Rattle.frame_steps.specs.States.{State};
-ghost use Rattle.frame_steps.specs.Frames.{DialogueOf, Stands, Wants, IsAfter, CanFollow};
-ghost use Rattle.frame_steps.specs.Frames.{MayAnswer, IsAnswered, IsCalled, IsLeft, began_by};
+ghost use Rattle.frame_steps.specs.Frames.{Stands, Wants, IsAfter, CanFollow, MayAnswer, IsAnswered, IsCalled, IsLeft, began_by};
 
 use crate::phase::Phase;
-use program_steps::{Activation, Target, Want, answered, value_of};
+use function_steps::{Activation, Target, Want, answered, value_of};
+use model_histories::Answer;
 use program_text::{Program, Statement};
-use race_gate::Answer;
 use std::alloc::{AllocError, Allocator};
 use std::marker::Model;
 use thiserror::Error;

@@ -2,15 +2,16 @@
 use Rattle.std.proofs.Common.{◌≡◌, ◌⊎◌, inl, inr, true, false, List, [], ◌∷◌, Option, refl, subst, arith}
 use Rattle.std.specs.List.{Contains}
 use Rattle.std.proofs.lemmas.List.Elements.{Contains-push_cases}
-use Rattle.control_history.specs.Updated.{updated}
-use Rattle.control_history.specs.History.{split, History}
-use Rattle.control_history.specs.Strands.{Begun}
-use Rattle.control_history.specs.Blocks.{root}
-use Rattle.control_history.specs.Legal.{open_split, next_split, Legal, start, then}
+use Rattle.model_strands.specs.Updated.{updated}
+use Rattle.model_strands.specs.History.{split, History}
+use Rattle.model_strands.specs.Strands.{Begun}
+use Rattle.model_strands.specs.Blocks.{root}
+use Rattle.model_strands.specs.Legal.{open_split, next_split, Legal, start, then}
 use Rattle.branch_names.specs.Names.{Names, Follows, FollowsOn, IsNamed}
 use Rattle.branch_names.proofs.Events.{room-follows}
-use Rattle.shadow_history.specs.declared.witness.Witness.{Witness}
-use Rattle.view_read_rule.specs.Reads.{ReducerRead, Remembers, StandsOn}
+use Rattle.model_accesses.specs.declared.witness.Witness.{Witness}
+use Rattle.model_accesses.specs.Reads.{ReducerRead}
+use Rattle.view_read_rule.specs.Reads.{Remembers, StandsOn}
 
 -- strand 0 spawns, and then its continuation
 abbrev pub first_spawn : History

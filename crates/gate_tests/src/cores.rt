@@ -1,14 +1,14 @@
 //! A judging core: what it answers, counts and keeps, and that it can be stopped.
 
 ghost use Rattle.std.specs.Prelude.{◌≤◌};
-ghost use Rattle.race_gate.specs.Shapes.{most_entries};
+ghost use Rattle.model_histories.specs.Shapes.{most_entries};
 
 use crate::checks::equal;
 use race_gate::{Answer, Core, GateFault};
 use std::alloc::{AllocError, Global};
 use std::process::Abort;
 use std::test::Fail;
-use trace_values::{Act, Monoids, Request, Shape};
+use text_words::{Act, Monoids, Request, Shape};
 
 /// A core over one cell, with this limit.
 fn opening(alloc: Global, limit: u32) -> Result<Core<Global>, AllocError>

@@ -1,7 +1,7 @@
 //! Worked histories with cells, the faults of the gate, and long runs.
 
 ghost use Rattle.std.specs.Prelude.{◌≤◌, length};
-ghost use Rattle.race_gate.specs.Shapes.{most_entries, most_reducers};
+ghost use Rattle.model_histories.specs.Shapes.{most_entries, most_reducers};
 
 mod random;
 mod reducers;
@@ -18,7 +18,7 @@ use sp_labels::Spawned;
 use std::alloc::{AllocError, Global};
 use std::process::Abort;
 use std::test::Fail;
-use trace_values::{Act, Monoid, Monoids, Request, Shape};
+use text_words::{Act, Monoid, Monoids, Request, Shape};
 
 /// Three cells beside these reducers, or one where there are none.
 fn opening_with(alloc: Global, monoids: &[Monoid], limit: u32) -> Result<Gate<Global>, AllocError>

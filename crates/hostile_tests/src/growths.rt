@@ -27,7 +27,7 @@ use std::alloc::Global;
 use std::fmt::Debug;
 use std::process::Abort;
 use std::test::Fail;
-use trace_values::TextFault;
+use text_words::TextFault;
 
 /// A heap of which one growth is refused.
 type Heap = Refusing<Global>;

@@ -3,13 +3,13 @@
 use crate::checks::equal;
 use crate::texts::found_of;
 use crate::worked::ENDLESS;
-use program_replay::{ReplayFault, replay};
 use program_text::{Cause, Program, TextFault};
 use race_gate::{Answer, Entry, Gate, GateFault};
+use run_replay::{ReplayFault, replay};
 use std::alloc::{AllocError, Global};
 use std::process::Abort;
 use std::test::Fail;
-use trace_values::{Act, Monoids, Request, Shape};
+use text_words::{Act, Monoids, Request, Shape};
 
 /// A trace with so many lines behind its first.
 fn with_lines(alloc: Global, line: &str, count: u32) -> Result<String, AllocError> {

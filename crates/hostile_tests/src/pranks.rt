@@ -6,7 +6,7 @@ use std::sync::Wait;
 use std::sync::atomic::{AtomicU64, Ordering};
 use std::sync::ledger::Ledger;
 use std::{hint, thread};
-use trace_values::Request;
+use text_words::Request;
 
 /// What a gate does beside its work. A number is that of a request, in the order in which they come.
 #[derive(Clone, Copy, Debug)]

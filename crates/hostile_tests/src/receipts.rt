@@ -14,7 +14,7 @@ use std::process::Abort;
 use std::sync::Wait;
 use std::sync::ledger::{Blank, Ledger};
 use std::test::Fail;
-use trace_values::{Act, Request};
+use text_words::{Act, Request};
 
 fn request(strand: u32, act: Act, line: u32) -> Request {
     Request { strand, act, line }

@@ -1,7 +1,7 @@
 -- Lists that agree from the front on.
 use Rattle.std.proofs.Common.{◌≡◌, ℕ, zero, suc, ◌+◌, ◌<◌, List, [], ◌∷◌, ◌++◌, length, take, get_or, refl, ap, sym, arith, ◌∙◌}
 use Rattle.std.proofs.lemmas.List.{take_more}
-use Rattle.trace_values.specs.declared.value.Monoid.{Monoid}
+use Rattle.model_reducers.specs.declared.monoid.Monoid.{Monoid}
 
 pub monoids_more : (xs ys : List Monoid) (i : ℕ) (d e : Monoid) → i < length xs → i < length ys → take i xs ≡ take i ys → get_or xs i d ≡ get_or ys i e →
     take (i + 1) xs ≡ take (i + 1) ys

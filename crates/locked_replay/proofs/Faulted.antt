@@ -1,8 +1,8 @@
 -- Why there is no whole run, from what the logs and the gate show.
 use Rattle.std.proofs.Common.{◌≡◌, Bool, true, false, List, reverse, refl, Result, Err}
-use Rattle.race_gate.specs.Shapes.{Shape}
-use Rattle.race_gate.specs.States.{State}
-use Rattle.program_text.specs.Codes.{Code}
+use Rattle.model_histories.specs.Shapes.{Shape}
+use Rattle.model_histories.specs.States.{State}
+use Rattle.model_bodies.specs.Codes.{Code}
 use Rattle.locked_replay.specs.declared.fault.RunFault.{RunFault}
 use Rattle.locked_replay.specs.declared.fault.RunFault.TheVariants.{Limit, Stopped, Torn, Strange, Memory}
 use Rattle.locked_replay.specs.declared.worker.WorkerLog.{WorkerLog}

@@ -1,16 +1,18 @@
 -- What is gathered of a gate that was behind its lock.
 use Rattle.std.proofs.Common.{◌≡◌, ◌↔◌, ℕ, List, reverse, Result, Ok, Err, IsTrue, IfOk, OnOk, IfErr, sym, ap, ◌∙◌, subst}
 use Rattle.std.proofs.lemmas.List.{reverse-reverse}
-use Rattle.race_gate.specs.declared.answer.Entry.{Entry}
-use Rattle.race_gate.specs.Entries.{Entries}
-use Rattle.race_gate.specs.Shapes.{Shape}
-use Rattle.race_gate.specs.Judged.{IsJudged}
-use Rattle.race_gate.specs.Memory.{IsMemory}
-use Rattle.race_gate.specs.Extensions.{IsClean}
-use Rattle.race_gate.specs.States.{State, IsRight}
+use Rattle.model_histories.specs.declared.answer.Entry.{Entry}
+use Rattle.model_histories.specs.Entries.{Entries}
+use Rattle.model_histories.specs.Shapes.{Shape}
+use Rattle.model_races.specs.Judged.{IsJudged}
+use Rattle.model_races.specs.Memory.{IsMemory}
+use Rattle.model_histories.specs.Extensions.{IsClean}
+use Rattle.model_histories.specs.States.{State}
+use Rattle.race_gate.specs.States.{IsRight}
 use Rattle.program_text.specs.declared.program.Program.{Program}
-use Rattle.program_runs.specs.Runs.{shape_in, IsFinishedRun}
-use Rattle.program_runs.specs.Laws.{IsElided, AllAgree}
+use Rattle.program_text.specs.Shapes.{shape_in}
+use Rattle.model_runs.specs.Runs.{IsFinishedRun}
+use Rattle.model_runs.specs.Laws.{IsElided, AllAgree}
 use Rattle.locked_replay.specs.declared.fault.RunFault.{RunFault}
 use Rattle.locked_replay.specs.declared.worker.WorkerLog.{WorkerLog}
 use Rattle.locked_replay.specs.declared.whole.Whole.{Whole}

@@ -3,8 +3,8 @@ use Rattle.std.proofs.Common.{◌≡◌, ℕ, zero, suc, ◌+◌, ◌<◌, ◌�
 use Rattle.std.specs.List.{sum_by}
 use Rattle.std.proofs.lemmas.Bool.Decides.{nat_tests}
 use Rattle.std.proofs.lemmas.List.Sums.{sum_by-cons}
-use Rattle.race_gate.specs.declared.answer.Receipt.{Receipt}
-use Rattle.race_gate.specs.declared.answer.Entry.{Entry}
+use Rattle.model_histories.specs.declared.reply.Receipt.{Receipt}
+use Rattle.model_histories.specs.declared.answer.Entry.{Entry}
 use Rattle.locked_replay.specs.Receipts.{numbered, receipt_of}
 
 pub length-numbered : (n : ℕ) (es : List Entry) → length (numbered n es) ≡ length es

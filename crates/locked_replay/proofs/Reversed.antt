@@ -2,15 +2,15 @@
 use Rattle.std.proofs.Common.{◌≡◌, ℕ, Bool, List, reverse, IsTrue, refl, ap, sym, subst, ◌∙◌, inl, inr}
 use Rattle.std.proofs.lemmas.List.{reverse-reverse}
 use Rattle.std.proofs.lemmas.List.Sorted.{IsPermutation-reverse, IsPermutation-sym, All-permutation}
-use Rattle.race_gate.specs.declared.answer.Entry.{Entry}
-use Rattle.race_gate.specs.Entries.{Entries}
-use Rattle.race_gate.specs.Extensions.{IsCleanAnswer, IsClean}
-use Rattle.race_gate.specs.Shapes.{Shape}
-use Rattle.race_gate.specs.States.{State}
-use Rattle.program_text.specs.Codes.{Code}
-use Rattle.program_replay.specs.declared.replays.ReplayFault.{ReplayFault}
-use Rattle.program_replay.specs.declared.replays.ReplayFault.TheVariants as replay_fault
-use Rattle.program_replay.specs.Replays.{IsUnfinishedRun, IsStrange}
+use Rattle.model_histories.specs.declared.answer.Entry.{Entry}
+use Rattle.model_histories.specs.Entries.{Entries}
+use Rattle.model_histories.specs.Extensions.{IsCleanAnswer, IsClean}
+use Rattle.model_histories.specs.Shapes.{Shape}
+use Rattle.model_histories.specs.States.{State}
+use Rattle.model_bodies.specs.Codes.{Code}
+use Rattle.run_replay.specs.declared.replays.ReplayFault.{ReplayFault}
+use Rattle.run_replay.specs.declared.replays.ReplayFault.TheVariants as replay_fault
+use Rattle.run_replay.specs.Replays.{IsUnfinishedRun, IsStrange}
 use Rattle.locked_replay.specs.declared.fault.RunFault.TheVariants as run_fault
 use Rattle.locked_replay.specs.Strange.{run_fault_of, IsStrangeGate}
 

@@ -8,8 +8,8 @@ use Rattle.std.proofs.lemmas.List.{take_more, take-append-drop, length-replicate
 use Rattle.std.proofs.lemmas.List.Concat.{length-flat_map}
 use Rattle.std.proofs.lemmas.List.Elements.{All-more}
 use Rattle.std.proofs.lemmas.List.Sorted.{IsPermutation-refl, length_permutation}
-use Rattle.race_gate.specs.declared.answer.Entry.{Entry}
-use Rattle.race_gate.specs.declared.answer.Receipt.{Receipt}
+use Rattle.model_histories.specs.declared.answer.Entry.{Entry}
+use Rattle.model_histories.specs.declared.reply.Receipt.{Receipt}
 use Rattle.locked_replay.specs.declared.worker.WorkerLog.{WorkerLog}
 use Rattle.locked_replay.specs.Receipts.{numbered, marked, Rises, AreMarked, AreAstray}
 use Rattle.locked_replay.specs.Logs.{all_receipts, AreTheirs}

@@ -1,16 +1,17 @@
 -- A clean finished run of a program is its serial elision, and speaks for every schedule.
 use Rattle.std.proofs.Common.{ℕ, length, sym, subst}
 use Rattle.std.proofs.lemmas.List.{length-map}
-use Rattle.trace_values.specs.Declarations.{cells_of}
-use Rattle.trace_values.specs.declared.value.Reducer.{Reducer}
-use Rattle.race_gate.specs.Entries.{Entries}
-use Rattle.race_gate.specs.Extensions.{IsClean}
+use Rattle.text_words.specs.Declarations.{cells_of}
+use Rattle.text_words.specs.declared.value.Reducer.{Reducer}
+use Rattle.model_histories.specs.Entries.{Entries}
+use Rattle.model_histories.specs.Extensions.{IsClean}
 use Rattle.program_text.specs.declared.program.Program.{Program}
-use Rattle.program_text.specs.Sound.{IsSound}
-use Rattle.program_runs.specs.Runs.{shape_in, IsFinishedRun}
-use Rattle.clean_runs.proofs.Elided.{elision_law}
-use Rattle.clean_runs.proofs.Meeting.{told_by_elision}
-use Rattle.every_schedule.proofs.Schedules.{clean_law}
+use Rattle.model_bodies.specs.Sound.{IsSound}
+use Rattle.program_text.specs.Shapes.{shape_in}
+use Rattle.model_runs.specs.Runs.{IsFinishedRun}
+use Rattle.law_elision.proofs.Elided.{elision_law}
+use Rattle.law_elision.proofs.Meeting.{told_by_elision}
+use Rattle.law_schedules.proofs.Schedules.{clean_law}
 use Rattle.locked_replay.specs.Laws.{SpeaksForAll, WholeLaw}
 
 pub whole_law : WholeLaw

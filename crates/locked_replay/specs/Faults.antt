@@ -1,8 +1,8 @@
 -- Why there is no whole run of a gate and the logs of those who asked it.
 use Rattle.std.specs.Prelude.{◌≡◌, true, false, List, reverse}
-use Rattle.race_gate.specs.Shapes.{Shape}
-use Rattle.race_gate.specs.States.{State}
-use Rattle.program_text.specs.Codes.{Code}
+use Rattle.model_histories.specs.Shapes.{Shape}
+use Rattle.model_histories.specs.States.{State}
+use Rattle.model_bodies.specs.Codes.{Code}
 use Rattle.locked_replay.specs.declared.fault.RunFault.{RunFault}
 use Rattle.locked_replay.specs.declared.fault.RunFault.TheVariants.{Limit, Stopped, Torn, Strange, Memory}
 use Rattle.locked_replay.specs.declared.worker.WorkerLog.{WorkerLog}

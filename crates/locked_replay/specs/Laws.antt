@@ -1,12 +1,12 @@
 -- What holds of whole runs.
 use Rattle.std.specs.Prelude.{List, length}
-use Rattle.race_gate.specs.Entries.{Entries}
-use Rattle.race_gate.specs.Shapes.{Shape}
-use Rattle.race_gate.specs.Extensions.{IsClean}
-use Rattle.program_text.specs.Codes.{Code}
-use Rattle.program_text.specs.Sound.{IsSound}
-use Rattle.program_runs.specs.Runs.{IsFinishedRun}
-use Rattle.program_runs.specs.Laws.{IsElided, AllAgree, IsToldByElision}
+use Rattle.model_histories.specs.Entries.{Entries}
+use Rattle.model_histories.specs.Shapes.{Shape}
+use Rattle.model_histories.specs.Extensions.{IsClean}
+use Rattle.model_bodies.specs.Codes.{Code}
+use Rattle.model_bodies.specs.Sound.{IsSound}
+use Rattle.model_runs.specs.Runs.{IsFinishedRun}
+use Rattle.model_runs.specs.Laws.{IsElided, AllAgree, IsToldByElision}
 
 -- The run is the program's serial elision, what is told of that elision is so of the run, and every run of the program agrees with it.
 pub record SpeaksForAll (functions : List Code) (shape : Shape) (clean : Entries) : Type 0 where

@@ -2,8 +2,8 @@
 use Rattle.std.specs.Prelude.{◌≡◌, ℕ, List, length}
 use Rattle.std.specs.List.{All, flat_map, sum_by}
 use Rattle.std.specs.List.Sorted.{IsPermutation}
-use Rattle.race_gate.specs.declared.answer.Entry.{Entry}
-use Rattle.race_gate.specs.declared.answer.Receipt.{Receipt}
+use Rattle.model_histories.specs.declared.answer.Entry.{Entry}
+use Rattle.model_histories.specs.declared.reply.Receipt.{Receipt}
 use Rattle.locked_replay.specs.declared.worker.WorkerLog.{WorkerLog}
 use Rattle.locked_replay.specs.Receipts.{numbered, Rises}
 

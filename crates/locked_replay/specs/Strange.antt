@@ -1,11 +1,11 @@
 -- When a gate is not that of a finished run.
 use Rattle.std.specs.Prelude.{◌≡◌, ◌⊎◌, ℕ, List, reverse}
-use Rattle.race_gate.specs.Shapes.{Shape}
-use Rattle.race_gate.specs.States.{State}
-use Rattle.program_text.specs.Codes.{Code}
-use Rattle.program_replay.specs.declared.replays.ReplayFault.{ReplayFault}
-use Rattle.program_replay.specs.declared.replays.ReplayFault.TheVariants as replay_fault
-use Rattle.program_replay.specs.Replays.{IsUnfinishedRun, IsStrange}
+use Rattle.model_histories.specs.Shapes.{Shape}
+use Rattle.model_histories.specs.States.{State}
+use Rattle.model_bodies.specs.Codes.{Code}
+use Rattle.run_replay.specs.declared.replays.ReplayFault.{ReplayFault}
+use Rattle.run_replay.specs.declared.replays.ReplayFault.TheVariants as replay_fault
+use Rattle.run_replay.specs.Replays.{IsUnfinishedRun, IsStrange}
 use Rattle.locked_replay.specs.declared.fault.RunFault.{RunFault}
 use Rattle.locked_replay.specs.declared.fault.RunFault.TheVariants.{Strange, Memory}
 

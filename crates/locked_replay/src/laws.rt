@@ -3,8 +3,8 @@
 
 ghost use Rattle.locked_replay.specs.Laws.{WholeLaw};
 
-pub use clean_runs::laws::elision_law;
-pub use every_schedule::laws::clean_law;
+pub use law_elision::laws::elision_law;
+pub use law_schedules::laws::clean_law;
 
 /// A finished run of a sound program in which nothing was refused is the program's serial elision, what `elide` tells of that is so of the
 /// run, and it speaks for every schedule: every run of the program agrees with it.

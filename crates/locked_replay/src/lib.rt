@@ -20,7 +20,7 @@ mod worker;
 pub use fault::RunFault;
 pub use locked::{Ask, LockedGate};
 pub use logs::check_logs;
-pub use program_replay::{ReplayFault, replay};
+pub use run_replay::{ReplayFault, replay};
 pub use seat::Seat;
 pub use whole::{Whole, check_run, gather};
 pub use worker::WorkerLog;

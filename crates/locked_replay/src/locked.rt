@@ -1,16 +1,16 @@
 //! A gate behind its lock.
 
 ghost use Rattle.std.specs.Prelude.{◌≡◌, ◌+◌, ◌<◌, [], ◌∷◌, true, length, MatchResult, IfOk};
-ghost use Rattle.race_gate.specs.Judged.{IsJudged};
-ghost use Rattle.race_gate.specs.Memory.{IsMemory};
-ghost use Rattle.race_gate.specs.Replies.{Judges, reply_of};
+ghost use Rattle.model_races.specs.Judged.{IsJudged};
+ghost use Rattle.model_races.specs.Memory.{IsMemory};
+ghost use Rattle.model_histories.specs.Replies.{Judges, reply_of};
 
 use crate::seat::Seat;
 use race_gate::{Gate, GateFault, Receipt};
 use std::alloc::Global;
 use std::sync::ledger::{Blank, Book, Ledger};
 use std::sync::{Mutex, Wait};
-use trace_values::Request;
+use text_words::Request;
 
 /// Who asks does not know what stands behind it: a gate's lock, or something round one.
 pub trait Ask<L: Ledger> {

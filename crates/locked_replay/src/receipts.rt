@@ -2,7 +2,7 @@
 
 ghost use Rattle.std.specs.Prelude.{◌≡◌, ◌↔◌, ◌++◌, ◌∷◌, [], ◌⊎◌, List, IsTrue, length};
 ghost use Rattle.std.specs.Bool.{MatchBool};
-ghost use Rattle.race_gate.specs.declared.answer.Receipt.{Receipt as OneReceipt};
+ghost use Rattle.model_histories.specs.declared.reply.Receipt.{Receipt as OneReceipt};
 ghost use Rattle.locked_replay.specs.Receipts.{receipt_of, Rises, AreMarked, AreAstray};
 
 use crate::same::is_same_receipt;

@@ -5,7 +5,7 @@ ghost use Rattle.race_gate.specs.Shapes.{shape_of};
 
 use race_gate::{Answer, Receipt};
 use std::alloc::Allocator;
-use trace_values::{Act, Monoid, Request, Shape};
+use text_words::{Act, Monoid, Request, Shape};
 
 fn is_same_act(one: Act, other: Act) -> bool
     ensures { IsTrue result ↔ one ≡ other }

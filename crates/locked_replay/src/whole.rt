@@ -1,11 +1,13 @@
 //! Whole runs.
 
 ghost use Rattle.std.specs.Prelude.{◌≡◌, ◌↔◌, true, reverse, IsTrue, IfOk, IfErr, OnOk, Err};
-ghost use Rattle.race_gate.specs.Memory.{IsMemory};
-ghost use Rattle.race_gate.specs.Extensions.{IsCleanAnswer, IsClean};
-ghost use Rattle.race_gate.specs.States.{State, IsRight};
-ghost use Rattle.program_runs.specs.Runs.{shape_in, IsFinishedRun};
-ghost use Rattle.program_runs.specs.Laws.{IsElided, AllAgree};
+ghost use Rattle.model_races.specs.Memory.{IsMemory};
+ghost use Rattle.model_histories.specs.Extensions.{IsCleanAnswer, IsClean};
+ghost use Rattle.model_histories.specs.States.{State};
+ghost use Rattle.race_gate.specs.States.{IsRight};
+ghost use Rattle.program_text.specs.Shapes.{shape_in};
+ghost use Rattle.model_runs.specs.Runs.{IsFinishedRun};
+ghost use Rattle.model_runs.specs.Laws.{IsElided, AllAgree};
 ghost use Rattle.locked_replay.specs.Faults.{HasFault};
 ghost use Rattle.locked_replay.specs.Logs.{AreWhole};
 ghost use Rattle.locked_replay.specs.Strange.{run_fault_of, IsStrangeGate};
@@ -15,9 +17,9 @@ use crate::locked::LockedGate;
 use crate::logs::check_logs;
 use crate::same::is_same_shape;
 use crate::worker::WorkerLog;
-use program_replay::{ReplayFault, replay};
 use program_text::Program;
 use race_gate::{Answer, Entry, Gate};
+use run_replay::{ReplayFault, replay};
 use std::alloc::{Allocator, Global};
 use std::sync::ledger::Ledger;
 

@@ -1,7 +1,7 @@
 -- A word is the word of one keyword at most, and of one sign.
 use Rattle.std.proofs.Common.{◌≡◌, ℕ, cond, List, get_or, refl, sym, ap, ◌∙◌}
 use Rattle.std.specs.Prelude.{◌==◌}
-use Rattle.access_table.specs.declared.kind.Kind.TheVariants as kind
+use Rattle.model_accesses.specs.declared.kind.Kind.TheVariants as kind
 use Rattle.program_lines.specs.declared.keyword.Keyword.{Keyword}
 use Rattle.program_lines.specs.declared.keyword.Keyword.TheVariants.{Mem, Reducer, Func, Let, Access, Spawn, Call, Sync, ParallelFor, If, Else, End}
 use Rattle.program_lines.specs.declared.operator.Operator.{Operator}

@@ -4,20 +4,20 @@ use Rattle.std.specs.Prelude.{Option, Some, None, Result, Ok, Err, MatchResult, 
 use Rattle.std.specs.Char.{is_ascii_digit, is_ascii_lowercase}
 use Rattle.std.proofs.lemmas.Bool.Decides.{nat_tests}
 use Rattle.std.proofs.lemmas.List.{append_cancel_right}
-use Rattle.trace_values.specs.declared.fault.Cause.{Cause}
-use Rattle.trace_values.specs.declared.fault.Cause.TheVariants.{NotText, BadHeader, BadWord, BadNumber, UnknownName, TwiceNamed, BadNesting, NoMain, TooMany}
-use Rattle.trace_values.specs.Text.{IsName, BeginsWithDigit}
-use Rattle.trace_values.specs.Limits.{max_value}
-use Rattle.trace_values.specs.Names.{element_word, SingleMeans}
+use Rattle.text_words.specs.declared.fault.Cause.{Cause}
+use Rattle.text_words.specs.declared.fault.Cause.TheVariants.{NotText, BadHeader, BadWord, BadNumber, UnknownName, TwiceNamed, BadNesting, NoMain, TooMany}
+use Rattle.text_words.specs.Text.{IsName, BeginsWithDigit}
+use Rattle.text_words.specs.Limits.{max_value}
+use Rattle.text_words.specs.Names.{element_word, SingleMeans}
 use Rattle.trace_text.specs.Cells.{IsSingleFault}
-use Rattle.trace_values.specs.Causes.{IsLowest, cause_number}
+use Rattle.text_words.specs.Causes.{IsLowest, cause_number}
 use Rattle.trace_text.specs.Faults.{IsUndeclared, WordFault as CommonFault}
 use Rattle.trace_text.specs.Lines as trace
 use Rattle.trace_text.proofs.CellWords.{IsSplit, name_no_bracket, same_split, flat, no_element, digits_begin, below_word as common_below, no_closing as cell_no_closing}
-use Rattle.program_lines.specs.declared.statement.Operand.{Operand}
-use Rattle.program_lines.specs.declared.statement.Operand.TheVariants.{Number, Held}
-use Rattle.program_lines.specs.declared.statement.Location.{Location}
-use Rattle.program_lines.specs.declared.statement.Location.TheVariants.{Cell, Element}
+use Rattle.model_bodies.specs.declared.statement.Operand.{Operand}
+use Rattle.model_bodies.specs.declared.statement.Operand.TheVariants.{Number, Held}
+use Rattle.model_bodies.specs.declared.statement.Location.{Location}
+use Rattle.model_bodies.specs.declared.statement.Location.TheVariants.{Cell, Element}
 use Rattle.program_lines.specs.Scopes.{Scope, register_named}
 use Rattle.program_lines.specs.Places.{Place, Common, OperandWord, LocationWord, OfLocation, OperandMeans, ElementMeans, LocationMeans}
 use Rattle.program_lines.specs.Faults.{HasShape, HasOperandShape, HasIndexedShape, IsNoNumber, IsNoRegister, WordFault}

@@ -3,28 +3,28 @@ use Rattle.std.proofs.Common.{◌≡◌, ℕ, ◌<◌, ◌∷◌, ◌++◌, [], 
 use Rattle.std.specs.Prelude.{Option, Some, None, ◌⊎◌}
 use Rattle.std.proofs.lemmas.List.{append_cancel_right}
 use denote.Struct.Props.{props}
-use Rattle.access_table.specs.declared.kind.Kind.TheVariants as kind
-use Rattle.trace_values.specs.declared.value.Mem.{Mem}
-use Rattle.trace_values.specs.declared.value.Monoid.{Monoid}
-use Rattle.trace_values.specs.declared.value.Monoid.TheVariants.{Sum as SumMonoid}
-use Rattle.trace_values.specs.Text.{IsName}
-use Rattle.trace_values.specs.Limits.{max_value}
-use Rattle.trace_values.specs.Names.{element_word}
+use Rattle.model_accesses.specs.declared.kind.Kind.TheVariants as kind
+use Rattle.text_words.specs.declared.value.Mem.{Mem}
+use Rattle.model_reducers.specs.declared.monoid.Monoid.{Monoid}
+use Rattle.model_reducers.specs.declared.monoid.Monoid.TheVariants.{Sum as SumMonoid}
+use Rattle.text_words.specs.Text.{IsName}
+use Rattle.text_words.specs.Limits.{max_value}
+use Rattle.text_words.specs.Names.{element_word}
 use Rattle.trace_text.specs.Lines as trace
 use Rattle.trace_text.proofs.CellWords.{same_some, same_split, name_no_bracket, no_element, flat, digits_begin}
 use Rattle.trace_text.proofs.Once.{number_once, word_once as common_once}
 use Rattle.program_lines.specs.declared.keyword.Keyword.{Keyword}
 use Rattle.program_lines.specs.declared.keyword.Keyword.TheVariants as begin
 use Rattle.program_lines.specs.declared.operator.Operator.TheVariants.{Plus, Minus, Times, Below}
-use Rattle.program_lines.specs.declared.statement.Register.{Register}
-use Rattle.program_lines.specs.declared.statement.Operand.{Operand}
-use Rattle.program_lines.specs.declared.statement.Operand.TheVariants.{Number, Held}
-use Rattle.program_lines.specs.declared.statement.Location.{Location}
-use Rattle.program_lines.specs.declared.statement.Location.TheVariants.{Cell, Element}
-use Rattle.program_lines.specs.declared.statement.Expression.{Expression}
-use Rattle.program_lines.specs.declared.statement.Expression.TheVariants.{Plain as PlainOperand, Sum, Difference, Product, Less}
-use Rattle.program_lines.specs.declared.statement.Statement.{Statement}
-use Rattle.program_lines.specs.declared.statement.Statement.TheVariants.{Let, Read, Write, Bump, Update, Put, Get, Spawn, Call, Sync, ParallelFor, If, Else, End}
+use Rattle.model_bodies.specs.declared.statement.Register.{Register}
+use Rattle.model_bodies.specs.declared.statement.Operand.{Operand}
+use Rattle.model_bodies.specs.declared.statement.Operand.TheVariants.{Number, Held}
+use Rattle.model_bodies.specs.declared.statement.Location.{Location}
+use Rattle.model_bodies.specs.declared.statement.Location.TheVariants.{Cell, Element}
+use Rattle.model_bodies.specs.declared.statement.Expression.{Expression}
+use Rattle.model_bodies.specs.declared.statement.Expression.TheVariants.{Plain as PlainOperand, Sum, Difference, Product, Less}
+use Rattle.model_bodies.specs.declared.statement.Statement.{Statement}
+use Rattle.model_bodies.specs.declared.statement.Statement.TheVariants.{Let, Read, Write, Bump, Update, Put, Get, Spawn, Call, Sync, ParallelFor, If, Else, End}
 use Rattle.program_lines.specs.Scopes.{Scope, register_named}
 use Rattle.program_lines.specs.Places.{Place, Common, FreshName, OperandWord, LocationWord, AssignedRegister, KnownRegister, FunctionName, ParameterName, Sign, Exactly, Value, Plain, OfOperand, OfLocation, OfRegister, OfAssigned, OfSign, Nothing, WordMeans, OperandMeans, ElementMeans, LocationMeans, AssignedMeans}
 use Rattle.program_lines.specs.Table.{spelling, Placed, WordsMean, Says}

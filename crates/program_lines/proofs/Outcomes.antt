@@ -4,16 +4,16 @@ use Rattle.std.proofs.Common.{◌≡◌, ℕ, ◌<◌, ◌≤◌, ◌+◌, ◌�
 use Rattle.std.specs.Prelude.{Option, Some, None, Result, Ok, Err, MatchResult, option_map, nat_lt}
 use Rattle.std.specs.Result.{result_and}
 use Rattle.std.proofs.lemmas.Bool.Decides.{nat_tests}
-use Rattle.trace_values.specs.declared.fault.Cause.{Cause}
-use Rattle.trace_values.specs.declared.fault.Cause.TheVariants.{NotText, BadHeader, BadWord, BadNumber, UnknownName, TwiceNamed, BadNesting, NoMain, TooMany}
-use Rattle.trace_values.specs.Causes.{IsLowest, cause_number, both_of}
+use Rattle.text_words.specs.declared.fault.Cause.{Cause}
+use Rattle.text_words.specs.declared.fault.Cause.TheVariants.{NotText, BadHeader, BadWord, BadNumber, UnknownName, TwiceNamed, BadNesting, NoMain, TooMany}
+use Rattle.text_words.specs.Causes.{IsLowest, cause_number, both_of}
 use Rattle.trace_text.specs.Lines as trace
 use Rattle.trace_text.specs.Outcome.{TakesWord as TakesCommon, Fits as FitsCommon}
-use Rattle.trace_values.specs.Text.{IsName}
+use Rattle.text_words.specs.Text.{IsName}
 use Rattle.trace_text.proofs.Outcomes.{word_clean as common_clean}
 use Rattle.program_lines.specs.declared.operator.Operator.{Operator}
-use Rattle.program_lines.specs.declared.statement.Operand.{Operand}
-use Rattle.program_lines.specs.declared.statement.Register.{Register}
+use Rattle.model_bodies.specs.declared.statement.Operand.{Operand}
+use Rattle.model_bodies.specs.declared.statement.Register.{Register}
 use Rattle.program_lines.specs.Scopes.{Scope, register_named, function_named, max_registers, IsFresh}
 use Rattle.program_lines.specs.Places.{Place, Common, FreshName, OperandWord, LocationWord, AssignedRegister, KnownRegister, FunctionName, ParameterName, Sign, Exactly, Value, Plain, OfOperand, OfLocation, OfRegister, OfAssigned, OfSign, Nothing, WordMeans, OperandMeans, RegisterMeans, AssignedMeans, IsRegisterName}
 use Rattle.program_lines.specs.Table.{Placed, placed, WordsMean}

@@ -4,11 +4,11 @@ use Rattle.std.specs.Prelude.{Option, Some, None, IsTrue, option_map, ◌⊎◌}
 use Rattle.std.specs.List.{All, position_from}
 use Rattle.std.specs.Str.{bytes_eq}
 use Rattle.std.specs.Cmp.Lexicographic.{bytes_decides}
-use Rattle.access_table.specs.declared.kind.Kind.TheVariants as kind
-use Rattle.trace_values.specs.declared.value.Mem.{Mem}
-use Rattle.trace_values.specs.Text.{words, IsTextLine, IsName}
-use Rattle.trace_values.specs.Limits.{max_value}
-use Rattle.trace_values.specs.Names.{SingleMeans, IsDeclared}
+use Rattle.model_accesses.specs.declared.kind.Kind.TheVariants as kind
+use Rattle.text_words.specs.declared.value.Mem.{Mem}
+use Rattle.text_words.specs.Text.{words, IsTextLine, IsName}
+use Rattle.text_words.specs.Limits.{max_value}
+use Rattle.text_words.specs.Names.{SingleMeans, IsDeclared}
 use Rattle.trace_text.specs.Lines as trace
 use Rattle.trace_text.specs.Shapes.{is_numbered}
 use Rattle.trace_text.specs.Printing.{spaced}
@@ -20,15 +20,15 @@ use Rattle.program_lines.specs.declared.keyword.Keyword.{Keyword}
 use Rattle.program_lines.specs.declared.keyword.Keyword.TheVariants as begin
 use Rattle.program_lines.specs.declared.operator.Operator.{Operator}
 use Rattle.program_lines.specs.declared.operator.Operator.TheVariants.{Plus, Minus, Times, Below}
-use Rattle.program_lines.specs.declared.statement.Register.{Register}
-use Rattle.program_lines.specs.declared.statement.Expression.{Expression}
-use Rattle.program_lines.specs.declared.statement.Expression.TheVariants.{Plain as PlainOperand, Sum, Difference, Product, Less}
-use Rattle.program_lines.specs.declared.statement.Operand.{Operand}
-use Rattle.program_lines.specs.declared.statement.Operand.TheVariants.{Number, Held}
-use Rattle.program_lines.specs.declared.statement.Location.{Location}
-use Rattle.program_lines.specs.declared.statement.Location.TheVariants.{Cell, Element}
-use Rattle.program_lines.specs.declared.statement.Statement.{Statement}
-use Rattle.program_lines.specs.declared.statement.Statement.TheVariants.{Let, Read, Write, Bump, Update, Put, Get, Spawn, Call, Sync, ParallelFor, If, Else, End}
+use Rattle.model_bodies.specs.declared.statement.Register.{Register}
+use Rattle.model_bodies.specs.declared.statement.Expression.{Expression}
+use Rattle.model_bodies.specs.declared.statement.Expression.TheVariants.{Plain as PlainOperand, Sum, Difference, Product, Less}
+use Rattle.model_bodies.specs.declared.statement.Operand.{Operand}
+use Rattle.model_bodies.specs.declared.statement.Operand.TheVariants.{Number, Held}
+use Rattle.model_bodies.specs.declared.statement.Location.{Location}
+use Rattle.model_bodies.specs.declared.statement.Location.TheVariants.{Cell, Element}
+use Rattle.model_bodies.specs.declared.statement.Statement.{Statement}
+use Rattle.model_bodies.specs.declared.statement.Statement.TheVariants.{Let, Read, Write, Bump, Update, Put, Get, Spawn, Call, Sync, ParallelFor, If, Else, End}
 use Rattle.program_lines.specs.Scopes.{Scope, ok_word, register_named, function_named, IsFresh}
 use Rattle.program_lines.specs.Places.{Place, Common, FreshName, OperandWord, LocationWord, AssignedRegister, KnownRegister, FunctionName, ParameterName, Sign, Exactly, Value, Plain, OfOperand, OfLocation, OfRegister, OfAssigned, OfSign, Nothing, WordMeans, OperandMeans, RegisterMeans, ElementMeans, LocationMeans, IsRegisterName, sign_spelling}
 use Rattle.program_lines.specs.Table.{spelling, wanted, optional, Placed, placed, WordsMean, Says}

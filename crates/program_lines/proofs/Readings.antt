@@ -2,23 +2,23 @@
 use Rattle.std.proofs.Common.{◌≡◌, ◌≢◌, ◌⊎◌, inl, inr, ℕ, ◌+◌, ◌<◌, ◌≤◌, true, false, List, [], ◌∷◌, ◌++◌, length, refl, sym, ◌∙◌, ap, subst, arith}
 use Rattle.std.specs.Prelude.{Option, Some, None, Result, Ok, Err, MatchResult}
 use Rattle.std.specs.Str.{bytes_eq}
-use Rattle.trace_values.specs.declared.fault.Cause.{Cause}
-use Rattle.trace_values.specs.declared.fault.Cause.TheVariants.{BadWord, UnknownName, TwiceNamed, TooMany}
-use Rattle.trace_values.specs.declared.value.Mem.{Mem}
-use Rattle.trace_values.specs.Limits.{max_value}
-use Rattle.trace_values.specs.Names.{memory_named, reducer_named, IsDeclared, IsFresh as IsUndeclaredName}
-use Rattle.trace_values.proofs.Decided.{OrNot, both_or_not, below_or_not, most_or_not, word_or_not, name_or_not}
-use Rattle.trace_values.specs.Text.{IsName}
+use Rattle.text_words.specs.declared.fault.Cause.{Cause}
+use Rattle.text_words.specs.declared.fault.Cause.TheVariants.{BadWord, UnknownName, TwiceNamed, TooMany}
+use Rattle.text_words.specs.declared.value.Mem.{Mem}
+use Rattle.text_words.specs.Limits.{max_value}
+use Rattle.text_words.specs.Names.{memory_named, reducer_named, IsDeclared, IsFresh as IsUndeclaredName}
+use Rattle.text_words.proofs.Decided.{OrNot, both_or_not, below_or_not, most_or_not, word_or_not, name_or_not}
+use Rattle.text_words.specs.Text.{IsName}
 use Rattle.trace_text.specs.Lines as trace
 use Rattle.trace_text.specs.Cells.{IsSingleFault}
 use Rattle.trace_text.specs.Faults.{IsUndeclared}
 use Rattle.trace_text.proofs.CellWords.{IsSplit, HasNoBracket, no_element}
 use Rattle.trace_text.proofs.Readings.{Reading as CommonReading, word_reading as common_reading, number_reading, split_or_not, closed_or_not, declared_or_not}
-use Rattle.program_lines.specs.declared.statement.Register.{Register}
-use Rattle.program_lines.specs.declared.statement.Operand.{Operand}
-use Rattle.program_lines.specs.declared.statement.Operand.TheVariants.{Number, Held}
-use Rattle.program_lines.specs.declared.statement.Location.{Location}
-use Rattle.program_lines.specs.declared.statement.Location.TheVariants.{Cell, Element}
+use Rattle.model_bodies.specs.declared.statement.Register.{Register}
+use Rattle.model_bodies.specs.declared.statement.Operand.{Operand}
+use Rattle.model_bodies.specs.declared.statement.Operand.TheVariants.{Number, Held}
+use Rattle.model_bodies.specs.declared.statement.Location.{Location}
+use Rattle.model_bodies.specs.declared.statement.Location.TheVariants.{Cell, Element}
 use Rattle.program_lines.specs.Scopes.{Scope, max_registers, ok_word, register_named, function_named, HasNotBegun, IsFresh}
 use Rattle.program_lines.specs.Places.{Place, Common, FreshName, OperandWord, LocationWord, AssignedRegister, KnownRegister, FunctionName, ParameterName, Sign, Exactly, Value, Plain, OfOperand, OfLocation, OfRegister, OfAssigned, OfSign, Nothing, IsRegisterName, OperandMeans, sign_spelling}
 use Rattle.program_lines.specs.Locations.{SingleIs, ElementIs, IsElementFault}

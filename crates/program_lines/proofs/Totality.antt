@@ -1,14 +1,14 @@
 -- The words of a line say something in their scope, or have a lowest cause why not.
 use Rattle.std.proofs.Common.{◌≡◌, ◌⊎◌, inl, inr, ℕ, ◌≤◌, List, [], ◌∷◌, length, refl, sym, ◌∙◌, ap, subst}
 use Rattle.std.specs.Prelude.{Some, Result, Ok, Err}
-use Rattle.access_table.specs.declared.kind.Kind.TheVariants as kind
-use Rattle.trace_values.specs.declared.fault.Cause.{Cause}
-use Rattle.trace_values.specs.declared.fault.Cause.TheVariants.{BadWord}
-use Rattle.trace_values.specs.declared.value.Version.{Version}
-use Rattle.trace_values.specs.declared.value.Version.TheVariants.{One, Two}
-use Rattle.trace_values.specs.Causes.{IsLowest}
-use Rattle.trace_values.specs.Limits.{max_cells}
-use Rattle.trace_values.proofs.Decided.{OrNot, word_or_not}
+use Rattle.model_accesses.specs.declared.kind.Kind.TheVariants as kind
+use Rattle.text_words.specs.declared.fault.Cause.{Cause}
+use Rattle.text_words.specs.declared.fault.Cause.TheVariants.{BadWord}
+use Rattle.text_words.specs.declared.value.Version.{Version}
+use Rattle.text_words.specs.declared.value.Version.TheVariants.{One, Two}
+use Rattle.text_words.specs.Causes.{IsLowest}
+use Rattle.text_words.specs.Limits.{max_cells}
+use Rattle.text_words.proofs.Decided.{OrNot, word_or_not}
 use Rattle.trace_text.specs.Lines as trace
 use Rattle.program_lines.specs.declared.keyword.Keyword.{Keyword}
 use Rattle.program_lines.specs.declared.keyword.Keyword.TheVariants as begin

@@ -2,17 +2,17 @@
 use Rattle.std.proofs.Common.{◌≡◌, ℕ, ◌+◌, ◌<◌, ◌≤◌, ◌∷◌, [], List, length, Bool, true, false, cond, arith, subst}
 use Rattle.std.specs.Prelude.{Option, Some, IsTrue}
 use Rattle.std.specs.List.{All, position_from}
-use Rattle.trace_values.specs.declared.value.Mem.{Mem}
-use Rattle.trace_values.specs.Declarations.{cells_of}
+use Rattle.text_words.specs.declared.value.Mem.{Mem}
+use Rattle.text_words.specs.Declarations.{cells_of}
 use Rattle.trace_text.specs.Lines as trace
-use Rattle.trace_values.specs.Names.{IsDeclared}
+use Rattle.text_words.specs.Names.{IsDeclared}
 use Rattle.trace_text.specs.Shapes.{is_numbered}
 use Rattle.trace_text.proofs.CellWords.{found_of_all}
 use Rattle.trace_text.proofs.Kept.{ends_within}
-use Rattle.program_lines.specs.declared.statement.Location.{Location}
-use Rattle.program_lines.specs.declared.statement.Location.TheVariants.{Cell, Element}
-use Rattle.program_lines.specs.declared.statement.Statement.{Statement}
-use Rattle.program_lines.specs.declared.statement.Statement.TheVariants.{Let, Read, Write, Bump, Update, Put, Get, Spawn, Call, Sync, ParallelFor, If, Else, End}
+use Rattle.model_bodies.specs.declared.statement.Location.{Location}
+use Rattle.model_bodies.specs.declared.statement.Location.TheVariants.{Cell, Element}
+use Rattle.model_bodies.specs.declared.statement.Statement.{Statement}
+use Rattle.model_bodies.specs.declared.statement.Statement.TheVariants.{Let, Read, Write, Bump, Update, Put, Get, Spawn, Call, Sync, ParallelFor, If, Else, End}
 use Rattle.program_lines.specs.Scopes.{Scope}
 use Rattle.program_lines.specs.Places.{Place, Common, OperandWord, LocationWord, AssignedRegister, FunctionName, Value, Plain, OfOperand, OfLocation, OfAssigned, WordMeans, LocationMeans}
 use Rattle.program_lines.specs.Table.{Placed, placed, WordsMean}

@@ -1,10 +1,10 @@
 -- What is wrong with the words of a line that says nothing.
 use Rattle.std.specs.Prelude.{◌≡◌, ℕ, ◌<◌, ◌≤◌, true, false, ◌⊎◌, None, List, [], ◌∷◌, length}
-use Rattle.trace_values.specs.declared.fault.Cause.{Cause}
-use Rattle.trace_values.specs.declared.fault.Cause.TheVariants.{BadWord, BadNumber, UnknownName, TwiceNamed, TooMany}
-use Rattle.trace_values.specs.Text.{IsName, IsNumberIn, BeginsWithDigit}
-use Rattle.trace_values.specs.Limits.{max_value}
-use Rattle.trace_values.specs.Names.{element_word}
+use Rattle.text_words.specs.declared.fault.Cause.{Cause}
+use Rattle.text_words.specs.declared.fault.Cause.TheVariants.{BadWord, BadNumber, UnknownName, TwiceNamed, TooMany}
+use Rattle.text_words.specs.Text.{IsName, IsNumberIn, BeginsWithDigit}
+use Rattle.text_words.specs.Limits.{max_value}
+use Rattle.text_words.specs.Names.{element_word}
 use Rattle.trace_text.specs.Faults.{IsUndeclared, WordFault as CommonFault}
 use Rattle.program_lines.specs.declared.keyword.Keyword.{Keyword}
 use Rattle.program_lines.specs.declared.operator.Operator.{Operator}

@@ -1,11 +1,11 @@
 -- The items that the code makes of lines.
 use Rattle.std.specs.Prelude.{ℕ, Option, Some, None, List, [], ◌∷◌, Result, MatchResult, option_copied}
-use Rattle.trace_values.specs.declared.fault.Cause.{Cause}
+use Rattle.text_words.specs.declared.fault.Cause.{Cause}
 use Rattle.program_lines.specs.declared.keyword.Keyword.{Keyword}
 use Rattle.program_lines.specs.declared.item.Item as code
 use Rattle.program_lines.specs.declared.item.Item.TheVariants as code_item
 use Rattle.program_lines.specs.declared.operator.Operator.{Operator}
-use Rattle.program_lines.specs.declared.statement.Operand.{Operand}
+use Rattle.model_bodies.specs.declared.statement.Operand.{Operand}
 use Rattle.program_lines.specs.Scopes.{Scope}
 use Rattle.program_lines.specs.Places.{Value, OfOperand, OfSign}
 use Rattle.program_lines.specs.Table.{spelling, placed, wanted, optional}

@@ -1,12 +1,12 @@
 -- Laws of the grammar.
 use Rattle.std.specs.Prelude.{◌≡◌, ◌≤◌, ◌⊎◌, ℕ, IsTrue, List, length}
 use Rattle.std.specs.List.{All}
-use Rattle.trace_values.specs.declared.fault.Cause.{Cause}
-use Rattle.trace_values.specs.declared.fault.Cause.TheVariants.{TooMany}
+use Rattle.text_words.specs.declared.fault.Cause.{Cause}
+use Rattle.text_words.specs.declared.fault.Cause.TheVariants.{TooMany}
 use Rattle.program_lines.specs.Scopes.{Scope, max_registers}
 use Rattle.program_lines.specs.Grammar.{Item, ItemMeans}
-use Rattle.trace_values.specs.Text.{words, IsTextLine}
-use Rattle.trace_values.specs.Causes.{IsLowest}
+use Rattle.text_words.specs.Text.{words, IsTextLine}
+use Rattle.text_words.specs.Causes.{IsLowest}
 use Rattle.trace_text.specs.Shapes.{is_numbered}
 use Rattle.trace_text.specs.Printing.{spaced}
 use Rattle.program_lines.specs.Faults.{WordsFault}

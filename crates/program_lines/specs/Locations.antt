@@ -1,12 +1,12 @@
 -- What the parts of a word name, and why they name no location.
 use Rattle.std.specs.Prelude.{ℕ, true, ◌⊎◌, List}
-use Rattle.trace_values.specs.declared.fault.Cause.{Cause}
-use Rattle.trace_values.specs.declared.fault.Cause.TheVariants.{BadWord, BadNumber, UnknownName}
-use Rattle.trace_values.specs.Text.{IsName}
-use Rattle.trace_values.specs.Names.{SingleMeans}
+use Rattle.text_words.specs.declared.fault.Cause.{Cause}
+use Rattle.text_words.specs.declared.fault.Cause.TheVariants.{BadWord, BadNumber, UnknownName}
+use Rattle.text_words.specs.Text.{IsName}
+use Rattle.text_words.specs.Names.{SingleMeans}
 use Rattle.trace_text.specs.Faults.{IsUndeclared}
-use Rattle.program_lines.specs.declared.statement.Location.{Location}
-use Rattle.program_lines.specs.declared.statement.Location.TheVariants.{Cell, Element}
+use Rattle.model_bodies.specs.declared.statement.Location.{Location}
+use Rattle.model_bodies.specs.declared.statement.Location.TheVariants.{Cell, Element}
 use Rattle.program_lines.specs.Scopes.{Scope}
 use Rattle.program_lines.specs.Places.{ElementMeans}
 use Rattle.program_lines.specs.Faults.{HasOperandShape, IsNoNumber, IsNoRegister}

@@ -1,8 +1,8 @@
 -- What the code's places read: a value, or the lowest cause.
 use Rattle.std.specs.Prelude.{◌≡◌, ℕ, Option, Some, Result, Err, List, [], ◌∷◌, MatchOption, MatchResult}
-use Rattle.trace_values.specs.declared.fault.Cause.{Cause}
-use Rattle.trace_values.specs.declared.fault.Cause.TheVariants.{BadWord}
-use Rattle.trace_values.specs.Causes.{IsLowest}
+use Rattle.text_words.specs.declared.fault.Cause.{Cause}
+use Rattle.text_words.specs.declared.fault.Cause.TheVariants.{BadWord}
+use Rattle.text_words.specs.Causes.{IsLowest}
 use Rattle.program_lines.specs.Scopes.{Scope}
 use Rattle.program_lines.specs.Places.{Place, Value, WordMeans}
 use Rattle.program_lines.specs.Table.{Placed, placed, WordsMean}

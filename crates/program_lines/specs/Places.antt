@@ -1,17 +1,17 @@
 -- What a place of a line wants, and what a word means there.
 use Rattle.std.specs.Prelude.{◌≡◌, ◌≢◌, ℕ, ◌+◌, true, Option, Some, None, List, length, codes}
-use Rattle.trace_values.specs.Text.{IsName, IsNumberIn}
-use Rattle.trace_values.specs.Limits.{max_value}
-use Rattle.trace_values.specs.Names.{SingleMeans, IsDeclared, element_word}
-use Rattle.trace_values.specs.declared.value.Mem.{Mem}
+use Rattle.text_words.specs.Text.{IsName, IsNumberIn}
+use Rattle.text_words.specs.Limits.{max_value}
+use Rattle.text_words.specs.Names.{SingleMeans, IsDeclared, element_word}
+use Rattle.text_words.specs.declared.value.Mem.{Mem}
 use Rattle.trace_text.specs.Lines as trace
 use Rattle.program_lines.specs.declared.operator.Operator.{Operator as OperatorSign}
 use Rattle.program_lines.specs.declared.operator.Operator.TheVariants.{Plus, Minus, Times, Below}
-use Rattle.program_lines.specs.declared.statement.Register.{Register}
-use Rattle.program_lines.specs.declared.statement.Operand.{Operand}
-use Rattle.program_lines.specs.declared.statement.Operand.TheVariants.{Number, Held}
-use Rattle.program_lines.specs.declared.statement.Location.{Location}
-use Rattle.program_lines.specs.declared.statement.Location.TheVariants.{Cell, Element}
+use Rattle.model_bodies.specs.declared.statement.Register.{Register}
+use Rattle.model_bodies.specs.declared.statement.Operand.{Operand}
+use Rattle.model_bodies.specs.declared.statement.Operand.TheVariants.{Number, Held}
+use Rattle.model_bodies.specs.declared.statement.Location.{Location}
+use Rattle.model_bodies.specs.declared.statement.Location.TheVariants.{Cell, Element}
 use Rattle.program_lines.specs.Scopes.{Scope, ok_word, register_named, function_named, IsFresh}
 
 -- A place as in traces, a name for a memory, a reducer or a function, an operand, a location, the register that is assigned, a register

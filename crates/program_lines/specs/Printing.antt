@@ -2,21 +2,21 @@
 use Rattle.std.specs.Prelude.{◌≡◌, ℕ, zero, suc, Option, Some, None, List, [], ◌∷◌, ◌++◌, slice_index_or, codes}
 use Rattle.std.specs.List.{find}
 use Rattle.std.specs.Fmt.{decimal}
-use Rattle.trace_values.specs.declared.value.Version.{Version}
-use Rattle.trace_values.specs.declared.value.Mem.{Mem}
-use Rattle.trace_values.specs.declared.value.Reducer.{Reducer}
-use Rattle.trace_values.specs.Names.{element_word}
+use Rattle.text_words.specs.declared.value.Version.{Version}
+use Rattle.text_words.specs.declared.value.Mem.{Mem}
+use Rattle.text_words.specs.declared.value.Reducer.{Reducer}
+use Rattle.text_words.specs.Names.{element_word}
 use Rattle.trace_text.specs.Shapes.{has_cell, name_of_cell}
 use Rattle.trace_text.specs.Lines.{OfName, OfNumber, OfMonoid}
 use Rattle.trace_text.specs.Printing.{plain_word as common_word, known_of}
-use Rattle.program_lines.specs.declared.statement.Operand.{Operand}
-use Rattle.program_lines.specs.declared.statement.Operand.TheVariants.{Number, Held}
-use Rattle.program_lines.specs.declared.statement.Location.{Location}
-use Rattle.program_lines.specs.declared.statement.Location.TheVariants.{Cell, Element}
-use Rattle.program_lines.specs.declared.statement.Expression.{Expression}
-use Rattle.program_lines.specs.declared.statement.Expression.TheVariants.{Plain as PlainOperand, Sum, Difference, Product, Less}
-use Rattle.program_lines.specs.declared.statement.Statement.{Statement}
-use Rattle.program_lines.specs.declared.statement.Statement.TheVariants.{Read, Write, Bump, Update, Put, Get, Spawn, Call, ParallelFor}
+use Rattle.model_bodies.specs.declared.statement.Operand.{Operand}
+use Rattle.model_bodies.specs.declared.statement.Operand.TheVariants.{Number, Held}
+use Rattle.model_bodies.specs.declared.statement.Location.{Location}
+use Rattle.model_bodies.specs.declared.statement.Location.TheVariants.{Cell, Element}
+use Rattle.model_bodies.specs.declared.statement.Expression.{Expression}
+use Rattle.model_bodies.specs.declared.statement.Expression.TheVariants.{Plain as PlainOperand, Sum, Difference, Product, Less}
+use Rattle.model_bodies.specs.declared.statement.Statement.{Statement}
+use Rattle.model_bodies.specs.declared.statement.Statement.TheVariants.{Read, Write, Bump, Update, Put, Get, Spawn, Call, ParallelFor}
 use Rattle.program_lines.specs.declared.keyword.Keyword.{Keyword}
 use Rattle.program_lines.specs.declared.keyword.Keyword.TheVariants as word
 use Rattle.program_lines.specs.Scopes.{Scope, ok_word}

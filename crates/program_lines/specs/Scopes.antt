@@ -2,8 +2,8 @@
 use Rattle.std.specs.Prelude.{◌≡◌, ℕ, ◌≤◌, Option, Some, List, [], ◌∷◌, ◌++◌, codes, cond}
 use Rattle.std.specs.List.{list_any, position_from}
 use Rattle.std.specs.Str.{bytes_eq}
-use Rattle.trace_values.specs.Values.{Known}
-use Rattle.trace_values.specs.Names.{IsFresh as IsUndeclaredName}
+use Rattle.text_words.specs.Values.{Known}
+use Rattle.text_words.specs.Names.{IsFresh as IsUndeclaredName}
 
 -- How many registers a function has at most, other than `ok`.
 abbrev pub max_registers : ℕ

@@ -1,11 +1,11 @@
 -- The table of lines: what each keyword wants behind it, and how words stand in those places.
 use Rattle.std.specs.Prelude.{◌≡◌, Option, Some, None, List, [], ◌∷◌, codes, option_map}
-use Rattle.access_table.specs.declared.kind.Kind.TheVariants as kind
-use Rattle.access_table.specs.Table.{spelling as kind_spelling}
+use Rattle.model_accesses.specs.declared.kind.Kind.TheVariants as kind
+use Rattle.model_accesses.specs.Table.{spelling as kind_spelling}
 use Rattle.std.specs.Prelude.{ℕ}
-use Rattle.trace_values.specs.declared.value.Version.{Version}
-use Rattle.trace_values.specs.Names.{IsSecond}
-use Rattle.trace_values.specs.Limits.{max_cells}
+use Rattle.text_words.specs.declared.value.Version.{Version}
+use Rattle.text_words.specs.Names.{IsSecond}
+use Rattle.text_words.specs.Limits.{max_cells}
 use Rattle.trace_text.specs.Lines as trace
 use Rattle.program_lines.specs.declared.keyword.Keyword.{Keyword}
 use Rattle.program_lines.specs.declared.keyword.Keyword.TheVariants.{Mem, Reducer, Func, Let, Access, Spawn}

@@ -1,7 +1,7 @@
 //! What a line says.
 
-use crate::statement::{Register, Statement};
-use trace_values::Monoid;
+use model_bodies::{Register, Statement};
+use text_words::Monoid;
 
 /// What a line says.
 #[derive(Clone, Copy, Debug)]

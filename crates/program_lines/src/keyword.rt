@@ -5,7 +5,7 @@ ghost use Rattle.program_lines.specs.declared.keyword.Keyword.{Keyword};
 ghost use Rattle.program_lines.specs.Table.{spelling, HasKeyword};
 
 use access_table::{Kind, kind_of};
-use trace_values::Version;
+use text_words::Version;
 
 /// The first word of a line.
 #[derive(Clone, Copy, Debug)]

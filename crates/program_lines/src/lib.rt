@@ -17,13 +17,12 @@ mod operator;
 mod place;
 mod print;
 mod scope;
-mod statement;
 
 pub use item::Item;
 pub use laws::{
     meaning_excludes_fault, meaning_or_fault, one_meaning, plain_meaning, room_for_registers,
 };
 pub use line::read_line;
+pub use model_bodies::{Expression, Location, Operand, REGISTERS, Register, Statement};
 pub use print::put_statement;
 pub use scope::{FUNCTION_NAMES, FunctionNames, Scope};
-pub use statement::{Expression, Location, Operand, REGISTERS, Register, Statement};

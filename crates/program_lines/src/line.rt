@@ -1,10 +1,10 @@
 //! One line of a program.
 
 ghost use Rattle.std.specs.Prelude.{◌≡◌, ◌∷◌, [], None, MatchResult, codes, cond, option_copied};
-ghost use Rattle.access_table.specs.declared.kind.Kind.TheVariants as kind;
+ghost use Rattle.model_accesses.specs.declared.kind.Kind.TheVariants as kind;
 ghost use Rattle.trace_text.specs.Lines as trace;
-ghost use Rattle.trace_values.specs.Limits.{max_cells};
-ghost use Rattle.trace_values.specs.Causes.{IsLowest};
+ghost use Rattle.text_words.specs.Limits.{max_cells};
+ghost use Rattle.text_words.specs.Causes.{IsLowest};
 ghost use Rattle.program_lines.specs.declared.keyword.Keyword.TheVariants.{Access, Call, Let, ParallelFor, Spawn};
 ghost use Rattle.program_lines.specs.Scopes.{Scope as SpecScope};
 ghost use Rattle.program_lines.specs.Places.{Common, FreshName, OperandWord, LocationWord, AssignedRegister, KnownRegister, FunctionName};
@@ -23,10 +23,10 @@ use crate::place::{
     monoid, operand, parameter, reducer, register,
 };
 use crate::scope::Scope;
-use crate::statement::{Expression, Location, Operand, Register, Statement};
 use access_table::Kind;
+use model_bodies::{Expression, Location, Operand, Register, Statement};
 use std::alloc::Allocator;
-use trace_values::{Cause, Monoid, Words, both};
+use text_words::{Cause, Monoid, Words, both};
 
 /// The name and the length of a memory.
 fn memory<'a, A: Allocator + Copy>(

@@ -3,7 +3,7 @@
 ghost use Rattle.std.specs.Prelude.{◌↔◌, [], ◌∷◌, IsTrue, codes, option_copied, MatchResult};
 ghost use Rattle.trace_text.specs.Cells.{IsSingleFault};
 ghost use Rattle.trace_text.specs.Lines as trace;
-ghost use Rattle.trace_values.specs.Limits.{max_cells};
+ghost use Rattle.text_words.specs.Limits.{max_cells};
 ghost use Rattle.program_lines.specs.Scopes.{Scope as SpecScope, IsFresh};
 ghost use Rattle.program_lines.specs.Places.{Common, FreshName, OperandWord, LocationWord, AssignedRegister};
 ghost use Rattle.program_lines.specs.Places.{KnownRegister, FunctionName, ParameterName, Sign, Exactly, Plain, OfOperand};
@@ -15,10 +15,10 @@ ghost use Rattle.program_lines.specs.Outcome.{TakesWord, Fits, Reads};
 
 use crate::operator::{Operator, operator_of};
 use crate::scope::Scope;
-use crate::statement::{Location, Operand, Register};
+use model_bodies::{Location, Operand, Register};
 use std::alloc::Allocator;
+use text_words::{Cause, Monoid, Named, Words, both, is_name};
 use trace_text::number::number;
-use trace_values::{Cause, Monoid, Named, Words, both, is_name};
 
 /// The register that a line assigns, and its name where it is new.
 #[derive(Clone, Copy, Debug)]

@@ -1,7 +1,7 @@
 //! The plain words of statements.
 
 ghost use Rattle.std.specs.Prelude.{◌≡◌, ◌++◌, ◌∷◌, ℕ, [], List, IsTrue, OnOk, codes, string_bytes};
-ghost use Rattle.trace_values.specs.declared.value.Version.{Version};
+ghost use Rattle.text_words.specs.declared.value.Version.{Version};
 ghost use Rattle.trace_text.specs.Shapes.{is_numbered};
 ghost use Rattle.trace_text.specs.Printing.{behind_space, name_of_reducer, spaced};
 ghost use Rattle.program_lines.specs.Grammar.{keyword_of_statement};
@@ -9,12 +9,12 @@ ghost use Rattle.program_lines.specs.Printing.{IsAccess, IsNamedFunction, argume
 ghost use Rattle.program_lines.specs.Printing.{name_of_array, name_of_register, operand_word, printed_scope, statement_words};
 ghost use Rattle.program_lines.specs.Table.{spelling};
 
-use crate::statement::{Expression, Location, Operand, Register, Statement};
 use access_table::{Kind, word};
+use model_bodies::{Expression, Location, Operand, Register, Statement};
 use std::alloc::{AllocError, Allocator};
 use std::fmt::Write;
+use text_words::{Mem, Name, Reducer};
 use trace_text::{memory_at, put_cell, put_word};
-use trace_values::{Mem, Name, Reducer};
 
 /// The name of a register.
 fn register_name(registers: &[Name], register: Register) -> &str

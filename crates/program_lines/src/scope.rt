@@ -4,12 +4,12 @@ ghost use Rattle.std.specs.Prelude.{◌≡◌, ◌≤◌, [], OnOk, OnErr, lengt
 ghost use Rattle.std.specs.Str.{bytes_eq};
 ghost use Rattle.program_lines.specs.Scopes.{max_functions_named, max_registers, register_named, function_named, with_name};
 
-use crate::statement::Register;
 use indexmap::IndexSet;
+use model_bodies::Register;
 use std::alloc::{AllocError, Allocator};
 use std::hash::{BuildHasherDefault, FoldHasher};
 use std::marker::Model;
-use trace_values::{Name, Names};
+use text_words::{Name, Names};
 
 /// The most names of functions that are kept, since they are numbered by 32 bits.
 pub const FUNCTION_NAMES: usize = 4_294_967_295;

@@ -1,15 +1,14 @@
 ghost use Rattle.frame_steps.specs.Frames.{Stands};
 
-use access_table::{Kind, Rule};
 use frame_steps::{Frame, FrameFault};
+use model_accesses::{Kind, Rule, Witness};
+use model_strands::Spawned;
 use program_text::Program;
 use race_gate::Answer;
-use shadow_history::Witness;
-use sp_labels::Spawned;
 use std::alloc::Global;
 use std::process::Abort;
 use std::test::Fail;
-use trace_values::Act;
+use text_words::Act;
 
 const PAIR: &[u8] =
     b"cilk 1\nmem x\nmem y\nfunc main z\n  spawn f 7\n  read r x\nend\nfunc f v\n  write x v\nend\n";

@@ -6,20 +6,19 @@ use crate::checks::equal;
 use crate::openings::gate_for;
 use Act::{Get, Read, Return, Spawn, Sync, Write};
 use Answer::{Ended, Finished, Granted, Joined, Refused, Same, Split, Unset};
-use access_table::{Kind, Rule};
 use locked_replay::{LockedGate, Seat, Whole, WorkerLog, gather};
+use model_accesses::{Kind, Rule, Witness};
+use model_strands::Spawned;
 use program_text::Program;
 use race_gate::{Answer, Entry};
 use race_report::report;
-use shadow_history::Witness;
-use sp_labels::Spawned;
 use std::alloc::Global;
 use std::marker::Brand;
 use std::process::Abort;
 use std::sync::Wait;
 use std::sync::ledger::{Blank, Ledger};
 use std::test::Fail;
-use trace_values::{Act, Request};
+use text_words::{Act, Request};
 
 /// A program, the entries of one of its runs, what its cells hold at the end, and the report.
 #[derive(Clone, Copy)]

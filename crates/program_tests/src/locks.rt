@@ -1,7 +1,7 @@
 //! Gates that are asked on seats, and what is gathered of them.
 
 ghost use Rattle.std.specs.Prelude.{◌≡◌, ◌≤◌, [], IfOk, IfSome};
-ghost use Rattle.race_gate.specs.Shapes.{most_cells};
+ghost use Rattle.model_histories.specs.Shapes.{most_cells};
 
 use crate::openings::{gate_for, gate_of_cells};
 use locked_replay::{LockedGate, RunFault, WorkerLog, gather};
@@ -12,7 +12,7 @@ use std::marker::Brand;
 use std::process::Abort;
 use std::sync::Wait;
 use std::sync::ledger::{Blank, Ledger};
-use trace_values::{Act, Request};
+use text_words::{Act, Request};
 
 const PAIR: &[u8] =
     b"cilk 1\nmem x\nmem y\nfunc main z\n  spawn f 7\n  read r x\nend\nfunc f v\n  write x v\nend\n";

@@ -1,14 +1,13 @@
 //! Worked runs.
 
-use access_table::{Kind, Rule};
-use program_replay::{ReplayFault, replay};
+use model_accesses::{Kind, Rule, Witness};
+use model_strands::Spawned;
 use program_text::Program;
 use race_gate::{Answer, Entry};
-use shadow_history::Witness;
-use sp_labels::Spawned;
+use run_replay::{ReplayFault, replay};
 use std::alloc::Global;
 use std::test::Fail;
-use trace_values::{Act, Request};
+use text_words::{Act, Request};
 
 const PAIR: &[u8] =
     b"cilk 1\nmem x\nmem y\nfunc main z\n  spawn f 7\n  read r x\nend\nfunc f v\n  write x v\nend\n";

@@ -1,9 +1,9 @@
 //! Reports of what a gate answered.
 
 ghost use Rattle.std.specs.Prelude.{◌≡◌, ◌↔◌, IsTrue, IfOk, OnOk, length, reverse};
-ghost use Rattle.trace_values.specs.Declarations.{cells_of};
+ghost use Rattle.text_words.specs.Declarations.{cells_of};
 ghost use Rattle.program_text.specs.Programs.{contents};
-ghost use Rattle.race_gate.specs.Extensions.{IsCleanAnswer, IsClean};
+ghost use Rattle.model_histories.specs.Extensions.{IsCleanAnswer, IsClean};
 ghost use Rattle.race_report.specs.Conditions.{shape_known, AreTellable};
 
 use crate::checks::equal;
@@ -15,7 +15,7 @@ use race_report::{report, verdict_lines};
 use std::alloc::{AllocError, Global};
 use std::process::Abort;
 use std::test::Fail;
-use trace_values::{Act, Request};
+use text_words::{Act, Request};
 
 fn is_clean_answer(answer: Answer) -> bool
     ensures { IsTrue result ↔ IsCleanAnswer answer }

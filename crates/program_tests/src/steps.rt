@@ -1,7 +1,7 @@
-use program_steps::{Activation, act_of, answered, cell_of, line_of, result_of};
+use function_steps::{Activation, act_of, answered, cell_of, line_of, result_of};
 use program_text::{Expression, Location, Operand, REGISTERS, Statement};
 use race_gate::Answer;
-use trace_values::Act;
+use text_words::Act;
 
 // The greatest number that a register holds.
 const MOST: u64 = 18446744073709551615;

@@ -7,24 +7,24 @@ use Rattle.std.proofs.lemmas.List.{length_push}
 use Rattle.std.proofs.lemmas.List.Folds.{list_all-map}
 use Rattle.std.proofs.lemmas.List.Sums.{AllPass-from_list_all, list_all-from_AllPass}
 use Rattle.std.proofs.lemmas.List.Elements.{All-append, All-from_recursion}
-use Rattle.trace_values.specs.declared.value.Mem.{Mem}
-use Rattle.trace_values.specs.declared.value.Version.{Version}
-use Rattle.trace_values.specs.Text.{words, lines}
-use Rattle.trace_values.specs.Limits.{max_cells, max_reducers}
-use Rattle.trace_values.specs.Declarations.{cells_of, memory_at, reducer_at}
+use Rattle.text_words.specs.declared.value.Mem.{Mem}
+use Rattle.text_words.specs.declared.value.Version.{Version}
+use Rattle.text_words.specs.Text.{words, lines}
+use Rattle.text_words.specs.Limits.{max_cells, max_reducers}
+use Rattle.text_words.specs.Declarations.{cells_of, memory_at, reducer_at}
 use Rattle.trace_text.specs.Shapes.{is_numbered}
 use Rattle.trace_text.proofs.Kept.{cells_push, numbered_push}
-use Rattle.program_lines.specs.declared.statement.Register.{Register}
-use Rattle.program_lines.specs.declared.statement.Location.{Location}
-use Rattle.program_lines.specs.declared.statement.Location.TheVariants.{Cell, Element}
-use Rattle.program_lines.specs.declared.statement.Statement.{Statement}
-use Rattle.program_lines.specs.declared.statement.Statement.TheVariants.{Read, Write, Bump, Update, Put, Get, Spawn, Call, ParallelFor, If, Else, End}
+use Rattle.model_bodies.specs.declared.statement.Register.{Register}
+use Rattle.model_bodies.specs.declared.statement.Location.{Location}
+use Rattle.model_bodies.specs.declared.statement.Location.TheVariants.{Cell, Element}
+use Rattle.model_bodies.specs.declared.statement.Statement.{Statement}
+use Rattle.model_bodies.specs.declared.statement.Statement.TheVariants.{Read, Write, Bump, Update, Put, Get, Spawn, Call, ParallelFor, If, Else, End}
 use Rattle.program_lines.specs.Scopes.{Scope}
 use Rattle.program_lines.specs.Grammar.{Item, Blank, Declared, Reduces, Begins, Does, Decides, Otherwise, Ends, ItemMeans}
 use Rattle.program_text.specs.declared.open_function.Part.{Part}
-use Rattle.program_text.specs.Codes.{Code}
-use Rattle.program_text.specs.Sound.{max_functions, max_statements, is_located, is_within, has_numbers, IsSoundBody}
-use Rattle.program_text.specs.Bodies.{part_end}
+use Rattle.model_bodies.specs.Codes.{Code}
+use Rattle.model_bodies.specs.Sound.{max_functions, max_statements, is_located, is_within, has_numbers, IsSoundBody}
+use Rattle.model_bodies.specs.Bodies.{part_end}
 use Rattle.program_text.specs.Drafts.{Open, Draft, Contents, begun, begun_by, scope_of, with_register, with_statement, with_choice, with_else, divided_by, with_part_ended, with_end, ending, code_of, held}
 use Rattle.program_text.specs.Grammar.{IsFirst, LineMeans, LinesMean, extended, ended, ended_by, with_open, nothing}
 use Rattle.program_lines.proofs.Within.{IsLocated, IsWithinScope, does_within}

@@ -6,7 +6,7 @@ use Rattle.std.specs.Char.{is_ascii_lowercase}
 use Rattle.std.proofs.lemmas.Bool.Decides.{nat_tests}
 use Rattle.std.proofs.lemmas.List.Sums.{AllPass-from_list_all, list_all-from_AllPass}
 use Rattle.std.proofs.lemmas.Option.{cond_some}
-use Rattle.trace_values.specs.Text.{IsName, IsTextLine, is_name_byte, is_text_byte, is_hash, words, split_words, lines}
+use Rattle.text_words.specs.Text.{IsName, IsTextLine, is_name_byte, is_text_byte, is_hash, words, split_words, lines}
 use Rattle.program_text.specs.Functions.{is_name_word, function_in, function_named, with_function, functions_from}
 
 -- ---- names

@@ -5,11 +5,11 @@ use Rattle.std.proofs.lemmas.Bool.Decides.{nat_tests}
 use Rattle.std.proofs.lemmas.List.{drop-append-le, drop-drop, drop-map, drop_all, length-map, length_push, map_push}
 use Rattle.std.proofs.lemmas.Option.{slice_get-map, slice_get_within, get_or_from_slice_get}
 use Rattle.std.proofs.Math.Seq.{map-set_same}
-use Rattle.program_lines.specs.declared.statement.Statement.{Statement}
-use Rattle.program_lines.specs.declared.statement.Statement.TheVariants.{If, Else, End}
+use Rattle.model_bodies.specs.declared.statement.Statement.{Statement}
+use Rattle.model_bodies.specs.declared.statement.Statement.TheVariants.{If, Else, End}
 use Rattle.program_text.specs.declared.open_function.Part.{Part}
-use Rattle.program_text.specs.Bodies.{behind_part, part_end, is_end, open_behind, EndsAt, IsLinked, IsDivided, IsBalanced}
-use Rattle.program_lines.specs.declared.statement.Register.{Register}
+use Rattle.model_bodies.specs.Bodies.{behind_part, part_end, is_end, open_behind, EndsAt, IsLinked, IsDivided, IsBalanced}
+use Rattle.model_bodies.specs.declared.statement.Register.{Register}
 use Rattle.program_text.specs.Drafts.{ending, ended_at, with_end}
 
 -- ---- what matters of a statement

@@ -7,18 +7,18 @@ use Rattle.std.specs.Str.{bytes_eq}
 use Rattle.std.proofs.lemmas.List.{append-nil, length-map, map_push}
 use Rattle.std.proofs.lemmas.List.Sums.{list_all-from_AllPass}
 use Rattle.std.proofs.lemmas.List.Elements.{All-take}
-use Rattle.trace_values.specs.Text.{words, IsTextLine, is_hash, is_text_byte}
-use Rattle.trace_values.specs.declared.value.Version.{Version}
+use Rattle.text_words.specs.Text.{words, IsTextLine, is_hash, is_text_byte}
+use Rattle.text_words.specs.declared.value.Version.{Version}
 use Rattle.program_lines.specs.declared.keyword.Keyword.{Keyword}
 use Rattle.program_lines.specs.declared.keyword.Keyword.TheVariants as word
-use Rattle.program_lines.specs.declared.statement.Statement.{Statement}
-use Rattle.program_lines.specs.declared.statement.Statement.TheVariants.{Let, Read, Write, Bump, Update, Put, Get, Spawn, Call, Sync, ParallelFor, If, Else, End}
+use Rattle.model_bodies.specs.declared.statement.Statement.{Statement}
+use Rattle.model_bodies.specs.declared.statement.Statement.TheVariants.{Let, Read, Write, Bump, Update, Put, Get, Spawn, Call, Sync, ParallelFor, If, Else, End}
 use Rattle.program_lines.specs.Scopes.{Scope}
 use Rattle.program_lines.specs.Places.{Value}
 use Rattle.program_lines.specs.Table.{spelling, Says}
 use Rattle.program_lines.specs.Grammar.{Item, Blank, Declared, Reduces, Begins, Does, Decides, Otherwise, Ends, keyword_of_statement}
 use Rattle.program_text.specs.declared.open_function.Part.{Part}
-use Rattle.program_text.specs.Codes.{Code}
+use Rattle.model_bodies.specs.Codes.{Code}
 use Rattle.program_text.specs.Functions.{is_name_word, function_in, function_named, with_function, functions_from, functions_of}
 use Rattle.program_text.specs.Drafts.{Open, Draft, Contents, begun, begun_by, scope_of, code_of, with_register, divided_by}
 use Rattle.program_text.specs.Grammar.{IsInOrder, LineMeans, LinesMean, extended, ended, ended_by, nothing}

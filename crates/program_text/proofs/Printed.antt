@@ -2,15 +2,15 @@
 use Rattle.std.proofs.Common.{◌≡◌, ℕ, zero, suc, ◌+◌, ◌-◌, ◌∷◌, ◌++◌, [], List, length, map, arith, refl, sym, ◌∙◌, ap, subst, replicate, append_assoc, length-append, ◌<◌, ◌≤◌, get_or, drop, drop-cons, add-one}
 use Rattle.std.specs.Prelude.{None, codes, flat_map}
 use Rattle.std.proofs.lemmas.List.{append-nil}
-use Rattle.trace_values.specs.declared.value.Mem.{Mem}
-use Rattle.trace_values.specs.declared.value.Reducer.{Reducer}
-use Rattle.trace_values.specs.declared.value.Version.{Version}
-use Rattle.trace_values.specs.Values.{Known, version_spelling}
-use Rattle.program_lines.specs.declared.statement.Statement.{Statement}
+use Rattle.text_words.specs.declared.value.Mem.{Mem}
+use Rattle.text_words.specs.declared.value.Reducer.{Reducer}
+use Rattle.text_words.specs.declared.value.Version.{Version}
+use Rattle.text_words.specs.Values.{Known, version_spelling}
+use Rattle.model_bodies.specs.declared.statement.Statement.{Statement}
 use Rattle.program_text.specs.Drafts.{Contents}
-use Rattle.trace_values.specs.Declarations.{memory_at}
+use Rattle.text_words.specs.Declarations.{memory_at}
 use Rattle.trace_text.specs.Printing.{Entry, OfMemory, declarations, known_of, lines_from as trace_lines, text_from as trace_text}
-use Rattle.program_text.specs.Codes.{Code}
+use Rattle.model_bodies.specs.Codes.{Code}
 use Rattle.program_text.specs.Printing.{Row, names_of, begin_row, statement_row, body_rows, end_row, function_rows, rows_of_functions, rows, plain_text, declared_row, lines_from, text_from, PrintsRows}
 
 abbrev ended_line : List ℕ → List ℕ

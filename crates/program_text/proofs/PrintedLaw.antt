@@ -2,25 +2,25 @@
 use Rattle.std.proofs.Common.{◌≡◌, ◌≢◌, ℕ, suc, ◌+◌, ◌-◌, ◌≤◌, ◌∷◌, ◌++◌, [], List, length, map, arith, refl, sym, ap, subst, ◌∙◌, append_assoc, replicate, length-append}
 use Rattle.std.specs.Prelude.{Option, Some, None, codes, option_map, MatchOption}
 use Rattle.std.proofs.lemmas.List.{append-nil, map_push}
-use Rattle.trace_values.specs.declared.value.Mem.{Mem}
-use Rattle.trace_values.specs.declared.value.Reducer.{Reducer}
-use Rattle.trace_values.specs.declared.value.Monoid.{Monoid}
-use Rattle.trace_values.specs.Text.{lines, words, IsTextLine}
-use Rattle.trace_values.specs.Limits.{max_lines}
-use Rattle.trace_values.specs.Values.{Known}
-use Rattle.trace_values.specs.Declarations.{memory_at, reducer_at}
+use Rattle.text_words.specs.declared.value.Mem.{Mem}
+use Rattle.text_words.specs.declared.value.Reducer.{Reducer}
+use Rattle.model_reducers.specs.declared.monoid.Monoid.{Monoid}
+use Rattle.text_words.specs.Text.{lines, words, IsTextLine}
+use Rattle.text_words.specs.Limits.{max_lines}
+use Rattle.text_words.specs.Values.{Known}
+use Rattle.text_words.specs.Declarations.{memory_at, reducer_at}
 use Rattle.trace_text.specs.Printing.{spaced, Entry, OfMemory, OfReducer, declarations}
 use Rattle.trace_text.proofs.PlainWords.{AreText, lines_ended}
 use Rattle.trace_text.proofs.PlainLines.{AreLater, later_weaker, memory_first, reducer_first, same_known, plain_header}
-use Rattle.program_lines.specs.declared.statement.Register.{Register}
-use Rattle.program_lines.specs.declared.statement.Statement.{Statement}
-use Rattle.program_lines.specs.declared.statement.Statement.TheVariants.{If, Else, End}
+use Rattle.model_bodies.specs.declared.statement.Register.{Register}
+use Rattle.model_bodies.specs.declared.statement.Statement.{Statement}
+use Rattle.model_bodies.specs.declared.statement.Statement.TheVariants.{If, Else, End}
 use Rattle.program_lines.specs.Scopes.{Scope}
 use Rattle.program_lines.specs.Grammar.{Item, Blank, Declared, Reduces, Begins, Does, Decides, Otherwise, Ends, line_of}
 use Rattle.program_lines.specs.Printing.{item_words, statement_words, registers_behind, scope_behind}
 use Rattle.program_lines.proofs.PlainItems.{item_text}
 use Rattle.program_text.specs.declared.open_function.Part.{Part}
-use Rattle.program_text.specs.Codes.{Code}
+use Rattle.model_bodies.specs.Codes.{Code}
 use Rattle.program_text.specs.Functions.{functions_of}
 use Rattle.program_text.specs.Drafts.{Open, Draft, Contents, begun, begun_by, registers_of, scope_of, first_open, with_register, with_statement, with_choice, divided_by, with_part_ended, code_of, with_end}
 use Rattle.program_text.specs.Grammar.{IsFirst, LineMeans, LinesMean, LinesOfProgram, TextMeans, EndMeans, extended, ended, ended_by, nothing}

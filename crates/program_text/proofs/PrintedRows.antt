@@ -1,8 +1,8 @@
 -- Rows of statements: what they say does not hang on the places that an `if` and an `else` name.
 use Rattle.std.proofs.Common.{◌≡◌, ℕ, List, refl}
-use Rattle.trace_values.specs.Values.{Known}
-use Rattle.program_lines.specs.declared.statement.Statement.{Statement}
-use Rattle.program_lines.specs.declared.statement.Statement.TheVariants.{Let, Read, Write, Bump, Update, Put, Get, Spawn, Call, Sync, ParallelFor, If, Else, End}
+use Rattle.text_words.specs.Values.{Known}
+use Rattle.model_bodies.specs.declared.statement.Statement.{Statement}
+use Rattle.model_bodies.specs.declared.statement.Statement.TheVariants.{Let, Read, Write, Bump, Update, Put, Get, Spawn, Call, Sync, ParallelFor, If, Else, End}
 use Rattle.program_text.specs.Drafts.{ending, with_end}
 use Rattle.program_text.proofs.Linked.{map_ended}
 use Rattle.program_text.specs.Printing.{statement_row, body_rows}

@@ -2,15 +2,15 @@
 use Rattle.std.proofs.Common.{◌≡◌, ℕ, ◌<◌, ◌≤◌, ◌∷◌, [], List, length, arith, refl, sym, ap, ◌∙◌, subst}
 use Rattle.std.specs.Prelude.{codes, unwrap_or, Option, Some, None, option_map}
 use Rattle.trace_text.specs.Lines.{OfName, OfNumber, OfMonoid}
-use Rattle.trace_values.specs.Text.{IsName}
+use Rattle.text_words.specs.Text.{IsName}
 use Rattle.program_lines.specs.declared.keyword.Keyword.{Keyword}
 use Rattle.program_lines.specs.declared.keyword.Keyword.TheVariants as word
-use Rattle.program_lines.specs.declared.statement.Register.{Register}
-use Rattle.program_lines.specs.declared.statement.Statement.{Statement}
-use Rattle.program_lines.specs.declared.statement.Statement.TheVariants.{Let, Read, Get, ParallelFor, If, Else, End}
-use Rattle.trace_values.specs.Names.{IsFresh as IsUndeclaredName}
+use Rattle.model_bodies.specs.declared.statement.Register.{Register}
+use Rattle.model_bodies.specs.declared.statement.Statement.{Statement}
+use Rattle.model_bodies.specs.declared.statement.Statement.TheVariants.{Let, Read, Get, ParallelFor, If, Else, End}
+use Rattle.text_words.specs.Names.{IsFresh as IsUndeclaredName}
 use Rattle.trace_text.specs.Lines as trace
-use Rattle.access_table.specs.declared.kind.Kind.TheVariants as kind
+use Rattle.model_accesses.specs.declared.kind.Kind.TheVariants as kind
 use Rattle.program_lines.specs.Scopes.{Scope, IsFresh, HasNotBegun}
 use Rattle.program_lines.specs.Places.{Place, Common, FreshName, OperandWord, LocationWord, AssignedRegister, FunctionName, ParameterName, Exactly, Value, Plain, OfOperand, OfLocation, OfAssigned, Nothing}
 use Rattle.program_lines.specs.Table.{Placed, placed, wanted, optional, WordsMean, Says}

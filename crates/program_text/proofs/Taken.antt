@@ -1,22 +1,22 @@
 -- One line that is read, and the lines behind the header.
 use Rattle.std.proofs.Common.{◌≡◌, ◌≢◌, ℕ, ◌<◌, ◌+◌, ◌∷◌, [], List, Bool, true, false, cond, length, arith, refl, sym, ◌∙◌, subst, ap, inl, inr}
 use Rattle.std.specs.Prelude.{◌⊎◌, IsTrue, codes, Option, Some, None, Result, Ok, Err, MatchResult, IfOk}
-use Rattle.trace_values.specs.declared.fault.Cause.{Cause}
-use Rattle.trace_values.specs.declared.fault.Cause.TheVariants.{NotText, BadHeader, BadWord, BadNumber, UnknownName, TwiceNamed, BadNesting, NoMain, TooMany}
-use Rattle.trace_values.specs.declared.fault.TextFault.{TextFault}
-use Rattle.trace_values.specs.declared.fault.TextFault.TheVariants.{At, Memory}
-use Rattle.trace_values.specs.declared.value.Version.{Version}
-use Rattle.trace_values.specs.Text.{words, lines, IsTextLine}
+use Rattle.text_words.specs.declared.fault.Cause.{Cause}
+use Rattle.text_words.specs.declared.fault.Cause.TheVariants.{NotText, BadHeader, BadWord, BadNumber, UnknownName, TwiceNamed, BadNesting, NoMain, TooMany}
+use Rattle.text_words.specs.declared.fault.TextFault.{TextFault}
+use Rattle.text_words.specs.declared.fault.TextFault.TheVariants.{At, Memory}
+use Rattle.text_words.specs.declared.value.Version.{Version}
+use Rattle.text_words.specs.Text.{words, lines, IsTextLine}
 use Rattle.trace_text.specs.Grammar.{IsHeader}
-use Rattle.trace_values.specs.Causes.{IsLowest, cause_number}
-use Rattle.trace_values.specs.Values.{Known}
+use Rattle.text_words.specs.Causes.{IsLowest, cause_number}
+use Rattle.text_words.specs.Values.{Known}
 use Rattle.program_lines.specs.Scopes.{Scope}
 use Rattle.program_text.specs.declared.open_function.Part.{Part}
 use Rattle.program_lines.specs.Grammar.{Item, Blank, Declared, Reduces, Begins, Does, Decides, Otherwise, Ends, ItemMeans}
 use Rattle.program_lines.specs.Faults.{WordsFault}
 use Rattle.std.specs.List.{position_from}
 use Rattle.std.specs.Str.{bytes_eq}
-use Rattle.program_text.specs.Codes.{Code, main_of}
+use Rattle.model_bodies.specs.Codes.{Code, main_of}
 use Rattle.program_text.specs.Functions.{functions_of}
 use Rattle.program_text.specs.Drafts.{Draft, Contents, Open, begun, registers_of, scope_of, held}
 use Rattle.program_text.specs.Grammar.{IsInOrder, HasRoom, extended, nothing, LineMeans, LinesMean, LinesOfProgram, TextMeans, ended, ended_by}

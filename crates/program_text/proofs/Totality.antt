@@ -2,24 +2,24 @@
 use Rattle.std.proofs.Common.{◌≡◌, ◌≢◌, ◌⊎◌, inl, inr, ℕ, ◌+◌, ◌<◌, ◌≤◌, Bool, true, false, List, [], ◌∷◌, length, refl, sym, ◌∙◌, subst, arith}
 use Rattle.std.specs.Prelude.{Option, Some, None, MatchOption, option_map, unwrap_or}
 use Rattle.std.proofs.lemmas.List.{length_push}
-use Rattle.trace_values.specs.declared.fault.Cause.{Cause}
-use Rattle.trace_values.specs.declared.fault.Cause.TheVariants.{NotText, BadHeader, BadWord, BadNumber, UnknownName, TwiceNamed, BadNesting, NoMain, TooMany}
-use Rattle.trace_values.specs.declared.value.Version.{Version}
-use Rattle.trace_values.specs.Text.{words, lines, IsTextLine}
-use Rattle.trace_values.specs.Limits.{max_cells, max_reducers, max_lines}
-use Rattle.trace_values.specs.Declarations.{cells_of}
-use Rattle.trace_values.specs.Causes.{IsLowest, cause_number}
-use Rattle.trace_values.proofs.Decided.{OrNot, both_or_not, number_or_not, most_or_not, below_or_not, text_line_or_not}
+use Rattle.text_words.specs.declared.fault.Cause.{Cause}
+use Rattle.text_words.specs.declared.fault.Cause.TheVariants.{NotText, BadHeader, BadWord, BadNumber, UnknownName, TwiceNamed, BadNesting, NoMain, TooMany}
+use Rattle.text_words.specs.declared.value.Version.{Version}
+use Rattle.text_words.specs.Text.{words, lines, IsTextLine}
+use Rattle.text_words.specs.Limits.{max_cells, max_reducers, max_lines}
+use Rattle.text_words.specs.Declarations.{cells_of}
+use Rattle.text_words.specs.Causes.{IsLowest, cause_number}
+use Rattle.text_words.proofs.Decided.{OrNot, both_or_not, number_or_not, most_or_not, below_or_not, text_line_or_not}
 use Rattle.trace_text.specs.Faults.{HeaderFault}
 use Rattle.trace_text.specs.Grammar.{IsHeader}
 use Rattle.trace_text.proofs.Totality.{header_told}
 use Rattle.program_lines.specs.Scopes.{max_registers}
-use Rattle.program_lines.specs.declared.statement.Statement.{Statement}
+use Rattle.model_bodies.specs.declared.statement.Statement.{Statement}
 use Rattle.program_lines.specs.Grammar.{Item, Blank, Declared, Reduces, Begins, Does, Decides, Otherwise, Ends, ItemMeans}
 use Rattle.program_lines.proofs.Totality.{Told, line_told as words_told}
 use Rattle.program_text.specs.declared.open_function.Part.{Part}
-use Rattle.program_text.specs.Codes.{main_of}
-use Rattle.program_text.specs.Sound.{max_functions, max_statements}
+use Rattle.model_bodies.specs.Codes.{main_of}
+use Rattle.model_bodies.specs.Sound.{max_functions, max_statements}
 use Rattle.program_text.specs.Functions.{functions_of}
 use Rattle.program_text.specs.Drafts.{Open, Draft, Contents, begun, registers_of, scope_of, held, with_register, with_statement, divided_by}
 use Rattle.program_text.specs.Grammar.{max_nested, IsFirst, IsInOrder, HasDepth, HasRoom, IsSaid, extended, ended, ended_by, nothing, LineMeans, LinesMean, LinesOfProgram}

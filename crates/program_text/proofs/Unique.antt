@@ -1,10 +1,10 @@
 -- A text means at most one program, and never a program and a fault.
 -- v, w: what a text means; m, n: numbers of faulty lines; c, d: causes
 use Rattle.std.proofs.Common.{◌≡◌, ℕ, ◌+◌, ◌∷◌, [], List, arith, sym, ◌∙◌, subst, inl, inr}
-use Rattle.trace_values.specs.declared.value.Version.{Version}
-use Rattle.trace_values.specs.declared.fault.Cause.{Cause}
-use Rattle.trace_values.specs.declared.fault.Cause.TheVariants.{NotText, BadHeader, BadNesting, NoMain, TooMany}
-use Rattle.trace_values.specs.Text.{words, lines}
+use Rattle.text_words.specs.declared.value.Version.{Version}
+use Rattle.text_words.specs.declared.fault.Cause.{Cause}
+use Rattle.text_words.specs.declared.fault.Cause.TheVariants.{NotText, BadHeader, BadNesting, NoMain, TooMany}
+use Rattle.text_words.specs.Text.{words, lines}
 use Rattle.trace_text.specs.Faults.{HeaderFault}
 use Rattle.trace_text.proofs.Unique.{version_once, header_exclusive, lowest_once}
 use Rattle.program_lines.specs.Grammar.{Item}

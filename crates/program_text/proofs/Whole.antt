@@ -1,16 +1,16 @@
 -- What every program keeps.
 use Rattle.std.proofs.Common.{◌≡◌, ℕ, ◌≤◌, ◌∷◌, [], List, length, sym, ap, subst, ◌∙◌, arith}
 use Rattle.std.specs.Prelude.{IsTrue}
-use Rattle.trace_values.specs.declared.value.Version.{Version}
-use Rattle.trace_values.specs.declared.value.Mem.{Mem}
-use Rattle.trace_values.specs.declared.value.Reducer.{Reducer}
-use Rattle.trace_values.specs.Text.{lines}
-use Rattle.trace_values.specs.Limits.{max_cells, max_reducers}
-use Rattle.trace_values.specs.Values.{Known}
-use Rattle.trace_values.specs.Declarations.{cells_of}
+use Rattle.text_words.specs.declared.value.Version.{Version}
+use Rattle.text_words.specs.declared.value.Mem.{Mem}
+use Rattle.text_words.specs.declared.value.Reducer.{Reducer}
+use Rattle.text_words.specs.Text.{lines}
+use Rattle.text_words.specs.Limits.{max_cells, max_reducers}
+use Rattle.text_words.specs.Values.{Known}
+use Rattle.text_words.specs.Declarations.{cells_of}
 use Rattle.trace_text.specs.Shapes.{is_numbered}
-use Rattle.program_text.specs.Codes.{Code}
-use Rattle.program_text.specs.Sound.{IsSound, max_functions}
+use Rattle.model_bodies.specs.Codes.{Code}
+use Rattle.model_bodies.specs.Sound.{IsSound, max_functions}
 use Rattle.program_text.specs.Functions.{functions_of}
 use Rattle.program_text.specs.Drafts.{Draft, Contents, begun, begun_by, held}
 use Rattle.program_text.specs.Grammar.{LinesOfProgram, TextMeans, nothing}

@@ -1,12 +1,12 @@
 -- What was read of a program so far.
 use Rattle.std.specs.Prelude.{ℕ, ◌+◌, Bool, Option, Some, None, List, [], ◌∷◌, ◌++◌, length, slice_get, slice_set}
-use Rattle.trace_values.specs.Values.{Known}
-use Rattle.program_lines.specs.declared.statement.Register.{Register}
-use Rattle.program_lines.specs.declared.statement.Statement.{Statement}
-use Rattle.program_lines.specs.declared.statement.Statement.TheVariants.{If, Else, End}
+use Rattle.text_words.specs.Values.{Known}
+use Rattle.model_bodies.specs.declared.statement.Register.{Register}
+use Rattle.model_bodies.specs.declared.statement.Statement.{Statement}
+use Rattle.model_bodies.specs.declared.statement.Statement.TheVariants.{If, Else, End}
 use Rattle.program_lines.specs.Scopes.{Scope}
 use Rattle.program_text.specs.declared.open_function.Part.{Part}
-use Rattle.program_text.specs.Codes.{Code}
+use Rattle.model_bodies.specs.Codes.{Code}
 
 -- A function that has not ended: its parts that have not ended stand innermost first.
 pub record Open : Type 0 where

@@ -1,21 +1,21 @@
 -- What is wrong with a text that means no program: the first faulty line, and the lowest cause in it.
 use Rattle.std.specs.Prelude.{◌≡◌, ◌≢◌, ℕ, ◌+◌, ◌<◌, ◌≤◌, ◌⊎◌, None, List, [], ◌∷◌}
-use Rattle.trace_values.specs.declared.fault.Cause.{Cause}
-use Rattle.trace_values.specs.declared.fault.Cause.TheVariants.{NotText, BadHeader, BadNesting, NoMain, TooMany}
-use Rattle.trace_values.specs.declared.fault.TextFault.{TextFault}
-use Rattle.trace_values.specs.declared.fault.TextFault.TheVariants.{At, Memory}
-use Rattle.trace_values.specs.declared.value.Version.{Version}
-use Rattle.trace_values.specs.Text.{lines, words, IsTextLine}
-use Rattle.trace_values.specs.Limits.{max_lines}
+use Rattle.text_words.specs.declared.fault.Cause.{Cause}
+use Rattle.text_words.specs.declared.fault.Cause.TheVariants.{NotText, BadHeader, BadNesting, NoMain, TooMany}
+use Rattle.text_words.specs.declared.fault.TextFault.{TextFault}
+use Rattle.text_words.specs.declared.fault.TextFault.TheVariants.{At, Memory}
+use Rattle.text_words.specs.declared.value.Version.{Version}
+use Rattle.text_words.specs.Text.{lines, words, IsTextLine}
+use Rattle.text_words.specs.Limits.{max_lines}
 use Rattle.trace_text.specs.Grammar.{IsHeader}
-use Rattle.trace_values.specs.Causes.{IsLowest}
+use Rattle.text_words.specs.Causes.{IsLowest}
 use Rattle.trace_text.specs.Faults.{HeaderFault}
 use Rattle.trace_text.specs.Drafts.{IsFaultOf}
 use Rattle.program_lines.specs.Grammar.{Item, ItemMeans}
 use Rattle.program_lines.specs.Faults.{WordsFault}
 use Rattle.program_text.specs.Functions.{functions_of}
 use Rattle.program_text.specs.Drafts.{Draft, Contents, scope_of}
-use Rattle.program_text.specs.Codes.{main_of}
+use Rattle.model_bodies.specs.Codes.{main_of}
 use Rattle.program_text.specs.Grammar.{IsInOrder, HasRoom, LineMeans, LinesMean, extended, nothing}
 
 -- ---- lines

@@ -4,7 +4,7 @@ use Rattle.std.specs.List.{list_all, before_first}
 use Rattle.std.specs.Char.{is_ascii_lowercase}
 use Rattle.std.specs.Str.{bytes_eq}
 use Rattle.program_lines.specs.Scopes.{with_name}
-use Rattle.trace_values.specs.Text.{words, is_hash, is_name_byte, is_text_byte}
+use Rattle.text_words.specs.Text.{words, is_hash, is_name_byte, is_text_byte}
 
 -- Whether a word is a name.
 abbrev pub is_name_word : List ℕ → Bool

@@ -1,16 +1,16 @@
 -- What the lines of a program mean: a case for each kind of line.
 use Rattle.std.specs.Prelude.{◌≡◌, ◌≢◌, ℕ, ◌+◌, ◌<◌, ◌≤◌, false, Option, Some, None, List}
 use Rattle.std.specs.Prelude.{[], ◌∷◌, ◌++◌, length, unwrap_or, option_map, MatchOption}
-use Rattle.trace_values.specs.declared.value.Version.{Version}
-use Rattle.trace_values.specs.Text.{lines, words, IsTextLine, IsName}
-use Rattle.trace_values.specs.Limits.{max_cells, max_reducers, max_lines}
-use Rattle.trace_values.specs.Names.{IsFresh}
+use Rattle.text_words.specs.declared.value.Version.{Version}
+use Rattle.text_words.specs.Text.{lines, words, IsTextLine, IsName}
+use Rattle.text_words.specs.Limits.{max_cells, max_reducers, max_lines}
+use Rattle.text_words.specs.Names.{IsFresh}
 use Rattle.program_lines.specs.Scopes.{max_registers}
-use Rattle.trace_values.specs.Declarations.{cells_of, with_memory, with_reducer}
+use Rattle.text_words.specs.Declarations.{cells_of, with_memory, with_reducer}
 use Rattle.trace_text.specs.Grammar.{IsHeader}
 use Rattle.program_lines.specs.Grammar.{Item, Blank, Declared, Reduces, Begins, Does, Decides, Otherwise, Ends, ItemMeans}
-use Rattle.program_text.specs.Codes.{main_of}
-use Rattle.program_text.specs.Sound.{max_functions, max_statements}
+use Rattle.model_bodies.specs.Codes.{main_of}
+use Rattle.model_bodies.specs.Sound.{max_functions, max_statements}
 use Rattle.program_text.specs.Functions.{functions_of}
 use Rattle.program_text.specs.declared.open_function.Part.{Part}
 use Rattle.program_text.specs.Drafts.{Open, Draft, Contents, held, begun, registers_of, scope_of, first_open}

@@ -1,8 +1,8 @@
 -- Laws of the grammar.
 use Rattle.std.specs.Prelude.{◌≡◌, ◌⊎◌, ℕ, List, length}
-use Rattle.trace_values.specs.declared.fault.Cause.{Cause}
-use Rattle.trace_values.specs.Declarations.{cells_of}
-use Rattle.program_text.specs.Sound.{IsSound}
+use Rattle.text_words.specs.declared.fault.Cause.{Cause}
+use Rattle.text_words.specs.Declarations.{cells_of}
+use Rattle.model_bodies.specs.Sound.{IsSound}
 use Rattle.program_text.specs.Drafts.{Contents}
 use Rattle.program_text.specs.Grammar.{TextMeans}
 use Rattle.program_text.specs.Faults.{TextFaults}

@@ -1,7 +1,3 @@
-pub mod Codes
-pub mod Bodies
-pub mod Trees
-pub mod Sound
 pub mod Functions
 pub mod Drafts
 pub mod Openings
@@ -10,3 +6,4 @@ pub mod Faults
 pub mod Programs
 pub mod Laws
 pub mod Printing
+pub mod Shapes

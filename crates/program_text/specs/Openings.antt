@@ -1,8 +1,8 @@
 -- How the code ends the parts of a function.
 use Rattle.std.specs.Prelude.{◌≡◌, ℕ, ◌+◌, ◌<◌, ◌≤◌, Bool, true, false, Option, Some, None, List, [], ◌∷◌, length}
 use Rattle.program_text.specs.declared.open_function.Part.{Part}
-use Rattle.program_text.specs.Codes.{Code}
-use Rattle.program_text.specs.Sound.{max_functions, max_statements}
+use Rattle.model_bodies.specs.Codes.{Code}
+use Rattle.model_bodies.specs.Sound.{max_functions, max_statements}
 use Rattle.program_text.specs.Drafts.{Open, begun_by, with_part_ended}
 
 -- An innermost part has ended, or there was none and all stays.

@@ -1,11 +1,11 @@
 -- The plain text of a program: each item on its own line, words separated by one space, numbers without leading zeros.
 use Rattle.std.specs.Prelude.{◌≡◌, ℕ, ◌+◌, ◌-◌, List, [], ◌∷◌, ◌++◌, codes, map, flat_map, replicate}
-use Rattle.trace_values.specs.Values.{Known, version_spelling}
+use Rattle.text_words.specs.Values.{Known, version_spelling}
 use Rattle.trace_text.specs.Printing.{Entry, declarations, entry_text, spaced, line_of as line_of_entry}
-use Rattle.program_lines.specs.declared.statement.Statement.{Statement}
+use Rattle.model_bodies.specs.declared.statement.Statement.{Statement}
 use Rattle.program_lines.specs.Grammar.{line_of}
 use Rattle.program_lines.specs.Printing.{printed_scope, statement_words}
-use Rattle.program_text.specs.Codes.{Code}
+use Rattle.model_bodies.specs.Codes.{Code}
 use Rattle.program_text.specs.Drafts.{Contents}
 use Rattle.program_text.specs.Grammar.{TextMeans}
 

@@ -1,7 +1,7 @@
 //! What was read of a program so far.
 
 ghost use Rattle.std.specs.Prelude.{◌≡◌, ◌≢◌, ◌≤◌, ◌↔◌, None, IsTrue, MatchResult, length, option_copied};
-ghost use Rattle.program_text.specs.Sound.{max_functions};
+ghost use Rattle.model_bodies.specs.Sound.{max_functions};
 ghost use Rattle.program_lines.specs.Grammar.{Item as SpecItem, Declared, Reduces, Begins, Does, Decides, Otherwise, Ends};
 ghost use Rattle.program_lines.specs.Items.{item_of};
 ghost use Rattle.program_lines.specs.Scopes.{max_registers};
@@ -14,8 +14,8 @@ use crate::open_function::Open;
 use program_lines::{FunctionNames, Item, Register, Scope, Statement, read_line};
 use std::alloc::Allocator;
 use std::marker::Model;
+use text_words::{Cause, Mem, Monoid, Name, Names, Reducer, TextFault, Version, Words, as_text};
 use trace_text::{CELLS, LINES, REDUCERS};
-use trace_values::{Cause, Mem, Monoid, Name, Names, Reducer, TextFault, Version, Words, as_text};
 
 /// The most functions of a program.
 pub const FUNCTIONS: usize = 1_000;

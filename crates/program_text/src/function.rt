@@ -3,7 +3,7 @@
 use program_lines::Statement;
 use std::alloc::Allocator;
 use std::marker::Model;
-use trace_values::{Items, Name};
+use text_words::{Items, Name};
 
 /// The statements of a body in order of their lines, the `end` of its function left out.
 pub type Body<A> = Items<Statement, A>;
@@ -32,7 +32,7 @@ pub struct Function<A: Allocator> {
 pub type Functions<A> = Items<Function<A>, A>;
 
 impl<A: Allocator> Model for Function<A> {
-    ghost use Rattle.program_text.specs.Codes.{Code};
+    ghost use Rattle.model_bodies.specs.Codes.{Code};
 
     ghost Value = { Code };
 

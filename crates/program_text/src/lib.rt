@@ -25,4 +25,4 @@ pub use laws::{meaning_excludes_fault, meaning_or_fault, one_fault, one_meaning,
 pub use plain_law::plain_meaning;
 pub use program::Program;
 pub use program_lines::{Expression, Location, Operand, REGISTERS, Register, Statement};
-pub use trace_values::{Cause, TextFault};
+pub use text_words::{Cause, TextFault};

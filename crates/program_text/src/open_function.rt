@@ -1,9 +1,9 @@
 //! A function that has not ended.
 
 ghost use Rattle.std.specs.Prelude.{◌≡◌, ◌+◌, ◌<◌, ◌≤◌, ◌↔◌, [], Some, IsTrue, OnOk, OnErr, IfOk, length};
-ghost use Rattle.trace_values.specs.Text.{IsName};
+ghost use Rattle.text_words.specs.Text.{IsName};
 ghost use Rattle.program_lines.specs.Scopes.{max_registers};
-ghost use Rattle.program_text.specs.Sound.{max_statements};
+ghost use Rattle.model_bodies.specs.Sound.{max_statements};
 ghost use Rattle.program_text.specs.Drafts.{ending as ending_of, with_end, first_open, with_register};
 ghost use Rattle.program_text.specs.Drafts.{with_statement, with_choice, with_else, code_of};
 ghost use Rattle.program_text.specs.Grammar.{IsFirst};
@@ -13,7 +13,7 @@ use crate::function::{Body, Function, RegisterNames};
 use program_lines::{Register, Statement};
 use std::alloc::{AllocError, Allocator};
 use std::marker::Model;
-use trace_values::Name;
+use text_words::Name;
 
 /// A part of an `if` that has not ended.
 #[derive(Clone, Copy, Debug)]

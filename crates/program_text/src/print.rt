@@ -1,7 +1,7 @@
 //! A program as text.
 
 ghost use Rattle.std.specs.Prelude.{◌≡◌, ◌∷◌, ◌++◌, [], List, IfOk, IsTrue, string_bytes};
-ghost use Rattle.trace_values.specs.declared.value.Version.{Version};
+ghost use Rattle.text_words.specs.declared.value.Version.{Version};
 ghost use Rattle.trace_text.specs.Shapes.{is_numbered};
 ghost use Rattle.trace_text.specs.Printing.{declarations, known_of};
 ghost use Rattle.std.specs.Prelude.{map};
@@ -14,8 +14,8 @@ use crate::function::Function;
 use crate::program::Program;
 use program_lines::{Statement, put_statement};
 use std::alloc::{AllocError, Allocator};
+use text_words::{Mem, Name, Reducer, version_word};
 use trace_text::{put_declarations, put_feeds, put_word};
-use trace_values::{Mem, Name, Reducer, version_word};
 
 /// The line of a statement.
 fn statement_line(statement: &Statement) -> u32

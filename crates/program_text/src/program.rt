@@ -2,16 +2,16 @@
 
 ghost use Rattle.std.specs.Prelude.{◌≡◌, ◌<◌, ◌≤◌, ℕ, List, length, IfOk, IsTrue, MatchResult, map};
 ghost use Rattle.trace_text.specs.Shapes.{is_numbered};
-ghost use Rattle.trace_values.specs.Limits.{max_cells, max_reducers};
-ghost use Rattle.trace_values.specs.Declarations.{cells_of};
+ghost use Rattle.text_words.specs.Limits.{max_cells, max_reducers};
+ghost use Rattle.text_words.specs.Declarations.{cells_of};
 ghost use Rattle.program_text.specs.Grammar.{TextMeans};
 ghost use Rattle.program_text.specs.Faults.{IsTextFault};
-ghost use Rattle.program_text.specs.Sound.{IsSound, IsMain, max_functions};
+ghost use Rattle.model_bodies.specs.Sound.{IsSound, IsMain, max_functions};
 
 use crate::function::Functions;
 use crate::text::whole;
 use std::alloc::{AllocError, Allocator};
-use trace_values::{Mems, Monoids, Reducers, Shape, TextFault, Version};
+use text_words::{Mems, Monoids, Reducers, Shape, TextFault, Version};
 
 /// The meaning of a text, made by [`Program::parse`] alone. Some text means it, its cells are numbered without a gap, and it is sound: its
 /// statements name cells, reducers and functions that there are, their numbers are of 64 bits, each `if` has its `end` and one `else` at

@@ -2,10 +2,10 @@
 
 ghost use Rattle.std.specs.Prelude.{◌≡◌, [], None, Some, OnOk, IfOk, MatchResult, option_copied, position};
 ghost use Rattle.std.specs.List.{before_first};
-ghost use Rattle.trace_values.specs.Text.{lines, is_hash};
+ghost use Rattle.text_words.specs.Text.{lines, is_hash};
 ghost use Rattle.program_text.specs.Functions.{is_name_word, function_in as named_in, function_named, with_function, functions_of};
 ghost use Rattle.program_text.specs.Drafts.{held};
-ghost use Rattle.program_text.specs.Codes.{main_of as main_among};
+ghost use Rattle.model_bodies.specs.Codes.{main_of as main_among};
 ghost use Rattle.program_text.specs.Grammar.{nothing, LinesMean, TextMeans};
 ghost use Rattle.program_text.specs.Faults.{DecidesLines, IsBodyFault, IsEndFault, IsFaultOfLines, IsTextFault};
 
@@ -13,10 +13,8 @@ use crate::draft::{Draft, fault};
 use crate::function::Function;
 use program_lines::FunctionNames;
 use std::alloc::{AllocError, Allocator};
+use text_words::{Cause, TextFault, Version, Words, as_text, is_name, split_line, without_return};
 use trace_text::header;
-use trace_values::{
-    Cause, TextFault, Version, Words, as_text, is_name, split_line, without_return,
-};
 
 fn hash_at(line: &[u8]) -> Option<usize>
     ensures { result ≡ position is_hash line.now }

@@ -3,7 +3,7 @@ use Rattle.std.specs.Prelude.{ℕ, ◌≡◌, ◌+◌, ◌-◌, nat_lt, Bool, Li
 use Rattle.std.specs.Prelude.{length, take, filter, is_some, decimal, if◌then◌else◌}
 use Rattle.std.specs.Global.{Global}
 use Rattle.program_text.specs.Drafts.{Contents}
-use Rattle.race_gate.specs.declared.answer.Entry.{Entry}
+use Rattle.model_histories.specs.declared.answer.Entry.{Entry}
 use Rattle.source_quotes.specs.Quotes.{look_of, counted}
 use Rattle.race_pairs.specs.Refusals.{refusal_told}
 use Rattle.race_pairs.specs.Pairs.{ArePairs}

@@ -1,12 +1,12 @@
 -- Words for what stands in a program and in a run of it.
 use Rattle.std.specs.Prelude.{ℕ, ◌<◌, nat_lt, List, [], ◌∷◌, codes, take, drop, Option, Some, None, option_and_then, if◌then◌else◌}
-use Rattle.access_table.specs.Table.{spelling}
-use Rattle.trace_values.specs.declared.asked.Asked.{Asked}
-use Rattle.trace_values.specs.declared.value.Act.{Act}
-use Rattle.trace_values.specs.declared.value.Act.TheVariants.{Spawn}
-use Rattle.trace_values.specs.Asking.{access_asked}
-use Rattle.program_text.specs.Codes.{Code}
-use Rattle.race_gate.specs.declared.answer.Entry.{Entry}
+use Rattle.model_accesses.specs.Table.{spelling}
+use Rattle.model_accesses.specs.declared.asked.Asked.{Asked}
+use Rattle.model_accesses.specs.declared.request.Act.{Act}
+use Rattle.model_accesses.specs.declared.request.Act.TheVariants.{Spawn}
+use Rattle.model_accesses.specs.Asking.{access_asked}
+use Rattle.model_bodies.specs.Codes.{Code}
+use Rattle.model_histories.specs.declared.answer.Entry.{Entry}
 use Rattle.race_pairs.specs.Refusals.{entry_at}
 use Rattle.source_quotes.specs.Lines.{blanks, statement_length}
 

@@ -1,7 +1,7 @@
 -- What races are told from.
 use Rattle.std.specs.Prelude.{ℕ, List}
 use Rattle.program_text.specs.Drafts.{Contents}
-use Rattle.race_gate.specs.declared.answer.Entry.{Entry}
+use Rattle.model_histories.specs.declared.answer.Entry.{Entry}
 use Rattle.source_quotes.specs.declared.look.Look.{Look}
 
 -- how quotes look, the name of the file, the lines of its text, the program that it means, and the entries of the run, oldest first

@@ -7,7 +7,7 @@ use race_gate::Gate;
 use std::alloc::Global;
 use std::process::Abort;
 use std::test::Fail;
-use trace_values::{Act, Request, TextFault};
+use text_words::{Act, Request, TextFault};
 
 /// A program of these lines.
 fn read(rt: &(impl Abort + Alloc<A = Global>), text: &str) -> Result<Program<Global>, Fail> {

@@ -13,8 +13,8 @@ use race_pairs::{Pair, Reason};
 use race_report::{push_number, push_words};
 use source_quotes::{Paint, push_count, push_painted, push_place};
 use std::alloc::{AllocError, Allocator};
+use text_words::Reducer;
 use trace_text::{put_cell, put_word};
-use trace_values::Reducer;
 
 /// How many names are told at most.
 const NAMES: usize = 8;

@@ -1,10 +1,10 @@
 //! What is told of the entries of a run.
 
 ghost use Rattle.std.specs.Prelude.{◌≡◌, ◌++◌, [], IfOk, OnOk, codes, length, reverse, take};
-ghost use Rattle.trace_values.specs.Text.{lines};
-ghost use Rattle.race_gate.specs.Shapes.{Shape};
+ghost use Rattle.text_words.specs.Text.{lines};
+ghost use Rattle.model_histories.specs.Shapes.{Shape};
 ghost use Rattle.program_text.specs.Programs.{contents};
-ghost use Rattle.race_gate.specs.Legal.{IsLegal};
+ghost use Rattle.model_histories.specs.Legal.{IsLegal};
 ghost use Rattle.spawn_chains.specs.Makers.{IsLineage};
 ghost use Rattle.race_explanations.specs.Explained.{Tells, AllTold, pairs_left_out, among, summary, refusals_among, IsExplanation};
 

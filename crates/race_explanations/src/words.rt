@@ -11,7 +11,7 @@ use race_pairs::entry_at;
 use race_report::push_number;
 use source_quotes::statement_of;
 use std::alloc::{AllocError, Allocator};
-use trace_values::{Act, access_asked};
+use text_words::{Act, access_asked};
 
 /// The name of the function in which a line of a program stands.
 pub(crate) fn function_at<A: Allocator>(program: &Program<A>, line: u32) -> &str

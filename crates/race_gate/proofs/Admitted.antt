@@ -1,27 +1,28 @@
 -- A request without fault is one that the rules of legal histories admit, and the other way round.
 use Rattle.std.proofs.Common.{◌≡◌, ℕ, ◌<◌, false, List, [], ◌∷◌, length, refl, sym, subst}
 use Rattle.std.specs.Prelude.{MatchOption}
-use Rattle.trace_values.specs.declared.value.Act.{Act}
-use Rattle.trace_values.specs.declared.value.Act.TheVariants.{Spawn, Sync, Call, Return, Read, Write, Bump, Update, Put, Get}
-use Rattle.trace_values.specs.declared.value.Request.{Request}
-use Rattle.control_history.specs.History.{Event, split, same, joined, waits, call, resumed, ended, ended_joined, finished, History}
-use Rattle.control_history.specs.Strands.{Running}
-use Rattle.control_history.specs.Blocks.{stack, IsSynced}
-use Rattle.control_history.specs.Legal.{Allowed, called_return, child_return, last_return, root_return, Legal}
-use Rattle.control_history.specs.Acts.{Answers, spawns, syncs, calls, returns}
-use Rattle.control_history.proofs.Finish.{answer_law}
-use Rattle.race_gate.specs.declared.answer.Answer.{Answer}
-use Rattle.race_gate.specs.declared.answer.Answer.TheVariants.{Split, Same, Joined, Waits, Resumed, Ended, EndedJoined, Finished, Granted, Value}
-use Rattle.race_gate.specs.declared.answer.Reply.{Reply}
-use Rattle.race_gate.specs.declared.answer.Reply.TheVariants.{Done, Illegal}
-use Rattle.race_gate.specs.declared.fault.GateFault.{GateFault}
-use Rattle.race_gate.specs.declared.fault.GateFault.TheVariants.{Stopped, Limit, NotRunning, BadName, Unsynced, Memory}
-use Rattle.race_gate.specs.Entries.{control_part, event_between}
-use Rattle.race_gate.specs.Legal.{Belongs}
-use Rattle.race_gate.specs.States.{State}
-use Rattle.race_gate.specs.Faults.{IsFaultless, HasCause}
-use Rattle.race_gate.specs.Replies.{JudgesAll}
-use Rattle.race_gate.specs.Admission.{IsAdmitted, IsOfTheGate, AdmissionLaw, EntryLaw, AdmitsAll}
+use Rattle.model_accesses.specs.declared.request.Act.{Act}
+use Rattle.model_accesses.specs.declared.request.Act.TheVariants.{Spawn, Sync, Call, Return, Read, Write, Bump, Update, Put, Get}
+use Rattle.model_accesses.specs.declared.request.Request.{Request}
+use Rattle.model_strands.specs.History.{Event, split, same, joined, waits, call, resumed, ended, ended_joined, finished, History}
+use Rattle.model_strands.specs.Strands.{Running}
+use Rattle.model_strands.specs.Blocks.{stack, IsSynced}
+use Rattle.model_strands.specs.Legal.{Allowed, called_return, child_return, last_return, root_return, Legal}
+use Rattle.law_strands.specs.Acts.{Answers, spawns, syncs, calls, returns}
+use Rattle.law_strands.proofs.Finish.{answer_law}
+use Rattle.model_histories.specs.declared.answer.Answer.{Answer}
+use Rattle.model_histories.specs.declared.answer.Answer.TheVariants.{Split, Same, Joined, Waits, Resumed, Ended, EndedJoined, Finished, Granted, Value}
+use Rattle.model_histories.specs.declared.reply.Reply.{Reply}
+use Rattle.model_histories.specs.declared.reply.Reply.TheVariants.{Done, Illegal}
+use Rattle.model_histories.specs.declared.fault.GateFault.{GateFault}
+use Rattle.model_histories.specs.declared.fault.GateFault.TheVariants.{Stopped, Limit, NotRunning, BadName, Unsynced, Memory}
+use Rattle.model_histories.specs.Entries.{control_part, event_between}
+use Rattle.model_histories.specs.Legal.{Belongs}
+use Rattle.model_histories.specs.States.{State}
+use Rattle.model_histories.specs.Faults.{IsFaultless, HasCause}
+use Rattle.model_histories.specs.Replies.{JudgesAll}
+use Rattle.model_histories.specs.Admission.{IsAdmitted, IsOfTheGate, AdmitsAll}
+use Rattle.race_gate.specs.Admission.{AdmissionLaw, EntryLaw}
 use Rattle.race_gate.proofs.Races.{legal-part}
 
 -- the answer belongs to the act, and as an event of control it is allowed

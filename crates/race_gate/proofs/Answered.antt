@@ -1,19 +1,19 @@
 -- Which events of control the answers are.
 use Rattle.std.proofs.Common.{◌≡◌, inl, ◌<◌, ◌+◌, ℕ, Bool, Some, refl, subst, arith}
-use Rattle.trace_values.specs.declared.value.Act.{Act}
-use Rattle.trace_values.specs.declared.value.Act.TheVariants.{Spawn, Sync, Call, Return}
-use Rattle.sp_labels.specs.declared.answer.Spawned.{Spawned}
-use Rattle.control_history.specs.History.{Event, split, same, joined, waits, call, resumed, ended, ended_joined, finished, History}
-use Rattle.control_history.specs.Strands.{Running, unused}
-use Rattle.control_history.specs.Legal.{Allowed, open_split, next_split, Legal}
-use Rattle.control_history.proofs.Finish.{running_of}
-use Rattle.control_history.proofs.Range.{ranges}
-use Rattle.control_history.proofs.Law.{begun_below}
+use Rattle.model_accesses.specs.declared.request.Act.{Act}
+use Rattle.model_accesses.specs.declared.request.Act.TheVariants.{Spawn, Sync, Call, Return}
+use Rattle.model_strands.specs.declared.spawned.Spawned.{Spawned}
+use Rattle.model_strands.specs.History.{Event, split, same, joined, waits, call, resumed, ended, ended_joined, finished, History}
+use Rattle.model_strands.specs.Strands.{Running, unused}
+use Rattle.model_strands.specs.Legal.{Allowed, open_split, next_split, Legal}
+use Rattle.law_strands.proofs.Finish.{running_of}
+use Rattle.law_strands.proofs.Range.{ranges}
+use Rattle.law_strands.proofs.Law.{begun_below}
 use Rattle.branch_names.specs.Names.{BeginsNone}
 use Rattle.reducer_views.specs.Held.{IsQuiet, split_of}
-use Rattle.race_gate.specs.declared.answer.Answer.{Answer}
-use Rattle.race_gate.specs.declared.answer.Answer.TheVariants.{Split, Same, Joined, Waits, Resumed, Ended, EndedJoined, Finished}
-use Rattle.race_gate.specs.Entries.{event_between}
+use Rattle.model_histories.specs.declared.answer.Answer.{Answer}
+use Rattle.model_histories.specs.declared.answer.Answer.TheVariants.{Split, Same, Joined, Waits, Resumed, Ended, EndedJoined, Finished}
+use Rattle.model_histories.specs.Entries.{event_between}
 
 pub split-event : (strand : ℕ) (act : Act) (spawned : Spawned) (event : Event) → event_between strand act (Split spawned) ≡ Some event → split_of strand spawned ≡ event
 split-event strand Spawn spawned event e = cc

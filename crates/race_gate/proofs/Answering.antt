@@ -1,24 +1,26 @@
 -- What the books make of an event of control, and of an access of a reducer.
 use Rattle.std.proofs.Common.{◌≡◌, ◌⊎◌, inl, inr, ℕ, ◌+◌, ◌<◌, ◌^◌, List, [], ◌∷◌, ◌++◌, length, Option, Some, None, refl, sym, ◌∙◌, ap, subst, arith}
 use Rattle.std.proofs.lemmas.List.{append-nil}
-use Rattle.access_table.specs.declared.kind.Kind.{Kind}
-use Rattle.access_table.specs.declared.kind.Kind.TheVariants as kind
-use Rattle.trace_values.specs.declared.value.Act.TheVariants.{Update, Put, Get}
-use Rattle.sp_labels.specs.declared.answer.Spawned.{Spawned}
-use Rattle.control_history.specs.History.{Event, joined, ended_joined}
-use Rattle.control_history.specs.Strands.{Running}
-use Rattle.control_history.specs.Legal.{Allowed, then}
+use Rattle.model_accesses.specs.declared.kind.Kind.{Kind}
+use Rattle.model_accesses.specs.declared.kind.Kind.TheVariants as kind
+use Rattle.model_accesses.specs.declared.request.Act.TheVariants.{Update, Put, Get}
+use Rattle.model_strands.specs.declared.spawned.Spawned.{Spawned}
+use Rattle.model_strands.specs.History.{Event, joined, ended_joined}
+use Rattle.model_strands.specs.Strands.{Running}
+use Rattle.model_strands.specs.Legal.{Allowed, then}
 use Rattle.branch_names.specs.Names.{Names, Follows, FollowsOn, IsNamed, Takes, TakesJoin}
 use Rattle.branch_names.proofs.Events.{other-events, joined-known}
-use Rattle.shadow_history.specs.declared.witness.Witness.{Witness}
-use Rattle.view_read_rule.specs.Reads.{ReducerRead, Remembers, StandsOn}
-use Rattle.reducer_values.specs.Accesses.{Steps, control, update, put, control_steps, AreLegal}
+use Rattle.model_accesses.specs.declared.witness.Witness.{Witness}
+use Rattle.model_accesses.specs.Reads.{ReducerRead}
+use Rattle.view_read_rule.specs.Reads.{Remembers, StandsOn}
+use Rattle.model_reducers.specs.Steps.{Steps, control, update, put}
+use Rattle.law_values.specs.Accesses.{control_steps, AreLegal}
 use Rattle.reducer_views.specs.Held.{Holding, Holds, split_of}
 use Rattle.reducer_views.proofs.Following.{quiet_law}
 use Rattle.reducer_views.specs.Held.{view_of}
-use Rattle.reducer_views.specs.Products.{number_of}
-use Rattle.race_gate.specs.declared.answer.Answer.{Answer}
-use Rattle.race_gate.specs.declared.answer.Answer.TheVariants.{Split, Joined, EndedJoined, Granted, Value, Unset}
+use Rattle.model_reducers.specs.Products.{number_of}
+use Rattle.model_histories.specs.declared.answer.Answer.{Answer}
+use Rattle.model_histories.specs.declared.answer.Answer.TheVariants.{Split, Joined, EndedJoined, Granted, Value, Unset}
 use Rattle.race_gate.specs.Books.{Books, Keeps, KeepsRunning, KeepsOn, TakesEvent, MayRead, IsRefusal, AnswersAccess}
 use Rattle.race_gate.proofs.Keeping.{keeps-event, keeps-other, keeps-update, keeps-put, keeps-get}
 use Rattle.race_gate.proofs.Reading.{granted-right, refusal-cases}

@@ -1,13 +1,13 @@
 -- Which fault of a request is the first.
 use Rattle.std.proofs.Common.{◌≡◌, ℕ, ◌<◌, true, false, length, subst, arith}
-use Rattle.trace_values.specs.declared.value.Request.{Request}
-use Rattle.control_history.specs.Strands.{Running}
-use Rattle.race_gate.specs.declared.fault.GateFault.{GateFault}
-use Rattle.race_gate.specs.declared.fault.GateFault.TheVariants.{Stopped, Limit, NotRunning, BadName, Unsynced, Memory}
-use Rattle.race_gate.specs.Entries.{control_part}
-use Rattle.race_gate.specs.Shapes.{IsInRange}
-use Rattle.race_gate.specs.States.{State}
-use Rattle.race_gate.specs.Faults.{IsFaultless, IsFirstFault, HasCause, place}
+use Rattle.model_accesses.specs.declared.request.Request.{Request}
+use Rattle.model_strands.specs.Strands.{Running}
+use Rattle.model_histories.specs.declared.fault.GateFault.{GateFault}
+use Rattle.model_histories.specs.declared.fault.GateFault.TheVariants.{Stopped, Limit, NotRunning, BadName, Unsynced, Memory}
+use Rattle.model_histories.specs.Entries.{control_part}
+use Rattle.model_histories.specs.Shapes.{IsInRange}
+use Rattle.model_histories.specs.States.{State}
+use Rattle.model_histories.specs.Faults.{IsFaultless, IsFirstFault, HasCause, place}
 
 module _ (state : State) (request : Request) where
   -- no fault below this place has its cause

@@ -1,11 +1,11 @@
 -- Acts of control and accesses, and the books of reducers that there may be.
 use Rattle.std.proofs.Common.{◌≡◌, ℕ, length, Option, Some, None, refl, sym, ◌∙◌, ap, subst, arith}
-use Rattle.trace_values.specs.declared.value.Act.{Act}
-use Rattle.trace_values.specs.declared.value.Act.TheVariants.{Update, Put, Get}
-use Rattle.control_history.specs.History.{Event, History}
-use Rattle.control_history.specs.Legal.{Allowed}
+use Rattle.model_accesses.specs.declared.request.Act.{Act}
+use Rattle.model_accesses.specs.declared.request.Act.TheVariants.{Update, Put, Get}
+use Rattle.model_strands.specs.History.{Event, History}
+use Rattle.model_strands.specs.Legal.{Allowed}
 use Rattle.sp_labels.specs.Roster.{Roster}
-use Rattle.race_gate.specs.declared.answer.Answer.{Answer}
+use Rattle.model_histories.specs.declared.answer.Answer.{Answer}
 use Rattle.race_gate.specs.Books.{Books, TakesEvent, KeepsRunning, KeepsStill, KeepsOn, AnswersAccess, HasRoom, OptionHasRoom, OptionHasReducer, OptionKeepsStill, OptionKeepsOn, OptionKeepsSome, OptionKeepsRunning, OptionAnswersAccess}
 use Rattle.race_gate.specs.Steps.{GoesOn}
 use Rattle.race_gate.proofs.Entering.{last_allowed}

@@ -2,19 +2,19 @@
 use Rattle.std.proofs.Common.{◌≡◌, ◌↔◌, ℕ, ◌+◌, Bool, true, IsTrue, List, [], ◌∷◌, ◌++◌, length, reverse, take, drop, Option, Result, Ok, Err, refl, sym, ap, ◌∙◌, subst, arith}
 use Rattle.std.specs.Prelude.{MatchResult}
 use Rattle.std.proofs.lemmas.List.{reverse-append}
-use Rattle.trace_values.specs.declared.value.Request.{Request}
+use Rattle.model_accesses.specs.declared.request.Request.{Request}
 use Rattle.sp_labels.specs.Roster.{Roster}
 use Rattle.shadow_history.specs.declared.cell.Cell.{Cell}
-use Rattle.race_gate.specs.declared.answer.Answer.{Answer}
-use Rattle.race_gate.specs.declared.answer.Entry.{Entry}
-use Rattle.race_gate.specs.declared.fault.GateFault.{GateFault}
-use Rattle.race_gate.specs.declared.fault.GateFault.TheVariants.{Memory}
-use Rattle.race_gate.specs.Extensions.{IsEnd}
-use Rattle.race_gate.specs.States.{State}
+use Rattle.model_histories.specs.declared.answer.Answer.{Answer}
+use Rattle.model_histories.specs.declared.answer.Entry.{Entry}
+use Rattle.model_histories.specs.declared.fault.GateFault.{GateFault}
+use Rattle.model_histories.specs.declared.fault.GateFault.TheVariants.{Memory}
+use Rattle.model_histories.specs.Extensions.{IsEnd}
+use Rattle.model_histories.specs.States.{State}
 use Rattle.race_gate.specs.Books.{Books}
 use Rattle.race_gate.specs.Kept.{IsKept, IsReady, with_entry}
-use Rattle.race_gate.specs.Faults.{IsFaultless}
-use Rattle.race_gate.specs.Replies.{Judges, IsEntered}
+use Rattle.model_histories.specs.Faults.{IsFaultless}
+use Rattle.model_histories.specs.Replies.{Judges, IsEntered}
 use Rattle.race_gate.specs.Cores.{CoreState, with_history, IsCoreOf, reply_with}
 use Rattle.race_gate.proofs.Checking.{only-memory}
 use Rattle.race_gate.proofs.Entering.{written_back}

@@ -2,9 +2,9 @@
 use Rattle.std.proofs.Common.{◌≡◌, ℕ, ◌+◌, ◌%◌, ◌^◌, ◌<◌, true, false, cond, List, ◌∷◌, length, refl, sym, ◌∙◌, ap, add-zero, arith}
 use Rattle.std.specs.Prelude.{◌==◌}
 use Rattle.std.proofs.Math.Nat.{mod-add-mod}
-use Rattle.race_gate.specs.declared.answer.Entry.{Entry}
-use Rattle.race_gate.specs.Entries.{Entries}
-use Rattle.race_gate.specs.Memory.{Effect, sets, adds, leaves, effect, effects, last_written, bumped_since, IsMemory}
+use Rattle.model_histories.specs.declared.answer.Entry.{Entry}
+use Rattle.model_histories.specs.Entries.{Entries}
+use Rattle.model_races.specs.Memory.{Effect, sets, adds, leaves, effect, effects, last_written, bumped_since, IsMemory}
 use Rattle.race_gate.specs.Steps.{after, TakesPlace}
 
 -- the value by the effects alone

@@ -4,35 +4,37 @@ use Rattle.std.specs.Prelude.{MatchOption, slice_index}
 use Rattle.std.specs.Option.{option_to_list}
 use Rattle.std.proofs.lemmas.List.{append-nil}
 use Rattle.std.proofs.lemmas.Grind.{common_steps}
-use Rattle.trace_values.specs.declared.value.Act.{Act}
-use Rattle.trace_values.specs.declared.value.Act.TheVariants.{Spawn, Sync, Call, Return, Read, Write, Bump, Update, Put, Get}
-use Rattle.trace_values.specs.declared.value.Monoid.{Monoid}
-use Rattle.control_history.specs.History.{Event, History}
-use Rattle.control_history.specs.Strands.{Running}
-use Rattle.control_history.specs.Legal.{Allowed, Legal, then}
-use Rattle.reducer_values.specs.Accesses.{other, Steps, control_steps}
-use Rattle.view_read_rule.specs.Reads.{ReducerRead}
+use Rattle.model_accesses.specs.declared.request.Act.{Act}
+use Rattle.model_accesses.specs.declared.request.Act.TheVariants.{Spawn, Sync, Call, Return, Read, Write, Bump, Update, Put, Get}
+use Rattle.model_reducers.specs.declared.monoid.Monoid.{Monoid}
+use Rattle.model_strands.specs.History.{Event, History}
+use Rattle.model_strands.specs.Strands.{Running}
+use Rattle.model_strands.specs.Legal.{Allowed, Legal, then}
+use Rattle.model_reducers.specs.Steps.{other, Steps}
+use Rattle.law_values.specs.Accesses.{control_steps}
+use Rattle.model_accesses.specs.Reads.{ReducerRead}
 use Rattle.sp_labels.specs.Roster.{Roster, Follows}
 use Rattle.shadow_history.specs.declared.cell.Cell.{Cell}
 use Rattle.shadow_history.specs.Shadow.{Remembers}
 use Rattle.shadow_history.proofs.Later.{later_law}
-use Rattle.race_gate.specs.declared.access.CellAccess.{CellAccess}
+use Rattle.model_races.specs.declared.access.CellAccess.{CellAccess}
 use Rattle.race_gate.specs.declared.access.Sort.TheVariants.{Control, Cell as CellSort, Reducer}
-use Rattle.race_gate.specs.declared.answer.Answer.{Answer}
-use Rattle.race_gate.specs.declared.answer.Answer.TheVariants.{Granted}
-use Rattle.race_gate.specs.declared.answer.Entry.{Entry}
-use Rattle.race_gate.specs.Entries.{Entries, event_between, event_of, with_event, control_part}
-use Rattle.race_gate.specs.Shapes.{Shape, IsInRange}
-use Rattle.race_gate.specs.Legal.{Belongs}
-use Rattle.race_gate.specs.Accesses.{cell_access, sort_of, is_granted, access_at, granted}
-use Rattle.race_gate.specs.Memory.{leaves, effect}
-use Rattle.race_gate.specs.Verdicts.{IfValue, IsRightVerdict}
-use Rattle.race_gate.specs.Reducers.{step_with, steps_of, read_at, granted_reads}
-use Rattle.race_gate.specs.ReducerVerdicts.{IsRightFor}
+use Rattle.model_histories.specs.declared.answer.Answer.{Answer}
+use Rattle.model_histories.specs.declared.answer.Answer.TheVariants.{Granted}
+use Rattle.model_histories.specs.declared.answer.Entry.{Entry}
+use Rattle.model_histories.specs.Entries.{Entries, event_between, event_of, with_event, control_part}
+use Rattle.model_histories.specs.Shapes.{Shape, IsInRange}
+use Rattle.model_histories.specs.Legal.{Belongs}
+use Rattle.model_races.specs.Accesses.{cell_access, is_granted, access_at, granted}
+use Rattle.race_gate.specs.Accesses.{sort_of}
+use Rattle.model_races.specs.Memory.{leaves, effect}
+use Rattle.model_races.specs.Verdicts.{IfValue, IsRightVerdict}
+use Rattle.model_races.specs.Reducers.{step_with, steps_of, read_at, granted_reads}
+use Rattle.model_races.specs.ReducerVerdicts.{IsRightFor}
 use Rattle.race_gate.specs.Books.{Books, Keeps, OptionKeepsStill, OptionKeepsOn, OptionKeepsSome, OptionKeepsRunning, OptionHasReducer, OptionAnswersAccess}
-use Rattle.race_gate.specs.States.{State}
+use Rattle.model_histories.specs.States.{State}
 use Rattle.race_gate.specs.Kept.{AreBooksOf, IsKept}
-use Rattle.race_gate.specs.Faults.{IsFaultless}
+use Rattle.model_histories.specs.Faults.{IsFaultless}
 use Rattle.race_gate.specs.Steps.{IsControl, FollowsWith, GoesOn, if_granted, IsJudgedBy, TakesPlace}
 use Rattle.race_gate.proofs.Effects.{memory-after}
 use Rattle.race_gate.proofs.Keeping.{keeps-other}

@@ -1,23 +1,23 @@
 -- The worked histories are judged as they show.
 use Rattle.std.proofs.Common.{◌≡◌, ℕ, zero, suc, true, [], ◌∷◌, refl, lit<, arith}
-use Rattle.access_table.specs.declared.kind.Rule.TheVariants.{Free, Race}
-use Rattle.access_table.specs.declared.kind.Kind.TheVariants as kind
-use Rattle.trace_values.specs.declared.value.Act.TheVariants.{Spawn, Read, Write}
-use Rattle.control_history.specs.Updated.{updated}
-use Rattle.control_history.specs.Strands.{Running}
-use Rattle.control_history.specs.Legal.{sync_same, root_return}
-use Rattle.control_history.specs.Dag.{stay}
-use Rattle.control_history.specs.Examples.{first_spawn}
-use Rattle.control_history.proofs.Examples.{examples_law}
-use Rattle.shadow_history.specs.Accesses.{Races}
-use Rattle.race_gate.specs.declared.access.CellAccess.{CellAccess}
-use Rattle.race_gate.specs.declared.answer.Answer.{Answer}
-use Rattle.race_gate.specs.declared.answer.Answer.TheVariants.{Split, Granted, Value}
-use Rattle.race_gate.specs.Entries.{Entries, control_part}
-use Rattle.race_gate.specs.Legal.{Belongs, MayFollow}
-use Rattle.race_gate.specs.Accesses.{granted}
-use Rattle.race_gate.specs.Judged.{IsJudged}
-use Rattle.race_gate.specs.Extensions.{IsClean}
+use Rattle.model_accesses.specs.declared.kind.Rule.TheVariants.{Free, Race}
+use Rattle.model_accesses.specs.declared.kind.Kind.TheVariants as kind
+use Rattle.model_accesses.specs.declared.request.Act.TheVariants.{Spawn, Read, Write}
+use Rattle.model_strands.specs.Updated.{updated}
+use Rattle.model_strands.specs.Strands.{Running}
+use Rattle.model_strands.specs.Legal.{sync_same, root_return}
+use Rattle.model_strands.specs.Dag.{stay}
+use Rattle.law_strands.specs.Examples.{first_spawn}
+use Rattle.law_strands.proofs.Examples.{examples_law}
+use Rattle.model_accesses.specs.Accesses.{Races}
+use Rattle.model_races.specs.declared.access.CellAccess.{CellAccess}
+use Rattle.model_histories.specs.declared.answer.Answer.{Answer}
+use Rattle.model_histories.specs.declared.answer.Answer.TheVariants.{Split, Granted, Value}
+use Rattle.model_histories.specs.Entries.{Entries, control_part}
+use Rattle.model_histories.specs.Legal.{Belongs, MayFollow}
+use Rattle.model_races.specs.Accesses.{granted}
+use Rattle.model_races.specs.Judged.{IsJudged}
+use Rattle.model_histories.specs.Extensions.{IsClean}
 use Rattle.race_gate.proofs.WorkedSteps.{free-at_first, free-of_one, write-granted, read-granted, root_runs, split_allowed, child_runs, next_runs}
 use Rattle.race_gate.specs.Examples.{one_cell, asked, one_strand, whole_run, spawned, parallel_reads, racing_write, refused_by_read, refused_by_write, read_behind, WorkedHistories}
 

@@ -1,14 +1,14 @@
 -- The verdicts on puts and gets are those of each finished extension of the whole history.
 use Rattle.std.proofs.Common.{◌≡◌, inl, inr, [], ◌∷◌, ◌++◌, append_assoc, ◌∙◌, ap, subst}
-use Rattle.control_history.specs.History.{History}
-use Rattle.control_history.specs.Extensions.{Extends}
-use Rattle.race_gate.specs.declared.answer.Entry.{Entry}
-use Rattle.race_gate.specs.Entries.{Entries, control_part}
-use Rattle.race_gate.specs.Shapes.{Shape}
-use Rattle.race_gate.specs.Reducers.{steps_of, granted_reads}
-use Rattle.race_gate.specs.ViewReads.{Completes}
-use Rattle.race_gate.specs.ReducerVerdicts.{IsRightFor, ReducersAreJudged}
-use Rattle.race_gate.specs.Laws.{ReadLaw}
+use Rattle.model_strands.specs.History.{History}
+use Rattle.model_strands.specs.Extensions.{Extends}
+use Rattle.model_histories.specs.declared.answer.Entry.{Entry}
+use Rattle.model_histories.specs.Entries.{Entries, control_part}
+use Rattle.model_histories.specs.Shapes.{Shape}
+use Rattle.model_races.specs.Reducers.{steps_of, granted_reads}
+use Rattle.model_races.specs.ViewReads.{Completes}
+use Rattle.model_races.specs.ReducerVerdicts.{IsRightFor, ReducersAreJudged}
+use Rattle.model_races.specs.Laws.{ReadLaw}
 use Rattle.race_gate.proofs.Races.{extends-part}
 
 -- a finished extension of a history is one of what it begins with

@@ -1,8 +1,8 @@
 -- What one history that the strands follow says, each says.
 use Rattle.std.proofs.Common.{◌≡◌, ℕ, true, refl, sym, subst, arith}
-use Rattle.control_history.specs.History.{History}
-use Rattle.control_history.specs.Strands.{unused, Running}
-use Rattle.control_history.specs.Blocks.{Stack, stack, IsSynced}
+use Rattle.model_strands.specs.History.{History}
+use Rattle.model_strands.specs.Strands.{unused, Running}
+use Rattle.model_strands.specs.Blocks.{Stack, stack, IsSynced}
 use Rattle.sp_labels.specs.Roster.{Roster, Follows, HasFewLeft, IsStanding, record_at}
 use Rattle.sp_labels.specs.declared.record.Scope.TheVariants.{Block}
 use Rattle.sp_labels.proofs.Queries.{running-known}

@@ -1,24 +1,25 @@
 -- The view of a strand at a granted get is the value of the definition.
 use Rattle.std.proofs.Common.{◌≡◌, inl, inr, ℕ, suc, ◌≤◌, List, [], ◌∷◌, map, length, Some, None, refl, sym, ◌∙◌, ap, subst, arith}
-use Rattle.trace_values.specs.declared.value.Monoid.{Monoid}
-use Rattle.trace_values.specs.declared.value.Monoid.TheVariants.{Sum, Min, Max, Last, Digits}
-use Rattle.control_history.specs.Strands.{Running}
-use Rattle.control_history.specs.Branches.{branch}
-use Rattle.view_read_rule.specs.Reads.{ReducerRead, IsReadOf}
-use Rattle.reducer_values.specs.Items.{Items, control, update, put, other}
-use Rattle.reducer_values.specs.Entries.{Entry, number_of as entry_number, strand_of, value_of, HasPut}
-use Rattle.reducer_values.specs.Accesses.{Steps, control_steps, AreLegal, items_of}
-use Rattle.reducer_values.specs.Views.{product}
-use Rattle.reducer_values.specs.GetValues.{IsLastPut, IsGranted, IsValue}
-use Rattle.reducer_values.proofs.Accesses.{projection_law}
-use Rattle.reducer_values.proofs.Steps.{put_numbered}
-use Rattle.reducer_views.specs.declared.view.View.{View}
-use Rattle.reducer_views.specs.declared.view.View.TheVariants.{Nothing, One, Pair}
-use Rattle.reducer_views.specs.Products.{product_of, put_view, update_view, number_of, reducer_of}
-use Rattle.reducer_views.specs.Touched.{monoid_of}
+use Rattle.model_reducers.specs.declared.monoid.Monoid.{Monoid}
+use Rattle.model_reducers.specs.declared.monoid.Monoid.TheVariants.{Sum, Min, Max, Last, Digits}
+use Rattle.model_strands.specs.Strands.{Running}
+use Rattle.law_strands.specs.Branches.{branch}
+use Rattle.model_accesses.specs.Reads.{ReducerRead, IsReadOf}
+use Rattle.model_reducers.specs.Items.{Items, control, update, put, other}
+use Rattle.model_reducers.specs.Entries.{Entry, number_of as entry_number, strand_of, value_of, HasPut}
+use Rattle.model_reducers.specs.Steps.{Steps, items_of}
+use Rattle.law_values.specs.Accesses.{control_steps, AreLegal}
+use Rattle.model_reducers.specs.Views.{product}
+use Rattle.model_reducers.specs.GetValues.{IsLastPut, IsValue}
+use Rattle.law_values.specs.GetValues.{IsGranted}
+use Rattle.law_values.proofs.Accesses.{projection_law}
+use Rattle.law_values.proofs.Steps.{put_numbered}
+use Rattle.model_reducers.specs.declared.view.View.{View}
+use Rattle.model_reducers.specs.declared.view.View.TheVariants.{Nothing, One, Pair}
+use Rattle.model_reducers.specs.Products.{product_of, put_view, update_view, number_of, reducer_of, monoid_of}
 use Rattle.reducer_views.specs.Held.{AreNumbers, view_of}
 use Rattle.reducer_views.proofs.Gets.{get_law}
-use Rattle.race_gate.specs.ReducerVerdicts.{IsGetValue}
+use Rattle.model_races.specs.ReducerVerdicts.{IsGetValue}
 use Rattle.race_gate.specs.Books.{PutsAreRead}
 
 -- where there is a put, there is a last one

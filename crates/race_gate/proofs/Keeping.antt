@@ -2,19 +2,21 @@
 use Rattle.std.proofs.Common.{◌≡◌, ◌⊎◌, inl, inr, ℕ, suc, ◌<◌, ◌^◌, List, [], ◌∷◌, ◌++◌, length, get_or, Contains, cond, eqb, true, IsTrue, refl, sym, ◌∙◌, ap, subst, arith, lit<}
 use Rattle.std.proofs.lemmas.List.{append-nil}
 use Rattle.std.proofs.lemmas.List.Elements.{Contains-append_left, Contains-append_right, Contains-append_cases}
-use Rattle.access_table.specs.Table.{is_reducer_read}
-use Rattle.control_history.specs.History.{Event, History}
-use Rattle.control_history.specs.Strands.{Running, Begun}
-use Rattle.control_history.specs.Legal.{Allowed}
-use Rattle.control_history.specs.Branches.{branch}
+use Rattle.model_accesses.specs.Table.{is_reducer_read}
+use Rattle.model_strands.specs.History.{Event, History}
+use Rattle.model_strands.specs.Strands.{Running, Begun}
+use Rattle.model_strands.specs.Legal.{Allowed}
+use Rattle.law_strands.specs.Branches.{branch}
 use Rattle.branch_names.specs.Names.{Follows}
-use Rattle.view_read_rule.specs.Reads.{ReducerRead, IsReadOf, AreOfOneBranch, Remembers}
+use Rattle.model_accesses.specs.Reads.{ReducerRead, IsReadOf}
+use Rattle.view_read_rule.specs.Reads.{AreOfOneBranch, Remembers}
 use Rattle.view_read_rule.proofs.Granted.{later}
-use Rattle.reducer_values.specs.Items as one
-use Rattle.reducer_values.specs.Items.{Items}
-use Rattle.reducer_values.specs.Entries.{Entry, put_entry, strand_of, HasPut}
-use Rattle.reducer_values.specs.Accesses.{Steps, control, update, put, other, control_steps, items_of}
-use Rattle.reducer_values.proofs.Accesses.{item_cases}
+use Rattle.model_reducers.specs.Items as one
+use Rattle.model_reducers.specs.Items.{Items}
+use Rattle.model_reducers.specs.Entries.{Entry, put_entry, strand_of, HasPut}
+use Rattle.model_reducers.specs.Steps.{Steps, control, update, put, other, items_of}
+use Rattle.law_values.specs.Accesses.{control_steps}
+use Rattle.law_values.proofs.Accesses.{item_cases}
 use Rattle.reducer_views.specs.Held.{Holding, Holds}
 use Rattle.reducer_views.proofs.Following.{quiet_law}
 use Rattle.race_gate.specs.Books.{Books, PutsAreRead, Keeps}

@@ -1,9 +1,9 @@
 -- Replies to a list of requests, one after another.
 use Rattle.std.proofs.Common.{◌≡◌, List, [], ◌∷◌, ◌++◌, refl, subst}
-use Rattle.trace_values.specs.declared.value.Request.{Request}
-use Rattle.race_gate.specs.declared.answer.Reply.{Reply}
-use Rattle.race_gate.specs.States.{State}
-use Rattle.race_gate.specs.Replies.{Judges, JudgesAll}
+use Rattle.model_accesses.specs.declared.request.Request.{Request}
+use Rattle.model_histories.specs.declared.reply.Reply.{Reply}
+use Rattle.model_histories.specs.States.{State}
+use Rattle.model_histories.specs.Replies.{Judges, JudgesAll}
 
 -- one more request and its reply
 JudgesAll-append : (old between new : State) (requests : List Request) (replies : List Reply) (request : Request) (reply : Reply) →

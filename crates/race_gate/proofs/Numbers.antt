@@ -1,10 +1,10 @@
 -- A history with so few entries never runs out of numbers for strands.
 use Rattle.std.proofs.Common.{ℕ, ◌+◌, ◌*◌, ◌<◌, ◌≤◌, Option, Some, None, [], ◌∷◌, length, true, false, arith}
-use Rattle.control_history.specs.History.{Event, split, same, joined, waits, call, resumed, ended, ended_joined, finished, History}
-use Rattle.control_history.specs.Strands.{unused}
+use Rattle.model_strands.specs.History.{Event, split, same, joined, waits, call, resumed, ended, ended_joined, finished, History}
+use Rattle.model_strands.specs.Strands.{unused}
 use Rattle.sp_labels.specs.Roster.{HasFewLeft}
-use Rattle.race_gate.specs.Entries.{Entries, event_of, with_event, control_part}
-use Rattle.race_gate.specs.Shapes.{most_entries}
+use Rattle.model_histories.specs.Entries.{Entries, event_of, with_event, control_part}
+use Rattle.model_histories.specs.Shapes.{most_entries}
 
 unused-event : (event : Event) (history : History) → unused (event ∷ history) ≤ unused history + 3
 unused-event (split strand child next join true) history = omega arith

@@ -2,12 +2,12 @@
 use Rattle.std.proofs.Common.{◌≡◌, ℕ, ◌≤◌, List, [], length, replicate, false, Option, Some, None, refl, arith}
 use Rattle.std.proofs.lemmas.List.{get_or-replicate}
 use Rattle.std.proofs.Math.ListN.{length-replicate}
-use Rattle.trace_values.specs.declared.value.Monoid.{Monoid}
+use Rattle.model_reducers.specs.declared.monoid.Monoid.{Monoid}
 use Rattle.sp_labels.specs.Roster.{Roster, Follows}
 use Rattle.shadow_history.specs.declared.cell.Cell.{Cell}
 use Rattle.shadow_history.specs.Shadow.{Remembers}
-use Rattle.race_gate.specs.Shapes.{Shape, most_entries}
-use Rattle.race_gate.specs.States.{opening}
+use Rattle.model_histories.specs.Shapes.{Shape, most_entries}
+use Rattle.model_histories.specs.States.{opening}
 use Rattle.branch_names.specs.Names.{Follows as FollowsNames}
 use Rattle.view_read_rule.specs.Reads.{Remembers as RemembersReads}
 use Rattle.reducer_views.specs.Held.{Holds}

@@ -3,23 +3,25 @@ use Rattle.std.proofs.Common.{◌≡◌, ◌<◌, ◌⊎◌, inl, inr, ℕ, suc,
 use Rattle.std.proofs.lemmas.List.Elements.{Contains-append_cases}
 use Rattle.std.specs.Prelude.{MatchOption, if◌then◌else◌}
 use Rattle.std.specs.Option.{option_map, option_to_list}
-use Rattle.control_history.specs.History.{Event, History}
-use Rattle.control_history.specs.Strands.{Begun}
-use Rattle.control_history.specs.Legal.{Allowed, Legal, start, then as grown}
-use Rattle.control_history.specs.Dag.{IsParallel}
-use Rattle.control_history.specs.Extensions.{Extends as ControlExtends}
-use Rattle.control_history.proofs.Branches.{stability_law}
-use Rattle.shadow_history.specs.Accesses.{Access, HaveAllBegun}
+use Rattle.model_strands.specs.History.{Event, History}
+use Rattle.model_strands.specs.Strands.{Begun}
+use Rattle.model_strands.specs.Legal.{Allowed, Legal, start, then as grown}
+use Rattle.model_strands.specs.Dag.{IsParallel}
+use Rattle.model_strands.specs.Extensions.{Extends as ControlExtends}
+use Rattle.law_strands.proofs.Branches.{stability_law}
+use Rattle.model_accesses.specs.Accesses.{Access}
+use Rattle.shadow_history.specs.Accesses.{HaveAllBegun}
 use Rattle.shadow_history.proofs.Added.{listed-cases}
-use Rattle.race_gate.specs.declared.access.CellAccess.{CellAccess}
-use Rattle.race_gate.specs.declared.answer.Entry.{Entry}
-use Rattle.race_gate.specs.Entries.{Entries, event_of, with_event, control_part}
-use Rattle.race_gate.specs.Shapes.{Shape}
-use Rattle.race_gate.specs.Legal.{IsLegal}
-use Rattle.race_gate.specs.Accesses.{cell_access, is_granted, access_at, granted}
-use Rattle.race_gate.specs.Verdicts.{IsRightVerdict, MemoryIsJudged}
-use Rattle.race_gate.specs.Extensions.{Extends}
-use Rattle.race_gate.specs.Laws.{RaceLaw, VerdictLaw}
+use Rattle.model_races.specs.declared.access.CellAccess.{CellAccess}
+use Rattle.model_histories.specs.declared.answer.Entry.{Entry}
+use Rattle.model_histories.specs.Entries.{Entries, event_of, with_event, control_part}
+use Rattle.model_histories.specs.Shapes.{Shape}
+use Rattle.model_histories.specs.Legal.{IsLegal}
+use Rattle.model_races.specs.Accesses.{cell_access, is_granted, access_at, granted}
+use Rattle.model_races.specs.Verdicts.{IsRightVerdict, MemoryIsJudged}
+use Rattle.model_histories.specs.Extensions.{Extends}
+use Rattle.race_gate.specs.Laws.{RaceLaw}
+use Rattle.model_races.specs.Laws.{VerdictLaw}
 
 -- the control part of a legal history is legal
 legal-with : (event : Option Event) (history : History) → Legal history → MatchOption event (Unit {0}) (Allowed history) → Legal (with_event event history)

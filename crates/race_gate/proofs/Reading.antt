@@ -1,26 +1,27 @@
 -- The verdicts on puts and gets are right.
 use Rattle.std.proofs.Common.{◌≡◌, ◌≢◌, ◌⊎◌, inl, inr, ℕ, true, false, List, Option, Some, None, IsTrue, refl, sym, ◌∙◌, ap, subst}
 use Rattle.std.specs.Prelude.{MatchOption}
-use Rattle.access_table.specs.declared.kind.Kind.{Kind}
-use Rattle.access_table.specs.declared.kind.Kind.TheVariants as kind
-use Rattle.access_table.specs.declared.kind.Rule.{Rule}
-use Rattle.access_table.specs.declared.kind.Rule.TheVariants.{View}
-use Rattle.access_table.specs.Table.{rule_between, is_reducer_read}
+use Rattle.model_accesses.specs.declared.kind.Kind.{Kind}
+use Rattle.model_accesses.specs.declared.kind.Kind.TheVariants as kind
+use Rattle.model_accesses.specs.declared.kind.Rule.{Rule}
+use Rattle.model_accesses.specs.declared.kind.Rule.TheVariants.{View}
+use Rattle.model_accesses.specs.Table.{rule_between, is_reducer_read}
 use Rattle.access_table.proofs.Conflicts.{views_of_reducer_reads}
-use Rattle.control_history.specs.History.{History}
-use Rattle.control_history.specs.Strands.{Begun}
-use Rattle.control_history.specs.Legal.{Legal}
-use Rattle.control_history.specs.Branches.{branch}
-use Rattle.control_history.specs.Peers.{HaveSamePeers}
-use Rattle.control_history.proofs.Branches.{branch_law}
-use Rattle.shadow_history.specs.declared.witness.Witness.{Witness}
-use Rattle.view_read_rule.specs.Reads.{ReducerRead, first_read, witness_of, IsReadOf, IsOfBranch, AreOfOneBranch}
+use Rattle.model_strands.specs.History.{History}
+use Rattle.model_strands.specs.Strands.{Begun}
+use Rattle.model_strands.specs.Legal.{Legal}
+use Rattle.law_strands.specs.Branches.{branch}
+use Rattle.model_strands.specs.Peers.{HaveSamePeers}
+use Rattle.law_strands.proofs.Branches.{branch_law}
+use Rattle.model_accesses.specs.declared.witness.Witness.{Witness}
+use Rattle.model_accesses.specs.Reads.{ReducerRead, witness_of, IsReadOf}
+use Rattle.view_read_rule.specs.Reads.{first_read, IsOfBranch, AreOfOneBranch}
 use Rattle.view_read_rule.proofs.Firsts.{first-of, none-of}
-use Rattle.race_gate.specs.declared.answer.Answer.{Answer}
-use Rattle.race_gate.specs.declared.answer.Answer.TheVariants.{Refused, Unset}
-use Rattle.race_gate.specs.Accesses.{is_granted}
-use Rattle.race_gate.specs.Verdicts.{IsRefused, IfRefused}
-use Rattle.race_gate.specs.ViewReads.{Completes, IsTrueReadWitness, IsRightRead}
+use Rattle.model_histories.specs.declared.answer.Answer.{Answer}
+use Rattle.model_histories.specs.declared.answer.Answer.TheVariants.{Refused, Unset}
+use Rattle.model_races.specs.Accesses.{is_granted}
+use Rattle.model_races.specs.Verdicts.{IsRefused, IfRefused}
+use Rattle.model_races.specs.ViewReads.{Completes, IsTrueReadWitness, IsRightRead}
 use Rattle.race_gate.specs.Books.{MayRead, IsRefusal}
 
 module _ (history : History) (earlier : List ReducerRead) (strand reducer : ℕ) (new : Kind) (legal : Legal history)

@@ -1,33 +1,35 @@
 -- The worked histories of a reducer are judged, and the wrong answers in them are not.
 use Rattle.std.proofs.Common.{◌≡◌, inl, inr, ℕ, true, false, [], ◌∷◌, refl, sym, ap, ◌∙◌, subst, lit<}
-use Rattle.access_table.specs.declared.kind.Kind.TheVariants as kind
-use Rattle.access_table.specs.declared.kind.Rule.{Rule}
-use Rattle.access_table.specs.declared.kind.Rule.TheVariants.{View}
-use Rattle.access_table.specs.Table.{is_reducer_read}
-use Rattle.trace_values.specs.declared.value.Monoid.TheVariants.{Sum}
-use Rattle.trace_values.specs.declared.value.Act.TheVariants.{Sync, Return, Get}
-use Rattle.addresses.proofs.Extremes.{contains-head, contains-cases}
-use Rattle.control_history.specs.Updated.{updated}
-use Rattle.control_history.specs.History.{History, split, joined, ended}
-use Rattle.control_history.specs.Strands.{Running, Begun}
-use Rattle.control_history.specs.Blocks.{root, spawned as spawned_in}
-use Rattle.control_history.specs.Legal.{Allowed, Legal, next_split, sync_joined, child_return, start, then}
-use Rattle.control_history.specs.Branches.{trunk, right, branch}
-use Rattle.control_history.specs.Peers.{HaveSamePeers}
-use Rattle.control_history.specs.Examples.{first_spawn}
-use Rattle.control_history.proofs.Branches.{branch_law}
-use Rattle.control_history.proofs.Finish.{finish_law}
-use Rattle.shadow_history.specs.declared.witness.Witness.{Witness}
-use Rattle.view_read_rule.specs.Reads.{ReducerRead, IsReadOf, AreOfOneBranch}
-use Rattle.reducer_values.specs.Entries.{put_entry, strand_of}
-use Rattle.reducer_values.specs.Accesses.{Steps, control, update, put, other, AreLegal}
+use Rattle.model_accesses.specs.declared.kind.Kind.TheVariants as kind
+use Rattle.model_accesses.specs.declared.kind.Rule.{Rule}
+use Rattle.model_accesses.specs.declared.kind.Rule.TheVariants.{View}
+use Rattle.model_accesses.specs.Table.{is_reducer_read}
+use Rattle.model_reducers.specs.declared.monoid.Monoid.TheVariants.{Sum}
+use Rattle.model_accesses.specs.declared.request.Act.TheVariants.{Sync, Return, Get}
+use Rattle.law_addresses.proofs.Extremes.{contains-head, contains-cases}
+use Rattle.model_strands.specs.Updated.{updated}
+use Rattle.model_strands.specs.History.{History, split, joined, ended}
+use Rattle.model_strands.specs.Strands.{Running, Begun}
+use Rattle.model_strands.specs.Blocks.{root, spawned as spawned_in}
+use Rattle.model_strands.specs.Legal.{Allowed, Legal, next_split, sync_joined, child_return, start, then}
+use Rattle.law_strands.specs.Branches.{trunk, right, branch}
+use Rattle.model_strands.specs.Peers.{HaveSamePeers}
+use Rattle.law_strands.specs.Examples.{first_spawn}
+use Rattle.law_strands.proofs.Branches.{branch_law}
+use Rattle.law_strands.proofs.Finish.{finish_law}
+use Rattle.model_accesses.specs.declared.witness.Witness.{Witness}
+use Rattle.model_accesses.specs.Reads.{ReducerRead, IsReadOf}
+use Rattle.view_read_rule.specs.Reads.{AreOfOneBranch}
+use Rattle.model_reducers.specs.Entries.{put_entry, strand_of}
+use Rattle.model_reducers.specs.Steps.{Steps, control, update, put, other}
+use Rattle.law_values.specs.Accesses.{AreLegal}
 use Rattle.reducer_views.specs.Held.{AreNumbers}
-use Rattle.race_gate.specs.declared.answer.Answer.TheVariants.{Joined, Ended, Granted, Value, Refused}
-use Rattle.race_gate.specs.Entries.{Entries}
-use Rattle.race_gate.specs.ViewReads.{Completes, IsRightRead}
-use Rattle.race_gate.specs.ReducerVerdicts.{IsGetValue}
+use Rattle.model_histories.specs.declared.answer.Answer.TheVariants.{Joined, Ended, Granted, Value, Refused}
+use Rattle.model_histories.specs.Entries.{Entries}
+use Rattle.model_races.specs.ViewReads.{Completes, IsRightRead}
+use Rattle.model_races.specs.ReducerVerdicts.{IsGetValue}
 use Rattle.race_gate.specs.Books.{PutsAreRead}
-use Rattle.race_gate.specs.Judged.{IsJudged}
+use Rattle.model_races.specs.Judged.{IsJudged}
 use Rattle.race_gate.specs.Examples.{asked}
 use Rattle.race_gate.specs.ReducerExamples.{one_sum, added_by_child, refused_by_put, early_get, grown_peers, WorkedReducers}
 use Rattle.race_gate.proofs.Races.{none-listed}

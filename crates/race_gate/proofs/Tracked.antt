@@ -1,27 +1,27 @@
 -- A request that has no fault is answered.
 use Rattle.std.proofs.Common.{◌≡◌, ℕ, suc, ◌<◌, List, length, Option, Some, Result, Ok, Err, refl, sym, subst, arith}
 use Rattle.std.specs.Prelude.{MatchResult, IfOk, IfErr, OnErr, slice_index}
-use Rattle.trace_values.specs.declared.value.Act.TheVariants.{Return}
-use Rattle.trace_values.specs.declared.value.Request.{Request}
-use Rattle.control_history.specs.History.{Event, History}
-use Rattle.control_history.specs.Strands.{Running}
-use Rattle.control_history.specs.Blocks.{stack, IsSynced}
+use Rattle.model_accesses.specs.declared.request.Act.TheVariants.{Return}
+use Rattle.model_accesses.specs.declared.request.Request.{Request}
+use Rattle.model_strands.specs.History.{Event, History}
+use Rattle.model_strands.specs.Strands.{Running}
+use Rattle.model_strands.specs.Blocks.{stack, IsSynced}
 use Rattle.sp_labels.specs.Roster.{Roster, Follows, HasFewLeft}
 use Rattle.shadow_history.specs.declared.cell.Cell.{Cell}
-use Rattle.shadow_history.specs.Accesses.{Access}
+use Rattle.model_accesses.specs.Accesses.{Access}
 use Rattle.shadow_history.specs.Shadow.{Remembers}
-use Rattle.race_gate.specs.declared.access.CellAccess.{CellAccess}
+use Rattle.model_races.specs.declared.access.CellAccess.{CellAccess}
 use Rattle.race_gate.specs.declared.access.Sort.TheVariants.{Control, Cell as CellSort, Reducer}
-use Rattle.race_gate.specs.declared.answer.Answer.{Answer}
-use Rattle.race_gate.specs.declared.fault.GateFault.{GateFault}
-use Rattle.race_gate.specs.declared.fault.GateFault.TheVariants.{Memory}
-use Rattle.race_gate.specs.Entries.{event_between}
-use Rattle.race_gate.specs.Legal.{Belongs}
+use Rattle.model_histories.specs.declared.answer.Answer.{Answer}
+use Rattle.model_histories.specs.declared.fault.GateFault.{GateFault}
+use Rattle.model_histories.specs.declared.fault.GateFault.TheVariants.{Memory}
+use Rattle.model_histories.specs.Entries.{event_between}
+use Rattle.model_histories.specs.Legal.{Belongs}
 use Rattle.race_gate.specs.Accesses.{sort_of}
-use Rattle.race_gate.specs.Memory.{effect}
-use Rattle.race_gate.specs.Verdicts.{IfValue}
+use Rattle.model_races.specs.Memory.{effect}
+use Rattle.model_races.specs.Verdicts.{IfValue}
 use Rattle.race_gate.specs.Books.{Books, OptionKeepsStill, OptionKeepsOn, OptionKeepsRunning, OptionHasReducer, OptionAnswersAccess}
-use Rattle.race_gate.specs.States.{State}
+use Rattle.model_histories.specs.States.{State}
 use Rattle.race_gate.specs.Kept.{IsKept, IsReady, with_entry}
 use Rattle.race_gate.specs.Steps.{FollowsWith, GoesOn, IsJudgedBy, TakesPlace}
 use Rattle.race_gate.proofs.Followed.{running-in-each, synced-in-each, few-in-each}

@@ -3,8 +3,9 @@ use Rattle.std.proofs.Common.{◌≡◌, ℕ, ◌+◌, ◌%◌, ◌^◌, Bool, t
 use Rattle.std.specs.Prelude.{◌==◌}
 use Rattle.std.proofs.lemmas.List.{append-nil}
 use Rattle.std.proofs.lemmas.Bool.{eqb-true, eq-eqb}
-use Rattle.race_gate.specs.Entries.{Entries}
-use Rattle.race_gate.specs.Memory.{Effect, sets, adds, leaves, effect, effects, last_written, bumped_since, IsWriteOf, HasNoWrite, bump_of, bumps_of}
+use Rattle.model_histories.specs.Entries.{Entries}
+use Rattle.model_races.specs.Memory.{Effect, sets, adds, leaves, effect, effects, last_written, bumped_since}
+use Rattle.race_gate.specs.Memory.{IsWriteOf, HasNoWrite, bump_of, bumps_of}
 use Rattle.race_gate.specs.Laws.{ValueLaw}
 
 -- one effect that is no write of the cell

@@ -1,22 +1,22 @@
 -- What worked histories have in common: accesses without a race, and the steps up to the first spawn.
 use Rattle.std.proofs.Common.{◌≡◌, inl, inr, ℕ, true, List, [], ◌∷◌, ◌++◌, refl, subst}
-use Rattle.access_table.specs.declared.kind.Rule.TheVariants.{Race}
-use Rattle.access_table.specs.Table.{rule_between}
-use Rattle.control_history.specs.Updated.{updated}
-use Rattle.control_history.specs.History.{split, History}
-use Rattle.control_history.specs.Strands.{Running}
-use Rattle.control_history.specs.Legal.{Allowed, open_split, Legal, start, then}
-use Rattle.control_history.specs.Dag.{IsParallel}
-use Rattle.control_history.specs.Examples.{first_spawn}
-use Rattle.shadow_history.specs.Accesses.{Access}
+use Rattle.model_accesses.specs.declared.kind.Rule.TheVariants.{Race}
+use Rattle.model_accesses.specs.Table.{rule_between}
+use Rattle.model_strands.specs.Updated.{updated}
+use Rattle.model_strands.specs.History.{split, History}
+use Rattle.model_strands.specs.Strands.{Running}
+use Rattle.model_strands.specs.Legal.{Allowed, open_split, Legal, start, then}
+use Rattle.model_strands.specs.Dag.{IsParallel}
+use Rattle.law_strands.specs.Examples.{first_spawn}
+use Rattle.model_accesses.specs.Accesses.{Access}
 use Rattle.shadow_history.proofs.Added.{listed-cases}
-use Rattle.race_gate.specs.declared.access.CellAccess.{CellAccess}
-use Rattle.race_gate.specs.declared.answer.Answer.TheVariants.{Granted, Value}
-use Rattle.race_gate.specs.Entries.{Entries, control_part}
-use Rattle.race_gate.specs.Accesses.{granted}
-use Rattle.race_gate.specs.Races.{HasRace}
-use Rattle.race_gate.specs.Memory.{value_of}
-use Rattle.race_gate.specs.Verdicts.{IsRightVerdict}
+use Rattle.model_races.specs.declared.access.CellAccess.{CellAccess}
+use Rattle.model_histories.specs.declared.answer.Answer.TheVariants.{Granted, Value}
+use Rattle.model_histories.specs.Entries.{Entries, control_part}
+use Rattle.model_races.specs.Accesses.{granted}
+use Rattle.model_races.specs.Races.{HasRace}
+use Rattle.model_races.specs.Memory.{value_of}
+use Rattle.model_races.specs.Verdicts.{IsRightVerdict}
 use Rattle.race_gate.proofs.Races.{none-listed}
 
 -- ---- accesses without a race

@@ -1,30 +1,32 @@
 -- What a gate keeps of reducers: the names of the strands' branches, the first read of each reducer, and the views of the strands.
 use Rattle.std.specs.Prelude.{◌≡◌, ◌<◌, ◌++◌, ◌⊎◌, ℕ, true, List, [], ◌∷◌, length, Option, Some, None, IsTrue}
 use Rattle.std.specs.Option.{option_to_list}
-use Rattle.access_table.specs.declared.kind.Kind.{Kind}
-use Rattle.access_table.specs.declared.kind.Kind.TheVariants as kind
-use Rattle.access_table.specs.Table.{is_reducer_read}
-use Rattle.trace_values.specs.declared.value.Monoid.{Monoid}
-use Rattle.trace_values.specs.declared.value.Act.{Act}
-use Rattle.trace_values.specs.declared.value.Act.TheVariants.{Update, Put, Get}
-use Rattle.control_history.specs.History.{Event, History}
-use Rattle.control_history.specs.Strands.{Running}
-use Rattle.control_history.specs.Legal.{Allowed}
-use Rattle.control_history.specs.Branches.{branch}
+use Rattle.model_accesses.specs.declared.kind.Kind.{Kind}
+use Rattle.model_accesses.specs.declared.kind.Kind.TheVariants as kind
+use Rattle.model_accesses.specs.Table.{is_reducer_read}
+use Rattle.model_reducers.specs.declared.monoid.Monoid.{Monoid}
+use Rattle.model_accesses.specs.declared.request.Act.{Act}
+use Rattle.model_accesses.specs.declared.request.Act.TheVariants.{Update, Put, Get}
+use Rattle.model_strands.specs.History.{Event, History}
+use Rattle.model_strands.specs.Strands.{Running}
+use Rattle.model_strands.specs.Legal.{Allowed}
+use Rattle.law_strands.specs.Branches.{branch}
 use Rattle.branch_names.specs.Names.{Names, Follows}
-use Rattle.shadow_history.specs.declared.witness.Witness.{Witness}
-use Rattle.view_read_rule.specs.Reads.{ReducerRead, IsReadOf, AreOfOneBranch, Remembers}
-use Rattle.reducer_values.specs.Entries.{Entry, strand_of, HasPut}
-use Rattle.reducer_values.specs.Accesses.{Steps, control, control_steps, AreLegal, items_of}
+use Rattle.model_accesses.specs.declared.witness.Witness.{Witness}
+use Rattle.model_accesses.specs.Reads.{ReducerRead, IsReadOf}
+use Rattle.view_read_rule.specs.Reads.{AreOfOneBranch, Remembers}
+use Rattle.model_reducers.specs.Entries.{Entry, strand_of, HasPut}
+use Rattle.model_reducers.specs.Steps.{Steps, control, items_of}
+use Rattle.law_values.specs.Accesses.{control_steps, AreLegal}
 use Rattle.reducer_views.specs.Held.{Holding, Holds, AreNumbers}
-use Rattle.race_gate.specs.declared.answer.Answer.{Answer}
-use Rattle.race_gate.specs.declared.answer.Answer.TheVariants.{Unset}
-use Rattle.race_gate.specs.Entries.{event_between}
-use Rattle.race_gate.specs.Legal.{Belongs}
-use Rattle.race_gate.specs.Verdicts.{IsRefused}
-use Rattle.race_gate.specs.Reducers.{step_with, read_at}
-use Rattle.race_gate.specs.ViewReads.{IsRightRead}
-use Rattle.race_gate.specs.ReducerVerdicts.{IsRightFor}
+use Rattle.model_histories.specs.declared.answer.Answer.{Answer}
+use Rattle.model_histories.specs.declared.answer.Answer.TheVariants.{Unset}
+use Rattle.model_histories.specs.Entries.{event_between}
+use Rattle.model_histories.specs.Legal.{Belongs}
+use Rattle.model_races.specs.Verdicts.{IsRefused}
+use Rattle.model_races.specs.Reducers.{step_with, read_at}
+use Rattle.model_races.specs.ViewReads.{IsRightRead}
+use Rattle.model_races.specs.ReducerVerdicts.{IsRightFor}
 
 pub record Books : Type 0 where
   pub branches : Names

@@ -1,16 +1,16 @@
 -- What a gate is without the list of its entries.
 use Rattle.std.specs.Prelude.{◌≡◌, ◌↔◌, ℕ, Bool, IsTrue, List, length, Option, Result, Ok, Err}
-use Rattle.trace_values.specs.declared.value.Request.{Request}
+use Rattle.model_accesses.specs.declared.request.Request.{Request}
 use Rattle.sp_labels.specs.Roster.{Roster}
 use Rattle.shadow_history.specs.declared.cell.Cell.{Cell}
-use Rattle.race_gate.specs.declared.answer.Answer.{Answer}
-use Rattle.race_gate.specs.declared.answer.Reply.{Reply}
-use Rattle.race_gate.specs.declared.answer.Reply.TheVariants.{Done, Illegal}
-use Rattle.race_gate.specs.declared.fault.GateFault.{GateFault}
-use Rattle.race_gate.specs.Entries.{Entries}
-use Rattle.race_gate.specs.Shapes.{Shape}
-use Rattle.race_gate.specs.Extensions.{IsFinished}
-use Rattle.race_gate.specs.States.{State}
+use Rattle.model_histories.specs.declared.answer.Answer.{Answer}
+use Rattle.model_histories.specs.declared.reply.Reply.{Reply}
+use Rattle.model_histories.specs.declared.reply.Reply.TheVariants.{Done, Illegal}
+use Rattle.model_histories.specs.declared.fault.GateFault.{GateFault}
+use Rattle.model_histories.specs.Entries.{Entries}
+use Rattle.model_histories.specs.Shapes.{Shape}
+use Rattle.model_histories.specs.Extensions.{IsFinished}
+use Rattle.model_histories.specs.States.{State}
 use Rattle.race_gate.specs.Books.{Books}
 use Rattle.race_gate.specs.Kept.{IsKept}
 

@@ -1,16 +1,16 @@
 -- Worked histories of one cell, the newest entry first, and what they show.
 use Rattle.std.specs.Prelude.{ℕ, true, [], ◌∷◌}
-use Rattle.access_table.specs.declared.kind.Kind.TheVariants as kind
-use Rattle.access_table.specs.declared.kind.Rule.TheVariants.{Race}
-use Rattle.trace_values.specs.declared.value.Act.{Act}
-use Rattle.trace_values.specs.declared.value.Act.TheVariants.{Spawn, Sync, Return, Read, Write}
-use Rattle.race_gate.specs.declared.answer.Answer.{Answer}
-use Rattle.race_gate.specs.declared.answer.Answer.TheVariants.{Split, Same, Finished, Granted, Value, Refused}
-use Rattle.race_gate.specs.declared.answer.Entry.{Entry}
-use Rattle.race_gate.specs.Entries.{Entries}
-use Rattle.race_gate.specs.Shapes.{Shape}
-use Rattle.race_gate.specs.Judged.{IsJudged}
-use Rattle.race_gate.specs.Extensions.{IsFinished, IsClean}
+use Rattle.model_accesses.specs.declared.kind.Kind.TheVariants as kind
+use Rattle.model_accesses.specs.declared.kind.Rule.TheVariants.{Race}
+use Rattle.model_accesses.specs.declared.request.Act.{Act}
+use Rattle.model_accesses.specs.declared.request.Act.TheVariants.{Spawn, Sync, Return, Read, Write}
+use Rattle.model_histories.specs.declared.answer.Answer.{Answer}
+use Rattle.model_histories.specs.declared.answer.Answer.TheVariants.{Split, Same, Finished, Granted, Value, Refused}
+use Rattle.model_histories.specs.declared.answer.Entry.{Entry}
+use Rattle.model_histories.specs.Entries.{Entries}
+use Rattle.model_histories.specs.Shapes.{Shape}
+use Rattle.model_races.specs.Judged.{IsJudged}
+use Rattle.model_histories.specs.Extensions.{IsFinished, IsClean}
 
 abbrev pub one_cell : Shape
 one_cell = record { cells = 1; monoids = [] }

@@ -1,18 +1,19 @@
 -- What a gate keeps beside its state.
 use Rattle.std.specs.Prelude.{◌≡◌, ◌+◌, ◌≤◌, ℕ, [], ◌∷◌, List, length, Option, Some, None}
-use Rattle.trace_values.specs.declared.value.Monoid.{Monoid}
-use Rattle.trace_values.specs.declared.value.Request.{Request}
+use Rattle.model_reducers.specs.declared.monoid.Monoid.{Monoid}
+use Rattle.model_accesses.specs.declared.request.Request.{Request}
 use Rattle.sp_labels.specs.Roster.{Roster, Follows}
 use Rattle.shadow_history.specs.declared.cell.Cell.{Cell}
 use Rattle.shadow_history.specs.Shadow.{Remembers}
-use Rattle.race_gate.specs.Entries.{Entries, control_part}
-use Rattle.race_gate.specs.Shapes.{Shape, most_entries}
-use Rattle.race_gate.specs.Accesses.{granted}
-use Rattle.race_gate.specs.Reducers.{steps_of, granted_reads}
-use Rattle.race_gate.specs.States.{State, IsRight}
-use Rattle.race_gate.specs.Faults.{IsFaultless}
+use Rattle.model_histories.specs.Entries.{Entries, control_part}
+use Rattle.model_histories.specs.Shapes.{Shape, most_entries}
+use Rattle.model_races.specs.Accesses.{granted}
+use Rattle.model_races.specs.Reducers.{steps_of, granted_reads}
+use Rattle.model_histories.specs.States.{State}
+use Rattle.race_gate.specs.States.{IsRight}
+use Rattle.model_histories.specs.Faults.{IsFaultless}
 use Rattle.race_gate.specs.Books.{Books, Keeps, OpensBooks}
-use Rattle.race_gate.specs.declared.answer.Answer.{Answer}
+use Rattle.model_histories.specs.declared.answer.Answer.{Answer}
 
 -- the books are those of the history, and there are none exactly where the program has no reducers
 abbrev pub AreBooksOf : Shape → Entries → Option Books → Type 0

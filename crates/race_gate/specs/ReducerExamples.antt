@@ -1,16 +1,16 @@
 -- Worked histories of one reducer, the newest entry first, and what they show.
 use Rattle.std.specs.Prelude.{ℕ, true, false, [], ◌∷◌}
-use Rattle.access_table.specs.declared.kind.Kind.TheVariants as kind
-use Rattle.access_table.specs.declared.kind.Rule.{Rule}
-use Rattle.access_table.specs.declared.kind.Rule.TheVariants.{View}
-use Rattle.trace_values.specs.declared.value.Monoid.TheVariants.{Sum}
-use Rattle.trace_values.specs.declared.value.Act.TheVariants.{Spawn, Sync, Return, Update, Put, Get}
-use Rattle.shadow_history.specs.declared.witness.Witness.{Witness}
-use Rattle.race_gate.specs.declared.answer.Answer.{Answer}
-use Rattle.race_gate.specs.declared.answer.Answer.TheVariants.{Split, Joined, Ended, Granted, Value, Refused}
-use Rattle.race_gate.specs.Entries.{Entries}
-use Rattle.race_gate.specs.Shapes.{Shape}
-use Rattle.race_gate.specs.Judged.{IsJudged}
+use Rattle.model_accesses.specs.declared.kind.Kind.TheVariants as kind
+use Rattle.model_accesses.specs.declared.kind.Rule.{Rule}
+use Rattle.model_accesses.specs.declared.kind.Rule.TheVariants.{View}
+use Rattle.model_reducers.specs.declared.monoid.Monoid.TheVariants.{Sum}
+use Rattle.model_accesses.specs.declared.request.Act.TheVariants.{Spawn, Sync, Return, Update, Put, Get}
+use Rattle.model_accesses.specs.declared.witness.Witness.{Witness}
+use Rattle.model_histories.specs.declared.answer.Answer.{Answer}
+use Rattle.model_histories.specs.declared.answer.Answer.TheVariants.{Split, Joined, Ended, Granted, Value, Refused}
+use Rattle.model_histories.specs.Entries.{Entries}
+use Rattle.model_histories.specs.Shapes.{Shape}
+use Rattle.model_races.specs.Judged.{IsJudged}
 use Rattle.race_gate.specs.Examples.{asked, spawned}
 
 abbrev pub one_sum : Shape

@@ -1,34 +1,6 @@
--- What a program declares, and the limits on it.
-use Rattle.std.specs.Prelude.{◌<◌, ℕ, List, length}
-use Rattle.trace_values.specs.declared.value.Monoid.{Monoid}
-use Rattle.trace_values.specs.declared.value.Shape.{Shape as DeclaredShape}
-use Rattle.trace_values.specs.declared.value.Act.{Act}
-use Rattle.trace_values.specs.declared.value.Act.TheVariants.{Read, Write, Bump, Update, Put, Get}
-
--- how many cells there are, and the monoid of each reducer
-pub record Shape : Type 0 where
-  pub cells : ℕ
-  pub monoids : List Monoid
+-- The shape of a gate, as the definitions have it.
+use Rattle.model_histories.specs.Shapes.{Shape}
+use Rattle.text_words.specs.declared.value.Shape.{Shape as DeclaredShape}
 
 abbrev pub shape_of : {A : Type 0} → DeclaredShape A → Shape
 shape_of shape = record { cells = shape.cells; monoids = shape.monoids }
-
--- the most cells, the most reducers, and the most entries of a history
-abbrev pub most_cells : ℕ
-most_cells = 1_000_000
-
-abbrev pub most_reducers : ℕ
-most_reducers = 256
-
-abbrev pub most_entries : ℕ
-most_entries = 1_000_000
-
--- the cell or reducer that the act names is there
-abbrev pub IsInRange : Shape → Act → Type 0
-IsInRange shape (Read location) = location < shape.cells
-IsInRange shape (Write location value) = location < shape.cells
-IsInRange shape (Bump location value) = location < shape.cells
-IsInRange shape (Update reducer value) = reducer < length shape.monoids
-IsInRange shape (Put reducer value) = reducer < length shape.monoids
-IsInRange shape (Get reducer) = reducer < length shape.monoids
-IsInRange shape act = Unit {0}

@@ -1,21 +1,7 @@
--- What a gate shows.
-use Rattle.std.specs.Prelude.{ℕ, List, [], Bool, false, replicate}
-use Rattle.race_gate.specs.Entries.{Entries}
-use Rattle.race_gate.specs.Shapes.{Shape}
-use Rattle.race_gate.specs.Judged.{IsJudged}
-use Rattle.race_gate.specs.Memory.{IsMemory}
-
--- the shape and the limit that it was made with, whether it was stopped, the entries so far, the newest first, and the cells' values
-pub record State : Type 0 where
-  pub shape : Shape
-  pub limit : ℕ
-  pub stopped : Bool
-  pub history : Entries
-  pub memory : List ℕ
-
--- at first there are no entries, and 0 in each cell
-abbrev pub opening : Shape → ℕ → State
-opening shape limit = record { shape = shape; limit = limit; stopped = false; history = []; memory = replicate shape.cells 0 }
+-- What is right of what a gate shows.
+use Rattle.model_histories.specs.States.{State}
+use Rattle.model_races.specs.Judged.{IsJudged}
+use Rattle.model_races.specs.Memory.{IsMemory}
 
 -- the history is judged rightly, and the memory is what it leaves
 pub record IsRight (state : State) : Type 0 where

@@ -2,21 +2,21 @@
 use Rattle.std.specs.Prelude.{◌≡◌, ◌↔◌, ◌<◌, ◌+◌, ◌%◌, ◌^◌, ◌==◌, ℕ, List, ◌∷◌, ◌++◌}
 use Rattle.std.specs.Prelude.{length, slice_index, Some, None, Option, if◌then◌else◌}
 use Rattle.std.specs.Option.{option_to_list}
-use Rattle.trace_values.specs.declared.value.Act.{Act}
-use Rattle.trace_values.specs.declared.value.Act.TheVariants.{Spawn, Sync, Call, Return}
-use Rattle.control_history.specs.History.{Event, History}
+use Rattle.model_accesses.specs.declared.request.Act.{Act}
+use Rattle.model_accesses.specs.declared.request.Act.TheVariants.{Spawn, Sync, Call, Return}
+use Rattle.model_strands.specs.History.{Event, History}
 use Rattle.sp_labels.specs.Roster.{Roster, Follows}
 use Rattle.shadow_history.specs.declared.cell.Cell.{Cell}
-use Rattle.shadow_history.specs.Accesses.{Access}
+use Rattle.model_accesses.specs.Accesses.{Access}
 use Rattle.shadow_history.specs.Shadow.{Remembers}
-use Rattle.race_gate.specs.declared.access.CellAccess.{CellAccess}
-use Rattle.race_gate.specs.declared.answer.Answer.{Answer}
-use Rattle.race_gate.specs.Entries.{event_between}
-use Rattle.race_gate.specs.Legal.{Belongs}
-use Rattle.race_gate.specs.Accesses.{is_granted}
-use Rattle.race_gate.specs.Races.{HasRace, IsTrueWitness}
-use Rattle.race_gate.specs.Memory.{Effect, sets, adds, leaves}
-use Rattle.race_gate.specs.Verdicts.{IsRefused, IfRefused}
+use Rattle.model_races.specs.declared.access.CellAccess.{CellAccess}
+use Rattle.model_histories.specs.declared.answer.Answer.{Answer}
+use Rattle.model_histories.specs.Entries.{event_between}
+use Rattle.model_histories.specs.Legal.{Belongs}
+use Rattle.model_races.specs.Accesses.{is_granted}
+use Rattle.model_races.specs.Races.{HasRace, IsTrueWitness}
+use Rattle.model_races.specs.Memory.{Effect, sets, adds, leaves}
+use Rattle.model_races.specs.Verdicts.{IsRefused, IfRefused}
 use Rattle.race_gate.specs.Books.{Books, OptionKeepsSome}
 
 -- the acts of control

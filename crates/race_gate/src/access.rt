@@ -3,17 +3,9 @@
 ghost use Rattle.std.specs.Prelude.{◌≡◌};
 ghost use Rattle.race_gate.specs.Accesses.{sort_of};
 
-use access_table::{Kind, is_memory};
-use trace_values::{Act, Asked, access_asked};
-
-/// An access of a cell of memory.
-#[derive(Clone, Copy)]
-pub struct CellAccess {
-    /// What it does to the cell.
-    pub kind: Kind,
-    /// The number of the cell.
-    pub location: u32,
-}
+use access_table::is_memory;
+use model_races::CellAccess;
+use text_words::{Act, Asked, access_asked};
 
 /// What an act asks for.
 #[derive(Clone, Copy)]

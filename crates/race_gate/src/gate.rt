@@ -1,20 +1,20 @@
 //! The gate.
 
 ghost use Rattle.std.specs.Prelude.{◌≡◌, ◌≤◌, ◌↔◌, true, length, reverse, IsTrue, IfOk, IfErr};
-ghost use Rattle.race_gate.specs.Shapes.{shape_of, most_cells, most_reducers, most_entries};
-ghost use Rattle.race_gate.specs.Memory.{IsMemory};
-ghost use Rattle.race_gate.specs.Judged.{IsJudged};
-ghost use Rattle.race_gate.specs.Extensions.{IsFinished};
-ghost use Rattle.race_gate.specs.States.{opening};
-ghost use Rattle.race_gate.specs.Replies.{Judges, reply_of};
-ghost use Rattle.race_gate.specs.Admission.{IsAdmitted, IsOfTheGate};
+ghost use Rattle.race_gate.specs.Shapes.{shape_of};
+ghost use Rattle.model_histories.specs.Shapes.{most_cells, most_reducers, most_entries};
+ghost use Rattle.model_races.specs.Memory.{IsMemory};
+ghost use Rattle.model_races.specs.Judged.{IsJudged};
+ghost use Rattle.model_histories.specs.Extensions.{IsFinished};
+ghost use Rattle.model_histories.specs.States.{opening};
+ghost use Rattle.model_histories.specs.Replies.{Judges, reply_of};
+ghost use Rattle.model_histories.specs.Admission.{IsAdmitted, IsOfTheGate};
 
-use crate::answer::{Entry, Receipt};
-use crate::fault::GateFault;
 use crate::judging::Core;
+use model_histories::{Entry, GateFault, Receipt};
 use std::alloc::{AllocError, Allocator};
 use std::marker::Model;
-use trace_values::{Request, Shape};
+use text_words::{Request, Shape};
 
 /// A gate: it judges requests one after another and keeps the history of its answers. Contracts see its shape, its limit, whether it
 /// was stopped, its history, the newest entry first, and what its cells hold.
@@ -35,7 +35,7 @@ impl<A: Allocator + Clone> Drop for Gate<A> {
 
 impl<A: Allocator + Clone> Model for Gate<A> {
     ghost use Rattle.std.specs.Prelude.{reverse};
-    ghost use Rattle.race_gate.specs.States.{State};
+    ghost use Rattle.model_histories.specs.States.{State};
     ghost use Rattle.race_gate.specs.Cores.{IsCoreOf, with_history};
 
     ghost Value = { State };

@@ -1,23 +1,23 @@
 //! Judging without a history.
 
 ghost use Rattle.std.specs.Prelude.{◌≡◌, ◌≤◌, ◌+◌, ◌↔◌, true, length, IsTrue, IfOk, IfErr, MatchResult};
-ghost use Rattle.race_gate.specs.Shapes.{shape_of, most_cells, most_reducers, most_entries};
-ghost use Rattle.race_gate.specs.Memory.{IsMemory};
-ghost use Rattle.race_gate.specs.Extensions.{IsEnd};
-ghost use Rattle.race_gate.specs.States.{State, opening};
-ghost use Rattle.race_gate.specs.Faults.{IsFaultless, IsFirstFault};
+ghost use Rattle.race_gate.specs.Shapes.{shape_of};
+ghost use Rattle.model_histories.specs.Shapes.{most_cells, most_reducers, most_entries};
+ghost use Rattle.model_races.specs.Memory.{IsMemory};
+ghost use Rattle.model_histories.specs.Extensions.{IsEnd};
+ghost use Rattle.model_histories.specs.States.{State, opening};
+ghost use Rattle.model_histories.specs.Faults.{IsFaultless, IsFirstFault};
 ghost use Rattle.race_gate.specs.Kept.{with_entry};
-ghost use Rattle.race_gate.specs.Replies.{Judges};
-ghost use Rattle.race_gate.specs.Admission.{IsAdmitted, IsOfTheGate};
+ghost use Rattle.model_histories.specs.Replies.{Judges};
+ghost use Rattle.model_histories.specs.Admission.{IsAdmitted, IsOfTheGate};
 ghost use Rattle.race_gate.specs.Cores.{IsCoreOf, IsCore, reply_with};
 
-use crate::answer::{Answer, Receipt, Reply};
-use crate::fault::GateFault;
 use crate::step::is_in_range;
 use crate::tracks::Tracks;
+use model_histories::{Answer, GateFault, Receipt, Reply};
 use std::alloc::{AllocError, Allocator};
 use std::marker::Model;
-use trace_values::{Act, Monoids, Request, Shape};
+use text_words::{Act, Monoids, Request, Shape};
 
 /// All of a gate but its history: it judges requests one after another as a gate does, and counts its answers in place of keeping them.
 /// Contracts speak of every state of a gate that fits it; whoever wants one state keeps it, and gets the next one from each request.

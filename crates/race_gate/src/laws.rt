@@ -3,7 +3,8 @@
 ghost use Rattle.race_gate.specs.Admission.{AdmissionLaw, EntryLaw};
 ghost use Rattle.race_gate.specs.Examples.{WorkedHistories};
 ghost use Rattle.race_gate.specs.ReducerExamples.{WorkedReducers};
-ghost use Rattle.race_gate.specs.Laws.{RaceLaw, VerdictLaw, ReadLaw, ValueLaw};
+ghost use Rattle.race_gate.specs.Laws.{RaceLaw, ValueLaw};
+ghost use Rattle.model_races.specs.Laws.{VerdictLaw, ReadLaw};
 
 /// Later entries change no race.
 pub fn race_law()

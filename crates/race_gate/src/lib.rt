@@ -1,7 +1,7 @@
 //! The gate of a race detector: it judges the requests of a spawn-sync program's strands, one after another, and keeps the history of
 //! its answers.
 //!
-//! Which histories are right is said in `specs/` of the dag of the strands and of the whole list of granted accesses: a history is
+//! Which histories are right is said in `model_races` of the dag of the strands and of the whole list of granted accesses: a history is
 //! judged where it is legal, where each access of memory is refused exactly when an earlier granted access of a logically parallel
 //! strand conflicts with it (the determinacy races of Feng and Leiserson 1997), and where each put or get of a reducer is refused
 //! exactly when, in the dag of every finished extension, an earlier granted one is of a strand with other peers (the view-read races
@@ -14,8 +14,6 @@
 #![tactic(auto)]
 
 mod access;
-mod answer;
-mod fault;
 mod gate;
 mod judging;
 pub mod laws;
@@ -24,8 +22,7 @@ mod replies;
 mod step;
 mod tracks;
 
-pub use answer::{Answer, Entry, Receipt, Reply};
-pub use fault::GateFault;
 pub use gate::Gate;
 pub use judging::Core;
+pub use model_histories::{Answer, Entry, GateFault, Receipt, Reply};
 pub use replies::judge_all;

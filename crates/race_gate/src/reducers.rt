@@ -1,22 +1,23 @@
 //! What the gate keeps of reducers.
 
 ghost use Rattle.std.specs.Prelude.{◌≡◌, ◌<◌, ◌^◌, [], ℕ, List, length, true, Some, IfOk, OnOk, IsTrue, MatchOption};
-ghost use Rattle.access_table.specs.Table.{is_reducer_read};
-ghost use Rattle.control_history.specs.History.{Event};
-ghost use Rattle.control_history.specs.Strands.{Running};
-ghost use Rattle.reducer_values.specs.Accesses.{Steps, control_steps};
-ghost use Rattle.view_read_rule.specs.Reads.{ReducerRead};
-ghost use Rattle.race_gate.specs.Entries.{event_between};
+ghost use Rattle.model_accesses.specs.Table.{is_reducer_read};
+ghost use Rattle.model_strands.specs.History.{Event};
+ghost use Rattle.model_strands.specs.Strands.{Running};
+ghost use Rattle.model_reducers.specs.Steps.{Steps};
+ghost use Rattle.law_values.specs.Accesses.{control_steps};
+ghost use Rattle.model_accesses.specs.Reads.{ReducerRead};
+ghost use Rattle.model_histories.specs.Entries.{event_between};
 ghost use Rattle.race_gate.specs.Books.{Keeps, KeepsRunning, KeepsStill, KeepsOn, TakesEvent, HasRoom, HasRoomFor};
 ghost use Rattle.race_gate.specs.Books.{OptionHasReducer, IsRefusal, MayRead, AnswersAccess, OpensBooks};
 
-use crate::answer::Answer;
 use access_table::{Kind, rule};
 use branch_names::Branches;
+use model_histories::Answer;
 use reducer_views::Views;
 use std::alloc::{AllocError, Allocator};
 use std::marker::Model;
-use trace_values::{Act, Monoid};
+use text_words::{Act, Monoid};
 use view_read_rule::{ReadPeers, ViewVerdict};
 
 /// The branches of the strands, the first granted read of each reducer, and the strands' views of reducers.

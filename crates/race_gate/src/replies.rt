@@ -1,15 +1,15 @@
 //! Lists of requests.
 
 ghost use Rattle.std.specs.Prelude.{IfOk, OnErr, ◌≡◌};
-ghost use Rattle.race_gate.specs.Memory.{IsMemory};
-ghost use Rattle.race_gate.specs.Judged.{IsJudged};
-ghost use Rattle.race_gate.specs.Replies.{Judges, JudgesAll};
-ghost use Rattle.race_gate.specs.Admission.{AdmitsAll};
+ghost use Rattle.model_races.specs.Memory.{IsMemory};
+ghost use Rattle.model_races.specs.Judged.{IsJudged};
+ghost use Rattle.model_histories.specs.Replies.{Judges, JudgesAll};
+ghost use Rattle.model_histories.specs.Admission.{AdmitsAll};
 
-use crate::answer::Reply;
 use crate::gate::Gate;
+use model_histories::Reply;
 use std::alloc::{AllocError, Allocator};
-use trace_values::Request;
+use text_words::Request;
 
 /// Judges a request, and gives the reply to it.
 fn reply_to<A: Allocator + Clone>(gate: &mut Gate<A>, request: Request) -> Reply

@@ -1,31 +1,31 @@
 //! The steps that the gate makes at a request.
 
 ghost use Rattle.std.specs.Prelude.{◌≡◌, ◌<◌, ◌↔◌, ℕ, List, length, slice_index, true, Some, IsTrue, IsSome, IfOk, IfErr, OnOk, OnErr};
-ghost use Rattle.access_table.specs.Table.{is_memory_kind};
-ghost use Rattle.control_history.specs.History.{Event, History};
-ghost use Rattle.control_history.specs.Blocks.{stack, IsSynced};
+ghost use Rattle.model_accesses.specs.Table.{is_memory_kind};
+ghost use Rattle.model_strands.specs.History.{Event, History};
+ghost use Rattle.model_strands.specs.Blocks.{stack, IsSynced};
 ghost use Rattle.sp_labels.specs.Roster.{Follows, FollowsSome, HasFewLeft};
-ghost use Rattle.shadow_history.specs.Accesses.{Access};
+ghost use Rattle.model_accesses.specs.Accesses.{Access};
 ghost use Rattle.shadow_history.specs.Shadow.{Remembers, StandsOn, Runs};
-ghost use Rattle.race_gate.specs.Shapes.{shape_of, IsInRange};
-ghost use Rattle.race_gate.specs.Entries.{event_between};
-ghost use Rattle.race_gate.specs.Legal.{Belongs};
+ghost use Rattle.race_gate.specs.Shapes.{shape_of};
+ghost use Rattle.model_histories.specs.Shapes.{IsInRange};
+ghost use Rattle.model_histories.specs.Entries.{event_between};
+ghost use Rattle.model_histories.specs.Legal.{Belongs};
 ghost use Rattle.race_gate.specs.Books.{OptionKeepsStill, OptionKeepsOn, OptionKeepsRunning};
 ghost use Rattle.race_gate.specs.Books.{OptionAnswersAccess, OptionHasRoom, OptionHasReducer};
-ghost use Rattle.race_gate.specs.Accesses.{cell_access, is_granted};
-ghost use Rattle.race_gate.specs.Memory.{effect};
-ghost use Rattle.race_gate.specs.Verdicts.{IfValue};
+ghost use Rattle.model_races.specs.Accesses.{cell_access, is_granted};
+ghost use Rattle.model_races.specs.Memory.{effect};
+ghost use Rattle.model_races.specs.Verdicts.{IfValue};
 ghost use Rattle.race_gate.specs.Steps.{IsControl, FollowsWith, GoesOn, IsJudgedBy, TakesPlace};
 
-use crate::access::CellAccess;
-use crate::answer::Answer;
-use crate::fault::GateFault;
 use crate::reducers::Reducers;
 use access_table::{access_table, rule};
+use model_histories::{Answer, GateFault};
+use model_races::CellAccess;
 use shadow_history::Shadow;
 use sp_labels::{Returned, SpFault, Strands, Synced};
 use std::alloc::Allocator;
-use trace_values::{Act, Shape};
+use text_words::{Act, Shape};
 
 /// Whether the cell or reducer that an act names is there.
 pub fn is_in_range<A: Allocator>(shape: &Shape<A>, act: Act) -> bool

@@ -1,21 +1,20 @@
 //! What the gate keeps beside the history and the cells.
 
 ghost use Rattle.std.specs.Prelude.{◌≡◌, ◌<◌, ◌^◌, [], length, IfOk, MatchResult};
-ghost use Rattle.control_history.specs.History.{History};
+ghost use Rattle.model_strands.specs.History.{History};
 ghost use Rattle.sp_labels.specs.Roster.{Follows};
 ghost use Rattle.shadow_history.specs.Shadow.{Remembers};
 ghost use Rattle.race_gate.specs.Kept.{IsKept, IsReady, OpensTracks, with_entry};
-ghost use Rattle.race_gate.specs.States.{State};
+ghost use Rattle.model_histories.specs.States.{State};
 
 use crate::access::{Sort, sort_of};
-use crate::answer::Answer;
-use crate::fault::GateFault;
 use crate::reducers::{Reducers, opening_reducers};
 use crate::step::{control, judge_access, judge_reducer};
+use model_histories::{Answer, GateFault};
 use shadow_history::Shadow;
 use sp_labels::Strands;
 use std::alloc::{AllocError, Allocator};
-use trace_values::{Monoid, Request};
+use text_words::{Monoid, Request};
 
 /// What is kept of the strands, of the granted accesses of cells, and of the reducers.
 #[derive(Drop)]

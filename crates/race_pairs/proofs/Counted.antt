@@ -8,9 +8,9 @@ use Rattle.std.proofs.Math.ListN.{get_or-append}
 use Rattle.std.proofs.lemmas.Bool.{cases_Bool, false≢true}
 use Rattle.std.proofs.lemmas.List.{map-append, get_or-map, get_or-set_same, get_or-set_other, length_push, length-set, length-map}
 use Rattle.std.proofs.lemmas.List.Elements.{All-push, Contains-get_or}
-use Rattle.control_history.proofs.Updates.{same_or_not}
-use Rattle.control_history.proofs.Places.{below_or_beyond}
-use Rattle.race_gate.specs.declared.answer.Entry.{Entry}
+use Rattle.law_strands.proofs.Updates.{same_or_not}
+use Rattle.law_strands.proofs.Places.{below_or_beyond}
+use Rattle.model_histories.specs.declared.answer.Entry.{Entry}
 use Rattle.race_pairs.specs.declared.refusal.Lines.{Lines}
 use Rattle.race_pairs.specs.declared.refusal.Refusal.{Refusal}
 use Rattle.race_pairs.specs.declared.tally.Pair.{Pair}

@@ -5,13 +5,13 @@ use Rattle.std.specs.Option.{option_map}
 use Rattle.std.specs.List.{Contains}
 use Rattle.std.proofs.lemmas.Option.{slice_get_within, get_or_from_slice_get}
 use Rattle.std.proofs.lemmas.List.Elements.{All-push, Contains-append_left, Contains-push}
-use Rattle.control_history.specs.Strands.{Begun}
-use Rattle.control_history.specs.Dag.{IsParallel}
-use Rattle.control_history.proofs.Places.{below_or_beyond}
-use Rattle.race_gate.specs.declared.answer.Entry.{Entry}
-use Rattle.race_gate.specs.Entries.{control_part}
-use Rattle.race_gate.specs.Shapes.{Shape}
-use Rattle.race_gate.specs.Legal.{IsLegal}
+use Rattle.model_strands.specs.Strands.{Begun}
+use Rattle.model_strands.specs.Dag.{IsParallel}
+use Rattle.law_strands.proofs.Places.{below_or_beyond}
+use Rattle.model_histories.specs.declared.answer.Entry.{Entry}
+use Rattle.model_histories.specs.Entries.{control_part}
+use Rattle.model_histories.specs.Shapes.{Shape}
+use Rattle.model_histories.specs.Legal.{IsLegal}
 use Rattle.spawn_chains.specs.declared.lineage.Parting.{Parting}
 use Rattle.spawn_chains.specs.Partings.{IsParting}
 use Rattle.spawn_chains.proofs.Asked.{told_begun}

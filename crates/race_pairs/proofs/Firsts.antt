@@ -3,7 +3,7 @@ use Rattle.std.proofs.Common.{◌≡◌, ◌⊎◌, inl, inr, ℕ, zero, suc, �
 use Rattle.std.specs.List.{Contains}
 use Rattle.std.proofs.lemmas.List.Elements.{Contains-get_or, Contains-append_left, Contains-push, Contains-push_cases}
 use Rattle.std.proofs.lemmas.List.Quantifiers.{all_pairs_push}
-use Rattle.control_history.proofs.Places.{below_or_beyond}
+use Rattle.law_strands.proofs.Places.{below_or_beyond}
 use Rattle.race_pairs.specs.Firsts.{IsFirst, AreFirsts, Tells, none, hit, miss}
 
 module _ {K : Type 0} (tells : ℕ → K → Type 0) where

@@ -4,8 +4,8 @@ use Rattle.std.specs.List.{list_any}
 use Rattle.std.proofs.lemmas.Bool.{false≢true}
 use Rattle.std.proofs.lemmas.Bool.Decides.{eqb_tells}
 use Rattle.std.proofs.lemmas.List.Elements.{AllZip-push}
-use Rattle.control_history.proofs.Places.{below_or_beyond}
-use Rattle.race_gate.specs.declared.answer.Entry.{Entry}
+use Rattle.law_strands.proofs.Places.{below_or_beyond}
+use Rattle.model_histories.specs.declared.answer.Entry.{Entry}
 use Rattle.race_pairs.specs.declared.refusal.Lines.{Lines}
 use Rattle.race_pairs.specs.declared.refusal.Refusal.{Refusal}
 use Rattle.race_pairs.specs.Firsts.{IsFirst}

@@ -3,9 +3,9 @@ use Rattle.std.specs.Prelude.{◌≡◌, ◌⊎◌, ◌↔◌, ◌-◌, ◌<◌,
 use Rattle.std.specs.Prelude.{option_and_then, Option, Some, None, IsSome, IfSome, MatchOption}
 use Rattle.std.specs.Option.{option_map}
 use Rattle.std.specs.List.{All, Contains}
-use Rattle.control_history.specs.Dag.{IsParallel}
-use Rattle.race_gate.specs.declared.answer.Entry.{Entry}
-use Rattle.race_gate.specs.Entries.{control_part}
+use Rattle.model_strands.specs.Dag.{IsParallel}
+use Rattle.model_histories.specs.declared.answer.Entry.{Entry}
+use Rattle.model_histories.specs.Entries.{control_part}
 use Rattle.spawn_chains.specs.declared.lineage.Parting.{Parting}
 use Rattle.spawn_chains.specs.declared.lineage.OpenSpawn.{OpenSpawn}
 use Rattle.spawn_chains.specs.Frames.{frames}

@@ -1,14 +1,14 @@
 -- What one entry tells of a refusal.
 use Rattle.std.specs.Prelude.{◌≡◌, ℕ, zero, suc, List, Option, Some, None, slice_get, unwrap_or, option_and_then}
 use Rattle.std.specs.Option.{option_map}
-use Rattle.access_table.specs.declared.kind.Kind.{Kind}
-use Rattle.access_table.specs.declared.kind.Rule.{Rule}
-use Rattle.access_table.specs.declared.kind.Rule.TheVariants.{View}
-use Rattle.trace_values.specs.declared.asked.Asked.{Asked}
-use Rattle.trace_values.specs.Asking.{access_asked}
-use Rattle.race_gate.specs.declared.answer.Answer.{Answer}
-use Rattle.race_gate.specs.declared.answer.Answer.TheVariants.{Refused, Unset as IsUnset}
-use Rattle.race_gate.specs.declared.answer.Entry.{Entry}
+use Rattle.model_accesses.specs.declared.kind.Kind.{Kind}
+use Rattle.model_accesses.specs.declared.kind.Rule.{Rule}
+use Rattle.model_accesses.specs.declared.kind.Rule.TheVariants.{View}
+use Rattle.model_accesses.specs.declared.asked.Asked.{Asked}
+use Rattle.model_accesses.specs.Asking.{access_asked}
+use Rattle.model_histories.specs.declared.answer.Answer.{Answer}
+use Rattle.model_histories.specs.declared.answer.Answer.TheVariants.{Refused, Unset as IsUnset}
+use Rattle.model_histories.specs.declared.answer.Entry.{Entry}
 use Rattle.race_pairs.specs.declared.refusal.Reason.{Reason}
 use Rattle.race_pairs.specs.declared.refusal.Reason.TheVariants.{Race, ViewRead, Unset}
 use Rattle.race_pairs.specs.declared.refusal.Refusal.{Refusal}

@@ -1,7 +1,7 @@
 -- The pairs of lines so far, with an index of where each stands.
 use Rattle.std.specs.Prelude.{◌≡◌, ◌<◌, ◌≤◌, ℕ, Bool, List, length, slice_index_or, Some, None}
 use Rattle.std.specs.Map.{lookup}
-use Rattle.race_gate.specs.declared.answer.Entry.{Entry}
+use Rattle.model_histories.specs.declared.answer.Entry.{Entry}
 use Rattle.race_pairs.specs.declared.refusal.Lines.{Lines}
 use Rattle.race_pairs.specs.declared.tally.Pair.{Pair}
 use Rattle.race_pairs.specs.Refusals.{HasLines}

@@ -1,8 +1,8 @@
 //! How the strands of a refused access and its witness came about.
 
 ghost use Rattle.std.specs.Prelude.{◌≡◌, reverse, IfOk, MatchOption};
-ghost use Rattle.race_gate.specs.Shapes.{Shape};
-ghost use Rattle.race_gate.specs.Legal.{IsLegal};
+ghost use Rattle.model_histories.specs.Shapes.{Shape};
+ghost use Rattle.model_histories.specs.Legal.{IsLegal};
 ghost use Rattle.spawn_chains.specs.Makers.{IsLineage};
 ghost use Rattle.race_pairs.specs.Encounters.{chain_at, strand_at, strands_of, PartAt, GoesOn, IsOpenAt};
 

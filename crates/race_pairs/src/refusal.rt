@@ -3,9 +3,9 @@
 ghost use Rattle.std.specs.Prelude.{◌≡◌};
 ghost use Rattle.race_pairs.specs.Refusals.{reason_by, refusal_asked, refusal_told, entry_at, line_at, lines_of, refusal_at, lines_at};
 
-use access_table::{Kind, Rule};
+use model_accesses::{Kind, Rule};
 use race_gate::{Answer, Entry};
-use trace_values::{Asked, access_asked};
+use text_words::{Asked, access_asked};
 
 /// Why an access was refused.
 #[derive(Clone, Copy, Debug, PartialEq, Eq)]

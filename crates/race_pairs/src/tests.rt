@@ -2,13 +2,13 @@
 
 use crate::{Encounter, Lines, Pair, Reason, line_at, pairs, places, strand_at};
 use Act::{Call, Get, Put, Read, Return, Spawn, Write};
-use access_table::Kind;
+use model_accesses::Kind;
 use race_gate::{Entry, Gate};
 use spawn_chains::Lineage;
 use std::alloc::{AllocError, Global};
 use std::process::Abort;
 use std::test::Fail;
-use trace_values::{Act, Monoid, Monoids, Request, Shape};
+use text_words::{Act, Monoid, Monoids, Request, Shape};
 
 const WRITES: Reason = Reason::Race {
     earlier: Kind::Write,

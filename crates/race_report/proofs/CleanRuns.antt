@@ -3,13 +3,13 @@ use Rattle.std.proofs.Common.{◌≡◌, ℕ, ◌+◌, Bool, true, false, List, 
 use Rattle.std.specs.Prelude.{◌↔◌, IsTrue}
 use Rattle.std.specs.Option.{option_to_list}
 use Rattle.std.proofs.lemmas.List.Elements.{All-nil, All-cons, All-head, All-tail}
-use Rattle.trace_values.specs.declared.value.Request.{Request}
-use Rattle.trace_values.specs.Values.{Known}
+use Rattle.model_accesses.specs.declared.request.Request.{Request}
+use Rattle.text_words.specs.Values.{Known}
 use Rattle.serde_json.specs.Data.{Data}
-use Rattle.race_gate.specs.declared.answer.Answer.{Answer}
-use Rattle.race_gate.specs.declared.answer.Answer.TheVariants.{Refused, Unset}
-use Rattle.race_gate.specs.declared.answer.Entry.{Entry}
-use Rattle.race_gate.specs.Extensions.{IsCleanAnswer, IsClean}
+use Rattle.model_histories.specs.declared.answer.Answer.{Answer}
+use Rattle.model_histories.specs.declared.answer.Answer.TheVariants.{Refused, Unset}
+use Rattle.model_histories.specs.declared.answer.Entry.{Entry}
+use Rattle.model_histories.specs.Extensions.{IsCleanAnswer, IsClean}
 use Rattle.race_report.specs.Refusals.{answer_told, refusals_behind, refusals_told}
 use Rattle.race_report.specs.ReportText.{is_clean}
 use Rattle.race_report.proofs.Reversed.{all_reversed, all_reverses}

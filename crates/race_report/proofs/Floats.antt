@@ -6,12 +6,12 @@ use Rattle.std.specs.Option.{option_to_list}
 use Rattle.serde_json.specs.Data.{Data, null, number, unsigned, Members, no_members, member, put}
 use Rattle.serde_json.specs.View.{items_of}
 use Rattle.serde_json.specs.Written.{has_float, items_have_float, members_have_float}
-use Rattle.trace_values.specs.declared.value.Mem.{Mem}
-use Rattle.trace_values.specs.declared.value.Request.{Request}
-use Rattle.trace_values.specs.Values.{Known}
-use Rattle.race_gate.specs.declared.answer.Answer.{Answer}
-use Rattle.race_gate.specs.declared.answer.Answer.TheVariants.{Refused, Unset}
-use Rattle.race_gate.specs.declared.answer.Entry.{Entry}
+use Rattle.text_words.specs.declared.value.Mem.{Mem}
+use Rattle.model_accesses.specs.declared.request.Request.{Request}
+use Rattle.text_words.specs.Values.{Known}
+use Rattle.model_histories.specs.declared.answer.Answer.{Answer}
+use Rattle.model_histories.specs.declared.answer.Answer.TheVariants.{Refused, Unset}
+use Rattle.model_histories.specs.declared.answer.Entry.{Entry}
 use Rattle.race_report.specs.VerdictText.{refusal_word}
 use Rattle.race_report.specs.Refusals.{witness_told, refusal_told, answer_told, refusals_behind, refusals_told}
 use Rattle.race_report.specs.ReportText.{cells_told, memory_put, memory_told, schedules_told, is_clean, report_with, report_told}

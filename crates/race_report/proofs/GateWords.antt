@@ -3,27 +3,27 @@ use Rattle.std.proofs.Common.{◌≡◌, ℕ, List, [], ◌∷◌, refl, sym, su
 use Rattle.std.specs.Prelude.{MatchOption, IsSome}
 use Rattle.std.specs.List.{All}
 use Rattle.std.proofs.lemmas.List.Elements.{All-nil, All-cons}
-use Rattle.access_table.specs.declared.kind.Kind.{Kind}
-use Rattle.access_table.specs.declared.kind.Kind.TheVariants as kind
-use Rattle.access_table.specs.declared.kind.Rule.TheVariants.{Race, View}
-use Rattle.access_table.specs.Table.{rule_between, rule_spelling}
-use Rattle.trace_values.specs.declared.value.Act.{Act}
-use Rattle.trace_values.specs.declared.value.Act.TheVariants.{Spawn, Sync, Call, Return, Read, Write, Bump, Update, Put, Get}
-use Rattle.trace_values.specs.declared.value.Request.{Request}
-use Rattle.race_gate.specs.declared.answer.Answer.{Answer}
-use Rattle.race_gate.specs.declared.answer.Answer.TheVariants.{Refused}
-use Rattle.race_gate.specs.declared.answer.Reply.{Reply}
-use Rattle.race_gate.specs.declared.answer.Reply.TheVariants.{Done, Illegal}
-use Rattle.race_gate.specs.Entries.{Entries, control_part}
-use Rattle.race_gate.specs.Shapes.{Shape}
-use Rattle.race_gate.specs.Legal.{Belongs}
-use Rattle.race_gate.specs.Accesses.{cell_access}
-use Rattle.race_gate.specs.Verdicts.{IsRightVerdict}
-use Rattle.race_gate.specs.Reducers.{steps_of, granted_reads}
-use Rattle.race_gate.specs.ReducerVerdicts.{IsRightFor}
-use Rattle.race_gate.specs.Judged.{IsJudged}
-use Rattle.race_gate.specs.States.{State}
-use Rattle.race_gate.specs.Replies.{JudgesAll}
+use Rattle.model_accesses.specs.declared.kind.Kind.{Kind}
+use Rattle.model_accesses.specs.declared.kind.Kind.TheVariants as kind
+use Rattle.model_accesses.specs.declared.kind.Rule.TheVariants.{Race, View}
+use Rattle.model_accesses.specs.Table.{rule_between, rule_spelling}
+use Rattle.model_accesses.specs.declared.request.Act.{Act}
+use Rattle.model_accesses.specs.declared.request.Act.TheVariants.{Spawn, Sync, Call, Return, Read, Write, Bump, Update, Put, Get}
+use Rattle.model_accesses.specs.declared.request.Request.{Request}
+use Rattle.model_histories.specs.declared.answer.Answer.{Answer}
+use Rattle.model_histories.specs.declared.answer.Answer.TheVariants.{Refused}
+use Rattle.model_histories.specs.declared.reply.Reply.{Reply}
+use Rattle.model_histories.specs.declared.reply.Reply.TheVariants.{Done, Illegal}
+use Rattle.model_histories.specs.Entries.{Entries, control_part}
+use Rattle.model_histories.specs.Shapes.{Shape}
+use Rattle.model_histories.specs.Legal.{Belongs}
+use Rattle.model_races.specs.Accesses.{cell_access}
+use Rattle.model_races.specs.Verdicts.{IsRightVerdict}
+use Rattle.model_races.specs.Reducers.{steps_of, granted_reads}
+use Rattle.model_races.specs.ReducerVerdicts.{IsRightFor}
+use Rattle.model_races.specs.Judged.{IsJudged}
+use Rattle.model_histories.specs.States.{State}
+use Rattle.model_histories.specs.Replies.{JudgesAll}
 use Rattle.race_report.specs.VerdictText.{HasWord, HasWords}
 
 -- two kinds that race have a word for it, and so have two kinds of reads of reducers

@@ -5,22 +5,22 @@ use Rattle.std.specs.List.{All}
 use Rattle.std.specs.Option.{option_map, option_to_list}
 use Rattle.std.proofs.lemmas.List.{length-reverse}
 use Rattle.std.proofs.lemmas.List.Elements.{All-nil, All-cons, All-weaker, Contains-append_cases, Contains-push_cases}
-use Rattle.trace_values.specs.declared.value.Act.{Act}
-use Rattle.trace_values.specs.declared.value.Act.TheVariants.{Spawn, Sync, Call, Return, Read, Write, Bump, Update, Put, Get}
-use Rattle.shadow_history.specs.Accesses.{Access}
-use Rattle.view_read_rule.specs.Reads.{ReducerRead}
-use Rattle.race_gate.specs.declared.access.CellAccess.{CellAccess}
-use Rattle.race_gate.specs.declared.answer.Answer.{Answer}
-use Rattle.race_gate.specs.declared.answer.Answer.TheVariants.{Granted, Value, Refused, Unset}
-use Rattle.race_gate.specs.declared.answer.Entry.{Entry}
-use Rattle.race_gate.specs.Entries.{Entries, control_part}
-use Rattle.race_gate.specs.Shapes.{Shape}
-use Rattle.race_gate.specs.Legal.{Belongs}
-use Rattle.race_gate.specs.Accesses.{cell_access, is_granted, access_at, granted}
-use Rattle.race_gate.specs.Verdicts.{IsRightVerdict}
-use Rattle.race_gate.specs.Reducers.{steps_of, read_at, granted_reads}
-use Rattle.race_gate.specs.ReducerVerdicts.{IsRightFor}
-use Rattle.race_gate.specs.Judged.{IsJudged}
+use Rattle.model_accesses.specs.declared.request.Act.{Act}
+use Rattle.model_accesses.specs.declared.request.Act.TheVariants.{Spawn, Sync, Call, Return, Read, Write, Bump, Update, Put, Get}
+use Rattle.model_accesses.specs.Accesses.{Access}
+use Rattle.model_accesses.specs.Reads.{ReducerRead}
+use Rattle.model_races.specs.declared.access.CellAccess.{CellAccess}
+use Rattle.model_histories.specs.declared.answer.Answer.{Answer}
+use Rattle.model_histories.specs.declared.answer.Answer.TheVariants.{Granted, Value, Refused, Unset}
+use Rattle.model_histories.specs.declared.answer.Entry.{Entry}
+use Rattle.model_histories.specs.Entries.{Entries, control_part}
+use Rattle.model_histories.specs.Shapes.{Shape}
+use Rattle.model_histories.specs.Legal.{Belongs}
+use Rattle.model_races.specs.Accesses.{cell_access, is_granted, access_at, granted}
+use Rattle.model_races.specs.Verdicts.{IsRightVerdict}
+use Rattle.model_races.specs.Reducers.{steps_of, read_at, granted_reads}
+use Rattle.model_races.specs.ReducerVerdicts.{IsRightFor}
+use Rattle.model_races.specs.Judged.{IsJudged}
 use Rattle.race_gate.proofs.Races.{none-listed}
 use Rattle.race_report.specs.Conditions.{IsGetWhereUnset, HasWitness, IsTellable, AreTellable}
 use Rattle.race_report.proofs.GateWords.{answer_has_word}

@@ -3,10 +3,10 @@ use Rattle.std.proofs.Common.{◌≡◌, ℕ, Bool, true, false, Some, List, len
 use Rattle.std.proofs.lemmas.List.{length-map}
 use Rattle.serde_json.specs.Data.{Data, string}
 use Rattle.serde_json.specs.Find.{get}
-use Rattle.trace_values.specs.Declarations.{cells_of}
-use Rattle.trace_values.specs.declared.value.Reducer.{Reducer}
-use Rattle.program_text.specs.Sound.{IsSound}
-use Rattle.program_runs.specs.Laws.{CleanLaw}
+use Rattle.text_words.specs.Declarations.{cells_of}
+use Rattle.text_words.specs.declared.value.Reducer.{Reducer}
+use Rattle.model_bodies.specs.Sound.{IsSound}
+use Rattle.model_runs.specs.Laws.{CleanLaw}
 use Rattle.race_report.specs.Refusals.{refusals_told}
 use Rattle.race_report.specs.ReportText.{is_clean, memory_told, report_with}
 use Rattle.race_report.specs.Conditions.{shape_known}

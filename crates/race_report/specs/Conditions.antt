@@ -1,14 +1,14 @@
 -- What must hold of a run for its report to be told. A judged history meets it.
 use Rattle.std.specs.Prelude.{◌<◌, ◌≤◌, ℕ, List, length, map}
 use Rattle.std.specs.List.{All}
-use Rattle.trace_values.specs.declared.value.Act.{Act}
-use Rattle.trace_values.specs.declared.value.Act.TheVariants.{Get}
-use Rattle.trace_values.specs.Declarations.{cells_of}
-use Rattle.trace_values.specs.Values.{Known}
-use Rattle.race_gate.specs.declared.answer.Answer.{Answer}
-use Rattle.race_gate.specs.declared.answer.Answer.TheVariants.{Refused, Unset}
-use Rattle.race_gate.specs.declared.answer.Entry.{Entry}
-use Rattle.race_gate.specs.Shapes.{Shape, IsInRange}
+use Rattle.model_accesses.specs.declared.request.Act.{Act}
+use Rattle.model_accesses.specs.declared.request.Act.TheVariants.{Get}
+use Rattle.text_words.specs.Declarations.{cells_of}
+use Rattle.text_words.specs.Values.{Known}
+use Rattle.model_histories.specs.declared.answer.Answer.{Answer}
+use Rattle.model_histories.specs.declared.answer.Answer.TheVariants.{Refused, Unset}
+use Rattle.model_histories.specs.declared.answer.Entry.{Entry}
+use Rattle.model_histories.specs.Shapes.{Shape, IsInRange}
 use Rattle.race_report.specs.VerdictText.{HasWord}
 
 -- what is declared, as the shape of a gate

@@ -2,14 +2,14 @@
 use Rattle.std.specs.Prelude.{◌≡◌, ℕ, Some, List, length, reverse, codes}
 use Rattle.serde_json.specs.Data.{string}
 use Rattle.serde_json.specs.Find.{get}
-use Rattle.trace_values.specs.Declarations.{cells_of}
-use Rattle.trace_values.specs.Values.{Known}
-use Rattle.race_gate.specs.declared.answer.Entry.{Entry}
-use Rattle.race_gate.specs.Entries.{Entries}
-use Rattle.program_text.specs.Codes.{Code}
-use Rattle.program_text.specs.Sound.{IsSound}
-use Rattle.program_runs.specs.Runs.{IsRun, IsFinishedRun}
-use Rattle.program_runs.specs.Laws.{Agrees}
+use Rattle.text_words.specs.Declarations.{cells_of}
+use Rattle.text_words.specs.Values.{Known}
+use Rattle.model_histories.specs.declared.answer.Entry.{Entry}
+use Rattle.model_histories.specs.Entries.{Entries}
+use Rattle.model_bodies.specs.Codes.{Code}
+use Rattle.model_bodies.specs.Sound.{IsSound}
+use Rattle.model_runs.specs.Runs.{IsRun, IsFinishedRun}
+use Rattle.model_runs.specs.Laws.{Agrees}
 use Rattle.race_report.specs.ReportText.{report_told}
 use Rattle.race_report.specs.Conditions.{shape_known}
 

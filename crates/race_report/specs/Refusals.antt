@@ -2,16 +2,16 @@
 use Rattle.std.specs.Prelude.{ℕ, ◌+◌, ◌-◌, Option, Some, None, List, [], ◌∷◌, ◌++◌, codes, unwrap_or, slice_get}
 use Rattle.std.specs.Option.{option_map, option_to_list}
 use Rattle.serde_json.specs.Data.{Data, null, number, unsigned, string, object, member, no_members}
-use Rattle.trace_values.specs.declared.value.Act.{Act}
-use Rattle.trace_values.specs.declared.value.Act.TheVariants.{Read, Write, Bump, Update, Put, Get}
-use Rattle.trace_values.specs.declared.value.Reducer.{Reducer}
-use Rattle.trace_values.specs.declared.value.Request.{Request}
+use Rattle.model_accesses.specs.declared.request.Act.{Act}
+use Rattle.model_accesses.specs.declared.request.Act.TheVariants.{Read, Write, Bump, Update, Put, Get}
+use Rattle.text_words.specs.declared.value.Reducer.{Reducer}
+use Rattle.model_accesses.specs.declared.request.Request.{Request}
 use Rattle.trace_text.specs.Shapes.{name_of_cell}
-use Rattle.trace_values.specs.Values.{Known}
-use Rattle.shadow_history.specs.declared.witness.Witness.{Witness}
-use Rattle.race_gate.specs.declared.answer.Answer.{Answer}
-use Rattle.race_gate.specs.declared.answer.Answer.TheVariants.{Refused, Unset}
-use Rattle.race_gate.specs.declared.answer.Entry.{Entry}
+use Rattle.text_words.specs.Values.{Known}
+use Rattle.model_accesses.specs.declared.witness.Witness.{Witness}
+use Rattle.model_histories.specs.declared.answer.Answer.{Answer}
+use Rattle.model_histories.specs.declared.answer.Answer.TheVariants.{Refused, Unset}
+use Rattle.model_histories.specs.declared.answer.Entry.{Entry}
 use Rattle.race_report.specs.VerdictText.{refusal_word}
 
 -- the name of the reducer with this number

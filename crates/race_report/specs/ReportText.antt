@@ -3,9 +3,9 @@ use Rattle.std.specs.Prelude.{ℕ, Bool, true, false, List, [], ◌∷◌, codes
 use Rattle.serde_json.specs.Data.{Data, boolean, number, unsigned, string, array, object, Members, member, no_members, put}
 use Rattle.serde_json.specs.View.{items_of}
 use Rattle.serde_json.specs.Written.{compact_text}
-use Rattle.trace_values.specs.declared.value.Mem.{Mem}
-use Rattle.trace_values.specs.Values.{Known}
-use Rattle.race_gate.specs.declared.answer.Entry.{Entry}
+use Rattle.text_words.specs.declared.value.Mem.{Mem}
+use Rattle.text_words.specs.Values.{Known}
+use Rattle.model_histories.specs.declared.answer.Entry.{Entry}
 use Rattle.race_report.specs.Refusals.{refusals_told}
 
 -- what the cells of a memory hold: the number of a single cell, and the list of the numbers of an array

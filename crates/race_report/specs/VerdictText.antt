@@ -1,16 +1,16 @@
 -- The text of verdicts.
 use Rattle.std.specs.Prelude.{ℕ, Option, List, [], ◌∷◌, ◌++◌, codes, decimal, flat_map, unwrap_or, option_and_then, option_map, IsSome}
-use Rattle.access_table.specs.declared.kind.Kind.{Kind}
-use Rattle.access_table.specs.Table.{rule_between, rule_spelling}
-use Rattle.trace_values.specs.declared.value.Act.{Act}
-use Rattle.trace_values.specs.Asking.{access_asked}
-use Rattle.race_gate.specs.declared.answer.Answer.{Answer}
-use Rattle.race_gate.specs.declared.answer.Answer.TheVariants.{Split, Same, Joined, Waits, Resumed, Ended}
-use Rattle.race_gate.specs.declared.answer.Answer.TheVariants.{EndedJoined, Finished, Granted, Value, Refused, Unset}
-use Rattle.race_gate.specs.declared.answer.Reply.{Reply}
-use Rattle.race_gate.specs.declared.answer.Reply.TheVariants.{Done, Illegal}
-use Rattle.race_gate.specs.declared.fault.GateFault.{GateFault}
-use Rattle.race_gate.specs.declared.fault.GateFault.TheVariants.{Stopped, Limit, NotRunning, BadName, Unsynced, Memory}
+use Rattle.model_accesses.specs.declared.kind.Kind.{Kind}
+use Rattle.model_accesses.specs.Table.{rule_between, rule_spelling}
+use Rattle.model_accesses.specs.declared.request.Act.{Act}
+use Rattle.model_accesses.specs.Asking.{access_asked}
+use Rattle.model_histories.specs.declared.answer.Answer.{Answer}
+use Rattle.model_histories.specs.declared.answer.Answer.TheVariants.{Split, Same, Joined, Waits, Resumed, Ended}
+use Rattle.model_histories.specs.declared.answer.Answer.TheVariants.{EndedJoined, Finished, Granted, Value, Refused, Unset}
+use Rattle.model_histories.specs.declared.reply.Reply.{Reply}
+use Rattle.model_histories.specs.declared.reply.Reply.TheVariants.{Done, Illegal}
+use Rattle.model_histories.specs.declared.fault.GateFault.{GateFault}
+use Rattle.model_histories.specs.declared.fault.GateFault.TheVariants.{Stopped, Limit, NotRunning, BadName, Unsynced, Memory}
 
 -- the kind of access that an act is, where it is one
 abbrev pub kind_asked : Act → Option Kind

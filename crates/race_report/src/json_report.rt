@@ -3,10 +3,10 @@
 ghost use Rattle.std.specs.Prelude.{◌≡◌, ◌<◌, ◌≤◌, ◌↔◌, true, false, length, map, option_map, reverse, string_bytes, IfOk, IsTrue, IsSome};
 ghost use Rattle.serde_json.specs.Data.{number, unsigned};
 ghost use Rattle.serde_json.specs.View.{view};
-ghost use Rattle.trace_values.specs.Declarations.{cells_of};
+ghost use Rattle.text_words.specs.Declarations.{cells_of};
 ghost use Rattle.program_text.specs.Programs.{contents};
-ghost use Rattle.race_gate.specs.Shapes.{IsInRange};
-ghost use Rattle.race_gate.specs.Extensions.{IsClean};
+ghost use Rattle.model_histories.specs.Shapes.{IsInRange};
+ghost use Rattle.model_histories.specs.Extensions.{IsClean};
 ghost use Rattle.race_report.specs.VerdictText.{kind_asked};
 ghost use Rattle.race_report.specs.Refusals.{name_asked, line_of_entry, witness_told, refusal_told, answer_told, refusals_told};
 ghost use Rattle.race_report.specs.ReportText.{cells_told, memory_told, report_with, report_text};
@@ -14,13 +14,13 @@ ghost use Rattle.race_report.specs.Conditions.{shape_known, IsTellable, AreTella
 
 use crate::verdict::rule_of_refusal;
 use locked_replay::Whole;
+use model_accesses::Witness;
 use program_text::Program;
 use race_gate::{Answer, Entry};
 use serde_json::{Map, Value, json, put};
-use shadow_history::Witness;
 use std::alloc::{AllocError, Allocator, Global};
+use text_words::{Act, Mem, Request};
 use trace_text::cell_name;
-use trace_values::{Act, Mem, Request};
 
 /// The name of the cell or the reducer that an act asks for.
 fn name_of<A: Allocator>(

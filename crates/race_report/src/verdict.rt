@@ -11,11 +11,11 @@ use crate::counted::Counted;
 use crate::placed::{put_number, put_word};
 use access_table::{Kind, rule_word};
 use itoa::Buffer;
+use model_accesses::Witness;
+use model_strands::Spawned;
 use race_gate::{Answer, GateFault, Reply};
-use shadow_history::Witness;
-use sp_labels::Spawned;
 use std::alloc::{AllocError, Allocator};
-use trace_values::{Act, access_asked};
+use text_words::{Act, access_asked};
 
 /// Room for each verdict line, in bytes: the longest is of four numbers, of at most 20 digits each, and the words between them.
 pub const LINE_ROOM: usize = 96;

@@ -2,11 +2,12 @@
 use Rattle.std.proofs.Common.{◌≡◌, ℕ, ◌+◌, ◌-◌, ◌*◌, ◌%◌, ◌^◌, ◌<◌, min, max, refl, sym, ap, ap₂, ◌∙◌, arith, lit<}
 use Rattle.std.proofs.Math.Nat.{add-mod-mod, mod-add-mod, mod-lt, mod-eq_of_lt, mul_assoc, add-mul, add_assoc}
 use Rattle.std.proofs.lemmas.Nat.{mul-mod_first, mul-mod_second}
-use Rattle.trace_values.specs.declared.value.Monoid.{Monoid}
-use Rattle.trace_values.specs.declared.value.Monoid.TheVariants.{Sum, Min, Max, Last, Digits}
-use Rattle.reducer_views.specs.declared.view.View.{View}
-use Rattle.reducer_views.specs.declared.view.View.TheVariants.{Nothing, One, Pair}
-use Rattle.reducer_views.specs.Products.{FitsMonoid, identity_of, update_view, put_view, product_of, MonoidLaw}
+use Rattle.model_reducers.specs.declared.monoid.Monoid.{Monoid}
+use Rattle.model_reducers.specs.declared.monoid.Monoid.TheVariants.{Sum, Min, Max, Last, Digits}
+use Rattle.model_reducers.specs.declared.view.View.{View}
+use Rattle.model_reducers.specs.declared.view.View.TheVariants.{Nothing, One, Pair}
+use Rattle.reducer_views.specs.Products.{FitsMonoid, MonoidLaw}
+use Rattle.model_reducers.specs.Products.{identity_of, update_view, put_view, product_of}
 
 sum_assoc : (n a b c : ℕ) → ((a + b) % n + c) % n ≡ (a + (b + c) % n) % n
 sum_assoc n a b c = mod-add-mod (a + b) n c ∙ (ap (λ x. x % n) (add_assoc a b c) ∙ sym (add-mod-mod a (b + c) n))

@@ -3,19 +3,19 @@
 -- child, n its next and j the join
 use Rattle.std.proofs.Common.{◌≡◌, ◌≢◌, ◌⊎◌, inl, inr, ℕ, ◌+◌, ◌<◌, ◌≤◌, suc, Bool, true, false, List, [], ◌∷◌, ◌++◌, map, length, AllPairs, refl, sym, ap, ap₂, ◌∙◌, subst, subst₂, arith}
 use Rattle.std.proofs.lemmas.List.{map-append}
-use Rattle.control_history.specs.Updated.{updated}
-use Rattle.control_history.specs.History.{Event, split, same, joined, waits, call, resumed, ended, ended_joined, finished, History}
-use Rattle.control_history.specs.Strands.{absent, Status, reserved, running, over, status, unused}
-use Rattle.control_history.specs.Legal.{Allowed, Legal, start, then}
-use Rattle.control_history.proofs.Updates.{same_or_not, updated_at, updated_off, updated_case}
-use Rattle.control_history.proofs.Places.{Place, continuation, child_of, place, join_of, Seen, at_child, at_next, at_join, at_spawner, elsewhere, Ranges}
-use Rattle.control_history.proofs.Range.{ranges}
-use Rattle.control_history.proofs.Holders.{IsOpen, Open, Holders, holders, Splitting, splitting, running_open, not_open, join_reserved}
-use Rattle.control_history.proofs.Calm.{IsCalm, calm_place, calm_unused, calm_open}
-use Rattle.control_history.specs.Gatherings.{children}
-use Rattle.control_history.proofs.Members.{Present, present_append, present_all, pairs_push}
-use Rattle.addresses.proofs.Sorted.{pairs-nil, pairs-head, pairs-tail}
-use Rattle.control_history.proofs.Sides.{Sides, sides}
+use Rattle.model_strands.specs.Updated.{updated}
+use Rattle.model_strands.specs.History.{Event, split, same, joined, waits, call, resumed, ended, ended_joined, finished, History}
+use Rattle.model_strands.specs.Strands.{absent, Status, reserved, running, over, status, unused}
+use Rattle.model_strands.specs.Legal.{Allowed, Legal, start, then}
+use Rattle.law_strands.proofs.Updates.{same_or_not, updated_at, updated_off, updated_case}
+use Rattle.law_strands.proofs.Places.{Place, continuation, child_of, place, join_of, Seen, at_child, at_next, at_join, at_spawner, elsewhere, Ranges}
+use Rattle.law_strands.proofs.Range.{ranges}
+use Rattle.law_strands.proofs.Holders.{IsOpen, Open, Holders, holders, Splitting, splitting, running_open, not_open, join_reserved}
+use Rattle.law_strands.proofs.Calm.{IsCalm, calm_place, calm_unused, calm_open}
+use Rattle.law_strands.specs.Gatherings.{children}
+use Rattle.law_strands.proofs.Members.{Present, present_append, present_all, pairs_push}
+use Rattle.law_addresses.proofs.Sorted.{pairs-nil, pairs-head, pairs-tail}
+use Rattle.law_strands.proofs.Sides.{Sides, sides}
 use Rattle.reducer_views.specs.Homes.{home, later}
 use Rattle.reducer_views.specs.Pieces.{AreLater}
 

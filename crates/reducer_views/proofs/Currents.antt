@@ -3,22 +3,22 @@
 -- and j the join
 use Rattle.std.proofs.Common.{◌≡◌, ◌≢◌, ◌⊎◌, inl, inr, ℕ, ◌+◌, ◌<◌, ◌≤◌, suc, Bool, List, [], ◌∷◌, ◌++◌, map, length, Some, refl, sym, ap, ap₂, ◌∙◌, subst, subst₂, arith}
 use Rattle.std.proofs.lemmas.List.{map-append}
-use Rattle.control_history.specs.Updated.{updated}
-use Rattle.control_history.specs.History.{Event, split, same, joined, waits, call, resumed, ended, ended_joined, finished, History}
-use Rattle.control_history.specs.Strands.{Status, absent, reserved, running, over, status, Running, unused}
-use Rattle.control_history.specs.Blocks.{spawned, stack, enclosing, Outstanding, IsWaitedFor}
-use Rattle.control_history.specs.Legal.{Allowed, Legal, start, then, sync_joined, sync_waits, child_return, last_return}
-use Rattle.control_history.specs.Dag.{Arrives}
-use Rattle.control_history.proofs.Updates.{same_or_not, updated_at, updated_off, updated_case}
-use Rattle.control_history.proofs.Places.{Place, continuation, child_of, place_of, place, Seen, at_child, at_next, at_join, at_spawner, elsewhere, Ranges, running_below}
-use Rattle.control_history.proofs.Range.{ranges}
-use Rattle.control_history.proofs.Holders.{Holders, holders, Splitting, splitting, running_open}
-use Rattle.control_history.proofs.Calm.{IsCalm, calm_place, calm_unused, calm_arrives, joined_reserved}
-use Rattle.control_history.proofs.Fates.{fates}
-use Rattle.control_history.proofs.Sinks.{arrives_over}
-use Rattle.control_history.specs.Gatherings.{children, last_strand, returned_by, syncing_strand, synced_by, gathered}
-use Rattle.control_history.proofs.Members.{Present, present_append, present_map}
-use Rattle.control_history.proofs.Sides.{Sides, sides}
+use Rattle.model_strands.specs.Updated.{updated}
+use Rattle.model_strands.specs.History.{Event, split, same, joined, waits, call, resumed, ended, ended_joined, finished, History}
+use Rattle.model_strands.specs.Strands.{Status, absent, reserved, running, over, status, Running, unused}
+use Rattle.model_strands.specs.Blocks.{spawned, stack, enclosing, Outstanding, IsWaitedFor}
+use Rattle.model_strands.specs.Legal.{Allowed, Legal, start, then, sync_joined, sync_waits, child_return, last_return}
+use Rattle.model_strands.specs.Dag.{Arrives}
+use Rattle.law_strands.proofs.Updates.{same_or_not, updated_at, updated_off, updated_case}
+use Rattle.law_strands.proofs.Places.{Place, continuation, child_of, place_of, place, Seen, at_child, at_next, at_join, at_spawner, elsewhere, Ranges, running_below}
+use Rattle.law_strands.proofs.Range.{ranges}
+use Rattle.law_strands.proofs.Holders.{Holders, holders, Splitting, splitting, running_open}
+use Rattle.law_strands.proofs.Calm.{IsCalm, calm_place, calm_unused, calm_arrives, joined_reserved}
+use Rattle.law_strands.proofs.Fates.{fates}
+use Rattle.law_strands.proofs.Sinks.{arrives_over}
+use Rattle.law_strands.specs.Gatherings.{children, last_strand, returned_by, syncing_strand, synced_by, gathered}
+use Rattle.law_strands.proofs.Members.{Present, present_append, present_map}
+use Rattle.law_strands.proofs.Sides.{Sides, sides}
 use Rattle.reducer_views.specs.Homes.{home, IsCurrent}
 use Rattle.reducer_views.proofs.Blocks.{child_home, tail, continuations, Blocks, blocks, calm_reserved, next_not_child, old_home, home_at_child, home_at_next}
 

@@ -1,6 +1,6 @@
 -- What is kept at first.
 use Rattle.std.proofs.Common.{◌≡◌, ℕ, zero, suc, [], List, false, refl, arith}
-use Rattle.trace_values.specs.declared.value.Monoid.{Monoid}
+use Rattle.model_reducers.specs.declared.monoid.Monoid.{Monoid}
 use Rattle.reducer_views.specs.Pieces.{first_kept, kept_at, AreKept}
 use Rattle.reducer_views.specs.Held.{Holds}
 

@@ -3,33 +3,36 @@
 -- n its next and j the join
 use Rattle.std.proofs.Common.{◌≡◌, ◌≢◌, ◌⊎◌, inl, inr, ℕ, ◌+◌, ◌<◌, ◌≤◌, Bool, true, false, List, [], ◌∷◌, map, length, get_or, Option, Some, None, refl, sym, ap, ap₂, ◌∙◌, subst, subst₂, arith}
 use Rattle.std.proofs.lemmas.List.{get_or_default}
-use Rattle.trace_values.specs.declared.value.Monoid.{Monoid}
-use Rattle.trace_values.specs.declared.value.Monoid.TheVariants.{Sum}
-use Rattle.control_history.specs.Updated.{updated}
-use Rattle.control_history.specs.History.{Event, split, same, joined, waits, call, resumed, ended, ended_joined, finished, History}
-use Rattle.control_history.specs.Strands.{absent, reserved, running, over, status, Running, unused}
-use Rattle.control_history.specs.Blocks.{enclosing}
-use Rattle.control_history.specs.Legal.{Allowed, Legal, start, then, sync_waits, child_return, sync_joined, last_return, open_split, next_split}
-use Rattle.control_history.specs.Dag.{Arrives}
-use Rattle.control_history.proofs.Updates.{same_or_not, updated_at, updated_off}
-use Rattle.control_history.proofs.Places.{Ranges, Seen, at_child, at_next, at_join, at_spawner, elsewhere, below_or_beyond}
-use Rattle.control_history.proofs.Range.{ranges}
-use Rattle.control_history.proofs.Calm.{joined_reserved}
-use Rattle.control_history.proofs.Sinks.{arrives_over}
-use Rattle.control_history.proofs.Holders.{holders, Splitting, splitting}
-use Rattle.control_history.specs.Gatherings as gatherings
-use Rattle.control_history.proofs.Members.{Present, present_map, contains_present}
-use Rattle.reducer_values.specs.Items as one
-use Rattle.reducer_values.specs.Items.{Item, control_part}
-use Rattle.reducer_values.specs.Accesses.{Steps, control, update, put, other, control_steps, AreLegal, items_of}
-use Rattle.reducer_values.specs.Views.{product, view}
-use Rattle.reducer_values.proofs.Accesses.{item_cases, projection_law}
-use Rattle.control_history.proofs.Sides.{sides}
-use Rattle.reducer_views.specs.declared.view.View.{View}
-use Rattle.reducer_views.specs.Products.{FitsMonoid, identity_of, product_of, update_view, put_view, reducer_of}
+use Rattle.model_reducers.specs.declared.monoid.Monoid.{Monoid}
+use Rattle.model_reducers.specs.declared.monoid.Monoid.TheVariants.{Sum}
+use Rattle.model_strands.specs.Updated.{updated}
+use Rattle.model_strands.specs.History.{Event, split, same, joined, waits, call, resumed, ended, ended_joined, finished, History}
+use Rattle.model_strands.specs.Strands.{absent, reserved, running, over, status, Running, unused}
+use Rattle.model_strands.specs.Blocks.{enclosing}
+use Rattle.model_strands.specs.Legal.{Allowed, Legal, start, then, sync_waits, child_return, sync_joined, last_return, open_split, next_split}
+use Rattle.model_strands.specs.Dag.{Arrives}
+use Rattle.law_strands.proofs.Updates.{same_or_not, updated_at, updated_off}
+use Rattle.law_strands.proofs.Places.{Ranges, Seen, at_child, at_next, at_join, at_spawner, elsewhere, below_or_beyond}
+use Rattle.law_strands.proofs.Range.{ranges}
+use Rattle.law_strands.proofs.Calm.{joined_reserved}
+use Rattle.law_strands.proofs.Sinks.{arrives_over}
+use Rattle.law_strands.proofs.Holders.{holders, Splitting, splitting}
+use Rattle.law_strands.specs.Gatherings as gatherings
+use Rattle.law_strands.proofs.Members.{Present, present_map, contains_present}
+use Rattle.model_reducers.specs.Items as one
+use Rattle.model_reducers.specs.Items.{Item, control_part}
+use Rattle.model_reducers.specs.Steps.{Steps, control, update, put, other, items_of}
+use Rattle.law_values.specs.Accesses.{control_steps, AreLegal}
+use Rattle.model_reducers.specs.Views.{product}
+use Rattle.law_values.specs.Views.{view}
+use Rattle.law_values.proofs.Accesses.{item_cases, projection_law}
+use Rattle.law_strands.proofs.Sides.{sides}
+use Rattle.model_reducers.specs.declared.view.View.{View}
+use Rattle.reducer_views.specs.Products.{FitsMonoid}
+use Rattle.model_reducers.specs.Products.{identity_of, product_of, update_view, put_view, reducer_of, monoid_of}
 use Rattle.reducer_views.specs.declared.pieces.Piece.{Piece}
 use Rattle.reducer_views.specs.declared.touched.Touch.{Touch}
-use Rattle.reducer_views.specs.Touched.{touches_of, look_up, added, monoid_of, view_or, gathered, IsTouch}
+use Rattle.reducer_views.specs.Touched.{touches_of, look_up, added, view_or, gathered, IsTouch}
 use Rattle.reducer_views.specs.Pieces.{Kept, kept_of, all_kept, home_at, later_at, touches_at, view_in, AreKept, SameHomes, SetsAt, ChangesAt, AreLater, product_from, Combines, more_strands, Grown}
 use Rattle.reducer_views.specs.Homes.{home, later, IsCurrent}
 use Rattle.reducer_views.specs.Held.{Holding, Holds, view_of, IsQuiet, QuietLaw}

@@ -1,14 +1,14 @@
 -- The value of a granted get is the strand's view.
 use Rattle.std.proofs.Common.{ℕ, ◌<◌, ◌^◌, [], ◌∷◌, inl, inr, sym, subst}
-use Rattle.trace_values.specs.declared.value.Monoid.{Monoid}
-use Rattle.reducer_values.specs.Items as one
-use Rattle.reducer_values.specs.Accesses.{Steps, control, update, put, other, items_of}
-use Rattle.reducer_values.specs.Entries.{Entry, value_of, HasUpdate, HasPut}
-use Rattle.reducer_values.specs.Views.{EntriesFit}
-use Rattle.reducer_values.proofs.Accesses.{item_cases}
-use Rattle.reducer_values.proofs.Values.{value_law}
-use Rattle.reducer_views.specs.Products.{FitsMonoid, reducer_of}
-use Rattle.reducer_views.specs.Touched.{monoid_of}
+use Rattle.model_reducers.specs.declared.monoid.Monoid.{Monoid}
+use Rattle.model_reducers.specs.Items as one
+use Rattle.model_reducers.specs.Steps.{Steps, control, update, put, other, items_of}
+use Rattle.model_reducers.specs.Entries.{Entry, value_of, HasUpdate, HasPut}
+use Rattle.law_values.specs.Views.{EntriesFit}
+use Rattle.law_values.proofs.Accesses.{item_cases}
+use Rattle.law_values.proofs.Values.{value_law}
+use Rattle.reducer_views.specs.Products.{FitsMonoid}
+use Rattle.model_reducers.specs.Products.{reducer_of, monoid_of}
 use Rattle.reducer_views.specs.Held.{AreNumbers, GetLaw}
 use Rattle.reducer_views.proofs.Associative.{monoid_law}
 

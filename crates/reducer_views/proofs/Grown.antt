@@ -2,13 +2,13 @@
 use Rattle.std.proofs.Common.{◌≡◌, ◌≢◌, ◌⊎◌, inl, inr, ℕ, ◌+◌, ◌<◌, ◌≤◌, Bool, true, false, List, [], ◌∷◌, ◌++◌, length, get_or, set, refl, sym, ap, ap₂, ◌∙◌, subst, subst₂, arith, lit≤, length-append}
 use Rattle.std.proofs.lemmas.List.{get_or_append_left, get_or_past, get_or-set_other, get_or-set_same, length-set, map-append, map-set}
 use Rattle.std.proofs.Math.Seq.{get_or-append_seam}
-use Rattle.trace_values.specs.declared.value.Monoid.{Monoid}
+use Rattle.model_reducers.specs.declared.monoid.Monoid.{Monoid}
 use Rattle.reducer_views.specs.Touched.{look_up, listed_of, AreTouches}
 use Rattle.reducer_views.specs.Pieces.{Kept, kept_of, all_kept, kept_at, home_at, later_at, touches_at, AreKept, more_strands, Grown}
-use Rattle.control_history.proofs.Updates.{same_or_not}
+use Rattle.law_strands.proofs.Updates.{same_or_not}
 use Rattle.reducer_views.specs.declared.pieces.Piece.{Piece}
 use Rattle.reducer_views.proofs.KeptLists.{nothing_kept, kept_here, length-all_kept}
-use Rattle.control_history.proofs.Places.{below_or_beyond}
+use Rattle.law_strands.proofs.Places.{below_or_beyond}
 
 added_old : (strands : List Kept) (kept : Kept) (x : ℕ) → x < length strands → kept_at (strands ++ (kept ∷ [])) x ≡ kept_at strands x
 added_old strands kept x lt = get_or_append_left strands (kept ∷ []) nothing_kept x lt

@@ -1,15 +1,15 @@
 -- What is kept of the strands, when what is touched at one number changes.
 use Rattle.std.proofs.Common.{◌≡◌, ◌≢◌, ◌⊎◌, inl, inr, ℕ, ◌-◌, ◌<◌, zero, suc, List, [], ◌∷◌, length, map, get_or, set, Option, Some, None, Box, refl, sym, ap, ap₂, ◌∙◌, subst, subst₂, arith}
 use Rattle.std.proofs.lemmas.List.{get_or-map, get_or-set_other, get_or-set_same, length-map, length-set, map-set}
-use Rattle.control_history.proofs.Members.{Present, contains_present}
-use Rattle.trace_values.specs.declared.value.Monoid.{Monoid}
+use Rattle.law_strands.proofs.Members.{Present, contains_present}
+use Rattle.model_reducers.specs.declared.monoid.Monoid.{Monoid}
 use Rattle.reducer_views.specs.declared.pieces.Piece.{Piece}
 use Rattle.reducer_views.specs.declared.touched.Touch.{Touch}
 use Rattle.reducer_views.specs.declared.touched.Slot.{Slot}
-use Rattle.reducer_views.specs.Products.{identity_of, product_of}
-use Rattle.reducer_views.specs.Touched.{Touches, touches_of, look_up, listed_of, Changes, both, added, monoid_of, view_or, gathered, IsTouch, AreTouches}
+use Rattle.model_reducers.specs.Products.{identity_of, product_of, monoid_of}
+use Rattle.reducer_views.specs.Touched.{Touches, touches_of, look_up, listed_of, Changes, both, added, view_or, gathered, IsTouch, AreTouches}
 use Rattle.reducer_views.specs.Pieces.{Kept, kept_of, all_kept, kept_at, home_at, later_at, touches_at, view_in, AreKept, SameHomes, WithTouches, TakesOver, SetsAt, ChangesAt, AreLater, product_from, Combines}
-use Rattle.control_history.proofs.Updates.{same_or_not}
+use Rattle.law_strands.proofs.Updates.{same_or_not}
 use Rattle.reducer_views.proofs.Listed.{look_up-listed_of}
 use Rattle.reducer_views.proofs.Touches.{both_touch, both_view, added_touch, added_view}
 

@@ -1,11 +1,12 @@
 -- Tables of touches: where a reducer stands, and what two of them make.
 use Rattle.std.proofs.Common.{◌≡◌, ◌≢◌, ◌⊎◌, inl, inr, ℕ, ◌+◌, ◌-◌, ◌*◌, ◌/◌, ◌%◌, List, Option, Some, None, refl, sym, ap, ap₂, ◌∙◌, subst, subst₂, arith}
 use Rattle.std.proofs.lemmas.Bool.Decides.{eqb_tells}
-use Rattle.trace_values.specs.declared.value.Monoid.{Monoid}
-use Rattle.reducer_views.specs.declared.view.View.{View}
+use Rattle.model_reducers.specs.declared.monoid.Monoid.{Monoid}
+use Rattle.model_reducers.specs.declared.view.View.{View}
 use Rattle.reducer_views.specs.declared.touched.Touch.{Touch}
-use Rattle.reducer_views.specs.Products.{FitsMonoid, identity_of, product_of}
-use Rattle.reducer_views.specs.Touched.{Touches, untouched, spread, Changes, combined, both, added, monoid_of, view_or, gathered, IsTouch, AreTouches}
+use Rattle.reducer_views.specs.Products.{FitsMonoid}
+use Rattle.model_reducers.specs.Products.{identity_of, product_of, monoid_of}
+use Rattle.reducer_views.specs.Touched.{Touches, untouched, spread, Changes, combined, both, added, view_or, gathered, IsTouch, AreTouches}
 use Rattle.reducer_views.proofs.Associative.{product_of-fits, identity-left, identity-right, identity_of-fits}
 
 pub spread_first : (first : Option Touch) (odd even : Touches) (reducer : ℕ) → reducer ≡ 0 → spread first odd even reducer ≡ first

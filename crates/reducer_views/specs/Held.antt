@@ -1,17 +1,18 @@
 -- What `Views` holds, and the lists of steps that it follows.
 use Rattle.std.specs.Prelude.{◌≡◌, ◌↔◌, ◌<◌, ◌^◌, ℕ, Bool, List, [], ◌∷◌, length}
-use Rattle.trace_values.specs.declared.value.Monoid.{Monoid}
-use Rattle.sp_labels.specs.declared.answer.Spawned.{Spawned}
-use Rattle.control_history.specs.History.{Event, split, same, waits, call, resumed, ended, finished}
-use Rattle.control_history.specs.Strands.{unused}
-use Rattle.control_history.specs.Legal.{Allowed}
-use Rattle.reducer_values.specs.Accesses.{Steps, control, update, put, other, control_steps, items_of, AreLegal}
-use Rattle.reducer_values.specs.Entries.{Entry}
-use Rattle.reducer_values.specs.Views.{view}
-use Rattle.reducer_values.specs.GetValues.{IsGranted, IsValue}
-use Rattle.reducer_views.specs.declared.view.View.{View}
-use Rattle.reducer_views.specs.Products.{reducer_of}
-use Rattle.reducer_views.specs.Touched.{monoid_of}
+use Rattle.model_reducers.specs.declared.monoid.Monoid.{Monoid}
+use Rattle.model_strands.specs.declared.spawned.Spawned.{Spawned}
+use Rattle.model_strands.specs.History.{Event, split, same, waits, call, resumed, ended, finished}
+use Rattle.model_strands.specs.Strands.{unused}
+use Rattle.model_strands.specs.Legal.{Allowed}
+use Rattle.model_reducers.specs.Steps.{Steps, control, update, put, other, items_of}
+use Rattle.law_values.specs.Accesses.{control_steps, AreLegal}
+use Rattle.model_reducers.specs.Entries.{Entry}
+use Rattle.law_values.specs.Views.{view}
+use Rattle.law_values.specs.GetValues.{IsGranted}
+use Rattle.model_reducers.specs.GetValues.{IsValue}
+use Rattle.model_reducers.specs.declared.view.View.{View}
+use Rattle.model_reducers.specs.Products.{reducer_of, monoid_of}
 use Rattle.reducer_views.specs.Pieces.{Kept, home_at, later_at, view_in}
 use Rattle.reducer_views.specs.Homes.{home, later, IsCurrent}
 

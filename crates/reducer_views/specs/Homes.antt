@@ -1,9 +1,9 @@
 -- Where the views of the strands of a control history are kept.
 use Rattle.std.specs.Prelude.{◌≡◌, ◌⊎◌, ℕ, true, false, [], ◌∷◌}
-use Rattle.control_history.specs.Updated.{updated}
-use Rattle.control_history.specs.History.{split, History}
-use Rattle.control_history.specs.Strands.{reserved, status, Running}
-use Rattle.control_history.specs.Dag.{Arrives}
+use Rattle.model_strands.specs.Updated.{updated}
+use Rattle.model_strands.specs.History.{split, History}
+use Rattle.model_strands.specs.Strands.{reserved, status, Running}
+use Rattle.model_strands.specs.Dag.{Arrives}
 
 -- A child goes on at its spawner's home and a join at that of the strand that opened its block; a continuation has a home of its own.
 abbrev pub home : History → ℕ → ℕ

@@ -1,12 +1,12 @@
 -- What is kept of the strands, by their numbers.
 use Rattle.std.specs.Prelude.{◌≡◌, ◌≢◌, ◌⊎◌, ◌+◌, ◌<◌, ◌≤◌, ℕ, Bool, true, false, List, []}
 use Rattle.std.specs.Prelude.{◌∷◌, length, slice_index_or, map, Option, Some, None, Contains}
-use Rattle.trace_values.specs.declared.value.Monoid.{Monoid}
-use Rattle.reducer_views.specs.declared.view.View.{View}
+use Rattle.model_reducers.specs.declared.monoid.Monoid.{Monoid}
+use Rattle.model_reducers.specs.declared.view.View.{View}
 use Rattle.reducer_views.specs.declared.pieces.Piece.{Piece}
-use Rattle.reducer_views.specs.Products.{product_of}
+use Rattle.model_reducers.specs.Products.{product_of, monoid_of}
 use Rattle.reducer_views.specs.declared.touched.Touch.{Touch}
-use Rattle.reducer_views.specs.Touched.{Touches, Listed, look_up, listed_of, both, monoid_of, gathered, AreTouches}
+use Rattle.reducer_views.specs.Touched.{Touches, Listed, look_up, listed_of, both, gathered, AreTouches}
 
 -- of one strand: the strand under whose number its view is kept, the next continuation of a block, and the reducers that are touched there
 pub record Kept : Type 0 where

@@ -1,12 +1,12 @@
 -- The reducers that a piece of the serial order has touched, each with its monoid and its view.
 use Rattle.std.specs.Prelude.{◌≡◌, ◌≢◌, ℕ, ◌+◌, ◌-◌, ◌*◌, ◌/◌, ◌%◌, List, [], ◌∷◌, ◌++◌, map}
-use Rattle.std.specs.Prelude.{Option, Some, None, slice_index_or, ◌==◌, if◌then◌else◌, Box}
-use Rattle.trace_values.specs.declared.value.Monoid.{Monoid}
-use Rattle.trace_values.specs.declared.value.Monoid.TheVariants.{Sum}
-use Rattle.reducer_views.specs.declared.view.View.{View}
+use Rattle.std.specs.Prelude.{Option, Some, None, ◌==◌, if◌then◌else◌, Box}
+use Rattle.model_reducers.specs.Products.{monoid_of, identity_of, product_of}
+use Rattle.model_reducers.specs.declared.monoid.Monoid.{Monoid}
+use Rattle.model_reducers.specs.declared.view.View.{View}
 use Rattle.reducer_views.specs.declared.touched.Touch.{Touch}
 use Rattle.reducer_views.specs.declared.touched.Slot.{Slot, Slot', Held-Slot-odd, None', Some'}
-use Rattle.reducer_views.specs.Products.{FitsMonoid, identity_of, product_of}
+use Rattle.reducer_views.specs.Products.{FitsMonoid}
 
 -- what is touched, by the numbers of the reducers
 abbrev pub Touches : Type 0
@@ -82,9 +82,6 @@ both None right = right
 abbrev pub added : Option Touch → Touch → Touch
 added None later = later
 added (Some touch) later = combined touch later
-
-abbrev pub monoid_of : List Monoid → ℕ → Monoid
-monoid_of monoids reducer = slice_index_or monoids reducer Sum
 
 -- the touched view, or else this one
 abbrev pub view_or : View → Option Touch → View

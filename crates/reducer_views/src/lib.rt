@@ -13,5 +13,6 @@ mod touched;
 mod view;
 mod views;
 
-pub use view::{View, combine, fits, identity, of_put, of_update, value};
+pub use model_reducers::View;
+pub use view::{combine, fits, identity, of_put, of_update, value};
 pub use views::Views;

@@ -1,7 +1,7 @@
 //! The pieces of the serial order that the strands of a running program stand for.
 
 ghost use Rattle.std.specs.Prelude.{◌≡◌, ◌+◌, ◌<◌, ◌≤◌, ◌^◌, ℕ, List, length, vec_len, vec_capacity, IfOk};
-ghost use Rattle.trace_values.specs.declared.value.Monoid.{Monoid};
+ghost use Rattle.model_reducers.specs.declared.monoid.Monoid.{Monoid};
 ghost use Rattle.reducer_views.specs.Pieces.{AreKept, AreLater, Combines, Grown, SameHomes, SetsAt};
 ghost use Rattle.reducer_views.specs.Pieces.{TakesOver, all_kept, first_kept, home_at, later_at, touches_at};
 ghost use Rattle.reducer_views.specs.Touched.{added};

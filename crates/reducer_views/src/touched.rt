@@ -3,10 +3,10 @@
 ghost use Rattle.std.specs.Prelude.{◌≡◌, ◌+◌, ◌<◌, ◌≤◌, ◌^◌, ℕ, OnOk, vec_len};
 ghost use Rattle.reducer_views.specs.Touched.{Changes, added, both, combined, touches_of};
 
-use crate::view::{View, product};
+use crate::view::product;
+use model_reducers::{Monoid, View};
 use std::alloc::{AllocError, Allocator};
 use std::mem::swap;
-use trace_values::Monoid;
 
 /// The view that was gathered of a reducer, and its monoid.
 #[derive(Clone, Copy)]

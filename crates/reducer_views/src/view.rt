@@ -1,20 +1,10 @@
 //! Views of reducers, and the monoids that combine them.
 
 ghost use Rattle.std.specs.Prelude.{◌≡◌, ◌↔◌, IsTrue};
-ghost use Rattle.reducer_views.specs.Products.{FitsMonoid, identity_of, number_of, product_of, put_view, update_view};
+ghost use Rattle.reducer_views.specs.Products.{FitsMonoid};
+ghost use Rattle.model_reducers.specs.Products.{identity_of, number_of, product_of, put_view, update_view};
 
-use trace_values::Monoid;
-
-/// What a strand has gathered of a reducer. Every number of a view in hand is below 2^64.
-#[derive(Debug, Clone, Copy, PartialEq, Eq)]
-pub enum View {
-    /// No value, of the monoid `last` alone.
-    Nothing,
-    /// A value, of every monoid but `digits`.
-    One(u64),
-    /// A multiplier and the number that it has gathered, of `digits` alone.
-    Pair(u64, u64),
-}
+use model_reducers::{Monoid, View};
 
 /// The view of a strand that has gathered nothing.
 pub fn identity(monoid: Monoid) -> View

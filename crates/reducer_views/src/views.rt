@@ -1,21 +1,22 @@
 //! The views of the strands of a running program.
 
 ghost use Rattle.std.specs.Prelude.{◌≡◌, ◌+◌, ◌<◌, ◌↔◌, ℕ, [], ◌∷◌, length, true, false, IsTrue, IfOk, OnOk, OnErr};
-ghost use Rattle.control_history.specs.History.{ended_joined, joined};
-ghost use Rattle.control_history.specs.Strands.{Running};
-ghost use Rattle.control_history.specs.Legal.{Allowed};
-ghost use Rattle.reducer_values.specs.Accesses.{AreLegal, Steps, control, control_steps, put, update};
+ghost use Rattle.model_strands.specs.History.{ended_joined, joined};
+ghost use Rattle.model_strands.specs.Strands.{Running};
+ghost use Rattle.model_strands.specs.Legal.{Allowed};
+ghost use Rattle.law_values.specs.Accesses.{AreLegal, control_steps};
+ghost use Rattle.model_reducers.specs.Steps.{Steps, control, put, update};
 ghost use Rattle.reducer_views.specs.Held.{Holds, split_of, view_of};
 ghost use Rattle.reducer_views.specs.Homes.{IsCurrent};
-ghost use Rattle.reducer_views.specs.Products.{number_of};
+ghost use Rattle.model_reducers.specs.Products.{number_of};
 
 use crate::pieces::{Piece, first_piece, gather_at, gather_block, grow, set_at};
 use crate::touched::{Spare, Touch, fill, find};
 use crate::view::{identity, of_put, of_update, value};
-use sp_labels::Spawned;
+use model_reducers::Monoid;
+use model_strands::Spawned;
 use std::alloc::{AllocError, Allocator};
 use std::marker::Model;
-use trace_values::Monoid;
 
 /// The views of strands, per reducer. A strand's view is kept under the number of its home. A child goes on at its spawner's
 /// home and a join at that of the strand that opened its block; a continuation has a home of its own.

@@ -2,21 +2,21 @@
 use Rattle.std.proofs.Common.{◌≡◌, ℕ, zero, suc, ◌∷◌, [], List, Some, sym, subst}
 use Rattle.std.specs.Prelude.{slice_get}
 use Rattle.std.specs.List.{AllByRecursion}
-use Rattle.trace_values.specs.declared.value.Act.{Act}
-use Rattle.trace_values.specs.declared.value.Version.{Version}
-use Rattle.trace_values.specs.Names.{IsSecond}
-use Rattle.program_lines.specs.declared.statement.Register.{Register}
-use Rattle.program_lines.specs.declared.statement.Statement.{Statement}
-use Rattle.program_lines.specs.declared.statement.Statement.TheVariants.{If, Else, End}
-use Rattle.program_text.specs.Codes.{Code}
-use Rattle.program_text.specs.Trees.{Tree, Done, Step, Choice, and_then, Around, choose, divide, read_of, before, behind, left_of}
-use Rattle.program_text.specs.Trees as trees
-use Rattle.program_steps.specs.Values.{Registers, value_of}
-use Rattle.program_steps.specs.Scripts.{script, closing, numbers, Passes, assigned, first_part, second_part, counted}
-use Rattle.program_steps.specs.Answers.{Origin}
-use Rattle.program_steps.specs.Exchanges.{Exchange}
-use Rattle.program_steps.specs.Dialogue.{Extent, Dialogue, stopped, passed, read, write, bump, update, put, get, spawned, called, in_call, synced, returned}
-use Rattle.frame_steps.specs.Frames.{DialogueOf}
+use Rattle.model_accesses.specs.declared.request.Act.{Act}
+use Rattle.text_words.specs.declared.value.Version.{Version}
+use Rattle.text_words.specs.Names.{IsSecond}
+use Rattle.model_bodies.specs.declared.statement.Register.{Register}
+use Rattle.model_bodies.specs.declared.statement.Statement.{Statement}
+use Rattle.model_bodies.specs.declared.statement.Statement.TheVariants.{If, Else, End}
+use Rattle.model_bodies.specs.Codes.{Code}
+use Rattle.model_bodies.specs.Trees.{Tree, Done, Step, Choice, and_then, Around, choose, divide, read_of, before, behind, left_of}
+use Rattle.model_bodies.specs.Trees as trees
+use Rattle.model_programs.specs.Values.{Registers, value_of}
+use Rattle.model_programs.specs.Scripts.{script, closing, numbers, Passes, assigned, first_part, second_part, counted}
+use Rattle.model_programs.specs.Answers.{Origin}
+use Rattle.model_programs.specs.Exchanges.{Exchange}
+use Rattle.model_programs.specs.Dialogue.{Extent, Dialogue, stopped, passed, read, write, bump, update, put, get, spawned, called, in_call, synced, returned}
+use Rattle.model_programs.specs.Dialogue.{DialogueOf}
 use Rattle.run_traces.proofs.Elements.{get_all, append_all}
 use Rattle.run_traces.proofs.Marked.{IsLine, IsMarked, AreMarked, IsMarkedCode}
 

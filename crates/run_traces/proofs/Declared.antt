@@ -5,15 +5,15 @@ use Rattle.std.specs.List.{AllByRecursion, position_from}
 use Rattle.std.specs.Str.{bytes_eq}
 use Rattle.std.specs.Cmp.Lexicographic.{bytes_decides}
 use Rattle.std.proofs.lemmas.List.{append-nil, map_push, length_push}
-use Rattle.trace_values.specs.declared.value.Version.{Version}
-use Rattle.trace_values.specs.declared.value.Monoid.{Monoid}
-use Rattle.trace_values.specs.declared.value.Mem.{Mem}
-use Rattle.trace_values.specs.declared.value.Reducer.{Reducer}
-use Rattle.trace_values.specs.Text.{lines, words, IsName}
-use Rattle.trace_values.specs.Limits.{max_cells, max_reducers}
-use Rattle.trace_values.specs.Values.{Known}
-use Rattle.trace_values.specs.Names.{memory_named, reducer_named, HasMonoid}
-use Rattle.trace_values.specs.Declarations.{cells_of, memory_at, reducer_at}
+use Rattle.text_words.specs.declared.value.Version.{Version}
+use Rattle.model_reducers.specs.declared.monoid.Monoid.{Monoid}
+use Rattle.text_words.specs.declared.value.Mem.{Mem}
+use Rattle.text_words.specs.declared.value.Reducer.{Reducer}
+use Rattle.text_words.specs.Text.{lines, words, IsName}
+use Rattle.text_words.specs.Limits.{max_cells, max_reducers}
+use Rattle.text_words.specs.Values.{Known}
+use Rattle.text_words.specs.Names.{memory_named, reducer_named, HasMonoid}
+use Rattle.text_words.specs.Declarations.{cells_of, memory_at, reducer_at}
 use Rattle.trace_text.specs.Lines as trace
 use Rattle.trace_text.specs.Lines.{OfName, OfMonoid}
 use Rattle.trace_text.proofs.Kept.{cells_cons}

@@ -4,28 +4,28 @@ use Rattle.std.specs.List.{AllByRecursion}
 use Rattle.std.proofs.lemmas.List.{length-map, length-reverse, reverse-reverse}
 use Rattle.std.proofs.lemmas.Grind.{reverse_onto}
 use Rattle.std.proofs.lemmas.List.Elements.{All-head, All-tail, All-from_recursion}
-use Rattle.trace_values.specs.declared.value.Act.{Act}
-use Rattle.trace_values.specs.declared.value.Reducer.{Reducer}
-use Rattle.trace_values.specs.Declarations.{cells_of}
-use Rattle.trace_values.specs.Limits.{max_lines}
-use Rattle.trace_values.specs.Values.{Known}
-use Rattle.control_history.specs.History.{Event, split, same, joined, waits, call, resumed, ended, ended_joined, finished, History}
-use Rattle.control_history.specs.Strands.{unused}
-use Rattle.control_history.proofs.Law.{begun_below}
-use Rattle.control_history.proofs.Range.{ranges}
-use Rattle.race_gate.specs.declared.answer.Entry.{Entry}
-use Rattle.race_gate.specs.Entries.{Entries, event_of, with_event, control_part}
-use Rattle.race_gate.specs.Shapes.{Shape, IsInRange, most_entries}
+use Rattle.model_accesses.specs.declared.request.Act.{Act}
+use Rattle.text_words.specs.declared.value.Reducer.{Reducer}
+use Rattle.text_words.specs.Declarations.{cells_of}
+use Rattle.text_words.specs.Limits.{max_lines}
+use Rattle.text_words.specs.Values.{Known}
+use Rattle.model_strands.specs.History.{Event, split, same, joined, waits, call, resumed, ended, ended_joined, finished, History}
+use Rattle.model_strands.specs.Strands.{unused}
+use Rattle.law_strands.proofs.Law.{begun_below}
+use Rattle.law_strands.proofs.Range.{ranges}
+use Rattle.model_histories.specs.declared.answer.Entry.{Entry}
+use Rattle.model_histories.specs.Entries.{Entries, event_of, with_event, control_part}
+use Rattle.model_histories.specs.Shapes.{Shape, IsInRange, most_entries}
 use Rattle.race_gate.proofs.Races.{legal-part}
-use Rattle.program_text.specs.Codes.{Code}
-use Rattle.program_text.specs.Sound.{IsSound}
+use Rattle.model_bodies.specs.Codes.{Code}
+use Rattle.model_bodies.specs.Sound.{IsSound}
 use Rattle.program_text.proofs.Whole.{whole_of_text}
-use Rattle.program_steps.specs.Exchanges.{Exchange}
-use Rattle.program_runs.specs.Frames.{Targets, HasFrame, frame_in, next_frame, exchange_of, said_by}
-use Rattle.program_runs.specs.Runs.{IsRun, IsRunWith}
-use Rattle.program_runs.specs.Numbers.{IsNumbered, AreNumbered}
-use Rattle.program_runs.proofs.Histories.{said_here, run_shorter}
-use Rattle.program_runs.proofs.Numbering.{frame_there, numbers_law}
+use Rattle.model_programs.specs.Exchanges.{Exchange}
+use Rattle.model_runs.specs.Frames.{Targets, HasFrame, frame_in, next_frame, exchange_of, said_by}
+use Rattle.model_runs.specs.Runs.{IsRun, IsRunWith}
+use Rattle.law_runs.specs.Numbers.{IsNumbered, AreNumbered}
+use Rattle.law_runs.proofs.Histories.{said_here, run_shorter}
+use Rattle.law_runs.proofs.Numbering.{frame_there, numbers_law}
 use Rattle.run_traces.specs.Fitting.{IsSayable, IsFitting}
 use Rattle.run_traces.specs.Laws.{shape_known, FittingLaw}
 use Rattle.run_traces.proofs.Elements.{append_all}

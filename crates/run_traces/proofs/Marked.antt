@@ -2,15 +2,15 @@
 use Rattle.std.proofs.Common.{◌≡◌, ℕ, ◌+◌, ◌≤◌, ◌∷◌, ◌++◌, [], List, Option, Some, None, arith, refl, sym, subst}
 use Rattle.std.specs.Prelude.{slice_get, option_map}
 use Rattle.std.specs.List.{AllByRecursion}
-use Rattle.trace_values.specs.declared.value.Version.{Version}
-use Rattle.trace_values.specs.Text.{lines, words}
-use Rattle.trace_values.specs.Limits.{max_lines}
-use Rattle.trace_values.specs.Names.{IsSecond}
-use Rattle.program_lines.specs.declared.statement.Statement.{Statement}
-use Rattle.program_lines.specs.declared.statement.Statement.TheVariants.{Bump, If, Else, End}
+use Rattle.text_words.specs.declared.value.Version.{Version}
+use Rattle.text_words.specs.Text.{lines, words}
+use Rattle.text_words.specs.Limits.{max_lines}
+use Rattle.text_words.specs.Names.{IsSecond}
+use Rattle.model_bodies.specs.declared.statement.Statement.{Statement}
+use Rattle.model_bodies.specs.declared.statement.Statement.TheVariants.{Bump, If, Else, End}
 use Rattle.program_lines.specs.Grammar.{Item, Blank, Declared, Reduces, Begins, Does, Decides, Otherwise, Ends, ItemMeans, line_of}
 use Rattle.program_text.specs.declared.open_function.Part.{Part}
-use Rattle.program_text.specs.Codes.{Code}
+use Rattle.model_bodies.specs.Codes.{Code}
 use Rattle.program_text.specs.Drafts.{Open, Draft, Contents, scope_of, with_register, with_statement, with_choice, with_else, divided_by, with_end, ended_at, ending, code_of}
 use Rattle.program_text.specs.Grammar.{LineMeans, LinesMean, LinesOfProgram, TextMeans, extended, ended, ended_by, nothing}
 use Rattle.run_traces.proofs.Elements.{get_all, set_all, append_all}

@@ -5,22 +5,22 @@ use Rattle.std.specs.List.{find}
 use Rattle.std.specs.Fmt.{decimal}
 use Rattle.std.proofs.lemmas.List.{append-nil}
 use Rattle.std.proofs.lemmas.Grind.{flat_map-append}
-use Rattle.trace_values.specs.declared.value.Act.{Act}
-use Rattle.trace_values.specs.declared.value.Act.TheVariants.{Read, Write, Bump, Update, Put, Get}
-use Rattle.trace_values.specs.declared.value.Mem.{Mem}
-use Rattle.trace_values.specs.declared.value.Monoid.{Monoid}
-use Rattle.trace_values.specs.declared.value.Reducer.{Reducer}
-use Rattle.trace_values.specs.declared.value.Request.{Request}
-use Rattle.trace_values.specs.declared.value.TraceLine.{TraceLine}
-use Rattle.trace_values.specs.Declarations.{cells_of}
-use Rattle.trace_values.specs.Values.{Known, version_spelling}
+use Rattle.model_accesses.specs.declared.request.Act.{Act}
+use Rattle.model_accesses.specs.declared.request.Act.TheVariants.{Read, Write, Bump, Update, Put, Get}
+use Rattle.text_words.specs.declared.value.Mem.{Mem}
+use Rattle.model_reducers.specs.declared.monoid.Monoid.{Monoid}
+use Rattle.text_words.specs.declared.value.Reducer.{Reducer}
+use Rattle.model_accesses.specs.declared.request.Request.{Request}
+use Rattle.text_words.specs.declared.value.TraceLine.{TraceLine}
+use Rattle.text_words.specs.Declarations.{cells_of}
+use Rattle.text_words.specs.Values.{Known, version_spelling}
 use Rattle.trace_text.specs.Lines.{spelling, asks}
 use Rattle.trace_text.specs.Shapes.{has_cell, name_found, name_of_cell}
 use Rattle.trace_text.specs.Printing.{Entry as Line, OfMemory, OfReducer, OfRequest, entry_text, operand_text, name_of_reducer, plain_text, lines_from, entries as lines_in}
 use Rattle.trace_text.proofs.Printed.{request_text}
-use Rattle.race_gate.specs.declared.answer.Answer.{Answer}
-use Rattle.race_gate.specs.declared.answer.Entry.{Entry}
-use Rattle.race_gate.specs.Shapes.{Shape}
+use Rattle.model_histories.specs.declared.answer.Answer.{Answer}
+use Rattle.model_histories.specs.declared.answer.Entry.{Entry}
+use Rattle.model_histories.specs.Shapes.{Shape}
 use Rattle.program_text.specs.Drafts.{Contents}
 use Rattle.run_traces.specs.Traces.{mems_from, reducers_from, requests_from, behind_declarations, known_in_trace, trace_contents}
 use Rattle.run_traces.specs.Texts.{lines_text, line_of_request, mems_text, reducers_text, requests_text}

@@ -1,9 +1,9 @@
 -- The lines of a run's trace follow one another, with no blank line between them.
 use Rattle.std.proofs.Common.{◌≡◌, ℕ, ◌+◌, ◌-◌, ◌≤◌, ◌∷◌, ◌++◌, [], List, length, map, arith, refl, ap, ◌∙◌, subst, replicate, append_assoc}
-use Rattle.trace_values.specs.declared.value.Mem.{Mem}
-use Rattle.trace_values.specs.declared.value.Reducer.{Reducer}
-use Rattle.trace_values.specs.Values.{Known}
-use Rattle.race_gate.specs.declared.answer.Entry.{Entry}
+use Rattle.text_words.specs.declared.value.Mem.{Mem}
+use Rattle.text_words.specs.declared.value.Reducer.{Reducer}
+use Rattle.text_words.specs.Values.{Known}
+use Rattle.model_histories.specs.declared.answer.Entry.{Entry}
 use Rattle.trace_text.specs.Printing.{Entry as Line, OfMemory, OfReducer, OfRequest, line_of, entry_text, declarations, entries as lines_in, lines_from}
 use Rattle.trace_text.proofs.PlainLines.{AreLater, memory_first}
 use Rattle.program_text.specs.Drafts.{Contents}

@@ -6,16 +6,16 @@ use Rattle.std.specs.Str.{bytes_eq}
 use Rattle.std.specs.Cmp.Lexicographic.{bytes_decides}
 use Rattle.std.specs.Fmt.{decimal}
 use Rattle.std.proofs.lemmas.Bool.Decides.{nat_tests}
-use Rattle.trace_values.specs.declared.value.Version.{Version}
-use Rattle.trace_values.specs.declared.value.Act.{Act}
-use Rattle.trace_values.specs.declared.value.Mem.{Mem}
-use Rattle.trace_values.specs.declared.value.Reducer.{Reducer}
-use Rattle.trace_values.specs.declared.value.Monoid.{Monoid}
-use Rattle.trace_values.specs.Text.{IsName, IsNumberIn}
-use Rattle.trace_values.specs.Limits.{max_strand, max_value, max_cells}
-use Rattle.trace_values.specs.Values.{Known, monoid_spelling}
-use Rattle.trace_values.specs.Names.{memory_named, reducer_named, element_word, CellMeans, IsFresh, HasMonoid}
-use Rattle.trace_values.specs.Declarations.{cells_of}
+use Rattle.text_words.specs.declared.value.Version.{Version}
+use Rattle.model_accesses.specs.declared.request.Act.{Act}
+use Rattle.text_words.specs.declared.value.Mem.{Mem}
+use Rattle.text_words.specs.declared.value.Reducer.{Reducer}
+use Rattle.model_reducers.specs.declared.monoid.Monoid.{Monoid}
+use Rattle.text_words.specs.Text.{IsName, IsNumberIn}
+use Rattle.text_words.specs.Limits.{max_strand, max_value, max_cells}
+use Rattle.text_words.specs.Values.{Known, monoid_spelling}
+use Rattle.text_words.specs.Names.{memory_named, reducer_named, element_word, CellMeans, IsFresh, HasMonoid}
+use Rattle.text_words.specs.Declarations.{cells_of}
 use Rattle.trace_text.specs.declared.keyword.Keyword.TheVariants.{Mem as MemWord, Reducer as ReducerWord}
 use Rattle.trace_text.specs.Lines.{FreshName, Number, Cell, ReducerName, MonoidWord, Mark, a_strand, a_value, OfName, OfNumber, OfMonoid, WordMeans, Says, asks, operands, if_there}
 use Rattle.trace_text.specs.Shapes.{is_numbered, has_cell}

@@ -4,15 +4,15 @@ use Rattle.std.specs.Prelude.{Option, Some, None, unwrap_or, is_some}
 use Rattle.std.specs.List.{AllByRecursion}
 use Rattle.std.proofs.lemmas.List.{append-nil, map_push, length_push}
 use Rattle.std.proofs.lemmas.List.Elements.{recursion_from_All}
-use Rattle.trace_values.specs.declared.value.Version.{Version}
-use Rattle.trace_values.specs.declared.value.Act.{Act}
-use Rattle.trace_values.specs.declared.value.Mem.{Mem}
-use Rattle.trace_values.specs.declared.value.Reducer.{Reducer}
-use Rattle.trace_values.specs.declared.value.TraceLine.{TraceLine}
-use Rattle.trace_values.specs.Text.{lines}
-use Rattle.trace_values.specs.Limits.{max_cells, max_reducers, max_requests, max_lines}
-use Rattle.trace_values.specs.Values.{Known, Contents}
-use Rattle.trace_values.specs.Declarations.{cells_of, memory_at}
+use Rattle.text_words.specs.declared.value.Version.{Version}
+use Rattle.model_accesses.specs.declared.request.Act.{Act}
+use Rattle.text_words.specs.declared.value.Mem.{Mem}
+use Rattle.text_words.specs.declared.value.Reducer.{Reducer}
+use Rattle.text_words.specs.declared.value.TraceLine.{TraceLine}
+use Rattle.text_words.specs.Text.{lines}
+use Rattle.text_words.specs.Limits.{max_cells, max_reducers, max_requests, max_lines}
+use Rattle.text_words.specs.Values.{Known, Contents}
+use Rattle.text_words.specs.Declarations.{cells_of, memory_at}
 use Rattle.trace_text.specs.declared.keyword.Keyword.TheVariants.{Mem as MemWord, Reducer as ReducerWord}
 use Rattle.trace_text.specs.Lines.{OfName, OfNumber, OfMonoid, asks, operands, if_there}
 use Rattle.trace_text.specs.Grammar.{Declared, Reduces, Asked, LineMeans, LinesMean, LinesOfTrace, extended, nothing}
@@ -21,7 +21,7 @@ use Rattle.trace_text.proofs.Kept.{IsKept, kept_extended, kept_nothing, cells_pu
 use Rattle.trace_text.proofs.PlainWords.{AreText, lines_ended}
 use Rattle.trace_text.proofs.PlainPlaces.{says_plain}
 use Rattle.trace_text.proofs.PlainLines.{plain_header}
-use Rattle.race_gate.specs.declared.answer.Entry.{Entry}
+use Rattle.model_histories.specs.declared.answer.Entry.{Entry}
 use Rattle.run_traces.specs.Traces.{mems_from, reducers_from, requests_from, behind_declarations, known_in_trace, trace_contents}
 use Rattle.run_traces.specs.Fitting.{IsSayable, IsFitting}
 use Rattle.run_traces.specs.Laws.{MeaningLaw}

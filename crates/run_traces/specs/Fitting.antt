@@ -1,13 +1,13 @@
 -- Requests that a line of a trace can say.
 use Rattle.std.specs.Prelude.{ℕ, ◌<◌, ◌≤◌, List, length}
 use Rattle.std.specs.List.{All}
-use Rattle.trace_values.specs.declared.value.Act.{Act}
-use Rattle.trace_values.specs.declared.value.Request.{Request}
-use Rattle.trace_values.specs.Declarations.{cells_of}
-use Rattle.trace_values.specs.Limits.{max_strand, max_value}
-use Rattle.trace_values.specs.Names.{IsSecond}
-use Rattle.trace_values.specs.Values.{Known}
-use Rattle.race_gate.specs.declared.answer.Entry.{Entry}
+use Rattle.model_accesses.specs.declared.request.Act.{Act}
+use Rattle.model_accesses.specs.declared.request.Request.{Request}
+use Rattle.text_words.specs.Declarations.{cells_of}
+use Rattle.text_words.specs.Limits.{max_strand, max_value}
+use Rattle.text_words.specs.Names.{IsSecond}
+use Rattle.text_words.specs.Values.{Known}
+use Rattle.model_histories.specs.declared.answer.Entry.{Entry}
 
 -- The value is a number of 64 bits.
 abbrev pub IsValue : ℕ → Type 0

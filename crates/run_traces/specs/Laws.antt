@@ -1,14 +1,14 @@
 -- What the trace of a run is.
 use Rattle.std.specs.Prelude.{ℕ, ◌≡◌, ◌≤◌, List, length, map, reverse}
-use Rattle.trace_values.specs.Declarations.{cells_of}
-use Rattle.trace_values.specs.Values.{Known}
+use Rattle.text_words.specs.Declarations.{cells_of}
+use Rattle.text_words.specs.Values.{Known}
 use Rattle.trace_text.specs.Grammar.{TextMeans as TraceMeans}
 use Rattle.trace_text.specs.Printing.{plain_text}
 use Rattle.program_text.specs.Drafts.{Contents}
 use Rattle.program_text.specs.Grammar.{TextMeans}
-use Rattle.race_gate.specs.declared.answer.Entry.{Entry}
-use Rattle.race_gate.specs.Shapes.{Shape, most_entries}
-use Rattle.program_runs.specs.Runs.{IsRun}
+use Rattle.model_histories.specs.declared.answer.Entry.{Entry}
+use Rattle.model_histories.specs.Shapes.{Shape, most_entries}
+use Rattle.model_runs.specs.Runs.{IsRun}
 use Rattle.run_traces.specs.Traces.{trace_contents}
 use Rattle.run_traces.specs.Fitting.{AreFitting}
 

@@ -1,11 +1,11 @@
 -- What is printed of a trace, part by part.
 use Rattle.std.specs.Prelude.{ℕ, true, List, [], ◌∷◌, ◌++◌, map, flat_map}
-use Rattle.trace_values.specs.declared.value.Mem.{Mem}
-use Rattle.trace_values.specs.declared.value.Reducer.{Reducer}
-use Rattle.trace_values.specs.declared.value.Request.{Request}
-use Rattle.trace_values.specs.Values.{Known}
+use Rattle.text_words.specs.declared.value.Mem.{Mem}
+use Rattle.text_words.specs.declared.value.Reducer.{Reducer}
+use Rattle.model_accesses.specs.declared.request.Request.{Request}
+use Rattle.text_words.specs.Values.{Known}
 use Rattle.trace_text.specs.Printing.{Entry as Line, OfMemory, OfReducer, OfRequest, entry_text}
-use Rattle.race_gate.specs.declared.answer.Entry.{Entry}
+use Rattle.model_histories.specs.declared.answer.Entry.{Entry}
 
 -- The lines, a line feed behind each.
 abbrev pub lines_text : Known → List Line → List ℕ

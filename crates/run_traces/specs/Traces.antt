@@ -1,11 +1,11 @@
 -- The trace of a run: what its text is to mean.
 use Rattle.std.specs.Prelude.{ℕ, ◌+◌, true, List, [], ◌∷◌, length}
-use Rattle.trace_values.specs.declared.value.Mem.{Mem}
-use Rattle.trace_values.specs.declared.value.Reducer.{Reducer}
-use Rattle.trace_values.specs.declared.value.TraceLine.{TraceLine}
-use Rattle.trace_values.specs.Values.{Known, Contents as TraceContents}
+use Rattle.text_words.specs.declared.value.Mem.{Mem}
+use Rattle.text_words.specs.declared.value.Reducer.{Reducer}
+use Rattle.text_words.specs.declared.value.TraceLine.{TraceLine}
+use Rattle.text_words.specs.Values.{Known, Contents as TraceContents}
 use Rattle.program_text.specs.Drafts.{Contents}
-use Rattle.race_gate.specs.declared.answer.Entry.{Entry}
+use Rattle.model_histories.specs.declared.answer.Entry.{Entry}
 
 -- The memories, declared on the lines from this number on.
 abbrev pub mems_from : ℕ → List Mem → List Mem

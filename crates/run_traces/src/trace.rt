@@ -2,8 +2,8 @@
 
 ghost use Rattle.std.specs.Prelude.{◌≡◌, ◌++◌, ◌∷◌, OnOk, IfOk, IsTrue, string_bytes};
 ghost use Rattle.std.specs.Fmt.{decimal};
-ghost use Rattle.trace_values.specs.declared.value.Version.{Version};
-ghost use Rattle.trace_values.specs.Values.{Known};
+ghost use Rattle.text_words.specs.declared.value.Version.{Version};
+ghost use Rattle.text_words.specs.Values.{Known};
 ghost use Rattle.trace_text.specs.Shapes.{is_numbered};
 ghost use Rattle.trace_text.specs.Grammar.{TextMeans};
 ghost use Rattle.trace_text.specs.Lines.{spelling, asks};
@@ -18,8 +18,8 @@ use program_text::Program;
 use race_gate::Entry;
 use std::alloc::{AllocError, Allocator};
 use std::fmt::Write;
+use text_words::{Act, Mem, Reducer, Request, access_asked, version_word};
 use trace_text::{put_cell, put_memory, put_number, put_reducer, put_word};
-use trace_values::{Act, Mem, Reducer, Request, access_asked, version_word};
 
 /// The first word of a request.
 fn keyword(act: Act) -> &'static str

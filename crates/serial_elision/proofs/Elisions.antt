@@ -2,29 +2,30 @@
 use Rattle.std.proofs.Common.{◌≡◌, ◌≢◌, ℕ, zero, suc, ◌+◌, ◌-◌, ◌*◌, ◌<◌, ◌≤◌, ◌⊎◌, inl, inr, Bool, true, false, List, [], ◌∷◌, ◌++◌, Some, None, Result, Ok, Err, refl, sym, ap, ◌∙◌, subst, arith, length, drop, map, append-nil, length-append}
 use Rattle.std.specs.Prelude.{slice_get, slice_index, slice_index_or, slice_set, OnOk}
 use Rattle.std.proofs.lemmas.List.{reverse-append, length-set, length-map, length-replicate, get_or-map, get_or-set_same, get_or-set_other}
-use Rattle.trace_values.specs.declared.value.Act.{Act}
-use Rattle.trace_values.specs.declared.value.Monoid.{Monoid}
-use Rattle.trace_values.specs.declared.value.Monoid.TheVariants.{Sum, Min, Max, Last, Digits}
-use Rattle.reducer_views.specs.declared.view.View.{View}
-use Rattle.reducer_views.specs.declared.view.View.TheVariants.{Nothing}
-use Rattle.reducer_views.specs.Products.{FitsMonoid, identity_of}
-use Rattle.reducer_views.specs.Touched.{monoid_of}
-use Rattle.program_lines.specs.declared.statement.Register.{Register}
-use Rattle.program_lines.specs.declared.statement.Statement.{Statement}
-use Rattle.program_lines.specs.declared.statement.Statement.TheVariants.{If}
-use Rattle.program_text.specs.Codes.{Code}
-use Rattle.program_text.specs.Bodies.{EndsAt}
-use Rattle.program_text.specs.Trees.{and_then, left_of}
+use Rattle.model_accesses.specs.declared.request.Act.{Act}
+use Rattle.model_reducers.specs.declared.monoid.Monoid.{Monoid}
+use Rattle.model_reducers.specs.declared.monoid.Monoid.TheVariants.{Sum, Min, Max, Last, Digits}
+use Rattle.model_reducers.specs.declared.view.View.{View}
+use Rattle.model_reducers.specs.declared.view.View.TheVariants.{Nothing}
+use Rattle.reducer_views.specs.Products.{FitsMonoid}
+use Rattle.model_reducers.specs.Products.{identity_of, monoid_of}
+use Rattle.model_bodies.specs.declared.statement.Register.{Register}
+use Rattle.model_bodies.specs.declared.statement.Statement.{Statement}
+use Rattle.model_bodies.specs.declared.statement.Statement.TheVariants.{If}
+use Rattle.model_bodies.specs.Codes.{Code}
+use Rattle.model_bodies.specs.Bodies.{EndsAt}
+use Rattle.model_bodies.specs.Trees.{and_then, left_of}
 use Rattle.serial_elision.specs.declared.activation.Turns.{Turns}
 use Rattle.serial_elision.specs.declared.activation.Activation.{Activation}
-use Rattle.program_steps.specs.Values.{Registers, first_registers}
-use Rattle.program_steps.specs.Scripts.{closing, script, numbers}
-use Rattle.serial_elision.specs.Evaluation.{Effect, effect, Store, Standing, Evaluates, StackEvaluates, Leads}
-use Rattle.serial_elision.specs.Elisions.{first_store, HasMain, Elides, NeedsMore}
+use Rattle.model_programs.specs.Values.{Registers, first_registers}
+use Rattle.model_programs.specs.Scripts.{closing, script, numbers}
+use Rattle.model_programs.specs.Evaluation.{Effect, effect, Store, Evaluates}
+use Rattle.serial_elision.specs.Evaluation.{Standing, StackEvaluates, Leads}
+use Rattle.model_programs.specs.Elisions.{first_store, HasMain, Elides, NeedsMore}
 use Rattle.serial_elision.specs.States.{State, store_of, with_store, with_top, moved, turning, begun, with_begun, left_at, left_in, standing_in, standing, callers_of, stack_in, stack_of, are_turns, length_in, IsInPlace, Stands, Makes, IsOpening, IsLeft, is_left, opening}
 use Rattle.program_text.proofs.Taken.{main_below}
-use Rattle.program_steps.proofs.Trees.{and_then_assoc, if_left}
-use Rattle.program_steps.proofs.Places.{drop_at, found}
+use Rattle.function_steps.proofs.Trees.{and_then_assoc, if_left}
+use Rattle.function_steps.proofs.Places.{drop_at, found}
 use Rattle.serial_elision.proofs.Evaluations.{leads_nowhere, leads_on, sync_leads, first_leads, second_leads, end_leads, turn_leads}
 
 -- ---- lists of callers

@@ -1,22 +1,22 @@
 -- Evaluations statement by statement.
 use Rattle.std.proofs.Common.{◌≡◌, ◌≢◌, ℕ, suc, ◌+◌, ◌%◌, ◌^◌, List, [], ◌∷◌, ◌++◌, Some, refl, sym, ap, ◌∙◌, subst, append_assoc}
 use Rattle.std.specs.Prelude.{slice_get, slice_index}
-use Rattle.trace_values.specs.declared.value.Act.{Act}
-use Rattle.trace_values.specs.declared.value.Monoid.{Monoid}
-use Rattle.reducer_views.specs.Products.{update_view, put_view, product_of}
-use Rattle.reducer_views.specs.Touched.{monoid_of}
-use Rattle.program_lines.specs.declared.statement.Register.{Register}
-use Rattle.program_lines.specs.declared.statement.Operand.{Operand}
-use Rattle.program_lines.specs.declared.statement.Operand.TheVariants.{Number}
-use Rattle.program_lines.specs.declared.statement.Expression.{Expression}
-use Rattle.program_lines.specs.declared.statement.Location.{Location}
-use Rattle.program_lines.specs.declared.statement.Statement.{Statement}
-use Rattle.program_lines.specs.declared.statement.Statement.TheVariants.{Let, Read, Write, Bump, Update, Put, Get, Spawn, Call, Sync, ParallelFor}
-use Rattle.program_text.specs.Codes.{Code}
-use Rattle.program_text.specs.Trees.{Tree, Done, Step, Choice, and_then}
-use Rattle.program_steps.specs.Values.{Registers, first_registers, with_ok, value_of, result_of, cell_of}
-use Rattle.program_steps.specs.Scripts.{closing, script, numbers}
-use Rattle.serial_elision.specs.Evaluation.{Store, with_cell, view_at, with_view, got, with_register, Effect, effect, valued, Evaluates, let_evaluated, read_evaluated, write_evaluated, bump_evaluated, update_evaluated, put_evaluated, get_evaluated, spawn_evaluated, call_evaluated, sync_evaluated, first_evaluated, second_evaluated, pfor_evaluated, return_evaluated, Standing, StackEvaluates, Leads}
+use Rattle.model_accesses.specs.declared.request.Act.{Act}
+use Rattle.model_reducers.specs.declared.monoid.Monoid.{Monoid}
+use Rattle.model_reducers.specs.Products.{update_view, put_view, product_of, monoid_of}
+use Rattle.model_bodies.specs.declared.statement.Register.{Register}
+use Rattle.model_bodies.specs.declared.statement.Operand.{Operand}
+use Rattle.model_bodies.specs.declared.statement.Operand.TheVariants.{Number}
+use Rattle.model_bodies.specs.declared.statement.Expression.{Expression}
+use Rattle.model_bodies.specs.declared.statement.Location.{Location}
+use Rattle.model_bodies.specs.declared.statement.Statement.{Statement}
+use Rattle.model_bodies.specs.declared.statement.Statement.TheVariants.{Let, Read, Write, Bump, Update, Put, Get, Spawn, Call, Sync, ParallelFor}
+use Rattle.model_bodies.specs.Codes.{Code}
+use Rattle.model_bodies.specs.Trees.{Tree, Done, Step, Choice, and_then}
+use Rattle.model_programs.specs.Values.{Registers, first_registers, with_ok, value_of, result_of, cell_of}
+use Rattle.model_programs.specs.Scripts.{closing, script, numbers}
+use Rattle.model_programs.specs.Evaluation.{Store, with_cell, view_at, with_view, got, with_register, Effect, effect, valued, Evaluates, let_evaluated, read_evaluated, write_evaluated, bump_evaluated, update_evaluated, put_evaluated, get_evaluated, spawn_evaluated, call_evaluated, sync_evaluated, first_evaluated, second_evaluated, pfor_evaluated, return_evaluated}
+use Rattle.serial_elision.specs.Evaluation.{Standing, StackEvaluates, Leads}
 
 module _ (functions : List Code) (monoids : List Monoid) where
   -- nothing leads nowhere else, and one stretch leads on to the next

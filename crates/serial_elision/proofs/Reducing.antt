@@ -1,14 +1,13 @@
 -- Updates and puts of a reducer.
 use Rattle.std.proofs.Common.{◌≡◌, ℕ, ◌+◌, false, List, Some, None, refl, ap, ◌∙◌, arith, drop}
 use Rattle.std.specs.Prelude.{slice_get}
-use Rattle.trace_values.specs.declared.value.Monoid.{Monoid}
-use Rattle.reducer_views.specs.Products.{update_view, put_view, product_of}
-use Rattle.reducer_views.specs.Touched.{monoid_of}
-use Rattle.program_lines.specs.declared.statement.Operand.{Operand}
-use Rattle.program_lines.specs.declared.statement.Statement.TheVariants.{Update, Put}
-use Rattle.program_text.specs.Codes.{Code}
-use Rattle.program_steps.specs.Values.{with_ok, value_of}
-use Rattle.serial_elision.specs.Evaluation.{view_at, with_view}
+use Rattle.model_reducers.specs.declared.monoid.Monoid.{Monoid}
+use Rattle.model_reducers.specs.Products.{update_view, put_view, product_of, monoid_of}
+use Rattle.model_bodies.specs.declared.statement.Operand.{Operand}
+use Rattle.model_bodies.specs.declared.statement.Statement.TheVariants.{Update, Put}
+use Rattle.model_bodies.specs.Codes.{Code}
+use Rattle.model_programs.specs.Values.{with_ok, value_of}
+use Rattle.model_programs.specs.Evaluation.{view_at, with_view}
 use Rattle.serial_elision.specs.States.{State, store_of, with_store, with_top, moved, callers_of, left_at, Makes}
 use Rattle.serial_elision.proofs.Evaluations.{update_leads, put_leads}
 use Rattle.serial_elision.proofs.Elisions.{line_makes}

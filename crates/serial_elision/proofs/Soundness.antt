@@ -3,19 +3,19 @@ use Rattle.std.proofs.Common.{◌≡◌, ℕ, ◌+◌, ◌<◌, ◌≤◌, ◌^�
 use Rattle.std.specs.Prelude.{slice_get, slice_index_or, IsTrue, nat_lt}
 use Rattle.std.proofs.lemmas.Bool.{ltb-true}
 use Rattle.std.proofs.lemmas.List.{length-map}
-use Rattle.trace_values.specs.Declarations.{cells_of}
-use Rattle.reducer_views.specs.declared.view.View.TheVariants.{Nothing}
+use Rattle.text_words.specs.Declarations.{cells_of}
+use Rattle.model_reducers.specs.declared.view.View.TheVariants.{Nothing}
 use Rattle.reducer_views.specs.Products.{FitsMonoid}
-use Rattle.reducer_views.specs.Touched.{monoid_of}
+use Rattle.model_reducers.specs.Products.{monoid_of}
 use Rattle.program_text.specs.declared.program.Program.{Program}
 use Rattle.serial_elision.specs.declared.activation.Activation.{Activation}
 use Rattle.serial_elision.specs.States.{State, Stands, IsInPlace, length_in, monoids_in}
-use Rattle.program_steps.proofs.Places.{found}
+use Rattle.function_steps.proofs.Places.{found}
 use Rattle.std.proofs.lemmas.Option.{slice_get_within, get_or_from_slice_get}
-use Rattle.program_lines.specs.declared.statement.Statement.{Statement}
-use Rattle.program_text.specs.Bodies.{EndsAt, part_end}
-use Rattle.program_text.specs.Codes.{Code}
-use Rattle.program_text.specs.Sound.{IsSoundBody, IsSound, is_within}
+use Rattle.model_bodies.specs.declared.statement.Statement.{Statement}
+use Rattle.model_bodies.specs.Bodies.{EndsAt, part_end}
+use Rattle.model_bodies.specs.Codes.{Code}
+use Rattle.model_bodies.specs.Sound.{IsSoundBody, IsSound, is_within}
 
 module _ (cells reducers : ℕ) (functions : List Code) (sound : IsSound cells reducers functions) (index : ℕ) (code : Code) (here : slice_get functions index ≡ Some code) where
   pub body_sound : IsSoundBody cells reducers (length functions) code.body

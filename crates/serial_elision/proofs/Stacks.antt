@@ -2,8 +2,8 @@
 use Rattle.std.proofs.Common.{◌≡◌, ℕ, zero, suc, ◌+◌, ◌-◌, ◌<◌, false, List, [], ◌∷◌, ◌++◌, refl, sym, ap, ◌∙◌, arith, length, take, length-append}
 use Rattle.std.specs.Prelude.{slice_index_or, slice_set}
 use Rattle.std.proofs.lemmas.List.{get_or_default}
-use Rattle.trace_values.specs.declared.value.Monoid.{Monoid}
-use Rattle.reducer_views.specs.declared.view.View.{View}
+use Rattle.model_reducers.specs.declared.monoid.Monoid.{Monoid}
+use Rattle.model_reducers.specs.declared.view.View.{View}
 use Rattle.serial_elision.specs.declared.activation.Activation.{Activation}
 use Rattle.serial_elision.specs.States.{IsLeft, is_left, begun, topmost, waiting, is_idle, state_in, with_top, with_begun}
 

@@ -1,4 +1,3 @@
 pub mod Evaluation
-pub mod Elisions
 pub mod States
 pub mod Statements

@@ -1,8 +1,8 @@
 -- Kinds of statements.
 use Rattle.std.specs.Prelude.{Bool, true, false}
-use Rattle.program_lines.specs.declared.statement.Statement.{Statement}
-use Rattle.program_lines.specs.declared.statement.Statement.TheVariants.{Let, Read, Write, Bump, Update, Put, Get}
-use Rattle.program_lines.specs.declared.statement.Statement.TheVariants.{Spawn, Call, ParallelFor, If, Else, End}
+use Rattle.model_bodies.specs.declared.statement.Statement.{Statement}
+use Rattle.model_bodies.specs.declared.statement.Statement.TheVariants.{Let, Read, Write, Bump, Update, Put, Get}
+use Rattle.model_bodies.specs.declared.statement.Statement.TheVariants.{Spawn, Call, ParallelFor, If, Else, End}
 
 -- it accesses memory
 abbrev pub is_access : Statement → Bool

@@ -1,22 +1,23 @@
 -- The evaluator's stack and store.
 use Rattle.std.specs.Prelude.{◌≡◌, ℕ, ◌+◌, ◌-◌, ◌<◌, ◌≤◌, ◌^◌, Bool, true, false, List, [], ◌∷◌, ◌++◌, map, reverse}
 use Rattle.std.specs.Prelude.{Option, Some, None, length, take, drop, replicate, slice_get, slice_index_or, slice_set}
-use Rattle.trace_values.specs.declared.value.Monoid.{Monoid}
-use Rattle.reducer_views.specs.declared.view.View.{View}
-use Rattle.reducer_views.specs.declared.view.View.TheVariants.{Nothing}
-use Rattle.reducer_views.specs.Products.{FitsMonoid, identity_of}
-use Rattle.reducer_views.specs.Touched.{monoid_of}
-use Rattle.program_lines.specs.declared.statement.Statement.{Statement}
+use Rattle.model_reducers.specs.declared.monoid.Monoid.{Monoid}
+use Rattle.model_reducers.specs.declared.view.View.{View}
+use Rattle.model_reducers.specs.declared.view.View.TheVariants.{Nothing}
+use Rattle.reducer_views.specs.Products.{FitsMonoid}
+use Rattle.model_reducers.specs.Products.{identity_of, monoid_of}
+use Rattle.model_bodies.specs.declared.statement.Statement.{Statement}
 use Rattle.program_text.specs.declared.program.Program.{Program}
-use Rattle.program_text.specs.Codes.{Code}
-use Rattle.program_text.specs.Sound.{IsMain}
-use Rattle.program_text.specs.Trees.{Tree, Done, and_then, left_of}
+use Rattle.model_bodies.specs.Codes.{Code}
+use Rattle.model_bodies.specs.Sound.{IsMain}
+use Rattle.model_bodies.specs.Trees.{Tree, Done, and_then, left_of}
 use Rattle.serial_elision.specs.declared.activation.Turns.{Turns}
 use Rattle.serial_elision.specs.declared.activation.Activation.{Activation}
 use Rattle.serial_elision.specs.declared.elision.Elision.{Elision}
-use Rattle.program_steps.specs.Values.{Registers, first_registers}
-use Rattle.program_steps.specs.Scripts.{closing, numbers}
-use Rattle.serial_elision.specs.Evaluation.{Effect, Store, Standing, Leads}
+use Rattle.model_programs.specs.Values.{Registers, first_registers}
+use Rattle.model_programs.specs.Scripts.{closing, numbers}
+use Rattle.model_programs.specs.Evaluation.{Effect, Store}
+use Rattle.serial_elision.specs.Evaluation.{Standing, Leads}
 
 -- what an evaluator holds
 pub record State : Type 0 where

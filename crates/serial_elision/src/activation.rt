@@ -1,11 +1,11 @@
 //! Functions that have begun.
 
 ghost use Rattle.std.specs.Prelude.{◌≡◌, ◌+◌, ◌^◌, ◌<◌};
-ghost use Rattle.program_steps.specs.Values.{with_ok};
-ghost use Rattle.serial_elision.specs.Evaluation.{with_register};
+ghost use Rattle.model_programs.specs.Values.{with_ok};
+ghost use Rattle.model_programs.specs.Evaluation.{with_register};
 ghost use Rattle.serial_elision.specs.States.{begun, counted, moved, turning};
 
-use program_lines::{REGISTERS, Register};
+use model_bodies::{REGISTERS, Register};
 
 /// The turns of a `pfor` that are left.
 #[derive(Clone, Copy)]

@@ -2,26 +2,26 @@
 
 ghost use Rattle.std.specs.Prelude.{◌≡◌, ◌≢◌, ◌+◌, ◌-◌, ◌%◌, ◌^◌, ◌<◌, ◌≤◌, IsTrue, false, true, Some};
 ghost use Rattle.std.specs.Prelude.{None, Err, map, length, replicate, slice_index, slice_get, OnOk, IfOk};
-ghost use Rattle.trace_values.specs.Declarations.{cells_of};
-ghost use Rattle.trace_values.specs.Limits.{max_cells};
-ghost use Rattle.reducer_views.specs.Products.{FitsMonoid, identity_of, product_of, put_view, update_view};
-ghost use Rattle.reducer_views.specs.Touched.{monoid_of};
-ghost use Rattle.program_text.specs.Sound.{is_located};
-ghost use Rattle.program_steps.specs.Values.{cell_of, result_of, value_of, with_ok};
-ghost use Rattle.serial_elision.specs.Evaluation.{got, view_at, with_cell, with_register, with_view};
+ghost use Rattle.text_words.specs.Declarations.{cells_of};
+ghost use Rattle.text_words.specs.Limits.{max_cells};
+ghost use Rattle.reducer_views.specs.Products.{FitsMonoid};
+ghost use Rattle.model_reducers.specs.Products.{identity_of, product_of, put_view, update_view, monoid_of};
+ghost use Rattle.model_bodies.specs.Sound.{is_located};
+ghost use Rattle.model_programs.specs.Values.{cell_of, result_of, value_of, with_ok};
+ghost use Rattle.model_programs.specs.Evaluation.{got, view_at, with_cell, with_register, with_view};
 ghost use Rattle.serial_elision.specs.States.{IsGoing, IsLeft, IsOpening, Makes, Stands, counted, moved, monoids_in, opening};
 ghost use Rattle.serial_elision.specs.States.{state_of, store_of, top_of, turning, with_begun, with_store, with_top};
 ghost use Rattle.serial_elision.specs.Statements.{is_access, is_invocation, is_reduction, is_silent};
-ghost use Rattle.serial_elision.specs.Elisions.{Elides, NeedsMore};
+ghost use Rattle.model_programs.specs.Elisions.{Elides, NeedsMore};
 
 use crate::activation::{Activation, Turns};
-use program_lines::{Expression, Location, Operand, Register, Statement};
-use program_steps::{cell_of, result_of, value_of};
+use function_steps::{cell_of, result_of, value_of};
+use model_bodies::{Expression, Location, Operand, Register, Statement};
 use program_text::{Function, Program};
 use reducer_views::{View, combine, identity, of_put, of_update, value};
 use std::alloc::{AllocError, Allocator};
+use text_words::{Monoid, Monoids, Shape};
 use thiserror::Error;
-use trace_values::{Monoid, Monoids, Shape};
 
 /// The functions that are begun, the topmost last, with the cells' values and the reducers' views.
 #[derive(Drop)]

@@ -1,15 +1,17 @@
 -- One more access at the end of the list.
 use Rattle.std.proofs.Common.{◌≡◌, ◌≢◌, ◌⊎◌, ◌↔◌, inl, inr, ℕ, ◌<◌, Bool, true, false, IsTrue, cond, Option, Some, None, List, [], ◌∷◌, ◌++◌, Contains, refl, sym, ap, ◌∙◌, subst, append_assoc, arith}
 use Rattle.std.proofs.lemmas.List.Elements.{Contains-append_left, Contains-append_right, Contains-append_cases}
-use Rattle.access_table.specs.declared.kind.Kind.{Kind}
-use Rattle.addresses.specs.Address.{Word, before, english, hebrew}
-use Rattle.addresses.specs.Extremes.{IsLast}
-use Rattle.addresses.proofs.Orders.{IsRank, before-irreflexive}
-use Rattle.addresses.proofs.Extremes.{last-more, last-alike, contains-head, contains-cases}
-use Rattle.control_history.specs.History.{History}
-use Rattle.control_history.specs.Addresses.{address}
+use Rattle.model_accesses.specs.declared.kind.Kind.{Kind}
+use Rattle.model_strands.specs.Address.{Word}
+use Rattle.law_addresses.specs.Address.{before, english, hebrew}
+use Rattle.law_addresses.specs.Extremes.{IsLast}
+use Rattle.law_addresses.proofs.Orders.{IsRank, before-irreflexive}
+use Rattle.law_addresses.proofs.Extremes.{last-more, last-alike, contains-head, contains-cases}
+use Rattle.model_strands.specs.History.{History}
+use Rattle.model_strands.specs.Addresses.{address}
 use Rattle.shadow_history.specs.declared.cell.Extremes.{Extremes}
-use Rattle.shadow_history.specs.Accesses.{Access, IsAdded, IsExtreme}
+use Rattle.model_accesses.specs.Accesses.{Access}
+use Rattle.shadow_history.specs.Accesses.{IsAdded, IsExtreme}
 use Rattle.shadow_history.specs.Shadow.{AreKept}
 
 -- a test that failed, of what it tells

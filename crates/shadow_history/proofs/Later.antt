@@ -1,16 +1,18 @@
 -- What is remembered stays as the history grows.
 use Rattle.std.proofs.Common.{◌≡◌, ℕ, Option, Some, None, Result, Ok, Err, IfOk, OnErr, List, [], ◌∷◌, Contains, refl, sym, subst}
-use Rattle.access_table.specs.declared.kind.Kind.{Kind}
-use Rattle.addresses.specs.Address.{Word, english, hebrew}
-use Rattle.control_history.specs.History.{Event, History}
-use Rattle.control_history.specs.Legal.{Legal}
-use Rattle.control_history.specs.Extensions.{Extends}
-use Rattle.control_history.specs.Addresses.{address}
-use Rattle.control_history.proofs.Branches.{stability_law}
+use Rattle.model_accesses.specs.declared.kind.Kind.{Kind}
+use Rattle.model_strands.specs.Address.{Word}
+use Rattle.law_addresses.specs.Address.{english, hebrew}
+use Rattle.model_strands.specs.History.{Event, History}
+use Rattle.model_strands.specs.Legal.{Legal}
+use Rattle.model_strands.specs.Extensions.{Extends}
+use Rattle.model_strands.specs.Addresses.{address}
+use Rattle.law_strands.proofs.Branches.{stability_law}
 use Rattle.sp_labels.specs.Roster.{Roster, Follows}
 use Rattle.shadow_history.specs.declared.cell.Extremes.{Extremes}
 use Rattle.shadow_history.specs.declared.cell.Cell.{Cell}
-use Rattle.shadow_history.specs.Accesses.{Access, HaveAllBegun, IsExtreme}
+use Rattle.model_accesses.specs.Accesses.{Access}
+use Rattle.shadow_history.specs.Accesses.{HaveAllBegun, IsExtreme}
 use Rattle.shadow_history.specs.Shadow.{AreKept, StandsOn}
 use Rattle.shadow_history.specs.Laws.{LaterLaw}
 

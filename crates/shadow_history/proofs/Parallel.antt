@@ -1,15 +1,16 @@
 -- A running strand leads to no other, so what is later than it in either order is parallel to it.
 use Rattle.std.proofs.Common.{◌≡◌, ◌≢◌, ◌⊎◌, inl, inr, ℕ, Bool, true, false, refl, sym, ap, ◌∙◌}
-use Rattle.addresses.specs.Address.{disagree, reaches, parallel, english, hebrew, english_before, hebrew_before}
-use Rattle.addresses.proofs.Relations.{parallel-orders, parallel-comm}
-use Rattle.addresses.proofs.Extremes.{before-different, english-parallel, hebrew-parallel}
-use Rattle.control_history.specs.History.{History}
-use Rattle.control_history.specs.Strands.{Running, Begun}
-use Rattle.control_history.specs.Legal.{Legal}
-use Rattle.control_history.specs.Dag.{IsParallel}
-use Rattle.control_history.specs.Addresses.{address, IsEnglishBefore, IsHebrewBefore}
-use Rattle.control_history.proofs.Sinks.{running_address_law}
-use Rattle.control_history.proofs.Orders.{parallel_iff}
+use Rattle.law_addresses.specs.Address.{disagree, reaches, parallel, english, hebrew, english_before, hebrew_before}
+use Rattle.law_addresses.proofs.Relations.{parallel-orders, parallel-comm}
+use Rattle.law_addresses.proofs.Extremes.{before-different, english-parallel, hebrew-parallel}
+use Rattle.model_strands.specs.History.{History}
+use Rattle.model_strands.specs.Strands.{Running, Begun}
+use Rattle.model_strands.specs.Legal.{Legal}
+use Rattle.model_strands.specs.Dag.{IsParallel}
+use Rattle.model_strands.specs.Addresses.{address}
+use Rattle.law_strands.specs.Addresses.{IsEnglishBefore, IsHebrewBefore}
+use Rattle.law_strands.proofs.Sinks.{running_address_law}
+use Rattle.law_strands.proofs.Orders.{parallel_iff}
 
 module _ (history : History) (legal : Legal history) (strand : ℕ) (runs : Running history strand) (other : ℕ) (begun : Begun history other) where
   leads-nowhere : address history strand ≢ address history other → reaches (address history strand) (address history other) ≡ false

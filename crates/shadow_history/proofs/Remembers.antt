@@ -2,15 +2,16 @@
 use Rattle.std.proofs.Common.{◌≡◌, ◌≢◌, ◌⊎◌, inl, inr, ℕ, ◌<◌, Option, Some, None, List, [], ◌∷◌, ◌++◌, length, get_or, set, IsTrue, sym, ◌∙◌, subst}
 use Rattle.std.proofs.lemmas.List.{get_or_read, get_or-set_same, get_or-set_other}
 use Rattle.std.proofs.Math.ListN.{length-set}
-use Rattle.access_table.specs.declared.kind.Kind.{Kind}
-use Rattle.access_table.specs.Table.{is_memory_kind}
-use Rattle.control_history.specs.History.{History}
-use Rattle.control_history.specs.Strands.{Begun}
-use Rattle.control_history.proofs.Updates.{same_or_not}
+use Rattle.model_accesses.specs.declared.kind.Kind.{Kind}
+use Rattle.model_accesses.specs.Table.{is_memory_kind}
+use Rattle.model_strands.specs.History.{History}
+use Rattle.model_strands.specs.Strands.{Begun}
+use Rattle.law_strands.proofs.Updates.{same_or_not}
 use Rattle.sp_labels.specs.Roster.{Roster, Follows}
 use Rattle.shadow_history.specs.declared.cell.Extremes.{Extremes}
 use Rattle.shadow_history.specs.declared.cell.Cell.{Cell}
-use Rattle.shadow_history.specs.Accesses.{Access, HaveAllBegun}
+use Rattle.model_accesses.specs.Accesses.{Access}
+use Rattle.shadow_history.specs.Accesses.{HaveAllBegun}
 use Rattle.shadow_history.specs.Shadow.{extremes_of, empty_cell, AreKept, Remembers, StandsOn, HaveBegun}
 use Rattle.shadow_history.proofs.Added.{listed-cases, kept-elsewhere}
 use Rattle.shadow_history.proofs.SameKinds.{cases_kind}

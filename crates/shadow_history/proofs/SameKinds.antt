@@ -1,10 +1,10 @@
 -- Facts on kinds, by cases.
 use Rattle.std.proofs.Common.{◌≡◌, ◌≢◌, ◌⊎◌, ◌≤◌, inl, inr, get_or, arith, refl, sym, ap, ◌∙◌}
 use Rattle.std.proofs.lemmas.Bool.Decides.{eqb_tells}
-use Rattle.access_table.specs.declared.kind.Kind.{Kind}
-use Rattle.access_table.specs.declared.kind.Kind.TheVariants.{Write, Bump, Read, Update, Put, Get}
-use Rattle.access_table.specs.declared.kind.Rule.TheVariants.{Race}
-use Rattle.access_table.specs.Table.{kinds, rule_between}
+use Rattle.model_accesses.specs.declared.kind.Kind.{Kind}
+use Rattle.model_accesses.specs.declared.kind.Kind.TheVariants.{Write, Bump, Read, Update, Put, Get}
+use Rattle.model_accesses.specs.declared.kind.Rule.TheVariants.{Race}
+use Rattle.model_accesses.specs.Table.{kinds, rule_between}
 use Rattle.access_table.proofs.Conflicts.{races_of_memory}
 use Rattle.shadow_history.specs.Witnesses.{place}
 use Rattle.shadow_history.specs.Laws.{PlaceLaw}

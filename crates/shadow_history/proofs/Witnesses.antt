@@ -1,21 +1,23 @@
 -- The latest parallel access of each kind, and the witness among them.
 use Rattle.std.proofs.Common.{◌≡◌, ◌⊎◌, ◌↔◌, ◌≤◌, inl, inr, ℕ, false, not, IsTrue, IsSome, Some, List, Contains, refl, sym, ap, ◌∙◌, subst}
-use Rattle.access_table.specs.declared.kind.Kind.{Kind}
-use Rattle.access_table.specs.declared.kind.Rule.TheVariants.{Race}
-use Rattle.access_table.specs.Table.{rule_between}
-use Rattle.addresses.specs.Address.{english, hebrew, english_before, hebrew_before}
-use Rattle.addresses.proofs.Orders.{english-ranks, hebrew-ranks, before-total}
-use Rattle.addresses.proofs.Relations.{cases_same}
-use Rattle.addresses.proofs.Extremes.{before-passes}
-use Rattle.control_history.specs.History.{History}
-use Rattle.control_history.specs.Strands.{Running}
-use Rattle.control_history.specs.Legal.{Legal}
-use Rattle.control_history.specs.Dag.{IsParallel}
-use Rattle.control_history.specs.Addresses.{address, IsEnglishBefore, IsHebrewBefore}
+use Rattle.model_accesses.specs.declared.kind.Kind.{Kind}
+use Rattle.model_accesses.specs.declared.kind.Rule.TheVariants.{Race}
+use Rattle.model_accesses.specs.Table.{rule_between}
+use Rattle.law_addresses.specs.Address.{english, hebrew, english_before, hebrew_before}
+use Rattle.law_addresses.proofs.Orders.{english-ranks, hebrew-ranks, before-total}
+use Rattle.law_addresses.proofs.Relations.{cases_same}
+use Rattle.law_addresses.proofs.Extremes.{before-passes}
+use Rattle.model_strands.specs.History.{History}
+use Rattle.model_strands.specs.Strands.{Running}
+use Rattle.model_strands.specs.Legal.{Legal}
+use Rattle.model_strands.specs.Dag.{IsParallel}
+use Rattle.model_strands.specs.Addresses.{address}
+use Rattle.law_strands.specs.Addresses.{IsEnglishBefore, IsHebrewBefore}
 use Rattle.shadow_history.specs.declared.cell.Extremes.{Extremes}
-use Rattle.shadow_history.specs.declared.witness.Witness.{Witness}
-use Rattle.shadow_history.specs.Accesses.{Access, HaveAllBegun, Races, IsExtreme}
-use Rattle.shadow_history.specs.Witnesses.{place, witness_of, NoneIsParallel, IsLatestParallel, IsWitness}
+use Rattle.model_accesses.specs.declared.witness.Witness.{Witness}
+use Rattle.model_accesses.specs.Accesses.{Access, Races, witness_of}
+use Rattle.shadow_history.specs.Accesses.{HaveAllBegun, IsExtreme}
+use Rattle.shadow_history.specs.Witnesses.{place, NoneIsParallel, IsLatestParallel, IsWitness}
 use Rattle.shadow_history.specs.Shadow.{access_of, AreExtremes}
 use Rattle.shadow_history.proofs.Parallel.{parallel-english, parallel-hebrew, parallel-later}
 

@@ -1,13 +1,13 @@
 -- What holds of all shadow histories.
 use Rattle.std.specs.Prelude.{◌≡◌, List, slice_index_or}
-use Rattle.access_table.specs.declared.kind.Kind.{Kind}
-use Rattle.access_table.specs.declared.kind.Kind.TheVariants.{Write}
-use Rattle.access_table.specs.Table.{kinds}
-use Rattle.control_history.specs.History.{History}
-use Rattle.control_history.specs.Legal.{Legal}
-use Rattle.control_history.specs.Extensions.{Extends}
+use Rattle.model_accesses.specs.declared.kind.Kind.{Kind}
+use Rattle.model_accesses.specs.declared.kind.Kind.TheVariants.{Write}
+use Rattle.model_accesses.specs.Table.{kinds}
+use Rattle.model_strands.specs.History.{History}
+use Rattle.model_strands.specs.Legal.{Legal}
+use Rattle.model_strands.specs.Extensions.{Extends}
 use Rattle.shadow_history.specs.declared.cell.Cell.{Cell}
-use Rattle.shadow_history.specs.Accesses.{Access}
+use Rattle.model_accesses.specs.Accesses.{Access}
 use Rattle.shadow_history.specs.Witnesses.{place}
 use Rattle.shadow_history.specs.Shadow.{Remembers}
 

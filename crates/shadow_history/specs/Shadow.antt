@@ -1,16 +1,17 @@
 -- What a shadow history keeps of the accesses that it has taken in.
 use Rattle.std.specs.Prelude.{◌<◌, ℕ, List, length, Option, Some, None, IsTrue, slice_index_or}
-use Rattle.access_table.specs.declared.kind.Kind.{Kind}
-use Rattle.access_table.specs.declared.kind.Kind.TheVariants.{Write, Bump, Read}
-use Rattle.access_table.specs.Table.{is_memory_kind}
-use Rattle.addresses.specs.Address.{english, hebrew}
-use Rattle.control_history.specs.History.{History}
-use Rattle.control_history.specs.Strands.{Running}
+use Rattle.model_accesses.specs.declared.kind.Kind.{Kind}
+use Rattle.model_accesses.specs.declared.kind.Kind.TheVariants.{Write, Bump, Read}
+use Rattle.model_accesses.specs.Table.{is_memory_kind}
+use Rattle.law_addresses.specs.Address.{english, hebrew}
+use Rattle.model_strands.specs.History.{History}
+use Rattle.model_strands.specs.Strands.{Running}
 use Rattle.sp_labels.specs.Roster.{Roster, Follows, HasBegun}
 use Rattle.shadow_history.specs.declared.cell.Extreme.{Extreme}
 use Rattle.shadow_history.specs.declared.cell.Extremes.{Extremes}
 use Rattle.shadow_history.specs.declared.cell.Cell.{Cell}
-use Rattle.shadow_history.specs.Accesses.{Access, IsAdded, HaveAllBegun, IsExtreme}
+use Rattle.model_accesses.specs.Accesses.{Access}
+use Rattle.shadow_history.specs.Accesses.{IsAdded, HaveAllBegun, IsExtreme}
 
 -- what a cell keeps of a kind
 abbrev pub extremes_of : Cell → Kind → Option Extremes

@@ -1,12 +1,13 @@
 -- Which of the accesses that race with a new one is the witness.
 use Rattle.std.specs.Prelude.{◌≡◌, ◌⊎◌, ◌≤◌, ℕ, List}
-use Rattle.access_table.specs.declared.kind.Kind.{Kind}
-use Rattle.access_table.specs.declared.kind.Kind.TheVariants.{Write, Bump, Read, Update, Put, Get}
-use Rattle.addresses.specs.Address.{english, hebrew}
-use Rattle.control_history.specs.History.{History}
-use Rattle.control_history.specs.Dag.{IsParallel}
-use Rattle.shadow_history.specs.declared.witness.Witness.{Witness}
-use Rattle.shadow_history.specs.Accesses.{Access, IsAdded, Races, IsExtreme}
+use Rattle.model_accesses.specs.Accesses.{witness_of, Access, Races}
+use Rattle.model_accesses.specs.declared.kind.Kind.{Kind}
+use Rattle.model_accesses.specs.declared.kind.Kind.TheVariants.{Write, Bump, Read, Update, Put, Get}
+use Rattle.law_addresses.specs.Address.{english, hebrew}
+use Rattle.model_strands.specs.History.{History}
+use Rattle.model_strands.specs.Dag.{IsParallel}
+use Rattle.model_accesses.specs.declared.witness.Witness.{Witness}
+use Rattle.shadow_history.specs.Accesses.{IsAdded, IsExtreme}
 
 -- the place of a kind in the access table
 abbrev pub place : Kind → ℕ
@@ -16,10 +17,6 @@ place Read = 2
 place Update = 3
 place Put = 4
 place Get = 5
-
--- the access that a witness names
-abbrev pub witness_of : ℕ → Witness → Access
-witness_of location witness = record { strand = witness.strand; kind = witness.kind; location = location; entry = witness.entry }
 
 -- of this location and kind no access of the list is of a strand parallel to this one
 abbrev pub NoneIsParallel : History → List Access → ℕ → Kind → ℕ → Type 0

@@ -1,15 +1,16 @@
 ghost use Rattle.std.specs.Prelude.{◌≡◌, ◌≢◌, ◌↔◌, ◌++◌, ◌∷◌, [], List, ℕ, IsTrue, Some, None, MatchOption};
-ghost use Rattle.access_table.specs.declared.kind.Kind.{Kind};
-ghost use Rattle.access_table.specs.Table.{is_memory_kind};
-ghost use Rattle.control_history.specs.History.{History};
-ghost use Rattle.control_history.specs.Addresses.{IsEnglishBefore, IsHebrewBefore};
+ghost use Rattle.model_accesses.specs.declared.kind.Kind.{Kind};
+ghost use Rattle.model_accesses.specs.Table.{is_memory_kind};
+ghost use Rattle.model_strands.specs.History.{History};
+ghost use Rattle.law_strands.specs.Addresses.{IsEnglishBefore, IsHebrewBefore};
 ghost use Rattle.sp_labels.specs.Roster.{Follows, HasBegun};
-ghost use Rattle.shadow_history.specs.Accesses.{Access, HaveAllBegun};
-ghost use Rattle.shadow_history.specs.Witnesses.{witness_of, NoneIsParallel, IsLatestParallel};
+ghost use Rattle.model_accesses.specs.Accesses.{Access, witness_of};
+ghost use Rattle.shadow_history.specs.Accesses.{HaveAllBegun};
+ghost use Rattle.shadow_history.specs.Witnesses.{NoneIsParallel, IsLatestParallel};
 ghost use Rattle.shadow_history.specs.Shadow.{extremes_of, access_of, AreExtremes, AreKept, HaveBegun, Runs};
 
-use crate::witness::Witness;
 use access_table::Kind;
+use model_accesses::Witness;
 use sp_labels::Strands;
 use std::alloc::Allocator;
 

@@ -12,7 +12,6 @@
 mod cell;
 pub mod laws;
 mod shadow;
-mod witness;
 
+pub use model_accesses::Witness;
 pub use shadow::Shadow;
-pub use witness::Witness;

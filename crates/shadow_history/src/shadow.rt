@@ -1,14 +1,14 @@
 ghost use Rattle.std.specs.Prelude.{◌≡◌, ◌<◌, ◌↔◌, ◌++◌, ◌∷◌, [], List, ℕ, length, IsTrue, IsSome, IfSome, IfOk};
-ghost use Rattle.access_table.specs.Table.{is_memory_kind};
-ghost use Rattle.control_history.specs.History.{History};
+ghost use Rattle.model_accesses.specs.Table.{is_memory_kind};
+ghost use Rattle.model_strands.specs.History.{History};
 ghost use Rattle.sp_labels.specs.Roster.{Follows};
-ghost use Rattle.shadow_history.specs.Accesses.{Access, Races};
+ghost use Rattle.model_accesses.specs.Accesses.{Access, Races};
 ghost use Rattle.shadow_history.specs.Witnesses.{IsWitness};
 ghost use Rattle.shadow_history.specs.Shadow.{Remembers, StandsOn, Runs};
 
 use crate::cell::Cell;
-use crate::witness::Witness;
 use access_table::{Kind, access_table};
+use model_accesses::Witness;
 use sp_labels::Strands;
 use std::alloc::{AllocError, Allocator};
 use std::marker::Model;

@@ -1,8 +1,8 @@
 -- What is told of a text that means nothing.
 use Rattle.std.specs.Prelude.{ℕ, ◌≡◌, Bool, List, ◌++◌, codes}
-use Rattle.trace_values.specs.declared.fault.Cause.{Cause}
-use Rattle.trace_values.specs.declared.fault.Cause.TheVariants.{NotText, BadHeader, BadWord, BadNumber, UnknownName}
-use Rattle.trace_values.specs.declared.fault.Cause.TheVariants.{TwiceNamed, BadNesting, NoMain, TooMany}
+use Rattle.text_words.specs.declared.fault.Cause.{Cause}
+use Rattle.text_words.specs.declared.fault.Cause.TheVariants.{NotText, BadHeader, BadWord, BadNumber, UnknownName}
+use Rattle.text_words.specs.declared.fault.Cause.TheVariants.{TwiceNamed, BadNesting, NoMain, TooMany}
 use Rattle.source_quotes.specs.declared.look.Look.{Look}
 use Rattle.source_quotes.specs.declared.look.Paint.TheVariants.{Red}
 use Rattle.source_quotes.specs.Quotes.{look_of, painted, place, marked}

@@ -1,6 +1,6 @@
 -- The lines of a source text, and what stands on them.
 use Rattle.std.specs.Prelude.{ℕ, ◌+◌, ◌-◌, Bool, true, false, List, [], ◌∷◌, take, drop, slice_get, unwrap_or, if◌then◌else◌}
-use Rattle.trace_values.specs.Text.{is_blank, is_hash}
+use Rattle.text_words.specs.Text.{is_blank, is_hash}
 
 -- the line with this number, from 1 on, and none behind the last
 abbrev pub line_in : List (List ℕ) → ℕ → List ℕ

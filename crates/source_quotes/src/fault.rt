@@ -1,7 +1,7 @@
 //! Why a program's text means nothing, for a person.
 
 ghost use Rattle.std.specs.Prelude.{◌≡◌, ◌++◌, IfOk, OnOk, codes};
-ghost use Rattle.trace_values.specs.Text.{lines};
+ghost use Rattle.text_words.specs.Text.{lines};
 ghost use Rattle.source_quotes.specs.Quotes.{look_of, painted, place, marked};
 ghost use Rattle.source_quotes.specs.FaultTexts.{meaning, fault_title, fault_text, TellsFault};
 
@@ -10,7 +10,7 @@ use crate::look::{Look, Paint, push_marked, push_painted, push_place};
 use crate::source::Source;
 use race_report::push_words;
 use std::alloc::{AllocError, Allocator};
-use trace_values::Cause;
+use text_words::Cause;
 
 /// What a cause means.
 fn meaning_of(why: Cause) -> &'static str

@@ -1,13 +1,13 @@
 //! What may help where a program's text means nothing. No contract says which help is told.
 
 ghost use Rattle.std.specs.Prelude.{◌<◌, length, IfSome};
-ghost use Rattle.trace_values.specs.Text.{IsTextLine};
+ghost use Rattle.text_words.specs.Text.{IsTextLine};
 
 use crate::look::{Look, push_noted};
 use crate::source::Source;
 use race_report::{push_number, push_words};
 use std::alloc::{AllocError, Allocator};
-use trace_values::{Cause, Words, as_text, is_name};
+use text_words::{Cause, Words, as_text, is_name};
 
 /// The form of the lines of a program that begin with a word.
 fn form_of(word: &str) -> Option<&'static str> {

@@ -1,13 +1,13 @@
 //! The lines of a text.
 
 ghost use Rattle.std.specs.Prelude.{◌≡◌, ◌++◌, ℕ, [], map, length, reverse, IfOk};
-ghost use Rattle.trace_values.specs.Text.{lines};
+ghost use Rattle.text_words.specs.Text.{lines};
 ghost use Rattle.source_quotes.specs.Lines.{line_in};
 ghost use denote.Ref.{Bor};
 
 use std::alloc::{AllocError, Allocator};
 use std::marker::Model;
-use trace_values::{split_line, without_return};
+use text_words::{split_line, without_return};
 
 /// A text by its lines, each without what ends it. Contracts see the list of the lines.
 #[derive(Debug, Drop)]

@@ -4,7 +4,7 @@ use crate::fault_message;
 use std::alloc::Global;
 use std::process::Abort;
 use std::test::Fail;
-use trace_values::Cause;
+use text_words::Cause;
 
 /// A text with a fault in it, its line and cause, and what is told of it.
 fn check(

@@ -2,10 +2,10 @@
 use Rattle.std.proofs.Common.{◌≡◌, ◌<◌, ◌↔◌, ℕ, Bool, true, IsTrue, length, Some, sym, ap, subst, ◌∙◌, arith}
 use Rattle.sp_labels.specs.declared.record.Scope.TheVariants.{Root, Child, Call, Block}
 use Rattle.sp_labels.specs.declared.record.Record.{Record}
-use Rattle.control_history.specs.History.{History}
-use Rattle.control_history.specs.Strands.{running, over, Running}
-use Rattle.control_history.specs.Blocks.{Stack, root, spawned, block, stack, enclosing, IsSynced}
-use Rattle.control_history.proofs.Range.{ranges, block_below}
+use Rattle.model_strands.specs.History.{History}
+use Rattle.model_strands.specs.Strands.{running, over, Running}
+use Rattle.model_strands.specs.Blocks.{Stack, root, spawned, block, stack, enclosing, IsSynced}
+use Rattle.law_strands.proofs.Range.{ranges, block_below}
 use Rattle.sp_labels.specs.Roster.{Roster, Follows, FollowsSome, StandsFor, record_at}
 use Rattle.sp_labels.proofs.Scopes.{IsCall, stands-root, stands-child, stands-block, stands-call, stands-synced}
 use Rattle.sp_labels.proofs.Queries.{running-known}

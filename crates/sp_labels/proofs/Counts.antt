@@ -1,16 +1,16 @@
 -- What control histories say of the children left of a block, and of its join.
 use Rattle.std.proofs.Common.{◌≡◌, ◌≢◌, ◌⊎◌, inl, inr, ℕ, zero, suc, pred, ◌+◌, ◌<◌, ◌≤◌, true, false, [], ◌∷◌, Some, refl, sym, ap, ◌∙◌, subst, arith}
-use Rattle.control_history.specs.History.{split, same, joined, waits, call, resumed, ended, ended_joined, finished, History}
-use Rattle.control_history.specs.Strands.{reserved, running, status, unused, Running}
-use Rattle.control_history.specs.Blocks.{Stack, root, spawned, called, block, stack, enclosing, Outstanding}
-use Rattle.control_history.specs.Legal.{Legal, start, then}
-use Rattle.control_history.specs.Counts.{children_left, one_less}
-use Rattle.control_history.proofs.Updates.{updated_off, updated_case}
-use Rattle.control_history.proofs.Range.{ranges, numbered}
-use Rattle.control_history.proofs.Holders.{holders}
-use Rattle.control_history.proofs.Calm.{joined_reserved}
-use Rattle.control_history.proofs.Counts.{count_law, child_outstanding}
-use Rattle.control_history.proofs.Decisions.{outstanding_or_not, other_child}
+use Rattle.model_strands.specs.History.{split, same, joined, waits, call, resumed, ended, ended_joined, finished, History}
+use Rattle.model_strands.specs.Strands.{reserved, running, status, unused, Running}
+use Rattle.model_strands.specs.Blocks.{Stack, root, spawned, called, block, stack, enclosing, Outstanding}
+use Rattle.model_strands.specs.Legal.{Legal, start, then}
+use Rattle.law_strands.specs.Counts.{children_left, one_less}
+use Rattle.law_strands.proofs.Updates.{updated_off, updated_case}
+use Rattle.law_strands.proofs.Range.{ranges, numbered}
+use Rattle.law_strands.proofs.Holders.{holders}
+use Rattle.law_strands.proofs.Calm.{joined_reserved}
+use Rattle.law_strands.proofs.Counts.{count_law, child_outstanding}
+use Rattle.law_strands.proofs.Decisions.{outstanding_or_not, other_child}
 
 -- the join of a running strand's block is another strand
 pub join-apart : (history : History) → Legal history → (strand join : ℕ) → Running history strand → enclosing (stack history strand) ≡ Some join →

@@ -4,10 +4,10 @@ use Rattle.sp_labels.specs.declared.record.Standing.TheVariants.{Running as Runs
 use Rattle.sp_labels.specs.declared.record.Scope.{Scope}
 use Rattle.sp_labels.specs.declared.record.Scope.TheVariants.{Root}
 use Rattle.sp_labels.specs.declared.record.Record.{Record}
-use Rattle.control_history.specs.Strands.{absent, running}
-use Rattle.control_history.specs.Blocks.{root}
-use Rattle.control_history.specs.Legal.{start}
-use Rattle.control_history.proofs.Updates.{updated_at}
+use Rattle.model_strands.specs.Strands.{absent, running}
+use Rattle.model_strands.specs.Blocks.{root}
+use Rattle.model_strands.specs.Legal.{start}
+use Rattle.law_strands.proofs.Updates.{updated_at}
 use Rattle.order_list.specs.Order.{place_of, IsListing, IsNumbered}
 use Rattle.sp_labels.specs.Roster.{Follows}
 

@@ -3,7 +3,7 @@ use Rattle.std.proofs.Common.{◌≡◌, ◌≢◌, ◌⊎◌, inl, inr, ℕ, su
 use Rattle.std.proofs.lemmas.Bool.Decides.{eqb_tells}
 use Rattle.std.proofs.lemmas.List.Recursion.{is_position_or_len}
 use Rattle.std.proofs.lemmas.List.Edits.{length-insert}
-use Rattle.control_history.specs.Lists.{placed_after, place_in}
+use Rattle.law_strands.specs.Lists.{placed_after, place_in}
 use Rattle.order_list.specs.Order.{place_of}
 use Rattle.order_list.proofs.Insertions.{insert-numbered, insert-listing}
 use Rattle.sp_labels.specs.Roster.{IsOrder}

@@ -2,7 +2,7 @@
 use Rattle.std.proofs.Common.{◌≡◌, ◌≢◌, ◌⊎◌, inl, inr, ℕ, ◌<◌, List, [], ◌∷◌, ◌++◌, length, length-append, sym, ap, subst, arith}
 use Rattle.std.proofs.Math.ListN.{get_or-append}
 use Rattle.std.proofs.Math.Seq.{get_or-append_seam}
-use Rattle.control_history.proofs.Updates.{same_or_not}
+use Rattle.law_strands.proofs.Updates.{same_or_not}
 use Rattle.sp_labels.specs.declared.record.Standing.{Standing}
 use Rattle.sp_labels.specs.declared.record.Record.{Record}
 use Rattle.sp_labels.specs.Roster.{record_at, no_record, IsPut}

@@ -3,15 +3,15 @@ use mathlib.Core.Bool.{beq, not}
 use Rattle.std.proofs.Common.{Bool, true, false, IsTrue, ◌≡◌, ◌≢◌, ◌⊎◌, ◌↔◌, inl, inr, ℕ, ◌<◌, List, length, get_or, refl, sym, ap, ◌∙◌, subst, arith}
 use Rattle.sp_labels.specs.declared.record.Standing.{Standing}
 use Rattle.sp_labels.specs.declared.record.Standing.TheVariants.{Reserved, Awaited, Running as Runs, Over}
-use Rattle.control_history.specs.History.{History}
-use Rattle.control_history.specs.Strands.{Status, reserved, running, over, unused, Running, Begun}
-use Rattle.control_history.specs.Dag.{Reaches, IsParallel, stay}
-use Rattle.control_history.specs.Addresses.{IsEnglishBefore, IsHebrewBefore}
-use Rattle.control_history.specs.Lists.{english_items, hebrew_items, place_in}
-use Rattle.control_history.proofs.Range.{ranges}
-use Rattle.control_history.proofs.Law.{begun_below}
-use Rattle.control_history.proofs.Lists.{lists_law}
-use Rattle.control_history.proofs.Orders.{orders_law}
+use Rattle.model_strands.specs.History.{History}
+use Rattle.model_strands.specs.Strands.{Status, reserved, running, over, unused, Running, Begun}
+use Rattle.model_strands.specs.Dag.{Reaches, IsParallel, stay}
+use Rattle.law_strands.specs.Addresses.{IsEnglishBefore, IsHebrewBefore}
+use Rattle.law_strands.specs.Lists.{english_items, hebrew_items, place_in}
+use Rattle.law_strands.proofs.Range.{ranges}
+use Rattle.law_strands.proofs.Law.{begun_below}
+use Rattle.law_strands.proofs.Lists.{lists_law}
+use Rattle.law_strands.proofs.Orders.{orders_law}
 use Rattle.order_list.specs.Order.{place_of, IsListing}
 use Rattle.order_list.proofs.Places.{get_or-place_of}
 use Rattle.sp_labels.specs.Roster.{Roster, Follows, HasBegun, IsStanding, record_at}

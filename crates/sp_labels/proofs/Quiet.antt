@@ -5,18 +5,18 @@ use Rattle.sp_labels.specs.declared.record.Standing.TheVariants.{Reserved, Await
 use Rattle.sp_labels.specs.declared.record.Scope.{Scope}
 use Rattle.sp_labels.specs.declared.record.Scope.TheVariants.{Call}
 use Rattle.sp_labels.specs.declared.record.Record.{Record}
-use Rattle.control_history.specs.History.{Event, same, joined, waits, call, resumed, ended, ended_joined, finished, History}
-use Rattle.control_history.specs.Updated.{updated}
-use Rattle.control_history.specs.Strands.{reserved, running, over, status, unused, Running}
-use Rattle.control_history.specs.Blocks.{Stack, root, spawned, called, block, caller, stack, enclosing, IsSynced, IsWaitedFor, Outstanding, IsLast}
-use Rattle.control_history.specs.Legal.{Allowed, sync_same, sync_joined, sync_waits, function_call, called_return, child_return, last_return, root_return, then}
-use Rattle.control_history.specs.Counts.{children_left, one_less}
-use Rattle.control_history.specs.Lists.{english_items, hebrew_items}
-use Rattle.control_history.proofs.Updates.{updated_at, updated_off}
-use Rattle.control_history.proofs.Places.{place_of, place}
-use Rattle.control_history.proofs.Holders.{Open, IsOpen, holders, running_open}
-use Rattle.control_history.proofs.Calm.{joined_reserved}
-use Rattle.control_history.proofs.Counts.{count_law}
+use Rattle.model_strands.specs.History.{Event, same, joined, waits, call, resumed, ended, ended_joined, finished, History}
+use Rattle.model_strands.specs.Updated.{updated}
+use Rattle.model_strands.specs.Strands.{reserved, running, over, status, unused, Running}
+use Rattle.model_strands.specs.Blocks.{Stack, root, spawned, called, block, caller, stack, enclosing, IsSynced, IsWaitedFor, Outstanding, IsLast}
+use Rattle.model_strands.specs.Legal.{Allowed, sync_same, sync_joined, sync_waits, function_call, called_return, child_return, last_return, root_return, then}
+use Rattle.law_strands.specs.Counts.{children_left, one_less}
+use Rattle.law_strands.specs.Lists.{english_items, hebrew_items}
+use Rattle.law_strands.proofs.Updates.{updated_at, updated_off}
+use Rattle.law_strands.proofs.Places.{place_of, place}
+use Rattle.law_strands.proofs.Holders.{Open, IsOpen, holders, running_open}
+use Rattle.law_strands.proofs.Calm.{joined_reserved}
+use Rattle.law_strands.proofs.Counts.{count_law}
 use Rattle.sp_labels.specs.Roster.{Roster, Follows, IsRecord, IsStanding, StandsFor, record_at, IsPut}
 use Rattle.sp_labels.proofs.Puts.{each-put, each-two}
 use Rattle.sp_labels.proofs.Scopes.{IsCall, depth, stands-added, stands-removed}

@@ -2,10 +2,10 @@
 use Rattle.std.proofs.Common.{◌≡◌, ◌≢◌, ℕ, zero, suc, ◌≤◌, List, Option, Some, None, get_or, refl, sym, ap, ◌∙◌, subst, arith}
 use Rattle.sp_labels.specs.declared.record.Scope.{Scope}
 use Rattle.sp_labels.specs.declared.record.Scope.TheVariants.{Root, Child, Call, Block}
-use Rattle.control_history.specs.Updated.{updated}
-use Rattle.control_history.specs.Blocks.{Stack, root, spawned, called, block, IsSynced}
-use Rattle.control_history.proofs.Updates.{updated_off}
-use Rattle.control_history.proofs.Places.{place_of}
+use Rattle.model_strands.specs.Updated.{updated}
+use Rattle.model_strands.specs.Blocks.{Stack, root, spawned, called, block, IsSynced}
+use Rattle.law_strands.proofs.Updates.{updated_off}
+use Rattle.law_strands.proofs.Places.{place_of}
 use Rattle.sp_labels.specs.Roster.{StandsFor}
 
 pub stands-root : (callers : List (Option Scope)) (below_call : ℕ → Stack) (scope : Scope) (stack : Stack) →

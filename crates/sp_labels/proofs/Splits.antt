@@ -4,14 +4,14 @@ use Rattle.sp_labels.specs.declared.record.Standing.TheVariants.{Reserved, Runni
 use Rattle.sp_labels.specs.declared.record.Scope.{Scope}
 use Rattle.sp_labels.specs.declared.record.Scope.TheVariants.{Child, Block}
 use Rattle.sp_labels.specs.declared.record.Record.{Record}
-use Rattle.control_history.specs.History.{split, History}
-use Rattle.control_history.specs.Strands.{reserved, running, over, status, unused, Running}
-use Rattle.control_history.specs.Blocks.{Stack, spawned, block, stack, enclosing, IsSynced}
-use Rattle.control_history.specs.Legal.{Allowed, open_split, next_split, then}
-use Rattle.control_history.specs.Counts.{children_left}
-use Rattle.control_history.specs.Lists.{english_items, hebrew_items}
-use Rattle.control_history.proofs.Updates.{updated_at, updated_off}
-use Rattle.control_history.proofs.Range.{ranges}
+use Rattle.model_strands.specs.History.{split, History}
+use Rattle.model_strands.specs.Strands.{reserved, running, over, status, unused, Running}
+use Rattle.model_strands.specs.Blocks.{Stack, spawned, block, stack, enclosing, IsSynced}
+use Rattle.model_strands.specs.Legal.{Allowed, open_split, next_split, then}
+use Rattle.law_strands.specs.Counts.{children_left}
+use Rattle.law_strands.specs.Lists.{english_items, hebrew_items}
+use Rattle.law_strands.proofs.Updates.{updated_at, updated_off}
+use Rattle.law_strands.proofs.Range.{ranges}
 use Rattle.sp_labels.specs.Roster.{Roster, Follows, IsRecord, StandsFor, IsOrder, record_at, IsPut}
 use Rattle.sp_labels.proofs.Puts.{each-put, each-two, each-added}
 use Rattle.sp_labels.proofs.Queries.{running-known}

@@ -5,17 +5,17 @@ use Rattle.sp_labels.specs.declared.record.Standing.TheVariants.{Reserved, Await
 use Rattle.sp_labels.specs.declared.record.Scope.{Scope}
 use Rattle.sp_labels.specs.declared.record.Scope.TheVariants.{Root, Child, Call, Block}
 use Rattle.sp_labels.specs.declared.record.Record.{Record}
-use Rattle.sp_labels.specs.declared.answer.Spawned.{Spawned}
+use Rattle.model_strands.specs.declared.spawned.Spawned.{Spawned}
 use Rattle.sp_labels.specs.declared.answer.Synced.{Synced}
 use Rattle.sp_labels.specs.declared.answer.Synced.TheVariants.{Same, Joined, Waits}
 use Rattle.sp_labels.specs.declared.answer.Returned.{Returned}
 use Rattle.sp_labels.specs.declared.answer.Returned.TheVariants.{Resumed, Ended, EndedJoined, Finished}
-use Rattle.control_history.specs.History.{Event, split, same, joined, waits, resumed, ended, ended_joined, finished, History}
-use Rattle.control_history.specs.Strands.{reserved, running, over, status, unused, Begun}
-use Rattle.control_history.specs.Blocks.{Stack, root, spawned, called, block, stack, IsWaitedFor}
-use Rattle.control_history.specs.Legal.{Legal}
-use Rattle.control_history.specs.Counts.{children_left}
-use Rattle.control_history.specs.Lists.{english_items, hebrew_items}
+use Rattle.model_strands.specs.History.{Event, split, same, joined, waits, resumed, ended, ended_joined, finished, History}
+use Rattle.model_strands.specs.Strands.{reserved, running, over, status, unused, Begun}
+use Rattle.model_strands.specs.Blocks.{Stack, root, spawned, called, block, stack, IsWaitedFor}
+use Rattle.model_strands.specs.Legal.{Legal}
+use Rattle.law_strands.specs.Counts.{children_left}
+use Rattle.law_strands.specs.Lists.{english_items, hebrew_items}
 use Rattle.order_list.specs.Order.{most_items, IsNumbered, IsListing}
 
 -- the strands by their numbers, the scopes of the callers by their keys, the strands in both orders, and whether an event

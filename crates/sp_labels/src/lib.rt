@@ -13,5 +13,6 @@ pub mod laws;
 mod record;
 mod roster;
 
-pub use answer::{Returned, SpFault, Spawned, Synced};
+pub use answer::{Returned, SpFault, Synced};
+pub use model_strands::Spawned;
 pub use roster::Strands;

@@ -1,15 +1,16 @@
 //! The strands of one spawn-sync program.
 
 ghost use Rattle.std.specs.Prelude.{◌≡◌, ◌≢◌, ◌⊎◌, ◌↔◌, ℕ, [], ◌∷◌, true, false, IsTrue, IfOk, IfErr, OnOk, OnErr, IsErrOf};
-ghost use Rattle.control_history.specs.History.{History, call};
-ghost use Rattle.control_history.specs.Strands.{Running, Begun};
-ghost use Rattle.control_history.specs.Blocks.{IsSynced, Stack, spawned, block, stack};
-ghost use Rattle.control_history.specs.Dag.{Reaches, IsParallel};
-ghost use Rattle.control_history.specs.Addresses.{IsEnglishBefore, IsHebrewBefore};
+ghost use Rattle.model_strands.specs.History.{History, call};
+ghost use Rattle.model_strands.specs.Strands.{Running, Begun};
+ghost use Rattle.model_strands.specs.Blocks.{IsSynced, Stack, spawned, block, stack};
+ghost use Rattle.model_strands.specs.Dag.{Reaches, IsParallel};
+ghost use Rattle.law_strands.specs.Addresses.{IsEnglishBefore, IsHebrewBefore};
 ghost use Rattle.sp_labels.specs.Roster.{Follows, HasBegun, HasFewLeft, event_of_spawn, event_of_sync, event_of_return};
 
-use crate::answer::{Returned, SpFault, Spawned, Synced};
+use crate::answer::{Returned, SpFault, Synced};
 use crate::record::{Record, Scope, Standing, put, record_of, set_standing};
+use model_strands::Spawned;
 use order_list::{OrderFault, OrderList};
 use slab::Slab;
 use std::alloc::{AllocError, Allocator};

@@ -3,15 +3,15 @@ use Rattle.std.proofs.Common.{◌≡◌, ◌⊎◌, inl, inr, ℕ, ◌+◌, ◌<
 use Rattle.std.proofs.Math.ListN.{get_or-append}
 use Rattle.std.proofs.Math.Seq.{get_or-append_seam}
 use Rattle.std.proofs.lemmas.List.{length-reverse, reverse-append, reverse-reverse}
-use Rattle.control_history.specs.History.{Event, History}
-use Rattle.control_history.specs.Strands.{Begun}
-use Rattle.control_history.specs.Legal.{Legal}
-use Rattle.control_history.proofs.Places.{below_or_beyond}
-use Rattle.control_history.proofs.Kept.{begun_stays}
-use Rattle.race_gate.specs.declared.answer.Entry.{Entry}
-use Rattle.race_gate.specs.Entries.{Entries, event_of, with_event, control_part}
-use Rattle.race_gate.specs.Shapes.{Shape}
-use Rattle.race_gate.specs.Legal.{IsLegal}
+use Rattle.model_strands.specs.History.{Event, History}
+use Rattle.model_strands.specs.Strands.{Begun}
+use Rattle.model_strands.specs.Legal.{Legal}
+use Rattle.law_strands.proofs.Places.{below_or_beyond}
+use Rattle.law_strands.proofs.Kept.{begun_stays}
+use Rattle.model_histories.specs.declared.answer.Entry.{Entry}
+use Rattle.model_histories.specs.Entries.{Entries, event_of, with_event, control_part}
+use Rattle.model_histories.specs.Shapes.{Shape}
+use Rattle.model_histories.specs.Legal.{IsLegal}
 use Rattle.race_gate.proofs.Races.{legal-part}
 use Rattle.spawn_chains.specs.Makers.{HasNumber}
 

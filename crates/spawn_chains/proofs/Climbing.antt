@@ -1,23 +1,24 @@
 -- What climbing from two strands to what made them leaves: the climb passes no spawn at which the two part.
 use Rattle.std.proofs.Common.{◌≡◌, ◌⊎◌, ◌↔◌, inl, inr, ℕ, zero, suc, ◌<◌, ◌≤◌, true, false, [], ◌∷◌, ◌++◌, length, refl, sym, ap, ◌∙◌, subst, append-nil, append_assoc, IsTrue, arith}
 use Rattle.std.proofs.lemmas.Bool.{cases_Bool}
-use Rattle.addresses.specs.Address.{Word, child, next, join, Address, is_prefix, reaches, parallel, IsPrefix}
-use Rattle.addresses.proofs.Differences.{first_difference-longer}
-use Rattle.addresses.proofs.Extensions.{first_difference-extended, reaches-append, parallel-append}
-use Rattle.addresses.proofs.Relations.{is_prefix-decides, parallel-self, parallel-comm, parallel_at, parallel-by_difference}
-use Rattle.addresses.proofs.Blocks.{prefix-reaches}
-use Rattle.sp_labels.specs.declared.answer.Spawned.{Spawned}
-use Rattle.control_history.specs.Strands.{Begun, unused}
-use Rattle.control_history.specs.Legal.{Legal}
-use Rattle.control_history.specs.Dag.{Reaches, IsParallel}
-use Rattle.control_history.specs.Addresses.{address}
-use Rattle.control_history.proofs.Words.{◌▹◌, prefix_refl, prefix_of_longer, prefix_longer, last_same}
-use Rattle.control_history.proofs.Addresses.{addresses}
-use Rattle.control_history.proofs.Law.{reach_precedes, precedes_reach}
-use Rattle.control_history.proofs.Orders.{address_tests_law}
-use Rattle.race_gate.specs.declared.answer.Answer.TheVariants.{Split}
-use Rattle.race_gate.specs.declared.answer.Entry.{Entry}
-use Rattle.race_gate.specs.Entries.{Entries, control_part}
+use Rattle.model_strands.specs.Address.{Word, child, next, join, Address}
+use Rattle.law_addresses.specs.Address.{is_prefix, reaches, parallel, IsPrefix}
+use Rattle.law_addresses.proofs.Differences.{first_difference-longer}
+use Rattle.law_addresses.proofs.Extensions.{first_difference-extended, reaches-append, parallel-append}
+use Rattle.law_addresses.proofs.Relations.{is_prefix-decides, parallel-self, parallel-comm, parallel_at, parallel-by_difference}
+use Rattle.law_addresses.proofs.Blocks.{prefix-reaches}
+use Rattle.model_strands.specs.declared.spawned.Spawned.{Spawned}
+use Rattle.model_strands.specs.Strands.{Begun, unused}
+use Rattle.model_strands.specs.Legal.{Legal}
+use Rattle.model_strands.specs.Dag.{Reaches, IsParallel}
+use Rattle.model_strands.specs.Addresses.{address}
+use Rattle.law_strands.proofs.Words.{◌▹◌, prefix_refl, prefix_of_longer, prefix_longer, last_same}
+use Rattle.law_strands.proofs.Addresses.{addresses}
+use Rattle.law_strands.proofs.Law.{reach_precedes, precedes_reach}
+use Rattle.law_strands.proofs.Orders.{address_tests_law}
+use Rattle.model_histories.specs.declared.answer.Answer.TheVariants.{Split}
+use Rattle.model_histories.specs.declared.answer.Entry.{Entry}
+use Rattle.model_histories.specs.Entries.{Entries, control_part}
 use Rattle.spawn_chains.specs.Makers.{HasNumber, IsSpawn, maker}
 use Rattle.spawn_chains.specs.Climbs.{Climbs}
 use Rattle.spawn_chains.proofs.Made.{Made, Origin, origins}

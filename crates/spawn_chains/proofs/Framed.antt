@@ -1,14 +1,14 @@
 -- Frames of a strand, followed back from entry to entry.
 use Rattle.std.proofs.Common.{◌≡◌, ◌≢◌, ◌⊎◌, inl, inr, Bool, true, false, Option, Some, ℕ, zero, suc, ◌+◌, ◌-◌, ◌<◌, ◌≤◌, List, [], ◌∷◌, ◌++◌, length, get_or, take, drop, reverse, refl, sym, ap, ◌∙◌, subst, append_assoc, arith}
 use Rattle.std.proofs.lemmas.Bool.{false≢true}
-use Rattle.trace_values.specs.declared.value.Act.{Act}
-use Rattle.trace_values.specs.declared.value.Act.TheVariants.{Call, Return}
-use Rattle.control_history.specs.History.{Event, split}
-use Rattle.control_history.proofs.Updates.{updated_at, updated_off, updated_case}
-use Rattle.race_gate.specs.declared.answer.Answer.{Answer}
-use Rattle.race_gate.specs.declared.answer.Answer.TheVariants.{Same as IsSame, Resumed}
-use Rattle.race_gate.specs.declared.answer.Entry.{Entry}
-use Rattle.race_gate.specs.Entries.{Entries, event_between, event_of}
+use Rattle.model_accesses.specs.declared.request.Act.{Act}
+use Rattle.model_accesses.specs.declared.request.Act.TheVariants.{Call, Return}
+use Rattle.model_strands.specs.History.{Event, split}
+use Rattle.law_strands.proofs.Updates.{updated_at, updated_off, updated_case}
+use Rattle.model_histories.specs.declared.answer.Answer.{Answer}
+use Rattle.model_histories.specs.declared.answer.Answer.TheVariants.{Same as IsSame, Resumed}
+use Rattle.model_histories.specs.declared.answer.Entry.{Entry}
+use Rattle.model_histories.specs.Entries.{Entries, event_between, event_of}
 use Rattle.spawn_chains.specs.declared.frames.Origin.{Origin}
 use Rattle.spawn_chains.specs.declared.frames.Origin.TheVariants.{Same, Opened, Left}
 use Rattle.spawn_chains.specs.Frames.{behind, with_frame, frames, frames_from}

@@ -2,24 +2,24 @@
 -- h: a history; m: the makers of strands; x, y: strands; k: the number of an event; in a split, s is the spawner, c its child, n its next
 -- and j the join
 use Rattle.std.proofs.Common.{◌≡◌, ◌≢◌, ◌⊎◌, inl, inr, ℕ, suc, ◌<◌, ◌≤◌, Bool, true, false, [], ◌∷◌, length, Option, Some, None, refl, sym, ap, ◌∙◌, subst, arith}
-use Rattle.addresses.specs.Address.{Word, child, next, join}
-use Rattle.trace_values.specs.declared.value.Act.{Act}
-use Rattle.trace_values.specs.declared.value.Act.TheVariants.{Spawn, Sync, Call, Return}
-use Rattle.sp_labels.specs.declared.answer.Spawned.{Spawned}
-use Rattle.control_history.specs.History.{Event, split, same, joined, waits, call, resumed, ended, ended_joined, finished, History}
-use Rattle.control_history.specs.Strands.{Begun, unused}
-use Rattle.control_history.specs.Legal.{Allowed, open_split, next_split, Legal, then}
-use Rattle.control_history.specs.Addresses.{address}
-use Rattle.control_history.proofs.Updates.{updated_at, updated_off, updated_case}
-use Rattle.control_history.proofs.Words.{◌▹◌}
-use Rattle.control_history.proofs.Range.{ranges, numbered, child_seen, next_seen}
-use Rattle.control_history.proofs.Holders.{holders, Splitting, splitting}
-use Rattle.control_history.proofs.Addresses.{by_word, Named, named_new, named_old, named}
-use Rattle.control_history.proofs.Kept.{address_stays, begun_stays}
-use Rattle.race_gate.specs.declared.answer.Answer.{Answer}
-use Rattle.race_gate.specs.declared.answer.Answer.TheVariants.{Split, Same, Joined, Waits, Resumed, Ended, EndedJoined, Finished}
-use Rattle.race_gate.specs.declared.answer.Entry.{Entry}
-use Rattle.race_gate.specs.Entries.{Entries, event_between, event_of, with_event, control_part}
+use Rattle.model_strands.specs.Address.{Word, child, next, join}
+use Rattle.model_accesses.specs.declared.request.Act.{Act}
+use Rattle.model_accesses.specs.declared.request.Act.TheVariants.{Spawn, Sync, Call, Return}
+use Rattle.model_strands.specs.declared.spawned.Spawned.{Spawned}
+use Rattle.model_strands.specs.History.{Event, split, same, joined, waits, call, resumed, ended, ended_joined, finished, History}
+use Rattle.model_strands.specs.Strands.{Begun, unused}
+use Rattle.model_strands.specs.Legal.{Allowed, open_split, next_split, Legal, then}
+use Rattle.model_strands.specs.Addresses.{address}
+use Rattle.law_strands.proofs.Updates.{updated_at, updated_off, updated_case}
+use Rattle.law_strands.proofs.Words.{◌▹◌}
+use Rattle.law_strands.proofs.Range.{ranges, numbered, child_seen, next_seen}
+use Rattle.law_strands.proofs.Holders.{holders, Splitting, splitting}
+use Rattle.law_strands.proofs.Addresses.{by_word, Named, named_new, named_old, named}
+use Rattle.law_strands.proofs.Kept.{address_stays, begun_stays}
+use Rattle.model_histories.specs.declared.answer.Answer.{Answer}
+use Rattle.model_histories.specs.declared.answer.Answer.TheVariants.{Split, Same, Joined, Waits, Resumed, Ended, EndedJoined, Finished}
+use Rattle.model_histories.specs.declared.answer.Entry.{Entry}
+use Rattle.model_histories.specs.Entries.{Entries, event_between, event_of, with_event, control_part}
 use Rattle.spawn_chains.specs.Makers.{IsSpawn, with_maker, maker}
 
 -- the entry that made the strand is a spawn by the spawner, which began these

@@ -6,19 +6,19 @@ use Rattle.std.specs.Prelude.{MatchOption, if◌then◌else◌}
 use Rattle.std.proofs.Math.ListN.{get_or-append}
 use Rattle.std.proofs.Math.Seq.{get_or-append_seam, get_or-append_right}
 use Rattle.std.proofs.lemmas.List.{length-append, length-reverse, reverse-append, reverse-reverse, take-append-drop, take_more, length-take-le}
-use Rattle.trace_values.specs.declared.value.Act.TheVariants.{Spawn}
-use Rattle.sp_labels.specs.declared.answer.Spawned.{Spawned}
-use Rattle.control_history.specs.History.{Event, split, same, joined, waits, call, resumed, ended, ended_joined, finished, History}
-use Rattle.control_history.specs.Strands.{unused}
-use Rattle.control_history.specs.Legal.{Legal, start, then as later}
-use Rattle.control_history.proofs.Places.{below_or_beyond}
-use Rattle.control_history.proofs.Range.{ranges}
-use Rattle.control_history.proofs.Holders.{holders, Splitting, splitting}
-use Rattle.control_history.proofs.Addresses.{Named, named_new, named_old, named}
-use Rattle.control_history.proofs.Branches.{legal_part}
-use Rattle.race_gate.specs.declared.answer.Answer.TheVariants.{Split}
-use Rattle.race_gate.specs.declared.answer.Entry.{Entry}
-use Rattle.race_gate.specs.Entries.{Entries, event_of, with_event, control_part}
+use Rattle.model_accesses.specs.declared.request.Act.TheVariants.{Spawn}
+use Rattle.model_strands.specs.declared.spawned.Spawned.{Spawned}
+use Rattle.model_strands.specs.History.{Event, split, same, joined, waits, call, resumed, ended, ended_joined, finished, History}
+use Rattle.model_strands.specs.Strands.{unused}
+use Rattle.model_strands.specs.Legal.{Legal, start, then as later}
+use Rattle.law_strands.proofs.Places.{below_or_beyond}
+use Rattle.law_strands.proofs.Range.{ranges}
+use Rattle.law_strands.proofs.Holders.{holders, Splitting, splitting}
+use Rattle.law_strands.proofs.Addresses.{Named, named_new, named_old, named}
+use Rattle.law_strands.proofs.Branches.{legal_part}
+use Rattle.model_histories.specs.declared.answer.Answer.TheVariants.{Split}
+use Rattle.model_histories.specs.declared.answer.Entry.{Entry}
+use Rattle.model_histories.specs.Entries.{Entries, event_of, with_event, control_part}
 use Rattle.race_gate.proofs.Races.{extends-part}
 use Rattle.spawn_chains.specs.Makers.{HasNumber, Began, IsSpawn, with_maker, maker, IsLineage}
 use Rattle.spawn_chains.proofs.Made.{split_made, maker_new, maker_old}

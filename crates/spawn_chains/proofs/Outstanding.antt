@@ -1,20 +1,21 @@
 -- A spawn that is outstanding at a strand: the other one of the strands that it began is parallel to it.
 use Rattle.std.proofs.Common.{◌≡◌, ◌≢◌, ◌⊎◌, inl, inr, ℕ, zero, suc, ◌<◌, true, false, List, [], ◌∷◌, ◌++◌, get_or, Option, Some, None, refl, sym, ap, ◌∙◌, subst, append_assoc, arith}
 use Rattle.std.specs.Prelude.{MatchOption, IfSome}
-use Rattle.addresses.specs.Address.{Word, child, next, join, Address, parallel, IsPrefix}
-use Rattle.addresses.proofs.Extensions.{parallel-append}
-use Rattle.addresses.proofs.Blocks.{prefix-reaches}
-use Rattle.sp_labels.specs.declared.answer.Spawned.{Spawned}
-use Rattle.control_history.specs.Strands.{Begun, unused}
-use Rattle.control_history.specs.Legal.{Legal}
-use Rattle.control_history.specs.Dag.{IsParallel}
-use Rattle.control_history.specs.Addresses.{address}
-use Rattle.control_history.proofs.Words.{◌▹◌, prefix_refl, prefix_of_longer, prefix_longer, prefix_widen}
-use Rattle.control_history.proofs.Addresses.{addresses}
-use Rattle.control_history.proofs.Law.{begun_below, precedes_reach}
-use Rattle.control_history.proofs.Range.{ranges}
-use Rattle.control_history.proofs.Orders.{address_tests_law}
-use Rattle.race_gate.specs.Entries.{Entries, control_part}
+use Rattle.model_strands.specs.Address.{Word, child, next, join, Address}
+use Rattle.law_addresses.specs.Address.{parallel, IsPrefix}
+use Rattle.law_addresses.proofs.Extensions.{parallel-append}
+use Rattle.law_addresses.proofs.Blocks.{prefix-reaches}
+use Rattle.model_strands.specs.declared.spawned.Spawned.{Spawned}
+use Rattle.model_strands.specs.Strands.{Begun, unused}
+use Rattle.model_strands.specs.Legal.{Legal}
+use Rattle.model_strands.specs.Dag.{IsParallel}
+use Rattle.model_strands.specs.Addresses.{address}
+use Rattle.law_strands.proofs.Words.{◌▹◌, prefix_refl, prefix_of_longer, prefix_longer, prefix_widen}
+use Rattle.law_strands.proofs.Addresses.{addresses}
+use Rattle.law_strands.proofs.Law.{begun_below, precedes_reach}
+use Rattle.law_strands.proofs.Range.{ranges}
+use Rattle.law_strands.proofs.Orders.{address_tests_law}
+use Rattle.model_histories.specs.Entries.{Entries, control_part}
 use Rattle.spawn_chains.specs.declared.lineage.OpenSpawn.{OpenSpawn}
 use Rattle.spawn_chains.specs.Makers.{IsSpawn, maker, IsLineage}
 use Rattle.spawn_chains.specs.Climbs.{Climbs}

@@ -1,13 +1,13 @@
 -- The climb over a list of makers, and where it ends.
 use Rattle.std.proofs.Common.{◌≡◌, ◌<◌, ℕ, Bool, true, false, List, length, get_or, sym, ◌∙◌, subst, subst₂, refl, arith}
-use Rattle.addresses.specs.Address.{parallel}
-use Rattle.sp_labels.specs.declared.answer.Spawned.{Spawned}
-use Rattle.control_history.specs.Strands.{Begun, unused}
-use Rattle.control_history.specs.Dag.{IsParallel}
-use Rattle.control_history.specs.Addresses.{address}
-use Rattle.control_history.proofs.Law.{begun_below}
-use Rattle.control_history.proofs.Range.{ranges}
-use Rattle.race_gate.specs.Entries.{Entries, control_part}
+use Rattle.law_addresses.specs.Address.{parallel}
+use Rattle.model_strands.specs.declared.spawned.Spawned.{Spawned}
+use Rattle.model_strands.specs.Strands.{Begun, unused}
+use Rattle.model_strands.specs.Dag.{IsParallel}
+use Rattle.model_strands.specs.Addresses.{address}
+use Rattle.law_strands.proofs.Law.{begun_below}
+use Rattle.law_strands.proofs.Range.{ranges}
+use Rattle.model_histories.specs.Entries.{Entries, control_part}
 use Rattle.spawn_chains.specs.Makers.{IsSpawn, maker, IsLineage}
 use Rattle.spawn_chains.specs.Climbs.{Climbs}
 use Rattle.spawn_chains.proofs.Climbing.{climbs_swap, made, climb, parallel_told, Sides, sides, no_sides, at_root}

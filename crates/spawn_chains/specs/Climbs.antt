@@ -1,9 +1,9 @@
 -- Two climbs from two strands to what made them.
 use Rattle.std.specs.Prelude.{◌≡◌, ◌<◌, ℕ}
-use Rattle.addresses.specs.Address.{IsPrefix, parallel}
-use Rattle.control_history.specs.Strands.{unused}
-use Rattle.control_history.specs.Addresses.{address}
-use Rattle.race_gate.specs.Entries.{Entries, control_part}
+use Rattle.law_addresses.specs.Address.{IsPrefix, parallel}
+use Rattle.model_strands.specs.Strands.{unused}
+use Rattle.model_strands.specs.Addresses.{address}
+use Rattle.model_histories.specs.Entries.{Entries, control_part}
 
 -- the climbs came by these two, and a spawn where the strands part was not passed
 pub record Climbs (entries : Entries) (strand other one two : ℕ) : Type 0 where

@@ -1,8 +1,8 @@
 -- The spawns and calls that enclose what a strand does.
 use Rattle.std.specs.Prelude.{ℕ, suc, true, false, List, [], ◌∷◌, length, Option, Some}
-use Rattle.control_history.specs.Updated.{updated}
-use Rattle.control_history.specs.History.{Event, split, call, resumed}
-use Rattle.race_gate.specs.Entries.{Entries, event_of}
+use Rattle.model_strands.specs.Updated.{updated}
+use Rattle.model_strands.specs.History.{Event, split, call, resumed}
+use Rattle.model_histories.specs.Entries.{Entries, event_of}
 use Rattle.spawn_chains.specs.declared.frames.Origin.{Origin}
 use Rattle.spawn_chains.specs.declared.frames.Origin.TheVariants.{Same, Opened, Left}
 

@@ -1,14 +1,14 @@
 -- Which entry made each strand.
 use Rattle.std.specs.Prelude.{◌≡◌, ◌⊎◌, ◌<◌, ℕ, suc, true, false, List, [], ◌∷◌, length, slice_index, Option, Some}
-use Rattle.trace_values.specs.declared.value.Act.TheVariants.{Spawn}
-use Rattle.sp_labels.specs.declared.answer.Spawned.{Spawned}
-use Rattle.control_history.specs.Updated.{updated}
-use Rattle.control_history.specs.History.{Event, split}
-use Rattle.control_history.specs.Strands.{unused}
-use Rattle.control_history.specs.Legal.{Legal}
-use Rattle.race_gate.specs.declared.answer.Answer.TheVariants.{Split}
-use Rattle.race_gate.specs.declared.answer.Entry.{Entry}
-use Rattle.race_gate.specs.Entries.{Entries, event_of, control_part}
+use Rattle.model_accesses.specs.declared.request.Act.TheVariants.{Spawn}
+use Rattle.model_strands.specs.declared.spawned.Spawned.{Spawned}
+use Rattle.model_strands.specs.Updated.{updated}
+use Rattle.model_strands.specs.History.{Event, split}
+use Rattle.model_strands.specs.Strands.{unused}
+use Rattle.model_strands.specs.Legal.{Legal}
+use Rattle.model_histories.specs.declared.answer.Answer.TheVariants.{Split}
+use Rattle.model_histories.specs.declared.answer.Entry.{Entry}
+use Rattle.model_histories.specs.Entries.{Entries, event_of, control_part}
 
 -- the entry has this number
 abbrev pub HasNumber : Entries → ℕ → Entry → Type 0

@@ -1,9 +1,9 @@
 -- A spawn that is outstanding at one of two strands and not at the other.
 use Rattle.std.specs.Prelude.{◌≡◌, ◌⊎◌, ℕ}
-use Rattle.control_history.specs.Strands.{Begun}
-use Rattle.control_history.specs.Dag.{IsParallel}
-use Rattle.sp_labels.specs.declared.answer.Spawned.{Spawned}
-use Rattle.race_gate.specs.Entries.{Entries, control_part}
+use Rattle.model_strands.specs.Strands.{Begun}
+use Rattle.model_strands.specs.Dag.{IsParallel}
+use Rattle.model_strands.specs.declared.spawned.Spawned.{Spawned}
+use Rattle.model_histories.specs.Entries.{Entries, control_part}
 use Rattle.spawn_chains.specs.declared.lineage.OpenSpawn.{OpenSpawn}
 use Rattle.spawn_chains.specs.Makers.{IsSpawn}
 

@@ -1,7 +1,7 @@
 -- The spawn where two strands part.
 use Rattle.std.specs.Prelude.{◌≡◌, ◌⊎◌, ℕ}
-use Rattle.control_history.specs.Dag.{Reaches}
-use Rattle.race_gate.specs.Entries.{Entries, control_part}
+use Rattle.model_strands.specs.Dag.{Reaches}
+use Rattle.model_histories.specs.Entries.{Entries, control_part}
 use Rattle.spawn_chains.specs.declared.lineage.Parting.{Parting}
 use Rattle.spawn_chains.specs.Makers.{IsSpawn}
 

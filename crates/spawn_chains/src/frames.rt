@@ -1,14 +1,14 @@
 //! The spawns and calls that lead to where a strand stands.
 
 ghost use Rattle.std.specs.Prelude.{◌≡◌, ℕ, List, reverse, IfOk, Some};
-ghost use Rattle.control_history.specs.History.{split};
-ghost use Rattle.race_gate.specs.Entries.{event_of};
+ghost use Rattle.model_strands.specs.History.{split};
+ghost use Rattle.model_histories.specs.Entries.{event_of};
 ghost use Rattle.spawn_chains.specs.Frames.{with_frame, frames, frames_from};
 
+use model_strands::Spawned;
 use race_gate::{Answer, Entry};
-use sp_labels::Spawned;
 use std::alloc::{AllocError, Allocator};
-use trace_values::Act;
+use text_words::Act;
 
 /// Where a strand stood before an entry.
 #[derive(Clone, Copy, Debug, PartialEq, Eq)]

@@ -1,23 +1,23 @@
 //! The makers of strands, and where two strands part.
 
 ghost use Rattle.std.specs.Prelude.{◌≡◌, ◌<◌, ◌↔◌, ◌++◌, ℕ, [], ◌∷◌, length, reverse, IfOk, IfSome, IsSome, MatchOption, if◌then◌else◌};
-ghost use Rattle.control_history.specs.Strands.{Begun};
-ghost use Rattle.control_history.specs.Legal.{Legal};
-ghost use Rattle.control_history.specs.Dag.{IsParallel};
-ghost use Rattle.race_gate.specs.Entries.{control_part};
-ghost use Rattle.sp_labels.specs.declared.answer.Spawned.{Spawned};
+ghost use Rattle.model_strands.specs.Strands.{Begun};
+ghost use Rattle.model_strands.specs.Legal.{Legal};
+ghost use Rattle.model_strands.specs.Dag.{IsParallel};
+ghost use Rattle.model_histories.specs.Entries.{control_part};
+ghost use Rattle.model_strands.specs.declared.spawned.Spawned.{Spawned};
 ghost use Rattle.spawn_chains.specs.Makers.{Began, IsSpawn, maker, IsLineage};
 ghost use Rattle.spawn_chains.specs.Climbs.{Climbs};
 ghost use Rattle.spawn_chains.specs.Partings.{IsParting};
 ghost use Rattle.spawn_chains.specs.OpenSpawns.{IsNeither, IsOpposite, IsOutstanding};
-ghost use Rattle.addresses.specs.Address.{IsPrefix};
-ghost use Rattle.control_history.specs.Addresses.{address};
+ghost use Rattle.law_addresses.specs.Address.{IsPrefix};
+ghost use Rattle.model_strands.specs.Addresses.{address};
 
+use model_strands::Spawned;
 use race_gate::{Answer, Entry};
-use sp_labels::Spawned;
 use std::alloc::{AllocError, Allocator};
 use std::marker::Model;
-use trace_values::Act;
+use text_words::Act;
 
 /// The spawn where two strands part.
 #[derive(Clone, Copy, Debug, PartialEq, Eq)]

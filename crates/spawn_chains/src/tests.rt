@@ -6,7 +6,7 @@ use race_gate::{Entry, Gate};
 use std::alloc::{AllocError, Global};
 use std::process::Abort;
 use std::test::Fail;
-use trace_values::{Act, Monoids, Request, Shape};
+use text_words::{Act, Monoids, Request, Shape};
 
 /// The number of a spawn's entry, the strand that came by its child, and the one that came by its next.
 type Told = Option<(usize, u32, u32)>;

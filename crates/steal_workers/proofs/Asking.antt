@@ -1,8 +1,8 @@
 -- What a task asks next.
 use Rattle.std.proofs.Common.{ℕ, Bool, List, Result, Ok, Err}
 use Rattle.std.specs.Prelude.{OnOk}
-use Rattle.program_text.specs.Codes.{Code}
-use Rattle.program_steps.specs.Exchanges.{Exchange}
+use Rattle.model_bodies.specs.Codes.{Code}
+use Rattle.model_programs.specs.Exchanges.{Exchange}
 use Rattle.frame_steps.specs.States.{State}
 use Rattle.frame_steps.specs.Frames.{IsAfter}
 

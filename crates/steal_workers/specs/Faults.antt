@@ -1,7 +1,7 @@
 -- Which fault a run answers.
 use Rattle.std.specs.Prelude.{◌≡◌, ◌≤◌, ◌⊎◌, ℕ, Bool, true, false, List, Option, Some, None, All, Contains}
-use Rattle.race_gate.specs.declared.fault.GateFault.{GateFault}
-use Rattle.race_gate.specs.declared.fault.GateFault.TheVariants as gate
+use Rattle.model_histories.specs.declared.fault.GateFault.{GateFault}
+use Rattle.model_histories.specs.declared.fault.GateFault.TheVariants as gate
 use Rattle.frame_steps.specs.declared.frame.FrameFault.{FrameFault}
 use Rattle.frame_steps.specs.declared.frame.FrameFault.TheVariants as frame
 use Rattle.locked_replay.specs.declared.fault.RunFault.{RunFault}

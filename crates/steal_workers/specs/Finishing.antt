@@ -1,8 +1,8 @@
 -- Whether a run came to its end.
 use Rattle.std.specs.Prelude.{Bool, true, false, List}
 use Rattle.std.specs.List.{list_any}
-use Rattle.race_gate.specs.declared.answer.Answer.{Answer}
-use Rattle.race_gate.specs.declared.answer.Answer.TheVariants.{Finished}
+use Rattle.model_histories.specs.declared.answer.Answer.{Answer}
+use Rattle.model_histories.specs.declared.answer.Answer.TheVariants.{Finished}
 use Rattle.locked_replay.specs.declared.worker.WorkerLog.{WorkerLog}
 
 abbrev pub finishes : Answer → Bool

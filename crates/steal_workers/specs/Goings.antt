@@ -1,7 +1,7 @@
 -- Where a worker goes on.
 use Rattle.std.specs.Prelude.{◌≡◌, ℕ, Option, Some, None, Result, Ok, Err, IfOk, IfSome, IsOkAnd, IsSomeAnd}
-use Rattle.race_gate.specs.declared.answer.Answer.{Answer}
-use Rattle.race_gate.specs.declared.answer.Answer.TheVariants.{Split, Joined, Waits, Ended, EndedJoined, Finished}
+use Rattle.model_histories.specs.declared.answer.Answer.{Answer}
+use Rattle.model_histories.specs.declared.answer.Answer.TheVariants.{Split, Joined, Waits, Ended, EndedJoined, Finished}
 use Rattle.locked_replay.specs.declared.fault.RunFault.{RunFault}
 use Rattle.locked_replay.specs.declared.fault.RunFault.TheVariants.{Strange}
 use Rattle.steal_workers.specs.declared.task.Task.{Task}

@@ -4,13 +4,13 @@ use Rattle.std.proofs.lemmas.Option.{same_Some}
 use mathlib.Core.Path.{sym, ◌∙◌}
 use mathlib.Core.HLevel.{Σ_prop_path, ×_prop, ×₃_prop, Π_prop, →_prop, Unit-prop}
 use native.Mathlib.Bridge.{le_prop}
-use Rattle.trace_values.specs.declared.value.Act.{Act}
-use Rattle.program_lines.specs.declared.statement.Statement.{Statement}
-use Rattle.program_text.specs.Codes.{Code}
-use Rattle.program_steps.specs.declared.activation.Turn.{Turn}
-use Rattle.program_steps.specs.declared.activation.Turn.TheVariants.{Plainly, Numbering, Spawning, Returning}
-use Rattle.program_steps.specs.declared.activation.Activation.{Activation}
-use Rattle.program_steps.specs.Activations.{statement_of, asked_act, IsTurn, StandsIn, IsInPlace}
+use Rattle.model_accesses.specs.declared.request.Act.{Act}
+use Rattle.model_bodies.specs.declared.statement.Statement.{Statement}
+use Rattle.model_bodies.specs.Codes.{Code}
+use Rattle.function_steps.specs.declared.activation.Turn.{Turn}
+use Rattle.function_steps.specs.declared.activation.Turn.TheVariants.{Plainly, Numbering, Spawning, Returning}
+use Rattle.function_steps.specs.declared.activation.Activation.{Activation}
+use Rattle.function_steps.specs.Activations.{statement_of, asked_act, IsTurn, StandsIn, IsInPlace}
 use Rattle.frame_steps.specs.States.{State}
 use Rattle.frame_steps.specs.Frames.{Stands, IsAsking}
 

@@ -3,12 +3,12 @@ use Rattle.std.specs.Prelude.{◌≡◌, ◌≢◌, ◌⊎◌, ◌<◌, ◌≤�
 use Rattle.std.specs.Prelude.{map, All, Option, Some, None, Result, Ok, Err, IsOkAnd, vec_len, vec_capacity}
 use Rattle.std.specs.List.{list_any}
 use Rattle.std.specs.Global.{Vec}
-use Rattle.trace_values.specs.declared.value.Request.{Request}
-use Rattle.race_gate.specs.declared.fault.GateFault.{GateFault}
-use Rattle.race_gate.specs.declared.answer.Answer.{Answer}
-use Rattle.race_gate.specs.declared.answer.Answer.TheVariants.{Split, Waits, EndedJoined}
-use Rattle.race_gate.specs.declared.answer.Receipt.{Receipt}
-use Rattle.program_steps.specs.Exchanges.{Exchange}
+use Rattle.model_accesses.specs.declared.request.Request.{Request}
+use Rattle.model_histories.specs.declared.fault.GateFault.{GateFault}
+use Rattle.model_histories.specs.declared.answer.Answer.{Answer}
+use Rattle.model_histories.specs.declared.answer.Answer.TheVariants.{Split, Waits, EndedJoined}
+use Rattle.model_histories.specs.declared.reply.Receipt.{Receipt}
+use Rattle.model_programs.specs.Exchanges.{Exchange}
 use Rattle.frame_steps.specs.Frames.{IsAfter, CanFollow}
 use Rattle.locked_replay.specs.declared.fault.RunFault.{RunFault}
 use Rattle.locked_replay.specs.declared.fault.RunFault.TheVariants.{Torn, Strange}

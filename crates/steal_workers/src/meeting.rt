@@ -6,7 +6,7 @@ use std::sync::Wait;
 use std::sync::atomic::{AtomicBool, Ordering};
 use std::sync::ledger::Ledger;
 use std::thread;
-use trace_values::Request;
+use text_words::Request;
 
 const TURNS: u32 = 1_000_000;
 

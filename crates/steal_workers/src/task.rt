@@ -6,7 +6,7 @@ ghost use Rattle.frame_steps.specs.Frames.{Stands};
 ghost use Rattle.steal_workers.specs.Standing.{stands_once};
 
 use frame_steps::Frame;
-use program_steps::Target;
+use function_steps::Target;
 use program_text::Program;
 use std::alloc::Global;
 

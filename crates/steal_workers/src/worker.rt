@@ -11,14 +11,14 @@ use crate::fault::{fault_of, meeting_of, refusal_of};
 use crate::lot::Lot;
 use crate::task::Task;
 use crossbeam_utils::Backoff;
+use function_steps::Target;
 use locked_replay::{Ask, RunFault, Seat, WorkerLog};
-use program_steps::Target;
 use program_text::Program;
 use race_gate::{Answer, Receipt};
 use std::alloc::{AllocError, Global};
 use std::sync::Wait;
 use std::sync::ledger::Ledger;
-use trace_values::{Act, Request};
+use text_words::{Act, Request};
 
 /// What a frame knew of its request before it was answered.
 #[derive(Clone, Copy)]

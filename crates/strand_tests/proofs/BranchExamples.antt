@@ -1,9 +1,9 @@
 -- Two blocks, one after the other, as a test runs them.
 use Rattle.std.proofs.Common.{◌≡◌, inl, inr, ℕ, true, [], ◌∷◌, refl, sym, ap, arith}
-use Rattle.control_history.specs.Updated.{updated}
-use Rattle.control_history.specs.History.{Event, split, joined, ended, History}
-use Rattle.control_history.specs.Blocks.{root, spawned}
-use Rattle.control_history.specs.Legal.{open_split, sync_joined, child_return, Legal, start, then}
+use Rattle.model_strands.specs.Updated.{updated}
+use Rattle.model_strands.specs.History.{Event, split, joined, ended, History}
+use Rattle.model_strands.specs.Blocks.{root, spawned}
+use Rattle.model_strands.specs.Legal.{open_split, sync_joined, child_return, Legal, start, then}
 use Rattle.branch_names.specs.Names.{Names, Follows, FollowsOn, Begins}
 use Rattle.branch_names.proofs.Events.{room-follows, other-events}
 

@@ -3,12 +3,12 @@
 ghost use Rattle.std.specs.Prelude.{◌≡◌, ◌+◌, ◌<◌, length};
 
 use crate::checks::equal;
+use model_reducers::Monoid;
 use reducer_views::{View, Views, combine, fits, identity, of_put, of_update, value};
 use sp_labels::Spawned;
 use std::alloc::{AllocError, Global};
 use std::process::Abort;
 use std::test::Fail;
-use trace_values::Monoid;
 
 /// What a get gives after a put and two updates.
 fn gathered(monoid: Monoid, numbers: [u64; 3]) -> Option<u64> {

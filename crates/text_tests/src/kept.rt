@@ -4,8 +4,8 @@ use crate::checks::equal;
 use std::alloc::Global;
 use std::process::Abort;
 use std::test::Fail;
+use text_words::{Act, Request, TraceLine};
 use trace_lines::TraceLines;
-use trace_values::{Act, Request, TraceLine};
 
 /// A line with this number that a strand's act stands on, for this line of the program.
 const fn line(at: u32, strand: u32, act: Act, program_line: u32, marked: bool) -> TraceLine {

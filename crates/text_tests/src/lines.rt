@@ -9,7 +9,7 @@ use program_lines::{
 use std::alloc::Global;
 use std::process::Abort;
 use std::test::Fail;
-use trace_values::{Cause, Monoid, Name, Names, Version, Words, as_text};
+use text_words::{Cause, Monoid, Name, Names, Version, Words, as_text};
 
 /// The functions `main` and `fib`.
 fn functions(alloc: Global) -> Result<FunctionNames<'static, Global>, Fail> {

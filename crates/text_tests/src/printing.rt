@@ -5,7 +5,7 @@ use program_text::{Function, Program};
 use std::alloc::Global;
 use std::process::Abort;
 use std::test::Fail;
-use trace_values::{Mem, Name, Reducer};
+use text_words::{Mem, Name, Reducer};
 
 /// The names are the same.
 fn are_same_names(rt: &impl Abort, names: &[Name], others: &[Name]) {

@@ -1,14 +1,14 @@
 //! Programs as text: each cause, each limit, each kind of line.
 
 ghost use Rattle.std.specs.Prelude.{◌<◌};
-ghost use Rattle.trace_values.specs.Declarations.{cells_of};
+ghost use Rattle.text_words.specs.Declarations.{cells_of};
 
 use crate::checks::equal;
 use program_text::{Cause, Expression, Function, Operand, Program, Register, Statement, TextFault};
 use std::alloc::Global;
 use std::process::Abort;
 use std::test::Fail;
-use trace_values::Name;
+use text_words::Name;
 
 /// The fault of a text, or none where it means a program.
 fn fault_of(alloc: Global, text: &[u8]) -> Option<(u32, Cause)> {

@@ -1,15 +1,15 @@
 //! Traces as text: each cause, each limit, each kind of line.
 
 ghost use Rattle.std.specs.Prelude.{◌≡◌, ◌<◌, OnOk};
-ghost use Rattle.trace_values.specs.Declarations.{cells_of};
+ghost use Rattle.text_words.specs.Declarations.{cells_of};
 
 use crate::checks::equal;
 use std::alloc::Global;
 use std::process::Abort;
 use std::test::Fail;
+use text_words::{Act, Cause, Monoid, Request, TextFault, TraceLine};
 use trace_lines::TraceLines;
 use trace_text::{Trace, cell_name};
-use trace_values::{Act, Cause, Monoid, Request, TextFault, TraceLine};
 
 /// The fault of a text, or none where it means a trace.
 fn fault_of(alloc: Global, text: &[u8]) -> Option<(u32, Cause)> {

@@ -2,7 +2,7 @@
 use Rattle.std.proofs.Common.{◌≡◌, ◌≢◌, ◌++◌, ◌∷◌, ◌==◌, [], refl, ap, sym, ◌∙◌, ℕ, suc, List, length, true, false, Bool, ◌↔◌}
 use Rattle.std.proofs.lemmas.Bool.{ne_eqb}
 use Rattle.std.proofs.lemmas.List.{append_assoc, append-nil, nil_from_length}
-use Rattle.trace_values.specs.declared.value.TraceLine.{TraceLine}
+use Rattle.text_words.specs.declared.value.TraceLine.{TraceLine}
 use Rattle.trace_lines.specs.Heads.{marker, strand_in, line_of_head}
 use Rattle.trace_lines.specs.Lines.{lines_from, AreWhole}
 

@@ -1,8 +1,8 @@
 -- A line of a trace in one number, its head, and where that is too small in three numbers more.
 use Rattle.std.specs.Prelude.{ℕ, false, ◌+◌, ◌/◌, ◌%◌, ◌^◌, ◌-◌, ◌==◌, if◌then◌else◌}
-use Rattle.trace_values.specs.declared.value.Act.{Act}
-use Rattle.trace_values.specs.declared.value.Act.TheVariants.{Spawn, Sync, Call, Return, Read, Write, Bump, Update, Put, Get}
-use Rattle.trace_values.specs.declared.value.TraceLine.{TraceLine}
+use Rattle.model_accesses.specs.declared.request.Act.{Act}
+use Rattle.model_accesses.specs.declared.request.Act.TheVariants.{Spawn, Sync, Call, Return, Read, Write, Bump, Update, Put, Get}
+use Rattle.text_words.specs.declared.value.TraceLine.{TraceLine}
 
 -- how many numbers a field of a head has: for strands, for acts, and for places
 abbrev pub strands : ℕ

@@ -1,6 +1,6 @@
 -- The lines that heads and further numbers stand for.
 use Rattle.std.specs.Prelude.{◌≡◌, ℕ, List, [], ◌∷◌, ◌++◌, ◌+◌, ◌/◌, ◌%◌, ◌^◌, ◌==◌, drop, get_or, if◌then◌else◌}
-use Rattle.trace_values.specs.declared.value.TraceLine.{TraceLine}
+use Rattle.text_words.specs.declared.value.TraceLine.{TraceLine}
 use Rattle.trace_lines.specs.declared.lines.Iter.{Iter}
 use Rattle.trace_lines.specs.Heads.{marker, strand_in, line_of_head, line_of_numbers}
 

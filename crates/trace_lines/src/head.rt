@@ -6,7 +6,7 @@ ghost use Rattle.trace_lines.specs.Heads.{tag_of, place_of as place_spec, value_
 ghost use Rattle.trace_lines.specs.Heads.{strands, acts, places, marker, strand_in, tag_in, rest_in};
 ghost use Rattle.trace_lines.specs.Heads.{line_of_head as line_of_head_spec, line_of_numbers as line_of_numbers_spec};
 
-use trace_values::{Act, Request, TraceLine};
+use text_words::{Act, Request, TraceLine};
 
 /// How many strands a head can name, but for the last, which says that three numbers more follow.
 const STRANDS: u64 = 1 << 22;

@@ -7,7 +7,7 @@ ghost use Rattle.trace_lines.specs.Lines.{lines_from, lines_left};
 use crate::head::{has_more, head_of, line_of_head, line_of_numbers, numbers_of};
 use std::alloc::{AllocError, Allocator};
 use std::marker::Model;
-use trace_values::TraceLine;
+use text_words::TraceLine;
 
 /// The lines of a trace that ask for something, in their order.
 #[derive(Drop)]
@@ -19,7 +19,7 @@ pub struct TraceLines<A: Allocator> {
 
 impl<A: Allocator> Model for TraceLines<A> {
     ghost use Rattle.std.specs.Prelude.{List};
-    ghost use Rattle.trace_values.specs.declared.value.TraceLine.{TraceLine as SpecLine};
+    ghost use Rattle.text_words.specs.declared.value.TraceLine.{TraceLine as SpecLine};
     ghost use Rattle.trace_lines.specs.Lines.{lines_from, AreWhole};
 
     ghost Value = { List SpecLine };

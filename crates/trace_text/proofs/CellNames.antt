@@ -3,8 +3,8 @@ use Rattle.std.proofs.Common.{◌≡◌, ℕ, ◌<◌, ◌≤◌, ◌+◌, ◌�
 use Rattle.std.specs.Prelude.{Option, Some, None, ◌==◌, IsTrue}
 use Rattle.std.specs.List.{find}
 use Rattle.std.proofs.lemmas.Bool.Decides.{nat_tests}
-use Rattle.trace_values.specs.declared.value.Mem.{Mem}
-use Rattle.trace_values.specs.Declarations.{cells_of}
+use Rattle.text_words.specs.declared.value.Mem.{Mem}
+use Rattle.text_words.specs.Declarations.{cells_of}
 use Rattle.trace_text.specs.Shapes.{is_numbered, has_cell}
 use Rattle.trace_text.proofs.Kept.{both_true, first_is, cells_cons}
 

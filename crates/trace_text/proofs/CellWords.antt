@@ -7,14 +7,14 @@ use Rattle.std.specs.Str.{all_ascii_digits}
 use Rattle.std.proofs.lemmas.Bool.Decides.{nat_tests}
 use Rattle.std.proofs.lemmas.List.{append_cancel_right}
 use Rattle.std.proofs.lemmas.List.Elements.{recursion_from_All}
-use Rattle.trace_values.specs.declared.fault.Cause.{Cause}
-use Rattle.trace_values.specs.declared.fault.Cause.TheVariants.{NotText, BadHeader, BadWord, BadNumber, UnknownName}
-use Rattle.trace_values.specs.declared.value.Mem.{Mem}
-use Rattle.trace_values.specs.Text.{is_name_byte, IsName, BeginsWithDigit}
-use Rattle.trace_values.specs.Values.{Known}
-use Rattle.trace_values.specs.Names.{element_word, CellMeans, SingleMeans, ElementMeans}
+use Rattle.text_words.specs.declared.fault.Cause.{Cause}
+use Rattle.text_words.specs.declared.fault.Cause.TheVariants.{NotText, BadHeader, BadWord, BadNumber, UnknownName}
+use Rattle.text_words.specs.declared.value.Mem.{Mem}
+use Rattle.text_words.specs.Text.{is_name_byte, IsName, BeginsWithDigit}
+use Rattle.text_words.specs.Values.{Known}
+use Rattle.text_words.specs.Names.{element_word, CellMeans, SingleMeans, ElementMeans}
 use Rattle.trace_text.specs.Lines.{Place, Cell, OfNumber}
-use Rattle.trace_values.specs.Causes.{IsLowest, cause_number}
+use Rattle.text_words.specs.Causes.{IsLowest, cause_number}
 use Rattle.trace_text.specs.Faults.{HasShape, HasElementShape, IsBadIndex, IsUndeclared, WordFault}
 use Rattle.trace_text.specs.Outcome.{Reads}
 use Rattle.trace_text.specs.Cells.{IsSingleFault, IsElementFault}

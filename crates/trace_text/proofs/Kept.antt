@@ -6,18 +6,18 @@ use Rattle.std.proofs.lemmas.Bool.Decides.{nat_tests}
 use Rattle.std.proofs.lemmas.List.{length_push}
 use Rattle.std.proofs.lemmas.List.Sums.{sum_by-append}
 use Rattle.std.proofs.lemmas.List.Elements.{All-append, All-from_recursion}
-use Rattle.trace_values.specs.declared.value.Act.{Act}
-use Rattle.trace_values.specs.declared.value.Act.TheVariants.{Read, Write, Bump, Update, Put, Get}
-use Rattle.trace_values.specs.declared.value.Mem.{Mem}
-use Rattle.trace_values.specs.declared.value.Reducer.{Reducer}
-use Rattle.trace_values.specs.declared.value.TraceLine.{TraceLine}
-use Rattle.trace_values.specs.declared.value.Version.{Version}
-use Rattle.trace_values.specs.Text.{words, lines}
-use Rattle.trace_values.specs.Limits.{max_cells, max_reducers, max_requests}
-use Rattle.trace_values.specs.Values.{Known, Contents}
-use Rattle.trace_values.specs.Names.{CellMeans}
+use Rattle.model_accesses.specs.declared.request.Act.{Act}
+use Rattle.model_accesses.specs.declared.request.Act.TheVariants.{Read, Write, Bump, Update, Put, Get}
+use Rattle.text_words.specs.declared.value.Mem.{Mem}
+use Rattle.text_words.specs.declared.value.Reducer.{Reducer}
+use Rattle.text_words.specs.declared.value.TraceLine.{TraceLine}
+use Rattle.text_words.specs.declared.value.Version.{Version}
+use Rattle.text_words.specs.Text.{words, lines}
+use Rattle.text_words.specs.Limits.{max_cells, max_reducers, max_requests}
+use Rattle.text_words.specs.Values.{Known, Contents}
+use Rattle.text_words.specs.Names.{CellMeans}
 use Rattle.trace_text.specs.Lines.{Place, FreshName, Number, Placed, placed, Value, OfName, OfNumber, WordsMean, Cell, ReducerName, a_strand, a_value, Mark, wanted, optional, asks, operands, if_there}
-use Rattle.trace_values.specs.Declarations.{cells_of, memory_at, reducer_at}
+use Rattle.text_words.specs.Declarations.{cells_of, memory_at, reducer_at}
 use Rattle.trace_text.specs.Grammar.{Item, Blank, Declared, Reduces, Asked, ItemMeans, LineMeans, LinesMean, LinesOfTrace, TextMeans, extended, nothing}
 use Rattle.trace_text.specs.Shapes.{is_numbered, cells_used, reducers_used, IsWithin}
 use Rattle.trace_text.proofs.CellWords.{found_of_all}

@@ -1,12 +1,12 @@
 -- A word is the word of one keyword at most, and of one monoid.
 use Rattle.std.proofs.Common.{◌≡◌, ℕ, cond, List, get_or, refl, sym, ap, ◌∙◌}
 use Rattle.std.specs.Prelude.{◌==◌}
-use Rattle.access_table.specs.declared.kind.Kind.TheVariants as kind
+use Rattle.model_accesses.specs.declared.kind.Kind.TheVariants as kind
 use Rattle.trace_text.specs.declared.keyword.Keyword.{Keyword}
 use Rattle.trace_text.specs.declared.keyword.Keyword.TheVariants.{Mem as MemWord, Reducer as ReducerWord, Spawn, Call, Sync, Return, Access}
-use Rattle.trace_values.specs.declared.value.Monoid.{Monoid}
-use Rattle.trace_values.specs.declared.value.Monoid.TheVariants.{Sum, Min, Max, Last, Digits}
-use Rattle.trace_values.specs.Values.{monoid_spelling}
+use Rattle.model_reducers.specs.declared.monoid.Monoid.{Monoid}
+use Rattle.model_reducers.specs.declared.monoid.Monoid.TheVariants.{Sum, Min, Max, Last, Digits}
+use Rattle.text_words.specs.Values.{monoid_spelling}
 use Rattle.trace_text.specs.Lines.{spelling}
 
 -- the keyword whose first and third letters are these

@@ -1,14 +1,14 @@
 -- What is wrong with the words of a line, from what is wrong with each in its place.
 use Rattle.std.proofs.Common.{◌≡◌, ℕ, ◌<◌, ◌∷◌, ◌++◌, [], List, length, arith, refl, sym, subst, ap, ◌∙◌, inl, inr}
 use Rattle.std.specs.Prelude.{Option, Some, None, Result, Ok, Err, MatchResult, ◌↔◌}
-use Rattle.trace_values.specs.declared.fault.Cause.{Cause}
-use Rattle.trace_values.specs.declared.fault.Cause.TheVariants.{NotText, BadHeader, BadWord}
+use Rattle.text_words.specs.declared.fault.Cause.{Cause}
+use Rattle.text_words.specs.declared.fault.Cause.TheVariants.{NotText, BadHeader, BadWord}
 use Rattle.trace_text.specs.declared.keyword.Keyword.{Keyword}
 use Rattle.trace_text.specs.declared.keyword.Keyword.TheVariants.{Mem as MemWord, Reducer as ReducerWord}
-use Rattle.trace_values.specs.declared.value.Version.{Version}
-use Rattle.trace_values.specs.Values.{Known}
+use Rattle.text_words.specs.declared.value.Version.{Version}
+use Rattle.text_words.specs.Values.{Known}
 use Rattle.trace_text.specs.Lines.{Placed, placed, spelling, HasKeyword, wanted, optional, IsArranged, Value, OfName, OfNumber, OfMonoid, Says, WordsMean, asks, operands, if_there}
-use Rattle.trace_values.specs.Causes.{IsLowest, cause_number}
+use Rattle.text_words.specs.Causes.{IsLowest, cause_number}
 use Rattle.trace_text.specs.Faults.{SomeFault, WordsFault}
 use Rattle.trace_text.specs.Grammar.{Item, Blank, Declared, Reduces, Asked, ItemMeans}
 use Rattle.trace_text.specs.Outcome.{IsPlacedFault}

@@ -2,20 +2,20 @@
 use Rattle.std.proofs.Common.{◌≡◌, ℕ, ◌<◌, ◌≤◌, ◌+◌, ◌∷◌, [], List, Bool, true, false, cond, arith, refl, sym, ap, ◌∙◌, inl, inr}
 use Rattle.std.specs.Prelude.{Option, Some, None}
 use Rattle.std.specs.List.{All}
-use Rattle.trace_values.specs.declared.fault.Cause.{Cause}
-use Rattle.trace_values.specs.declared.fault.Cause.TheVariants.{NotText, BadHeader, BadWord, BadNumber, UnknownName, TwiceNamed, BadNesting, NoMain, TooMany}
-use Rattle.trace_values.specs.declared.names.Named.{Named}
-use Rattle.trace_values.specs.declared.names.Named.TheVariants.{Single, Array, Reducer}
-use Rattle.trace_values.specs.declared.value.Mem.{Mem}
-use Rattle.trace_values.specs.Text.{IsName, IsNumberIn, BeginsWithDigit}
-use Rattle.trace_values.specs.Limits.{max_cells, max_value}
-use Rattle.trace_values.specs.Values.{Known}
-use Rattle.trace_values.specs.Names.{memory_named, reducer_named, IsDeclared, ElementMeans}
+use Rattle.text_words.specs.declared.fault.Cause.{Cause}
+use Rattle.text_words.specs.declared.fault.Cause.TheVariants.{NotText, BadHeader, BadWord, BadNumber, UnknownName, TwiceNamed, BadNesting, NoMain, TooMany}
+use Rattle.text_words.specs.declared.names.Named.{Named}
+use Rattle.text_words.specs.declared.names.Named.TheVariants.{Single, Array, Reducer}
+use Rattle.text_words.specs.declared.value.Mem.{Mem}
+use Rattle.text_words.specs.Text.{IsName, IsNumberIn, BeginsWithDigit}
+use Rattle.text_words.specs.Limits.{max_cells, max_value}
+use Rattle.text_words.specs.Values.{Known}
+use Rattle.text_words.specs.Names.{memory_named, reducer_named, IsDeclared, ElementMeans}
 use Rattle.trace_text.specs.Lines.{ReducerName, Number}
-use Rattle.trace_values.specs.Causes.{IsLowest, cause_number}
+use Rattle.text_words.specs.Causes.{IsLowest, cause_number}
 use Rattle.trace_text.specs.Faults.{IsUndeclared, WordFault}
 use Rattle.trace_text.specs.Cells.{IsElementFault}
-use Rattle.trace_values.specs.Index.{IsInRange, name_of_memory, named_by, named, IsApart}
+use Rattle.text_words.specs.Index.{IsInRange, name_of_memory, named_by, named, IsApart}
 use Rattle.trace_text.proofs.CellWords.{found_of_all}
 
 -- ---- what is found

@@ -2,19 +2,19 @@
 use Rattle.std.proofs.Common.{◌≡◌, ℕ, ◌+◌, ◌∷◌, ◌++◌, [], List, Bool, refl, sym, ◌∙◌, ap, subst, inl, inr}
 use Rattle.std.specs.Prelude.{Option, Some, None, codes, unwrap_or, is_some}
 use Rattle.std.proofs.lemmas.List.{append_cancel_right}
-use Rattle.access_table.specs.declared.kind.Kind.TheVariants as kind
+use Rattle.model_accesses.specs.declared.kind.Kind.TheVariants as kind
 use Rattle.trace_text.specs.declared.keyword.Keyword.{Keyword}
 use Rattle.trace_text.specs.declared.keyword.Keyword.TheVariants.{Mem as MemWord, Reducer as ReducerWord, Spawn, Call, Sync, Return, Access}
-use Rattle.trace_values.specs.declared.value.Act.{Act}
-use Rattle.trace_values.specs.declared.value.Act.TheVariants as act
-use Rattle.trace_values.specs.declared.value.Monoid.{Monoid}
-use Rattle.trace_values.specs.declared.value.Monoid.TheVariants.{Sum}
-use Rattle.trace_values.specs.declared.value.Mem.{Mem}
-use Rattle.trace_values.specs.declared.value.TraceLine.{TraceLine}
-use Rattle.trace_values.specs.Text.{words, IsName, IsNumberIn}
-use Rattle.trace_values.specs.Limits.{max_strand, max_value}
-use Rattle.trace_values.specs.Values.{Known, Contents}
-use Rattle.trace_values.specs.Names.{CellMeans, ElementMeans, element_word}
+use Rattle.model_accesses.specs.declared.request.Act.{Act}
+use Rattle.model_accesses.specs.declared.request.Act.TheVariants as act
+use Rattle.model_reducers.specs.declared.monoid.Monoid.{Monoid}
+use Rattle.model_reducers.specs.declared.monoid.Monoid.TheVariants.{Sum}
+use Rattle.text_words.specs.declared.value.Mem.{Mem}
+use Rattle.text_words.specs.declared.value.TraceLine.{TraceLine}
+use Rattle.text_words.specs.Text.{words, IsName, IsNumberIn}
+use Rattle.text_words.specs.Limits.{max_strand, max_value}
+use Rattle.text_words.specs.Values.{Known, Contents}
+use Rattle.text_words.specs.Names.{CellMeans, ElementMeans, element_word}
 use Rattle.trace_text.specs.Lines.{Place, FreshName, Number, Cell, ReducerName, MonoidWord, Mark, Placed, Value, OfName, OfNumber, OfMonoid, WordMeans, WordsMean, Says, asks, operands, if_there}
 use Rattle.trace_text.specs.Grammar.{Item, Blank, Declared, Reduces, Asked, ItemMeans, LineMeans}
 use Rattle.trace_text.proofs.CellWords.{same_some, same_split, name_no_bracket, no_element, flat}

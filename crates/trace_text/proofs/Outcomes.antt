@@ -3,15 +3,15 @@
 use Rattle.std.proofs.Common.{◌≡◌, ℕ, ◌<◌, ◌≤◌, ◌∷◌, ◌++◌, [], List, true, false, Bool, cond, arith, refl, sym, ap, subst, inl, inr}
 use Rattle.std.specs.Prelude.{Option, Some, None, Result, Ok, Err, option_map, codes, nat_lt}
 use Rattle.std.proofs.lemmas.Bool.Decides.{nat_tests}
-use Rattle.trace_values.specs.declared.fault.Cause.{Cause}
-use Rattle.trace_values.specs.declared.fault.Cause.TheVariants.{NotText, BadHeader, BadWord, BadNumber, UnknownName, TwiceNamed}
-use Rattle.trace_values.specs.declared.value.Monoid.{Monoid}
-use Rattle.trace_values.specs.Text.{IsName, IsNumberIn, BeginsWithDigit}
-use Rattle.trace_values.specs.Limits.{max_strand}
-use Rattle.trace_values.specs.Values.{Known}
-use Rattle.trace_values.specs.Names.{IsFresh, MonoidMeans, reducer_named}
+use Rattle.text_words.specs.declared.fault.Cause.{Cause}
+use Rattle.text_words.specs.declared.fault.Cause.TheVariants.{NotText, BadHeader, BadWord, BadNumber, UnknownName, TwiceNamed}
+use Rattle.model_reducers.specs.declared.monoid.Monoid.{Monoid}
+use Rattle.text_words.specs.Text.{IsName, IsNumberIn, BeginsWithDigit}
+use Rattle.text_words.specs.Limits.{max_strand}
+use Rattle.text_words.specs.Values.{Known}
+use Rattle.text_words.specs.Names.{IsFresh, MonoidMeans, reducer_named}
 use Rattle.trace_text.specs.Lines.{Place, FreshName, Number, Cell, ReducerName, MonoidWord, Mark, Placed, placed, Value, OfName, OfNumber, OfMonoid, WordMeans, WordsMean, if_there}
-use Rattle.trace_values.specs.Causes.{IsLowest, cause_number, both_of}
+use Rattle.text_words.specs.Causes.{IsLowest, cause_number, both_of}
 use Rattle.trace_text.specs.Faults.{WordFault, SomeFault}
 use Rattle.trace_text.specs.Outcome.{Reads, TakesWord, IsPlacedFault, Fits}
 use Rattle.trace_text.proofs.CellWords.{below_word, cell_no_fault, digits_begin}

@@ -4,18 +4,18 @@ use Rattle.std.specs.Prelude.{Option, Some, None, codes, nat_lt, unwrap_or, is_s
 use Rattle.std.specs.List.{AllByRecursion}
 use Rattle.std.proofs.lemmas.Bool.Decides.{nat_tests}
 use Rattle.std.proofs.lemmas.List.{append-nil}
-use Rattle.trace_values.specs.declared.value.Version.{Version}
-use Rattle.trace_values.specs.declared.value.Version.TheVariants.{One, Two}
+use Rattle.text_words.specs.declared.value.Version.{Version}
+use Rattle.text_words.specs.declared.value.Version.TheVariants.{One, Two}
 use Rattle.trace_text.specs.declared.keyword.Keyword.TheVariants.{Mem as MemWord, Reducer as ReducerWord}
-use Rattle.trace_values.specs.declared.value.Mem.{Mem}
-use Rattle.trace_values.specs.declared.value.Reducer.{Reducer}
-use Rattle.trace_values.specs.declared.value.Monoid.{Monoid}
-use Rattle.trace_values.specs.declared.value.TraceLine.{TraceLine}
-use Rattle.trace_values.specs.Text.{lines, words, IsTextLine}
-use Rattle.trace_values.specs.Limits.{max_lines}
-use Rattle.trace_values.specs.Values.{Known, Contents, version_spelling}
+use Rattle.text_words.specs.declared.value.Mem.{Mem}
+use Rattle.text_words.specs.declared.value.Reducer.{Reducer}
+use Rattle.model_reducers.specs.declared.monoid.Monoid.{Monoid}
+use Rattle.text_words.specs.declared.value.TraceLine.{TraceLine}
+use Rattle.text_words.specs.Text.{lines, words, IsTextLine}
+use Rattle.text_words.specs.Limits.{max_lines}
+use Rattle.text_words.specs.Values.{Known, Contents, version_spelling}
 use Rattle.trace_text.specs.Lines.{OfName, OfNumber, OfMonoid, asks, operands, if_there}
-use Rattle.trace_values.specs.Declarations.{memory_at, reducer_at}
+use Rattle.text_words.specs.Declarations.{memory_at, reducer_at}
 use Rattle.trace_text.specs.Grammar.{Item, Blank, Declared, Reduces, Asked, LineMeans, LinesMean, LinesOfTrace, TextMeans, IsHeader, extended, nothing}
 use Rattle.trace_text.specs.Printing.{spaced, plain_line, Entry, OfMemory, OfReducer, OfRequest, line_of, mark_of, entry_text, merged_into, declarations, entries, lines_from, plain_lines, plain_text}
 use Rattle.trace_text.proofs.Kept.{IsKept, kept_extended, kept_nothing}

@@ -6,17 +6,17 @@ use Rattle.std.specs.Str.{bytes_eq}
 use Rattle.std.specs.Cmp.Lexicographic.{bytes_decides}
 use Rattle.std.specs.Fmt.{decimal}
 use Rattle.std.proofs.lemmas.Bool.Decides.{nat_tests}
-use Rattle.access_table.specs.declared.kind.Kind.TheVariants as kind
+use Rattle.model_accesses.specs.declared.kind.Kind.TheVariants as kind
 use Rattle.trace_text.specs.declared.keyword.Keyword.{Keyword}
 use Rattle.trace_text.specs.declared.keyword.Keyword.TheVariants.{Mem as MemWord, Reducer as ReducerWord, Spawn, Call, Sync, Return, Access}
-use Rattle.trace_values.specs.declared.value.Mem.{Mem}
-use Rattle.trace_values.specs.declared.value.Reducer.{Reducer}
-use Rattle.trace_values.specs.declared.value.Monoid.{Monoid}
-use Rattle.trace_values.specs.declared.value.Monoid.TheVariants.{Sum, Min, Max, Last, Digits}
-use Rattle.trace_values.specs.Text.{words, IsTextLine, IsName}
-use Rattle.trace_values.specs.Limits.{max_strand, max_value}
-use Rattle.trace_values.specs.Values.{Known, monoid_spelling}
-use Rattle.trace_values.specs.Names.{CellMeans, SingleMeans, ElementMeans, memory_named, reducer_named, element_word, IsFresh}
+use Rattle.text_words.specs.declared.value.Mem.{Mem}
+use Rattle.text_words.specs.declared.value.Reducer.{Reducer}
+use Rattle.model_reducers.specs.declared.monoid.Monoid.{Monoid}
+use Rattle.model_reducers.specs.declared.monoid.Monoid.TheVariants.{Sum, Min, Max, Last, Digits}
+use Rattle.text_words.specs.Text.{words, IsTextLine, IsName}
+use Rattle.text_words.specs.Limits.{max_strand, max_value}
+use Rattle.text_words.specs.Values.{Known, monoid_spelling}
+use Rattle.text_words.specs.Names.{CellMeans, SingleMeans, ElementMeans, memory_named, reducer_named, element_word, IsFresh}
 use Rattle.trace_text.specs.Lines.{Place, FreshName, Number, Cell, ReducerName, MonoidWord, Mark, Placed, placed, Value, OfName, OfNumber, OfMonoid, WordMeans, WordsMean, Says, spelling, wanted, optional}
 use Rattle.trace_text.specs.Shapes.{is_numbered, has_cell, name_in, name_found, name_of_cell}
 use Rattle.trace_text.specs.Printing.{plain_word, plain_words, plain_line, name_of_reducer}

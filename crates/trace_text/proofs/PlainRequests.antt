@@ -3,15 +3,15 @@ use Rattle.std.proofs.Common.{◌≡◌, ◌++◌, ◌∷◌, [], ◌+◌, ◌-�
 use Rattle.std.specs.Prelude.{Option, Some, None, option_map}
 use Rattle.std.specs.List.{All}
 use Rattle.std.proofs.lemmas.List.{take_all}
-use Rattle.trace_values.specs.declared.value.Act.{Act}
-use Rattle.trace_values.specs.declared.value.Act.TheVariants as act
-use Rattle.trace_values.specs.declared.value.Mem.{Mem}
-use Rattle.trace_values.specs.declared.names.Named.TheVariants.{Single, Array, Reducer}
-use Rattle.trace_values.specs.Text.{words, IsTextLine, IsName}
-use Rattle.trace_values.specs.Limits.{max_strand, max_value, max_cells}
-use Rattle.trace_values.specs.Values.{Known}
-use Rattle.trace_values.specs.Names.{memory_named, reducer_named, SingleMeans, ElementMeans, element_word}
-use Rattle.trace_values.specs.Index.{IsInRange, named, named_by}
+use Rattle.model_accesses.specs.declared.request.Act.{Act}
+use Rattle.model_accesses.specs.declared.request.Act.TheVariants as act
+use Rattle.text_words.specs.declared.value.Mem.{Mem}
+use Rattle.text_words.specs.declared.names.Named.TheVariants.{Single, Array, Reducer}
+use Rattle.text_words.specs.Text.{words, IsTextLine, IsName}
+use Rattle.text_words.specs.Limits.{max_strand, max_value, max_cells}
+use Rattle.text_words.specs.Values.{Known}
+use Rattle.text_words.specs.Names.{memory_named, reducer_named, SingleMeans, ElementMeans, element_word}
+use Rattle.text_words.specs.Index.{IsInRange, named, named_by}
 use Rattle.trace_text.specs.declared.keyword.Keyword.{Keyword}
 use Rattle.trace_text.specs.Lines.{Place, Number, Cell, ReducerName, Mark, wanted, optional, Value, OfNumber, Says, asks, operands, if_there, a_strand, a_value, spelling, HasKeyword}
 use Rattle.trace_text.specs.Printing.{behind_space, spaced}

@@ -1,10 +1,10 @@
 -- A request in plain form at the head of a text is its first line.
 use Rattle.std.proofs.Common.{◌≡◌, ◌∷◌, ◌<◌, ◌∙◌, ℕ, List, length, length-append, arith, ap, Err}
 use Rattle.std.specs.Prelude.{Option}
-use Rattle.trace_values.specs.declared.fault.TextFault.{TextFault}
-use Rattle.trace_values.specs.declared.value.Act.{Act}
-use Rattle.trace_values.specs.Text.{lines, words}
-use Rattle.trace_values.specs.Values.{Contents}
+use Rattle.text_words.specs.declared.fault.TextFault.{TextFault}
+use Rattle.model_accesses.specs.declared.request.Act.{Act}
+use Rattle.text_words.specs.Text.{lines, words}
+use Rattle.text_words.specs.Values.{Contents}
 use Rattle.trace_text.specs.Grammar.{ItemMeans}
 use Rattle.trace_text.specs.Items.{line_asked}
 use Rattle.trace_text.specs.Drafts.{Extends, IsRoomFault, IsTaken, IsStopped}

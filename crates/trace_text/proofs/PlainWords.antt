@@ -12,10 +12,10 @@ use Rattle.std.proofs.lemmas.Fmt.{digits_decimal, digits_value-decimal, decimal_
 use Rattle.std.proofs.lemmas.List.Elements.{recursion_from_All, All-from_recursion}
 use Rattle.std.proofs.lemmas.Str.Parse.{IsNumeralModel, numerals_by_value, tells_all_ascii_digits}
 use Rattle.std.specs.Str.Parse.{digits_value}
-use Rattle.trace_values.specs.Text.{pieces, lines, words, split_words, is_text_byte, IsTextLine, is_blank, is_hash, IsName, is_name_byte, IsNumber}
+use Rattle.text_words.specs.Text.{pieces, lines, words, split_words, is_text_byte, IsTextLine, is_blank, is_hash, IsName, is_name_byte, IsNumber}
 use Rattle.trace_text.specs.Printing.{spaced, behind_space}
 use Rattle.trace_text.specs.Plain.{is_word_byte, IsPlain, ArePlain}
-use Rattle.trace_values.proofs.WordsOfLine.{take_word, HasNoBlank}
+use Rattle.text_words.proofs.WordsOfLine.{take_word, HasNoBlank}
 use Rattle.trace_text.proofs.Kept.{both_true}
 
 -- ---- bytes of words

@@ -1,19 +1,19 @@
 -- A word in its place means something or has a lowest cause why not, and so have the words of a line.
 use Rattle.std.proofs.Common.{◌≡◌, ◌≢◌, ◌⊎◌, inl, inr, ℕ, ◌+◌, ◌<◌, ◌≤◌, Bool, true, false, List, [], ◌∷◌, ◌++◌, refl, sym, ◌∙◌, ap, subst, arith}
 use Rattle.std.specs.Prelude.{Option, Some, None, Result, Ok, Err, MatchResult, codes}
-use Rattle.trace_values.specs.declared.fault.Cause.{Cause}
-use Rattle.trace_values.specs.declared.fault.Cause.TheVariants.{NotText, BadHeader, BadWord, BadNumber, UnknownName, TwiceNamed}
-use Rattle.trace_values.specs.declared.value.Version.{Version}
-use Rattle.trace_values.specs.declared.value.Version.TheVariants.{One, Two}
-use Rattle.trace_values.specs.declared.value.Monoid.{Monoid}
-use Rattle.trace_values.specs.declared.value.Monoid.TheVariants.{Digits}
-use Rattle.trace_values.specs.declared.value.Mem.{Mem}
-use Rattle.trace_values.specs.Text.{IsName, IsNumberIn, BeginsWithDigit}
-use Rattle.trace_values.specs.Limits.{max_strand, max_value}
-use Rattle.trace_values.specs.Values.{Known, monoid_spelling}
-use Rattle.trace_values.specs.Names.{memory_named, reducer_named, IsDeclared, HasMonoid, MonoidMeans, SingleMeans, ElementMeans}
-use Rattle.trace_values.specs.Causes.{IsLowest, cause_number}
-use Rattle.trace_values.proofs.Decided.{OrNot, both_or_not, number_or_not, most_or_not, same_parts, word_or_not, name_or_not, digit_or_not, number_in_or_not}
+use Rattle.text_words.specs.declared.fault.Cause.{Cause}
+use Rattle.text_words.specs.declared.fault.Cause.TheVariants.{NotText, BadHeader, BadWord, BadNumber, UnknownName, TwiceNamed}
+use Rattle.text_words.specs.declared.value.Version.{Version}
+use Rattle.text_words.specs.declared.value.Version.TheVariants.{One, Two}
+use Rattle.model_reducers.specs.declared.monoid.Monoid.{Monoid}
+use Rattle.model_reducers.specs.declared.monoid.Monoid.TheVariants.{Digits}
+use Rattle.text_words.specs.declared.value.Mem.{Mem}
+use Rattle.text_words.specs.Text.{IsName, IsNumberIn, BeginsWithDigit}
+use Rattle.text_words.specs.Limits.{max_strand, max_value}
+use Rattle.text_words.specs.Values.{Known, monoid_spelling}
+use Rattle.text_words.specs.Names.{memory_named, reducer_named, IsDeclared, HasMonoid, MonoidMeans, SingleMeans, ElementMeans}
+use Rattle.text_words.specs.Causes.{IsLowest, cause_number}
+use Rattle.text_words.proofs.Decided.{OrNot, both_or_not, number_or_not, most_or_not, same_parts, word_or_not, name_or_not, digit_or_not, number_in_or_not}
 use Rattle.trace_text.specs.Lines.{Place, FreshName, Number, Cell, ReducerName, MonoidWord, Mark, Value, OfName, OfNumber, OfMonoid}
 use Rattle.trace_text.specs.Faults.{IsUndeclared, WordFault}
 use Rattle.trace_text.specs.Cells.{IsSingleFault, IsElementFault}

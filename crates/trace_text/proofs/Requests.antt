@@ -1,9 +1,9 @@
 -- A request without operands, from its words.
 use Rattle.std.proofs.Common.{ℕ, ◌∷◌, [], List, refl}
 use Rattle.std.specs.Prelude.{Option, Some, Ok}
-use Rattle.trace_values.specs.declared.value.Act.{Act}
-use Rattle.trace_values.specs.declared.value.Act.TheVariants as act
-use Rattle.trace_values.specs.Values.{Known}
+use Rattle.model_accesses.specs.declared.request.Act.{Act}
+use Rattle.model_accesses.specs.declared.request.Act.TheVariants as act
+use Rattle.text_words.specs.Values.{Known}
 use Rattle.trace_text.specs.Lines.{a_strand, Mark, OfNumber, if_there, asks, spelling, IsControl}
 use Rattle.trace_text.specs.Grammar.{ItemMeans}
 use Rattle.trace_text.specs.Outcome.{Fits}

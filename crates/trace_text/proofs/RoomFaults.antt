@@ -1,25 +1,25 @@
 -- A line that says something, and has no room or no right place.
 use Rattle.std.proofs.Common.{◌≡◌, ◌≢◌, ℕ, ◌<◌, ◌∷◌, [], List, length, true, false, arith, refl, sym, ◌∙◌, subst, ap, ◌+◌, inl, inr}
 use Rattle.std.specs.Prelude.{◌⊎◌, Result, Ok, Err, MatchResult, map}
-use Rattle.trace_values.specs.declared.fault.Cause.{Cause}
-use Rattle.trace_values.specs.declared.fault.Cause.TheVariants.{NotText, BadNesting, NoMain, TooMany}
+use Rattle.text_words.specs.declared.fault.Cause.{Cause}
+use Rattle.text_words.specs.declared.fault.Cause.TheVariants.{NotText, BadNesting, NoMain, TooMany}
 use Rattle.trace_text.specs.declared.keyword.Keyword.{Keyword}
 use Rattle.trace_text.specs.declared.keyword.Keyword.TheVariants.{Mem as MemWord, Reducer as ReducerWord}
-use Rattle.trace_values.specs.declared.value.Act.{Act}
-use Rattle.trace_values.specs.declared.value.Act.TheVariants as act
-use Rattle.trace_values.specs.declared.value.Version.{Version}
-use Rattle.trace_values.specs.declared.fault.TextFault.{TextFault}
-use Rattle.trace_values.specs.declared.fault.TextFault.TheVariants.{At, Memory}
+use Rattle.model_accesses.specs.declared.request.Act.{Act}
+use Rattle.model_accesses.specs.declared.request.Act.TheVariants as act
+use Rattle.text_words.specs.declared.value.Version.{Version}
+use Rattle.text_words.specs.declared.fault.TextFault.{TextFault}
+use Rattle.text_words.specs.declared.fault.TextFault.TheVariants.{At, Memory}
 use Rattle.std.specs.Str.Lines.{strip_carriage_return}
-use Rattle.trace_values.specs.Text.{words, lines, pieces, IsTextLine}
-use Rattle.trace_values.specs.Values.{Known, Contents}
+use Rattle.text_words.specs.Text.{words, lines, pieces, IsTextLine}
+use Rattle.text_words.specs.Values.{Known, Contents}
 use Rattle.trace_text.specs.Lines.{Place, Placed, IsArranged, asks, declares, spelling}
 use Rattle.trace_text.specs.Grammar.{Item, Blank, Declared, Reduces, Asked, ItemMeans, IsInOrder, HasRoom, extended, nothing, LineMeans, LinesMean, LinesOfTrace, TextMeans, IsHeader}
-use Rattle.trace_values.specs.Causes.{IsLowest, cause_number}
+use Rattle.text_words.specs.Causes.{IsLowest, cause_number}
 use Rattle.trace_text.specs.Faults.{LineFault, LinesFault, FaultOfLines, WordFault, SomeFault, WordsFault}
-use Rattle.trace_values.specs.declared.value.Mem.{Mem}
-use Rattle.trace_values.specs.declared.value.Reducer.{Reducer}
-use Rattle.trace_values.specs.declared.value.TraceLine.{TraceLine}
+use Rattle.text_words.specs.declared.value.Mem.{Mem}
+use Rattle.text_words.specs.declared.value.Reducer.{Reducer}
+use Rattle.text_words.specs.declared.value.TraceLine.{TraceLine}
 use Rattle.trace_text.specs.Drafts.{so_far, IsRoomCause, Extends, IsRoomFault, IsLineFault, IsBodyFault, IsTextFault, IsTaken, IsStopped}
 use Rattle.trace_text.proofs.LineFaults.{arranged_once}
 

@@ -1,20 +1,20 @@
 -- Each text means a trace or has a fault.
 use Rattle.std.proofs.Common.{◌≡◌, ◌⊎◌, inl, inr, ℕ, ◌+◌, ◌<◌, ◌≤◌, List, [], ◌∷◌, ◌++◌, length, refl, sym, ◌∙◌, ap, subst, arith}
 use Rattle.std.specs.Prelude.{Option, Some, None, Result, Ok, Err, codes, option_map, unwrap_or, is_some}
-use Rattle.access_table.specs.declared.kind.Kind.TheVariants as kind
-use Rattle.trace_values.specs.declared.fault.Cause.{Cause}
-use Rattle.trace_values.specs.declared.fault.Cause.TheVariants.{NotText, BadHeader, BadWord, BadNumber, UnknownName, TwiceNamed, BadNesting, NoMain, TooMany}
-use Rattle.trace_values.specs.declared.value.Version.{Version}
-use Rattle.trace_values.specs.declared.value.Version.TheVariants.{One, Two}
-use Rattle.trace_values.specs.declared.value.Act.{Act}
-use Rattle.trace_values.specs.declared.value.Monoid.{Monoid}
-use Rattle.trace_values.specs.declared.value.Act.TheVariants as act
-use Rattle.trace_values.specs.Text.{words, lines, IsTextLine}
-use Rattle.trace_values.specs.Limits.{max_cells, max_reducers, max_requests, max_lines}
-use Rattle.trace_values.specs.Values.{Known, Contents, version_spelling}
-use Rattle.trace_values.specs.Declarations.{cells_of}
-use Rattle.trace_values.specs.Causes.{IsLowest, cause_number}
-use Rattle.trace_values.proofs.Decided.{OrNot, word_or_not, below_or_not, most_or_not, empty_or_not, text_line_or_not}
+use Rattle.model_accesses.specs.declared.kind.Kind.TheVariants as kind
+use Rattle.text_words.specs.declared.fault.Cause.{Cause}
+use Rattle.text_words.specs.declared.fault.Cause.TheVariants.{NotText, BadHeader, BadWord, BadNumber, UnknownName, TwiceNamed, BadNesting, NoMain, TooMany}
+use Rattle.text_words.specs.declared.value.Version.{Version}
+use Rattle.text_words.specs.declared.value.Version.TheVariants.{One, Two}
+use Rattle.model_accesses.specs.declared.request.Act.{Act}
+use Rattle.model_reducers.specs.declared.monoid.Monoid.{Monoid}
+use Rattle.model_accesses.specs.declared.request.Act.TheVariants as act
+use Rattle.text_words.specs.Text.{words, lines, IsTextLine}
+use Rattle.text_words.specs.Limits.{max_cells, max_reducers, max_requests, max_lines}
+use Rattle.text_words.specs.Values.{Known, Contents, version_spelling}
+use Rattle.text_words.specs.Declarations.{cells_of}
+use Rattle.text_words.specs.Causes.{IsLowest, cause_number}
+use Rattle.text_words.proofs.Decided.{OrNot, word_or_not, below_or_not, most_or_not, empty_or_not, text_line_or_not}
 use Rattle.trace_text.specs.declared.keyword.Keyword.{Keyword}
 use Rattle.trace_text.specs.declared.keyword.Keyword.TheVariants.{Mem as MemWord, Reducer as ReducerWord, Spawn, Call, Sync, Return, Access}
 use Rattle.trace_text.specs.Lines.{Place, FreshName, Number, Cell, ReducerName, MonoidWord, Mark, a_strand, a_value, Placed, Value, OfName, OfNumber, OfMonoid, placed, wanted, optional, spelling, HasKeyword, WordMeans, WordsMean, Says, asks, operands, if_there}

@@ -2,14 +2,14 @@
 -- v, w: what a text means; m, n: numbers of faulty lines; c, d: causes
 use Rattle.std.proofs.Common.{rules, ◌≡◌, ℕ, ◌<◌, ◌+◌, ◌∷◌, [], List, get_or, arith, refl, sym, ◌∙◌, ap, subst, inl, inr}
 use Rattle.std.specs.Prelude.{codes}
-use Rattle.trace_values.specs.declared.value.Version.{Version}
-use Rattle.trace_values.specs.declared.value.Version.TheVariants.{One, Two}
-use Rattle.trace_values.specs.declared.fault.Cause.{Cause}
-use Rattle.trace_values.specs.declared.fault.Cause.TheVariants.{NotText, BadHeader, BadWord, BadNumber, UnknownName, TwiceNamed, BadNesting, NoMain, TooMany}
-use Rattle.trace_values.specs.Text.{words, lines}
-use Rattle.trace_values.specs.Values.{Contents, version_spelling}
+use Rattle.text_words.specs.declared.value.Version.{Version}
+use Rattle.text_words.specs.declared.value.Version.TheVariants.{One, Two}
+use Rattle.text_words.specs.declared.fault.Cause.{Cause}
+use Rattle.text_words.specs.declared.fault.Cause.TheVariants.{NotText, BadHeader, BadWord, BadNumber, UnknownName, TwiceNamed, BadNesting, NoMain, TooMany}
+use Rattle.text_words.specs.Text.{words, lines}
+use Rattle.text_words.specs.Values.{Contents, version_spelling}
 use Rattle.trace_text.specs.Grammar.{Item, HasRoom, extended, nothing, IsHeader, LineMeans, LinesMean, LinesOfTrace, TextMeans}
-use Rattle.trace_values.specs.Causes.{IsLowest, cause_number}
+use Rattle.text_words.specs.Causes.{IsLowest, cause_number}
 use Rattle.trace_text.specs.Faults.{LineFault, LinesFault, HeaderFault, FaultOfLines, TextFaults}
 use Rattle.trace_text.proofs.LineFaults.{item_clean, same_head}
 use Rattle.trace_text.proofs.RoomFaults.{out_of_order}

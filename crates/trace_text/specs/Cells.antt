@@ -1,9 +1,9 @@
 -- Why a word names no cell.
 use Rattle.std.specs.Prelude.{ℕ, true, false, List}
-use Rattle.trace_values.specs.declared.fault.Cause.{Cause}
-use Rattle.trace_values.specs.declared.fault.Cause.TheVariants.{BadWord, BadNumber, UnknownName}
-use Rattle.trace_values.specs.declared.value.Mem.{Mem}
-use Rattle.trace_values.specs.Text.{IsName, BeginsWithDigit}
+use Rattle.text_words.specs.declared.fault.Cause.{Cause}
+use Rattle.text_words.specs.declared.fault.Cause.TheVariants.{BadWord, BadNumber, UnknownName}
+use Rattle.text_words.specs.declared.value.Mem.{Mem}
+use Rattle.text_words.specs.Text.{IsName, BeginsWithDigit}
 use Rattle.trace_text.specs.Faults.{IsBadIndex, IsUndeclared}
 
 abbrev pub IsSingleFault : List Mem → List ℕ → Cause → Type 0

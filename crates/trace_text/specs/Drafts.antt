@@ -1,16 +1,16 @@
 -- What was read so far, and what one more line makes of it.
 use Rattle.std.specs.Prelude.{◌≡◌, ℕ, ◌<◌, ◌≤◌, ◌⊎◌, List, ◌∷◌, length}
-use Rattle.trace_values.specs.declared.fault.Cause.{Cause}
-use Rattle.trace_values.specs.declared.fault.Cause.TheVariants.{BadNesting, TooMany}
-use Rattle.trace_values.specs.declared.fault.TextFault.{TextFault}
-use Rattle.trace_values.specs.declared.fault.TextFault.TheVariants.{At, Memory}
-use Rattle.trace_values.specs.declared.value.Version.{Version}
-use Rattle.trace_values.specs.declared.value.TraceLine.{TraceLine}
-use Rattle.trace_values.specs.Text.{lines}
-use Rattle.trace_values.specs.Limits.{max_lines}
-use Rattle.trace_values.specs.Values.{Known, Contents}
+use Rattle.text_words.specs.declared.fault.Cause.{Cause}
+use Rattle.text_words.specs.declared.fault.Cause.TheVariants.{BadNesting, TooMany}
+use Rattle.text_words.specs.declared.fault.TextFault.{TextFault}
+use Rattle.text_words.specs.declared.fault.TextFault.TheVariants.{At, Memory}
+use Rattle.text_words.specs.declared.value.Version.{Version}
+use Rattle.text_words.specs.declared.value.TraceLine.{TraceLine}
+use Rattle.text_words.specs.Text.{lines}
+use Rattle.text_words.specs.Limits.{max_lines}
+use Rattle.text_words.specs.Values.{Known, Contents}
 use Rattle.trace_text.specs.Grammar.{Item, ItemMeans, IsInOrder, HasRoom, LineMeans, extended, nothing}
-use Rattle.trace_values.specs.Causes.{IsLowest}
+use Rattle.text_words.specs.Causes.{IsLowest}
 use Rattle.trace_text.specs.Faults.{LineFault, HeaderFault, LinesFault, TextFaults}
 
 abbrev pub so_far : Known → List TraceLine → Contents

@@ -1,17 +1,17 @@
 -- What is wrong with a text that means no trace: the first faulty line, and the lowest cause in it.
 use Rattle.std.specs.Prelude.{◌≡◌, ◌≢◌, ℕ, ◌+◌, ◌<◌, ◌≤◌, Bool, true, false, ◌⊎◌, None, List, [], ◌∷◌, ◌++◌, length, codes}
-use Rattle.trace_values.specs.declared.fault.Cause.{Cause}
-use Rattle.trace_values.specs.declared.fault.Cause.TheVariants.{NotText, BadHeader, BadWord, BadNumber}
-use Rattle.trace_values.specs.declared.fault.Cause.TheVariants.{UnknownName, TwiceNamed, BadNesting, TooMany}
-use Rattle.trace_values.specs.declared.value.Version.{Version}
-use Rattle.trace_values.specs.declared.value.Monoid.{Monoid}
-use Rattle.trace_values.specs.declared.value.Mem.{Mem}
+use Rattle.text_words.specs.declared.fault.Cause.{Cause}
+use Rattle.text_words.specs.declared.fault.Cause.TheVariants.{NotText, BadHeader, BadWord, BadNumber}
+use Rattle.text_words.specs.declared.fault.Cause.TheVariants.{UnknownName, TwiceNamed, BadNesting, TooMany}
+use Rattle.text_words.specs.declared.value.Version.{Version}
+use Rattle.model_reducers.specs.declared.monoid.Monoid.{Monoid}
+use Rattle.text_words.specs.declared.value.Mem.{Mem}
 use Rattle.trace_text.specs.declared.keyword.Keyword.{Keyword}
-use Rattle.trace_values.specs.Text.{lines, words, IsTextLine, IsName, IsNumber, IsNumberIn, BeginsWithDigit}
-use Rattle.trace_values.specs.Limits.{max_strand, max_value, max_lines}
-use Rattle.trace_values.specs.Values.{Known, Contents}
-use Rattle.trace_values.specs.Causes.{IsLowest}
-use Rattle.trace_values.specs.Names.{IsDeclared, IsFresh, element_word, reducer_named, MonoidMeans}
+use Rattle.text_words.specs.Text.{lines, words, IsTextLine, IsName, IsNumber, IsNumberIn, BeginsWithDigit}
+use Rattle.text_words.specs.Limits.{max_strand, max_value, max_lines}
+use Rattle.text_words.specs.Values.{Known, Contents}
+use Rattle.text_words.specs.Causes.{IsLowest}
+use Rattle.text_words.specs.Names.{IsDeclared, IsFresh, element_word, reducer_named, MonoidMeans}
 use Rattle.trace_text.specs.Lines.{Place, FreshName, Number, Cell, ReducerName, MonoidWord, Mark, Placed, IsArranged, declares}
 use Rattle.trace_text.specs.Grammar.{Item, ItemMeans, LineMeans, HasRoom, IsHeader, nothing, extended}
 

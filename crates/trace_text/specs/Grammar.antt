@@ -1,13 +1,13 @@
 -- What the lines of a trace mean: a case for each kind of line.
 use Rattle.std.specs.Prelude.{◌≡◌, ℕ, ◌+◌, ◌<◌, ◌≤◌, Option, List, [], ◌∷◌, ◌++◌, length, codes, unwrap_or, is_some}
-use Rattle.trace_values.specs.declared.value.Version.{Version}
-use Rattle.trace_values.specs.declared.value.Monoid.{Monoid}
-use Rattle.trace_values.specs.declared.value.TraceLine.{TraceLine}
+use Rattle.text_words.specs.declared.value.Version.{Version}
+use Rattle.model_reducers.specs.declared.monoid.Monoid.{Monoid}
+use Rattle.text_words.specs.declared.value.TraceLine.{TraceLine}
 use Rattle.trace_text.specs.declared.keyword.Keyword.TheVariants.{Mem as MemWord, Reducer as ReducerWord}
-use Rattle.trace_values.specs.Text.{lines, words, IsTextLine}
-use Rattle.trace_values.specs.Limits.{max_cells, max_reducers, max_requests, max_lines}
-use Rattle.trace_values.specs.Values.{Known, Contents, version_spelling}
-use Rattle.trace_values.specs.Declarations.{cells_of, with_memory, with_reducer}
+use Rattle.text_words.specs.Text.{lines, words, IsTextLine}
+use Rattle.text_words.specs.Limits.{max_cells, max_reducers, max_requests, max_lines}
+use Rattle.text_words.specs.Values.{Known, Contents, version_spelling}
+use Rattle.text_words.specs.Declarations.{cells_of, with_memory, with_reducer}
 use Rattle.trace_text.specs.Lines.{OfName, OfNumber, OfMonoid, Says, asks, operands, if_there}
 
 -- ---- lines

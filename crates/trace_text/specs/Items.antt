@@ -1,11 +1,11 @@
 -- The items that the code makes of lines.
 use Rattle.std.specs.Prelude.{ℕ, Option, List, ◌∷◌, unwrap_or, is_some, Result, MatchResult}
-use Rattle.trace_values.specs.declared.fault.Cause.{Cause}
+use Rattle.text_words.specs.declared.fault.Cause.{Cause}
 use Rattle.trace_text.specs.declared.keyword.Keyword.{Keyword}
 use Rattle.trace_text.specs.declared.line.Item as code
 use Rattle.trace_text.specs.declared.line.Item.TheVariants as code_item
-use Rattle.trace_values.specs.declared.value.Act.{Act}
-use Rattle.trace_values.specs.Values.{Known}
+use Rattle.model_accesses.specs.declared.request.Act.{Act}
+use Rattle.text_words.specs.Values.{Known}
 use Rattle.trace_text.specs.Lines.{spelling, placed, wanted, optional}
 use Rattle.trace_text.specs.Grammar.{Item, Blank, Declared, Reduces, Asked, ItemMeans}
 use Rattle.trace_text.specs.Outcome.{IsPlacedFault}

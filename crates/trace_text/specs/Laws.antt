@@ -1,7 +1,7 @@
 -- Laws of the grammar.
 use Rattle.std.specs.Prelude.{◌≡◌, ◌⊎◌, ℕ, List}
-use Rattle.trace_values.specs.declared.fault.Cause.{Cause}
-use Rattle.trace_values.specs.Values.{Contents}
+use Rattle.text_words.specs.declared.fault.Cause.{Cause}
+use Rattle.text_words.specs.Values.{Contents}
 use Rattle.trace_text.specs.Grammar.{TextMeans}
 use Rattle.trace_text.specs.Faults.{TextFaults}
 

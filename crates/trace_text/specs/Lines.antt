@@ -1,17 +1,17 @@
 -- The table of lines: what each keyword wants behind it, and what the words of a line mean in their places.
 use Rattle.std.specs.Prelude.{◌≡◌, ℕ, ◌++◌, Bool, true, false, Option, Some, None, List, [], ◌∷◌, codes, option_map}
-use Rattle.access_table.specs.declared.kind.Kind.TheVariants as kind
-use Rattle.access_table.specs.Table.{spelling as kind_spelling}
-use Rattle.trace_values.specs.declared.value.Version.{Version}
-use Rattle.trace_values.specs.declared.value.Monoid.{Monoid}
-use Rattle.trace_values.specs.declared.value.Act.{Act}
-use Rattle.trace_values.specs.declared.value.Act.TheVariants as act
+use Rattle.model_accesses.specs.declared.kind.Kind.TheVariants as kind
+use Rattle.model_accesses.specs.Table.{spelling as kind_spelling}
+use Rattle.text_words.specs.declared.value.Version.{Version}
+use Rattle.model_reducers.specs.declared.monoid.Monoid.{Monoid}
+use Rattle.model_accesses.specs.declared.request.Act.{Act}
+use Rattle.model_accesses.specs.declared.request.Act.TheVariants as act
 use Rattle.trace_text.specs.declared.keyword.Keyword.{Keyword}
 use Rattle.trace_text.specs.declared.keyword.Keyword.TheVariants.{Mem as MemWord, Reducer as ReducerWord, Spawn, Call, Sync, Return, Access}
-use Rattle.trace_values.specs.Text.{IsName, IsNumberIn}
-use Rattle.trace_values.specs.Limits.{max_strand, max_value, max_cells}
-use Rattle.trace_values.specs.Values.{Known}
-use Rattle.trace_values.specs.Names.{IsSecond, CellMeans, reducer_named, IsFresh, MonoidMeans}
+use Rattle.text_words.specs.Text.{IsName, IsNumberIn}
+use Rattle.text_words.specs.Limits.{max_strand, max_value, max_cells}
+use Rattle.text_words.specs.Values.{Known}
+use Rattle.text_words.specs.Names.{IsSecond, CellMeans, reducer_named, IsFresh, MonoidMeans}
 
 -- ---- keywords
 

@@ -1,10 +1,10 @@
 -- What the code's places read: a value, or the lowest cause.
 use Rattle.std.specs.Prelude.{◌≡◌, ℕ, Option, Some, Result, Err, List, [], ◌∷◌, MatchOption, MatchResult}
-use Rattle.trace_values.specs.declared.fault.Cause.{Cause}
-use Rattle.trace_values.specs.declared.fault.Cause.TheVariants.{BadWord}
-use Rattle.trace_values.specs.Values.{Known}
+use Rattle.text_words.specs.declared.fault.Cause.{Cause}
+use Rattle.text_words.specs.declared.fault.Cause.TheVariants.{BadWord}
+use Rattle.text_words.specs.Values.{Known}
 use Rattle.trace_text.specs.Lines.{Place, Placed, Value, placed, WordMeans, WordsMean}
-use Rattle.trace_values.specs.Causes.{IsLowest}
+use Rattle.text_words.specs.Causes.{IsLowest}
 use Rattle.trace_text.specs.Faults.{WordFault, SomeFault}
 
 -- The answer is what the word means in its place, or the lowest cause why it means nothing.

@@ -2,10 +2,10 @@
 use Rattle.std.specs.Prelude.{◌≡◌, ℕ, ◌+◌, ◌<◌, ◌≤◌, Bool, IsTrue, Option, Some, List, [], ◌∷◌, ◌++◌, length, drop}
 use Rattle.std.specs.List.{AllByRecursion}
 use Rattle.std.specs.Int.{is_in_range}
-use Rattle.trace_values.specs.declared.value.Act.{Act}
-use Rattle.trace_values.specs.Text.{words, IsTextLine, IsNumber}
-use Rattle.trace_values.specs.Limits.{max_value}
-use Rattle.trace_values.specs.Values.{Known}
+use Rattle.model_accesses.specs.declared.request.Act.{Act}
+use Rattle.text_words.specs.Text.{words, IsTextLine, IsNumber}
+use Rattle.text_words.specs.Limits.{max_value}
+use Rattle.text_words.specs.Values.{Known}
 use Rattle.trace_text.specs.declared.keyword.Keyword.{Keyword}
 use Rattle.trace_text.specs.Lines.{Place, Placed, placed, wanted, a_value, Value, WordMeans, WordsMean, Mark, asks, operands}
 use Rattle.trace_text.specs.Grammar.{ItemMeans}

@@ -4,13 +4,13 @@ use Rattle.std.specs.Prelude.{◌∷◌, ◌++◌, codes, cond, map, flat_map, r
 use Rattle.std.specs.Fmt.{decimal}
 use Rattle.trace_text.specs.declared.keyword.Keyword.{Keyword}
 use Rattle.trace_text.specs.declared.keyword.Keyword.TheVariants.{Mem as MemWord, Reducer as ReducerWord}
-use Rattle.trace_values.specs.declared.value.Version.{Version}
-use Rattle.trace_values.specs.declared.value.Act.{Act}
-use Rattle.trace_values.specs.declared.value.Act.TheVariants.{Read, Write, Bump, Update, Put, Get}
-use Rattle.trace_values.specs.declared.value.Mem.{Mem}
-use Rattle.trace_values.specs.declared.value.Reducer.{Reducer}
-use Rattle.trace_values.specs.declared.value.TraceLine.{TraceLine}
-use Rattle.trace_values.specs.Values.{Known, Contents, version_spelling, monoid_spelling}
+use Rattle.text_words.specs.declared.value.Version.{Version}
+use Rattle.model_accesses.specs.declared.request.Act.{Act}
+use Rattle.model_accesses.specs.declared.request.Act.TheVariants.{Read, Write, Bump, Update, Put, Get}
+use Rattle.text_words.specs.declared.value.Mem.{Mem}
+use Rattle.text_words.specs.declared.value.Reducer.{Reducer}
+use Rattle.text_words.specs.declared.value.TraceLine.{TraceLine}
+use Rattle.text_words.specs.Values.{Known, Contents, version_spelling, monoid_spelling}
 use Rattle.trace_text.specs.Lines.{Place, Cell, ReducerName, Mark, Value, OfName, OfNumber}
 use Rattle.trace_text.specs.Lines.{OfMonoid, spelling, wanted, optional, asks, operands, if_there}
 use Rattle.trace_text.specs.Grammar.{TextMeans}

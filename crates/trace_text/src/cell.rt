@@ -3,12 +3,12 @@
 ghost use Rattle.std.specs.Prelude.{◌≡◌, ◌<◌, ◌≤◌, IfOk, IsTrue, length, option_copied, string_bytes};
 ghost use Rattle.std.specs.List.{find};
 ghost use Rattle.std.specs.List.Sorted.{IsPartitionPoint};
-ghost use Rattle.trace_values.specs.Declarations.{cells_of};
+ghost use Rattle.text_words.specs.Declarations.{cells_of};
 ghost use Rattle.trace_text.specs.Shapes.{is_numbered, has_cell, name_in, name_of_cell};
 
 use std::alloc::{AllocError, Allocator};
 use std::fmt::Write;
-use trace_values::Mem;
+use text_words::Mem;
 
 /// How many memories begin at this cell or before it.
 fn count_begun(mems: &[Mem], location: u32) -> usize

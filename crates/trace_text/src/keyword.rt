@@ -5,7 +5,7 @@ ghost use Rattle.trace_text.specs.declared.keyword.Keyword.{Keyword};
 ghost use Rattle.trace_text.specs.Lines.{spelling, asks, HasKeyword};
 
 use access_table::{Kind, kind_of, word};
-use trace_values::{Act, Version, access_asked};
+use text_words::{Act, Version, access_asked};
 
 /// The first word of a line.
 #[derive(Clone, Copy, Debug)]

@@ -1,5 +1,5 @@
 //! Texts of traces, read into values: a line for each declaration and for each request of a strand, in two versions of the format.
-//! The values, and the lines, words and names of a text, are those of [`trace_values`], which this crate passes on.
+//! The values, and the lines, words and names of a text, are those of [`text_words`], which this crate passes on.
 //!
 //! The grammar stands in `specs/` as a relation between the lines of a text and what they mean, with a case for each kind of line, and
 //! beside it, for every other text, the first faulty line and the lowest cause in it. [`Trace::parse`] carries the theorem that the code
@@ -27,9 +27,9 @@ pub use place::{CELLS, end, length, monoid, reducer};
 pub use print::{
     put_cell, put_declarations, put_feeds, put_memory, put_number, put_reducer, put_word,
 };
-pub use trace::{LINES, REDUCERS, Trace, header};
-pub use trace_values::{
+pub use text_words::{
     Act, Cause, Items, Mem, Mems, Monoid, Monoids, NAME_LEN, Name, Named, Names, Reducer, Reducers,
     Request, Shape, TextFault, TraceLine, Version, Words, as_text, both, is_name, monoid_of,
     monoid_word, split_line, version_word, without_return,
 };
+pub use trace::{LINES, REDUCERS, Trace, header};

@@ -1,14 +1,14 @@
 //! One line of a trace.
 
 ghost use Rattle.std.specs.Prelude.{◌≡◌, ◌∷◌, [], Some, None, MatchResult};
-ghost use Rattle.access_table.specs.declared.kind.Kind.TheVariants as kind;
+ghost use Rattle.model_accesses.specs.declared.kind.Kind.TheVariants as kind;
 ghost use Rattle.trace_text.specs.declared.keyword.Keyword.TheVariants.{Access};
-ghost use Rattle.trace_values.specs.Values.{Known};
+ghost use Rattle.text_words.specs.Values.{Known};
 ghost use Rattle.trace_text.specs.Lines.{Cell, ReducerName, FreshName, MonoidWord, Number, Mark, a_strand, a_value};
 ghost use Rattle.trace_text.specs.Lines.{OfName, OfNumber, OfMonoid, if_there, asks, IsControl, HasKeyword};
-ghost use Rattle.trace_values.specs.Limits.{max_cells};
+ghost use Rattle.text_words.specs.Limits.{max_cells};
 ghost use Rattle.trace_text.specs.Grammar.{Asked as AskedLine, ItemMeans};
-ghost use Rattle.trace_values.specs.Causes.{IsLowest};
+ghost use Rattle.text_words.specs.Causes.{IsLowest};
 ghost use Rattle.trace_text.specs.Faults.{WordsFault};
 ghost use Rattle.trace_text.specs.Outcome.{Fits};
 ghost use Rattle.trace_text.specs.Items.{item_of, line_asked, IsRead};
@@ -17,7 +17,7 @@ use crate::keyword::{Keyword, keyword_of};
 use crate::place::{cell, end, fresh_name, length, mark, monoid, reducer, strand, value};
 use access_table::Kind;
 use std::alloc::Allocator;
-use trace_values::{Act, Cause, Monoid, Names, Request, TraceLine, Words, both};
+use text_words::{Act, Cause, Monoid, Names, Request, TraceLine, Words, both};
 
 /// What a line says.
 #[derive(Clone, Copy, Debug)]

@@ -1,12 +1,12 @@
 //! Numbers.
 
 ghost use Rattle.std.specs.Prelude.{◌≡◌, ◌<◌, ◌≤◌, ◌^◌, ◌↔◌, IsTrue, IfOk};
-ghost use Rattle.trace_values.specs.Text.{BeginsWithDigit};
-ghost use Rattle.trace_values.specs.Values.{Known};
+ghost use Rattle.text_words.specs.Text.{BeginsWithDigit};
+ghost use Rattle.text_words.specs.Values.{Known};
 ghost use Rattle.trace_text.specs.Lines.{Number, OfNumber};
 ghost use Rattle.trace_text.specs.Outcome.{Reads};
 
-use trace_values::Cause;
+use text_words::Cause;
 
 fn begins_with_digit(word: &str) -> bool
     ensures { IsTrue result ↔ BeginsWithDigit word.now }

@@ -1,9 +1,9 @@
 //! Words in their places.
 
 ghost use Rattle.std.specs.Prelude.{◌≡◌, ◌+◌, ◌<◌, ◌≤◌, ◌^◌, ℕ, List, [], Some, MatchResult};
-ghost use Rattle.trace_values.specs.Values.{Known};
-ghost use Rattle.trace_values.specs.Limits.{max_cells};
-ghost use Rattle.trace_values.specs.Names.{SingleMeans, ElementMeans};
+ghost use Rattle.text_words.specs.Values.{Known};
+ghost use Rattle.text_words.specs.Limits.{max_cells};
+ghost use Rattle.text_words.specs.Names.{SingleMeans, ElementMeans};
 ghost use Rattle.trace_text.specs.Lines.{FreshName, Number, Cell, ReducerName, MonoidWord, Mark};
 ghost use Rattle.trace_text.specs.Lines.{a_strand, a_value, OfName, OfNumber, OfMonoid, if_there};
 ghost use Rattle.trace_text.specs.Cells.{IsSingleFault, IsElementFault};
@@ -11,7 +11,7 @@ ghost use Rattle.trace_text.specs.Outcome.{TakesWord, Fits, Reads};
 
 use crate::number::number;
 use std::alloc::Allocator;
-use trace_values::{Cause, Monoid, Named, Names, Words, is_name, monoid_of};
+use text_words::{Cause, Monoid, Named, Names, Words, is_name, monoid_of};
 
 /// The most cells that a text declares.
 pub const CELLS: u64 = 1_000_000;

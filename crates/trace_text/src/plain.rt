@@ -4,8 +4,8 @@
 
 ghost use Rattle.std.specs.Prelude.{◌≡◌, ◌++◌, ◌+◌, ◌≤◌, [], Some};
 ghost use Rattle.std.specs.Option.{IfSome};
-ghost use Rattle.trace_values.specs.Limits.{max_cells};
-ghost use Rattle.trace_values.specs.Values.{Known};
+ghost use Rattle.text_words.specs.Limits.{max_cells};
+ghost use Rattle.text_words.specs.Values.{Known};
 ghost use Rattle.trace_text.specs.declared.keyword.Keyword.TheVariants.{Access};
 ghost use Rattle.trace_text.specs.Lines.{Cell, ReducerName, Mark, a_strand, a_value, OfNumber, if_there, spelling, HasKeyword};
 ghost use Rattle.trace_text.specs.Plain.{HasNumber, HasNext, HasTwo, HasIndex, HasEnd, HasOperands, HasRequest};
@@ -14,7 +14,7 @@ use crate::keyword::Keyword;
 use crate::place::STRAND;
 use access_table::Kind;
 use std::alloc::Allocator;
-use trace_values::{Act, Named, Names, Version};
+use text_words::{Act, Named, Names, Version};
 
 /// A request in plain form.
 #[derive(Clone, Copy)]

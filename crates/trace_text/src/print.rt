@@ -3,9 +3,9 @@
 ghost use Rattle.std.specs.Prelude.{◌≡◌, ◌++◌, ◌∷◌, ◌+◌, ◌-◌, ◌<◌, ◌≤◌, ℕ, [], List, OnOk};
 ghost use Rattle.std.specs.Prelude.{IfOk, IsTrue, replicate, string_bytes, cond, map};
 ghost use Rattle.std.specs.Fmt.{decimal};
-ghost use Rattle.trace_values.specs.declared.value.Version.{Version};
-ghost use Rattle.trace_values.specs.declared.value.Reducer.{Reducer};
-ghost use Rattle.trace_values.specs.Values.{Known};
+ghost use Rattle.text_words.specs.declared.value.Version.{Version};
+ghost use Rattle.text_words.specs.declared.value.Reducer.{Reducer};
+ghost use Rattle.text_words.specs.Values.{Known};
 ghost use Rattle.trace_text.specs.Shapes.{is_numbered, name_of_cell};
 ghost use Rattle.trace_text.specs.Printing.{Entry, OfMemory, OfReducer, OfRequest, declarations, entry_text, name_of_reducer};
 ghost use Rattle.trace_text.specs.Printing.{operand_text, known_of, text_from, PrintsEntry, StartsPast, TakesReducers};
@@ -15,8 +15,8 @@ use crate::keyword::{keyword_for, keyword_word};
 use crate::trace::Trace;
 use std::alloc::{AllocError, Allocator};
 use std::fmt::Write;
+use text_words::{Act, Mem, Reducer, TraceLine, monoid_word, version_word};
 use trace_lines::TraceLines;
-use trace_values::{Act, Mem, Reducer, TraceLine, monoid_word, version_word};
 
 /// Appends a space and a number.
 pub fn put_number<A: Allocator>(out: &mut String<A>, number: u64) -> Result<(), AllocError>

@@ -2,10 +2,10 @@
 
 ghost use Rattle.std.specs.Prelude.{◌≡◌, ◌<◌, ◌≤◌, ℕ, List, length, IsTrue, IfOk, map, MatchResult};
 ghost use Rattle.std.specs.List.{All};
-ghost use Rattle.trace_values.specs.Limits.{max_cells, max_reducers, max_requests};
+ghost use Rattle.text_words.specs.Limits.{max_cells, max_reducers, max_requests};
 ghost use Rattle.trace_text.specs.Shapes.{is_numbered, IsWithin};
-ghost use Rattle.trace_values.specs.Text.{lines};
-ghost use Rattle.trace_values.specs.Declarations.{cells_of};
+ghost use Rattle.text_words.specs.Text.{lines};
+ghost use Rattle.text_words.specs.Declarations.{cells_of};
 ghost use Rattle.trace_text.specs.Grammar.{Item as SpecItem, Declared, Reduces, Asked, LineMeans};
 ghost use Rattle.trace_text.specs.Grammar.{LinesMean, TextMeans, extended, nothing, IsHeader};
 ghost use Rattle.trace_text.specs.Items.{item_of};
@@ -16,11 +16,11 @@ use crate::line::{Item, read_line, request_on};
 use crate::place::CELLS;
 use crate::plain::plain_request;
 use std::alloc::{AllocError, Allocator};
-use trace_lines::TraceLines;
-use trace_values::{
+use text_words::{
     Cause, Mems, Monoid, Monoids, Names, Reducers, Shape, TextFault, TraceLine, Version, Words,
     as_text, split_line, without_return,
 };
+use trace_lines::TraceLines;
 
 /// The most lines of a text.
 pub const LINES: u32 = 4_000_000;

@@ -8,11 +8,12 @@ use Rattle.std.proofs.lemmas.Bool.Decides.{eqb_tells}
 use Rattle.std.proofs.lemmas.List.{get_or_read, get_or-set_same, get_or-set_other, length-set}
 use Rattle.std.proofs.lemmas.List.Folds.{find-append}
 use Rattle.std.specs.Bool.{IsTrue}
-use Rattle.access_table.specs.declared.kind.Kind.{Kind}
-use Rattle.access_table.specs.declared.kind.Kind.TheVariants.{Write, Bump, Read, Update, Put, Get}
-use Rattle.access_table.specs.Table.{is_reducer_read}
-use Rattle.shadow_history.specs.declared.witness.Witness.{Witness}
-use Rattle.view_read_rule.specs.Reads.{ReducerRead, first_read, witness_of, IsReadOf, Remembers}
+use Rattle.model_accesses.specs.declared.kind.Kind.{Kind}
+use Rattle.model_accesses.specs.declared.kind.Kind.TheVariants.{Write, Bump, Read, Update, Put, Get}
+use Rattle.model_accesses.specs.Table.{is_reducer_read}
+use Rattle.model_accesses.specs.declared.witness.Witness.{Witness}
+use Rattle.model_accesses.specs.Reads.{ReducerRead, witness_of, IsReadOf}
+use Rattle.view_read_rule.specs.Reads.{first_read, Remembers}
 
 -- What is found is an item that passes.
 find-found : {X : Type 0} (p : X → Bool) (xs : List X) (x : X) → find p xs ≡ Some x → Contains xs x × (p x ≡ true)

@@ -1,13 +1,14 @@
 -- Granted reads have one branch, so the first speaks for all.
 use Rattle.std.proofs.Common.{◌≡◌, ◌≢◌, ◌↔◌, ℕ, List, sym, ◌∙◌}
-use Rattle.control_history.specs.History.{History}
-use Rattle.control_history.specs.Strands.{Begun}
-use Rattle.control_history.specs.Legal.{Legal}
-use Rattle.control_history.specs.Extensions.{Extends}
-use Rattle.control_history.specs.Branches.{branch}
-use Rattle.control_history.specs.Peers.{HaveSamePeers}
-use Rattle.control_history.proofs.Branches.{branch_law, stability_law}
-use Rattle.view_read_rule.specs.Reads.{ReducerRead, IsReadOf, AreOfOneBranch}
+use Rattle.model_strands.specs.History.{History}
+use Rattle.model_strands.specs.Strands.{Begun}
+use Rattle.model_strands.specs.Legal.{Legal}
+use Rattle.model_strands.specs.Extensions.{Extends}
+use Rattle.law_strands.specs.Branches.{branch}
+use Rattle.model_strands.specs.Peers.{HaveSamePeers}
+use Rattle.law_strands.proofs.Branches.{branch_law, stability_law}
+use Rattle.model_accesses.specs.Reads.{ReducerRead, IsReadOf}
+use Rattle.view_read_rule.specs.Reads.{AreOfOneBranch}
 use Rattle.view_read_rule.specs.Laws.{LaterLaw}
 
 pub later : LaterLaw

@@ -1,11 +1,12 @@
 -- What holds of the reads that were granted.
 use Rattle.std.specs.Prelude.{◌≡◌, ◌++◌, ◌∷◌, [], ℕ, List}
-use Rattle.control_history.specs.History.{History}
-use Rattle.control_history.specs.Strands.{Begun}
-use Rattle.control_history.specs.Legal.{Legal}
-use Rattle.control_history.specs.Extensions.{Extends}
-use Rattle.control_history.specs.Branches.{branch}
-use Rattle.view_read_rule.specs.Reads.{ReducerRead, IsReadOf, AreOfOneBranch}
+use Rattle.model_strands.specs.History.{History}
+use Rattle.model_strands.specs.Strands.{Begun}
+use Rattle.model_strands.specs.Legal.{Legal}
+use Rattle.model_strands.specs.Extensions.{Extends}
+use Rattle.law_strands.specs.Branches.{branch}
+use Rattle.model_accesses.specs.Reads.{ReducerRead, IsReadOf}
+use Rattle.view_read_rule.specs.Reads.{AreOfOneBranch}
 
 -- no read at first, and then one more of a begun strand, which is of another reducer or has the branch of all reads of this one
 abbrev pub AddedLaw : Type 0

@@ -1,33 +1,17 @@
--- Reads of reducers, and what is kept of them.
+-- Reads of reducers by branches, and what is kept of them.
 use Rattle.std.specs.Prelude.{◌≡◌, ◌≢◌, ◌==◌, ◌<◌, ℕ, List, length, Option, None, Contains, slice_index_or}
 use Rattle.std.specs.List.{find}
 use Rattle.std.specs.Option.{option_map}
-use Rattle.access_table.specs.declared.kind.Kind.{Kind}
-use Rattle.control_history.specs.History.{History}
-use Rattle.control_history.specs.Strands.{Begun}
-use Rattle.control_history.specs.Branches.{branch}
-use Rattle.control_history.specs.Peers.{HaveSamePeers}
+use Rattle.model_accesses.specs.Reads.{ReducerRead, witness_of, IsReadOf}
+use Rattle.model_strands.specs.History.{History}
+use Rattle.model_strands.specs.Strands.{Begun}
+use Rattle.law_strands.specs.Branches.{branch}
 use Rattle.branch_names.specs.Names.{Names, IsNamed}
-use Rattle.shadow_history.specs.declared.witness.Witness.{Witness}
-
--- a granted put or get: its reducer, its kind, its strand, and the number of its entry in the history
-pub record ReducerRead : Type 0 where
-  pub reducer : ℕ
-  pub kind : Kind
-  pub strand : ℕ
-  pub entry : ℕ
+use Rattle.model_accesses.specs.declared.witness.Witness.{Witness}
 
 -- the first of the reads that is of the reducer
 abbrev pub first_read : List ReducerRead → ℕ → Option ReducerRead
 first_read reads reducer = find (λ read. read.reducer == reducer) reads
-
--- the read as a witness
-abbrev pub witness_of : ReducerRead → Witness
-witness_of read = record { entry = read.entry; strand = read.strand; kind = read.kind }
-
--- the read is one of the reads, and of this reducer
-abbrev pub IsReadOf : List ReducerRead → ℕ → ReducerRead → Type 0
-IsReadOf reads reducer read = Contains reads read × (read.reducer ≡ reducer)
 
 -- the read's strand and this one have one branch
 abbrev pub IsOfBranch : History → ℕ → ReducerRead → Type 0
@@ -35,10 +19,6 @@ IsOfBranch history strand read = branch history read.strand ≡ branch history s
 
 abbrev pub IsOfOtherBranch : History → ℕ → ReducerRead → Type 0
 IsOfOtherBranch history strand read = branch history read.strand ≢ branch history strand
-
--- the read's strand has other peers than this one
-abbrev pub HasOtherPeers : History → ℕ → ReducerRead → Type 0
-HasOtherPeers history strand read = HaveSamePeers history read.strand strand → ⊥
 
 -- of each reducer the first of these reads is kept
 pub record Remembers (firsts : List (Option Witness)) (reads : List ReducerRead) : Type 0 where

@@ -1,19 +1,18 @@
 //! The first read of each reducer.
 
 ghost use Rattle.std.specs.Prelude.{◌≡◌, ◌↔◌, ◌<◌, ◌++◌, ◌∷◌, [], List, ℕ, length, IsTrue, IfOk, MatchOption, IsNone};
-ghost use Rattle.access_table.specs.Table.{is_reducer_read};
-ghost use Rattle.control_history.specs.History.{History};
-ghost use Rattle.control_history.specs.Legal.{Legal};
-ghost use Rattle.control_history.specs.Extensions.{Extends};
+ghost use Rattle.model_accesses.specs.Table.{is_reducer_read};
+ghost use Rattle.model_strands.specs.History.{History};
+ghost use Rattle.model_strands.specs.Legal.{Legal};
+ghost use Rattle.model_strands.specs.Extensions.{Extends};
 ghost use Rattle.branch_names.specs.Names.{Follows, IsNamed};
-ghost use Rattle.shadow_history.specs.declared.witness.Witness.{Witness};
-ghost use Rattle.view_read_rule.specs.Reads.{ReducerRead, first_read, witness_of, IsReadOf, IsOfBranch};
-ghost use Rattle.view_read_rule.specs.Reads.{IsOfOtherBranch, HasOtherPeers, Remembers, StandsOn, AreOfOneBranch};
+ghost use Rattle.model_accesses.specs.declared.witness.Witness.{Witness};
+ghost use Rattle.model_accesses.specs.Reads.{ReducerRead, witness_of, IsReadOf, HasOtherPeers};
+ghost use Rattle.view_read_rule.specs.Reads.{first_read, IsOfBranch, IsOfOtherBranch, Remembers, StandsOn, AreOfOneBranch};
 ghost use Rattle.view_read_rule.specs.Verdicts.{IsRefused};
 
-use access_table::Kind;
 use branch_names::Branches;
-use shadow_history::Witness;
+use model_accesses::{Kind, Witness};
 use std::alloc::{AllocError, Allocator};
 use std::marker::Model;
 
@@ -37,7 +36,7 @@ pub struct ReadPeers<A: Allocator> {
 
 impl<A: Allocator> Model for ReadPeers<A> {
     ghost use Rattle.std.specs.Prelude.{List, Option};
-    ghost use Rattle.shadow_history.specs.declared.witness.Witness.{Witness};
+    ghost use Rattle.model_accesses.specs.declared.witness.Witness.{Witness};
 
     ghost Value = { List (Option Witness) };
 

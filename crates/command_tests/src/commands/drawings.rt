@@ -8,7 +8,7 @@ use std::alloc::{AllocError, Global};
 use std::io::{Read, Write};
 use std::process::Abort;
 use std::test::Fail;
-use text_commands::{Watched, draw_text};
+use tool_commands::{Watched, draw_text};
 
 /// The drawing of a trace without requests: 37 bytes.
 const ALONE: &str = "digraph trace {\n  0 [label=\"0\\l\"];\n}\n";

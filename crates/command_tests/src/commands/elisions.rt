@@ -1,7 +1,7 @@
 //! Elisions, from programs that are read to lines that are written.
 
 ghost use Rattle.std.specs.Prelude.{◌≤◌};
-ghost use Rattle.race_gate.specs.Shapes.{most_entries};
+ghost use Rattle.model_histories.specs.Shapes.{most_entries};
 
 use super::worked::{ENDLESS, FIB, LASTS, NO_TURNS, PAIR, SERIES, TURNS};
 use super::{
@@ -13,7 +13,7 @@ use std::alloc::Global;
 use std::io::{Read, Write};
 use std::process::Abort;
 use std::test::Fail;
-use text_commands::{Watched, elide_text};
+use tool_commands::{Watched, elide_text};
 
 /// A program of 29 bytes whose elision has 15.
 const SHORT: &str = "cilk 1\nmem x\nfunc main z\nend\n";

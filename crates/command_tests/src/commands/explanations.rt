@@ -1,7 +1,7 @@
 //! Explanations of runs, from programs that are read to texts that are written.
 
 ghost use Rattle.std.specs.Prelude.{◌<◌, ◌≤◌};
-ghost use Rattle.race_gate.specs.Shapes.{most_entries};
+ghost use Rattle.model_histories.specs.Shapes.{most_entries};
 
 use super::worked::{ENDLESS, FIB};
 use super::{Outcome, check_written, lined};
@@ -11,7 +11,7 @@ use std::process::Abort;
 use std::sync::Wait;
 use std::test::Fail;
 use std::thread::Threads;
-use text_commands::{Manner, OpenDoor, Watched, explain_text};
+use tool_commands::{Manner, OpenDoor, Watched, explain_text};
 
 /// A write beside a spawned function that writes the same cell, and then no end. One worker goes on with `main` first.
 const RACE_AND_NO_END: &str =

@@ -1,9 +1,9 @@
 //! Jobs over a standard input and files that are texts in memory.
 
 ghost use Rattle.std.specs.Prelude.{◌<◌, ◌≤◌, ⊤, None, IfOk};
-ghost use Rattle.text_commands.specs.Jobs.{IsInRange};
-ghost use Rattle.text_commands.specs.Performed.{IsAlone};
-ghost use Rattle.text_commands.specs.Sources.{unknown_sources};
+ghost use Rattle.tool_commands.specs.Jobs.{IsInRange};
+ghost use Rattle.tool_commands.specs.Performed.{IsAlone};
+ghost use Rattle.tool_commands.specs.Sources.{unknown_sources};
 
 use super::worked::FIB;
 use super::{MOST, Outcome, check_fault, check_written, lined};
@@ -14,7 +14,7 @@ use std::process::Abort;
 use std::sync::Wait;
 use std::test::Fail;
 use std::thread::Threads;
-use text_commands::{Host, Job, Watched, perform, perform_alone};
+use tool_commands::{Host, Job, Watched, perform, perform_alone};
 
 /// A trace in which a join begins, and its verdict lines.
 const JOINED: &str = "cilk 1; mem x; spawn 0; read 1 x; sync 2; return 1; write 3 x 4";

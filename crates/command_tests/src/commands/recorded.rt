@@ -1,9 +1,9 @@
 //! Runs whose trace is written.
 
 ghost use Rattle.std.specs.Prelude.{◌<◌, ◌≤◌, ⊤, [], Some, IfOk};
-ghost use Rattle.race_gate.specs.Shapes.{most_entries};
-ghost use Rattle.text_commands.specs.Jobs.{IsInRange};
-ghost use Rattle.text_commands.specs.Sources.{unknown_sources};
+ghost use Rattle.model_histories.specs.Shapes.{most_entries};
+ghost use Rattle.tool_commands.specs.Jobs.{IsInRange};
+ghost use Rattle.tool_commands.specs.Sources.{unknown_sources};
 
 use super::worked::{FIB, LASTS, PAIR, SERIES, TURNS};
 use super::{MOST, has_ended, lined};
@@ -15,7 +15,7 @@ use std::process::Abort;
 use std::sync::Wait;
 use std::test::Fail;
 use std::thread::Threads;
-use text_commands::{
+use tool_commands::{
     CliFault, Host, Job, OpenDoor, Watched, check_names, judge_stream, perform, replay_text,
     run_traced_text,
 };

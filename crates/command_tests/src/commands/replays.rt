@@ -10,7 +10,7 @@ use std::alloc::Global;
 use std::io::{Read, Write};
 use std::process::Abort;
 use std::test::Fail;
-use text_commands::{Watched, replay_text};
+use tool_commands::{Watched, replay_text};
 
 /// Its run in which the write comes first, without the last request.
 const MOST_OF_PAIR: &str =

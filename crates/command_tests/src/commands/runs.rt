@@ -1,7 +1,7 @@
 //! Runs by many workers, from programs that are read to reports that are written.
 
 ghost use Rattle.std.specs.Prelude.{◌<◌, ◌≤◌};
-ghost use Rattle.race_gate.specs.Shapes.{most_entries};
+ghost use Rattle.model_histories.specs.Shapes.{most_entries};
 
 use super::worked::{ENDLESS, FIB, LASTS, NO_TURNS, SERIES, TURNS};
 use super::{
@@ -15,7 +15,7 @@ use std::process::Abort;
 use std::sync::Wait;
 use std::test::Fail;
 use std::thread::Threads;
-use text_commands::{Door, OpenDoor, Watched, run_text};
+use tool_commands::{Door, OpenDoor, Watched, run_text};
 
 const FIB_REPORT: &str =
     "{\"clean\":true,\"entries\":713,\"memory\":{\"x\":55},\"refusals\":[],\"schedules\":\"clean for every schedule\"}\n";

@@ -12,7 +12,7 @@ use std::sync::atomic::{AtomicBool, AtomicU64, Ordering};
 use std::test::Fail;
 use std::thread;
 use std::thread::Threads;
-use text_commands::{Door, OpenDoor};
+use tool_commands::{Door, OpenDoor};
 
 /// What is told of PAIR where the child's write comes first. The read, which is refused, may come before the child's sync, behind it, or
 /// behind the child's return.

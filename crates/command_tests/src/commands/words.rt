@@ -3,7 +3,7 @@
 use std::alloc::Global;
 use std::process::Abort;
 use std::test::Fail;
-use text_commands::{CliFault, Color, Job, read_words};
+use tool_commands::{CliFault, Color, Job, read_words};
 
 const NO_LIMIT: &str = "invalid value for '--limit <N>': a number from 0 to 1000000 is wanted";
 

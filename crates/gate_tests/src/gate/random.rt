@@ -9,7 +9,7 @@ use race_gate::{Answer, Entry, Gate};
 use std::alloc::{AllocError, Global};
 use std::process::Abort;
 use std::test::Fail;
-use trace_values::{Act, Monoid, Request};
+use text_words::{Act, Monoid, Request};
 
 fn drawn_monoid(choice: u32) -> Monoid {
     match choice {

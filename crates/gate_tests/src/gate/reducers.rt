@@ -8,7 +8,7 @@ use access_table::{Kind, Rule};
 use race_gate::Answer;
 use shadow_history::Witness;
 use std::test::Fail;
-use trace_values::{Act, Monoid};
+use text_words::{Act, Monoid};
 
 fn refused(entry: u32, strand: u32, kind: Kind) -> Answer {
     Answer::Refused {

@@ -5,7 +5,7 @@ ghost use Rattle.std.specs.Prelude.{◌<◌};
 use access_table::{Kind, Rule, rule};
 use race_gate::{Answer, Entry};
 use std::alloc::{AllocError, Global};
-use trace_values::{Act, Monoid};
+use text_words::{Act, Monoid};
 
 /// The strands below 64 of a program without calls.
 #[derive(Drop)]

@@ -4,7 +4,7 @@ use super::Heap;
 use crate::worked::{FIB, PAIR, PAIR_TRACE};
 use std::alloc::Global;
 use std::process::Abort;
-use text_commands::{CliFault, Watched, elide_text, judge_stream, replay_text};
+use tool_commands::{CliFault, Watched, elide_text, judge_stream, replay_text};
 
 const MOST: u32 = 1_000_000;
 

@@ -4,7 +4,7 @@ ghost use Rattle.std.specs.Prelude.{◌≡◌, length, IfOk};
 
 use super::{Heap, answered};
 use crate::checks::equal;
-use access_table::{Kind, Rule};
+use model_accesses::{Kind, Rule};
 use race_gate::{Answer, Entry, Gate, GateFault, Receipt, Reply, judge_all};
 use race_report::verdict_lines;
 use shadow_history::Witness;
@@ -12,7 +12,7 @@ use sp_labels::Spawned;
 use std::alloc::AllocError;
 use std::process::Abort;
 use std::test::Fail;
-use trace_values::{Act, Monoid, Monoids, Request, Shape};
+use text_words::{Act, Monoid, Monoids, Request, Shape};
 
 /// What strands ask of one cell and one reducer, which sums, and what they are answered: a put, an update by
 /// a child, a get that has other peers than the put, one that has not, and a write and a read round a call.

@@ -6,18 +6,18 @@ ghost use Rattle.frame_steps.specs.Frames.{Stands};
 use super::{Heap, answered, wants_memory};
 use crate::checks::equal;
 use crate::worked::{FIB, PAIR};
-use access_table::{Kind, Rule};
 use frame_steps::{Frame, FrameFault};
-use program_replay::{ReplayFault, replay};
+use model_accesses::{Kind, Rule};
 use program_text::Program;
 use race_gate::{Answer, Entry};
+use run_replay::{ReplayFault, replay};
 use serial_elision::{ElideFault, elide};
 use shadow_history::Witness;
 use sp_labels::Spawned;
 use std::alloc::AllocError;
 use std::process::Abort;
 use std::test::Fail;
-use trace_values::{Act, Monoid, Request};
+use text_words::{Act, Monoid, Request};
 
 /// FIB as it is printed, without what stands before the words of a line.
 const PRINTED: &[u8] =

@@ -12,7 +12,7 @@ use sp_labels::{Returned, SpFault, Spawned, Strands};
 use std::alloc::AllocError;
 use std::process::Abort;
 use std::test::Fail;
-use trace_values::Monoid;
+use text_words::Monoid;
 use view_read_rule::ReadPeers;
 
 /// The list has so many items, and room for so many more.

@@ -1,15 +1,15 @@
 //! Growths of traces and of their texts.
 
 ghost use Rattle.std.specs.Prelude.{◌≤◌};
-ghost use Rattle.trace_values.specs.Declarations.{cells_of};
+ghost use Rattle.text_words.specs.Declarations.{cells_of};
 
 use super::{Heap, answered, wants_memory};
 use crate::checks::equal;
 use std::alloc::AllocError;
 use std::process::Abort;
 use std::test::Fail;
+use text_words::Monoid;
 use trace_text::{Trace, cell_name};
-use trace_values::Monoid;
 
 /// A trace with three cells and two reducers, in which something is asked for on five lines, the last with the line of a program.
 const TEXT: &[u8] =

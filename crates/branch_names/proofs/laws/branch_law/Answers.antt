@@ -1,5 +1,5 @@
-use Rattle.control_history.proofs.Branches.{branch_address_law, branch_law, finished_branch_law}
-use Rattle.control_history.proofs.Finish.{finish_law}
+use Rattle.law_strands.proofs.Branches.{branch_address_law, branch_law, finished_branch_law}
+use Rattle.law_strands.proofs.Finish.{finish_law}
 use Rattle.branch_names.proofs.laws.branch_law.Goals as goal
 
 pub returns : goal.returns

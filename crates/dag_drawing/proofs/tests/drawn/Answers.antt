@@ -1,6 +1,6 @@
 use Rattle.std.proofs.Common.{List, sym, subst}
-use Rattle.race_gate.specs.declared.answer.Entry.{Entry}
-use Rattle.race_gate.specs.Legal.{IsLegal}
+use Rattle.model_histories.specs.declared.answer.Entry.{Entry}
+use Rattle.model_histories.specs.Legal.{IsLegal}
 use Rattle.dag_drawing.proofs.tests.drawn.Goals as goal
 
 pub draw-requires : goal.draw-requires

@@ -1,5 +1,5 @@
 use Rattle.std.proofs.Common.{reverse, take}
-use Rattle.race_gate.specs.Entries.{control_part}
+use Rattle.model_histories.specs.Entries.{control_part}
 use Rattle.dag_drawing.specs.Walks.{IsWalk}
 use Rattle.dag_drawing.proofs.walk.walked.Given as goal
 

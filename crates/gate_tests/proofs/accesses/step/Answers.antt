@@ -1,4 +1,4 @@
-use Rattle.control_history.specs.History.{split, call}
+use Rattle.model_strands.specs.History.{split, call}
 use Rattle.sp_labels.specs.Roster.{event_of_sync, event_of_return}
 use Rattle.shadow_history.proofs.Later.{stands-later}
 use Rattle.gate_tests.proofs.accesses.step.Goals as goal

@@ -1,5 +1,5 @@
 use Rattle.std.proofs.Common.{rules, ◌⊎◌, ◌++◌, ◌<◌, List, length, take, subst, ◌∙◌}
-use Rattle.race_gate.specs.declared.answer.Receipt.{Receipt}
+use Rattle.model_histories.specs.declared.reply.Receipt.{Receipt}
 use Rattle.locked_replay.specs.Receipts.{Rises, AreMarked, AreAstray}
 use Rattle.locked_replay.specs.Logs.{all_receipts}
 use Rattle.locked_replay.proofs.Theirs.{rise_next, receipts_next, not_theirs}

@@ -1,6 +1,6 @@
 use Rattle.std.specs.Prelude.{◌≡◌, ◌++◌, ◌<◌, List, length, take}
 use Rattle.std.specs.List.{AllAdjacentBelow}
-use Rattle.race_gate.specs.declared.answer.Receipt.{Receipt}
+use Rattle.model_histories.specs.declared.reply.Receipt.{Receipt}
 use Rattle.locked_replay.specs.Receipts.{AreMarked}
 use Rattle.locked_replay.proofs.receipts.mark_all.Given as goal
 

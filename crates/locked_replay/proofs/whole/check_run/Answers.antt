@@ -1,6 +1,6 @@
 use Rattle.std.proofs.Common.{rules, ap, Err}
 use Rattle.locked_replay.proofs.Reversed.{told_strange}
-use Rattle.program_replay.specs.declared.replays.ReplayFault.{ReplayFault}
+use Rattle.run_replay.specs.declared.replays.ReplayFault.{ReplayFault}
 use Rattle.locked_replay.proofs.whole.check_run.Goals as goal
 
 pub returns-clause-strange : goal.returns-clause-strange

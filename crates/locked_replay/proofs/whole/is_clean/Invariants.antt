@@ -1,5 +1,5 @@
 use Rattle.std.specs.Prelude.{ℕ, ◌<◌, slice_index_or}
-use Rattle.race_gate.specs.Extensions.{IsCleanAnswer}
+use Rattle.model_histories.specs.Extensions.{IsCleanAnswer}
 use Rattle.locked_replay.proofs.whole.is_clean.Given as goal
 
 abbrev pub invariant-loop-entry : goal.invariant-loop-entry

@@ -1,8 +1,8 @@
 use Rattle.std.proofs.Common.{List, reverse, IsTrue, Err, subst, ap, ◌∙◌}
 use Rattle.std.proofs.lemmas.Result.{err_from_is_err_and}
-use Rattle.race_gate.specs.declared.answer.Entry.{Entry}
-use Rattle.race_gate.specs.Extensions.{IsClean}
-use Rattle.program_runs.specs.Runs.{shape_in}
+use Rattle.model_histories.specs.declared.answer.Entry.{Entry}
+use Rattle.model_histories.specs.Extensions.{IsClean}
+use Rattle.program_text.specs.Shapes.{shape_in}
 use Rattle.locked_replay.specs.declared.fault.RunFault.{RunFault}
 use Rattle.locked_replay.specs.declared.worker.WorkerLog.{WorkerLog}
 use Rattle.locked_replay.specs.Logs.{AreWhole}

@@ -1,6 +1,6 @@
 use Rattle.std.proofs.Common.{[], ◌∷◌}
 use Rattle.std.specs.Prelude.{codes, option_copied}
-use Rattle.trace_values.specs.Causes.{both_of}
+use Rattle.text_words.specs.Causes.{both_of}
 use Rattle.program_lines.specs.Places.{AssignedRegister, Exactly, OperandWord, Sign, OfAssigned, OfOperand, Nothing}
 use Rattle.program_lines.specs.Items.{joined_values}
 use Rattle.program_lines.proofs.Outcomes.{takes}

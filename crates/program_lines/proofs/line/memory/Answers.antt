@@ -1,5 +1,5 @@
 use Rattle.std.proofs.Common.{[], ◌∷◌}
-use Rattle.trace_values.specs.Limits.{max_cells}
+use Rattle.text_words.specs.Limits.{max_cells}
 use Rattle.trace_text.specs.Lines as trace
 use Rattle.program_lines.specs.Places.{Common, FreshName, Plain}
 use Rattle.program_lines.specs.Grammar.{number_if_there}

@@ -1,7 +1,7 @@
 use Rattle.std.proofs.Common.{[], ◌∷◌}
 use Rattle.std.specs.Prelude.{option_copied}
 use Rattle.trace_text.specs.Lines as trace
-use Rattle.trace_values.specs.Causes.{both_of}
+use Rattle.text_words.specs.Causes.{both_of}
 use Rattle.program_lines.specs.Places.{AssignedRegister, OperandWord, FunctionName, Plain, OfAssigned, OfOperand}
 use Rattle.program_lines.proofs.Outcomes.{takes}
 use Rattle.program_lines.proofs.line.of_parallel_for.Goals as goal

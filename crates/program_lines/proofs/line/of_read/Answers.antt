@@ -1,6 +1,6 @@
 use Rattle.std.proofs.Common.{[], ◌∷◌}
 use Rattle.std.specs.Prelude.{option_copied}
-use Rattle.trace_values.specs.Causes.{both_of}
+use Rattle.text_words.specs.Causes.{both_of}
 use Rattle.program_lines.specs.Places.{AssignedRegister, LocationWord, OfAssigned, OfLocation}
 use Rattle.program_lines.proofs.Outcomes.{takes}
 use Rattle.program_lines.proofs.line.of_read.Goals as goal

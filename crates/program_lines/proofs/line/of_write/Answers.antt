@@ -1,5 +1,5 @@
 use Rattle.std.proofs.Common.{[], ◌∷◌}
-use Rattle.trace_values.specs.Causes.{both_of}
+use Rattle.text_words.specs.Causes.{both_of}
 use Rattle.program_lines.specs.Places.{OperandWord, LocationWord, OfOperand, OfLocation}
 use Rattle.program_lines.proofs.Outcomes.{takes}
 use Rattle.program_lines.proofs.line.of_write.Goals as goal

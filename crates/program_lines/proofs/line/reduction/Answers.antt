@@ -1,6 +1,6 @@
 use Rattle.std.proofs.Common.{[], ◌∷◌}
 use Rattle.trace_text.specs.Lines as trace
-use Rattle.trace_values.specs.Causes.{both_of}
+use Rattle.text_words.specs.Causes.{both_of}
 use Rattle.program_lines.specs.Places.{Common, FreshName, Plain}
 use Rattle.program_lines.proofs.Outcomes.{takes}
 use Rattle.program_lines.proofs.line.reduction.Goals as goal

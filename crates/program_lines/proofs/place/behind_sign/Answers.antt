@@ -1,5 +1,5 @@
 use Rattle.std.proofs.Common.{[], ◌∷◌}
-use Rattle.trace_values.specs.Causes.{both_of}
+use Rattle.text_words.specs.Causes.{both_of}
 use Rattle.program_lines.specs.Places.{Sign, OperandWord, OfSign, OfOperand}
 use Rattle.program_lines.proofs.Outcomes.{reads, takes}
 use Rattle.program_lines.proofs.place.behind_sign.Goals as goal

@@ -1,4 +1,4 @@
-use Rattle.trace_values.specs.Limits.{max_cells}
+use Rattle.text_words.specs.Limits.{max_cells}
 use Rattle.trace_text.specs.Lines as trace
 use Rattle.program_lines.proofs.Outcomes.{fits_common}
 use Rattle.program_lines.proofs.place.length.Goals as goal

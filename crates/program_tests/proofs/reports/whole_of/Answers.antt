@@ -1,9 +1,9 @@
 use Rattle.std.proofs.Common.{◌≡◌, List, reverse, sym, subst}
-use Rattle.race_gate.specs.declared.answer.Entry.{Entry}
-use Rattle.race_gate.specs.Entries.{Entries}
-use Rattle.race_gate.specs.Shapes.{Shape}
-use Rattle.race_gate.specs.Judged.{IsJudged}
-use Rattle.race_gate.specs.Extensions.{IsCleanAnswer, IsClean}
+use Rattle.model_histories.specs.declared.answer.Entry.{Entry}
+use Rattle.model_histories.specs.Entries.{Entries}
+use Rattle.model_histories.specs.Shapes.{Shape}
+use Rattle.model_races.specs.Judged.{IsJudged}
+use Rattle.model_histories.specs.Extensions.{IsCleanAnswer, IsClean}
 use Rattle.race_report.specs.Conditions.{AreTellable}
 use Rattle.race_report.proofs.Reversed.{all_reversed, all_reverses}
 use Rattle.race_report.proofs.JudgedRuns.{judged_meets}

@@ -1,5 +1,5 @@
 use Rattle.std.proofs.Common.{ℕ, ◌+◌, ap, ◌∙◌}
-use Rattle.program_text.specs.Codes.{Code}
+use Rattle.model_bodies.specs.Codes.{Code}
 use Rattle.program_text.specs.Printing.{begin_row}
 use Rattle.program_text.proofs.Printed.{row_steps, begin_text}
 use Rattle.program_text.proofs.print.put_begin.Goals as goal

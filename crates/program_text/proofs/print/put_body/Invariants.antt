@@ -1,6 +1,6 @@
 use Rattle.std.proofs.Common.{◌≡◌, ◌++◌, List, drop}
 use Rattle.std.specs.Prelude.{string_bytes}
-use Rattle.trace_values.specs.declared.value.Version.{Version}
+use Rattle.text_words.specs.declared.value.Version.{Version}
 use Rattle.trace_text.specs.Printing.{known_of}
 use Rattle.program_text.specs.Printing.{Row, body_rows, names_of, text_from}
 use Rattle.program_text.proofs.print.put_body.Given as goal

@@ -1,5 +1,5 @@
 use Rattle.std.proofs.Common.{ℕ, ◌+◌, ap, ◌∙◌}
-use Rattle.program_text.specs.Codes.{Code}
+use Rattle.model_bodies.specs.Codes.{Code}
 use Rattle.program_text.specs.Printing.{end_row}
 use Rattle.program_text.proofs.Printed.{row_steps}
 use Rattle.program_text.proofs.print.put_end.Goals as goal

@@ -1,5 +1,5 @@
 use Rattle.std.proofs.Common.{ap, ◌∙◌}
-use Rattle.program_text.specs.Codes.{Code}
+use Rattle.model_bodies.specs.Codes.{Code}
 use Rattle.trace_text.specs.Printing.{known_of}
 use Rattle.program_text.specs.Printing.{names_of}
 use Rattle.program_text.proofs.Printed.{function_steps}

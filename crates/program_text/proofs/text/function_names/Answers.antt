@@ -1,6 +1,6 @@
 use Rattle.std.proofs.Common.{◌≡◌, ◌∷◌, arith, sym, ◌∙◌}
 use Rattle.std.proofs.lemmas.Bool.Decides.{nat_tests}
-use Rattle.trace_values.specs.Text.{lines}
+use Rattle.text_words.specs.Text.{lines}
 use Rattle.trace_text.proofs.RoomFaults.{lines_split}
 use Rattle.program_text.proofs.Knowing.{names_step, names_done, no_lines}
 use Rattle.program_text.specs.Functions.{function_named, with_function}

@@ -1,5 +1,5 @@
 use Rattle.std.proofs.Common.{◌≡◌, length}
-use Rattle.trace_values.specs.Text.{lines}
+use Rattle.text_words.specs.Text.{lines}
 use Rattle.program_text.specs.Functions.{functions_from, functions_of}
 use Rattle.program_text.proofs.text.function_names.Given as goal
 

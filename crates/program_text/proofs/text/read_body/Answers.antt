@@ -1,4 +1,4 @@
-use Rattle.trace_values.specs.Text.{lines}
+use Rattle.text_words.specs.Text.{lines}
 use Rattle.program_text.proofs.Taken.{ends_here, main_here}
 use Rattle.program_text.proofs.text.read_body.Goals as goal
 

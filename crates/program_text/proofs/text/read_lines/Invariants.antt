@@ -1,5 +1,5 @@
 use Rattle.std.proofs.Common.{◌≤◌, length}
-use Rattle.trace_values.specs.Text.{lines}
+use Rattle.text_words.specs.Text.{lines}
 use Rattle.program_text.specs.Faults.{DecidesLines}
 use Rattle.program_text.proofs.text.read_lines.Given as goal
 

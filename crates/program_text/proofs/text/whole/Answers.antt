@@ -1,5 +1,5 @@
 use Rattle.std.proofs.Common.{◌≡◌, ◌∷◌}
-use Rattle.trace_values.specs.Text.{lines}
+use Rattle.text_words.specs.Text.{lines}
 use Rattle.trace_text.proofs.RoomFaults.{lines_split}
 use Rattle.program_text.specs.Drafts.{held}
 use Rattle.program_text.proofs.Taken.{whole_read}

@@ -1,6 +1,6 @@
 use Rattle.std.proofs.Common.{List, sym, subst}
-use Rattle.race_gate.specs.declared.answer.Entry.{Entry}
-use Rattle.race_gate.specs.Legal.{IsLegal}
+use Rattle.model_histories.specs.declared.answer.Entry.{Entry}
+use Rattle.model_histories.specs.Legal.{IsLegal}
 use Rattle.race_explanations.proofs.tests.check.Goals as goal
 
 pub explanation-requires : goal.explanation-requires

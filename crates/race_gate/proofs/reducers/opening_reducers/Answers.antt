@@ -1,5 +1,5 @@
 use Rattle.std.proofs.Common.{◌≡◌, [], ◌∷◌, List, true, nat_eq, length, refl, sym, ◌∙◌, arith}
-use Rattle.trace_values.specs.declared.value.Monoid.{Monoid}
+use Rattle.model_reducers.specs.declared.monoid.Monoid.{Monoid}
 use Rattle.race_gate.proofs.reducers.opening_reducers.Goals as goal
 
 none-counted : (monoids : List Monoid) → nat_eq (length monoids) 0 ≡ true → monoids ≡ []

@@ -1,7 +1,7 @@
 use Rattle.std.proofs.Common.{◌≡◌, length, take, vec_len, vec_capacity}
-use Rattle.race_gate.specs.Memory.{IsMemory}
-use Rattle.race_gate.specs.Judged.{IsJudged}
-use Rattle.race_gate.specs.Replies.{JudgesAll}
+use Rattle.model_races.specs.Memory.{IsMemory}
+use Rattle.model_races.specs.Judged.{IsJudged}
+use Rattle.model_histories.specs.Replies.{JudgesAll}
 use Rattle.race_gate.proofs.replies.judge_all.Given as goal
 
 abbrev pub invariant-loop-request : goal.invariant-loop-request

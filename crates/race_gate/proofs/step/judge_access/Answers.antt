@@ -1,18 +1,18 @@
 use Rattle.std.proofs.Common.{◌≡◌, ◌↔◌, ℕ, None, true, refl, sym, subst}
 use Rattle.std.specs.Option.{IsSome}
 use Rattle.std.proofs.lemmas.List.{append-nil}
-use Rattle.access_table.specs.declared.kind.Rule.{Rule}
-use Rattle.trace_values.specs.declared.value.Act.{Act}
-use Rattle.trace_values.specs.declared.value.Act.TheVariants as act
-use Rattle.shadow_history.specs.declared.witness.Witness.{Witness}
+use Rattle.model_accesses.specs.declared.kind.Rule.{Rule}
+use Rattle.model_accesses.specs.declared.request.Act.{Act}
+use Rattle.model_accesses.specs.declared.request.Act.TheVariants as act
+use Rattle.model_accesses.specs.declared.witness.Witness.{Witness}
 use Rattle.shadow_history.specs.Shadow.{Remembers}
-use Rattle.shadow_history.specs.Witnesses.{witness_of}
-use Rattle.race_gate.specs.declared.answer.Answer.{Answer}
-use Rattle.race_gate.specs.declared.answer.Answer.TheVariants.{Split, Same, Joined, Waits, Resumed, Ended, EndedJoined, Finished, Granted, Value, Refused, Unset}
-use Rattle.race_gate.specs.Accesses.{is_granted}
-use Rattle.race_gate.specs.Memory.{effect}
+use Rattle.model_accesses.specs.Accesses.{witness_of}
+use Rattle.model_histories.specs.declared.answer.Answer.{Answer}
+use Rattle.model_histories.specs.declared.answer.Answer.TheVariants.{Split, Same, Joined, Waits, Resumed, Ended, EndedJoined, Finished, Granted, Value, Refused, Unset}
+use Rattle.model_races.specs.Accesses.{is_granted}
+use Rattle.model_races.specs.Memory.{effect}
 use Rattle.race_gate.specs.Steps.{after}
-use Rattle.race_gate.specs.Verdicts.{IsRefused, IfRefused}
+use Rattle.model_races.specs.Verdicts.{IsRefused, IfRefused}
 use Rattle.race_gate.proofs.step.judge_access.Goals as goal
 
 -- what was granted was not refused

@@ -1,6 +1,6 @@
 use Rattle.std.proofs.Common.{List, reverse, sym, subst}
-use Rattle.race_gate.specs.declared.answer.Entry.{Entry}
-use Rattle.race_gate.specs.Legal.{IsLegal}
+use Rattle.model_histories.specs.declared.answer.Entry.{Entry}
+use Rattle.model_histories.specs.Legal.{IsLegal}
 use Rattle.race_gate.proofs.Races.{legal-part}
 use Rattle.race_pairs.proofs.tests.met.Goals as goal
 

@@ -1,7 +1,7 @@
 use Rattle.std.proofs.Common.{◌≡◌, drop, length}
 use Rattle.serde_json.specs.Data.{no_members}
 use Rattle.serde_json.specs.View.{members_view}
-use Rattle.trace_values.specs.Declarations.{cells_of}
+use Rattle.text_words.specs.Declarations.{cells_of}
 use Rattle.race_report.specs.ReportText.{memory_put}
 use Rattle.race_report.proofs.json_report.memory_value.Given as goal
 

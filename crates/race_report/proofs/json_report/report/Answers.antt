@@ -3,9 +3,9 @@ use Rattle.std.proofs.lemmas.Result.{IfOk-weaker}
 use Rattle.serde_json.specs.Data.{Data}
 use Rattle.serde_json.specs.View.{view}
 use Rattle.serde_json.specs.Written.{has_float, compact_text}
-use Rattle.trace_values.specs.declared.value.Mem.{Mem}
-use Rattle.trace_values.specs.Values.{Known}
-use Rattle.race_gate.specs.declared.answer.Entry.{Entry}
+use Rattle.text_words.specs.declared.value.Mem.{Mem}
+use Rattle.text_words.specs.Values.{Known}
+use Rattle.model_histories.specs.declared.answer.Entry.{Entry}
 use Rattle.program_text.specs.Programs.{contents}
 use Rattle.race_report.specs.Refusals.{refusals_told}
 use Rattle.race_report.specs.ReportText.{is_clean, memory_told, report_with, report_told, report_text}

@@ -1,4 +1,4 @@
-use Rattle.every_schedule.proofs.Schedules.{clean_law}
+use Rattle.law_schedules.proofs.Schedules.{clean_law}
 use Rattle.race_report.proofs.Schedules.{schedules_law}
 use Rattle.race_report.proofs.laws.schedules_law.Goals as goal
 

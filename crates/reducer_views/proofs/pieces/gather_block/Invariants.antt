@@ -1,5 +1,5 @@
 use Rattle.std.proofs.Common.{◌<◌, List, length}
-use Rattle.trace_values.specs.declared.value.Monoid.{Monoid}
+use Rattle.model_reducers.specs.declared.monoid.Monoid.{Monoid}
 use Rattle.reducer_views.specs.Pieces.{all_kept, AreKept}
 use Rattle.reducer_views.proofs.KeptLists.{Progress, numbers_left}
 use Rattle.reducer_views.proofs.pieces.gather_block.Given as goal

@@ -1,6 +1,6 @@
 use Rattle.std.proofs.Common.{◌≡◌, ◌++◌, drop}
 use Rattle.std.specs.Prelude.{string_bytes}
-use Rattle.trace_values.specs.Values.{Known}
+use Rattle.text_words.specs.Values.{Known}
 use Rattle.run_traces.specs.Texts.{reducers_text}
 use Rattle.run_traces.proofs.trace.put_reducers.Given as goal
 

@@ -1,6 +1,6 @@
 use Rattle.std.proofs.Common.{◌≡◌, ◌++◌, drop}
 use Rattle.std.specs.Prelude.{string_bytes}
-use Rattle.trace_values.specs.declared.value.Version.{Version}
+use Rattle.text_words.specs.declared.value.Version.{Version}
 use Rattle.trace_text.specs.Printing.{known_of}
 use Rattle.run_traces.specs.Texts.{requests_text}
 use Rattle.run_traces.proofs.trace.put_requests.Given as goal

@@ -1,7 +1,7 @@
 use Rattle.std.proofs.Common.{◌++◌, ◌∷◌, ap, ◌∙◌, List}
 use Rattle.std.specs.Prelude.{string_bytes}
-use Rattle.trace_values.specs.declared.value.Mem.{Mem}
-use Rattle.trace_values.specs.declared.value.Reducer.{Reducer}
+use Rattle.text_words.specs.declared.value.Mem.{Mem}
+use Rattle.text_words.specs.declared.value.Reducer.{Reducer}
 use Rattle.trace_text.specs.Printing.{known_of}
 use Rattle.program_text.specs.Programs.{contents}
 use Rattle.run_traces.specs.Traces.{known_in_trace}

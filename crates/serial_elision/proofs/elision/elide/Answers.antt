@@ -1,5 +1,5 @@
 use Rattle.std.proofs.Common.{refl, sym, ◌∙◌, arith, length, []}
-use Rattle.trace_values.specs.Declarations.{cells_of}
+use Rattle.text_words.specs.Declarations.{cells_of}
 use Rattle.serial_elision.specs.States.{state_of, monoids_in, top_of}
 use Rattle.serial_elision.proofs.Soundness.{few_places}
 use Rattle.serial_elision.proofs.Elisions.{opening_leads, opening_stands, more_leads, leads_needs, over_elides, nearer}

@@ -1,8 +1,9 @@
 use Rattle.std.proofs.Common.{◌≡◌, ◌≤◌, ◌-◌, ◌+◌, ◌*◌, List, length}
-use Rattle.trace_values.specs.Declarations.{cells_of}
-use Rattle.program_text.specs.Codes.{Code}
-use Rattle.serial_elision.specs.Evaluation.{Effect, Leads}
-use Rattle.serial_elision.specs.Elisions.{first_store, HasMain}
+use Rattle.text_words.specs.Declarations.{cells_of}
+use Rattle.model_bodies.specs.Codes.{Code}
+use Rattle.model_programs.specs.Evaluation.{Effect}
+use Rattle.serial_elision.specs.Evaluation.{Leads}
+use Rattle.model_programs.specs.Elisions.{first_store, HasMain}
 use Rattle.serial_elision.specs.States.{Stands, monoids_in, state_of, stack_of, store_of, top_of}
 use Rattle.serial_elision.proofs.Elisions.{main_stack}
 use Rattle.serial_elision.proofs.elision.elide.Given as goal

@@ -1,7 +1,7 @@
 use Rattle.std.proofs.Common.{refl}
 use Rattle.std.proofs.lemmas.List.{map_more, take_all}
-use Rattle.trace_values.specs.declared.value.Monoid.TheVariants.{Sum}
-use Rattle.reducer_views.specs.Products.{identity_of}
+use Rattle.model_reducers.specs.declared.monoid.Monoid.TheVariants.{Sum}
+use Rattle.model_reducers.specs.Products.{identity_of}
 use Rattle.serial_elision.proofs.elision.identities.Goals as goal
 
 pub loop-monoid-init : goal.loop-monoid-init

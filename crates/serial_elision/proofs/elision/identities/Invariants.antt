@@ -1,5 +1,5 @@
 use Rattle.std.proofs.Common.{◌≡◌, map, take}
-use Rattle.reducer_views.specs.Products.{identity_of}
+use Rattle.model_reducers.specs.Products.{identity_of}
 use Rattle.serial_elision.proofs.elision.identities.Given as goal
 
 abbrev pub invariant-loop-monoid : goal.invariant-loop-monoid

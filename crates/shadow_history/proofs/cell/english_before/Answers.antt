@@ -1,4 +1,4 @@
-use Rattle.addresses.specs.Address.{english}
+use Rattle.law_addresses.specs.Address.{english}
 use Rattle.shadow_history.proofs.Alike.{never_before}
 use Rattle.shadow_history.proofs.cell.english_before.Goals as goal
 

@@ -1,4 +1,4 @@
-use Rattle.addresses.specs.Address.{hebrew}
+use Rattle.law_addresses.specs.Address.{hebrew}
 use Rattle.shadow_history.proofs.Alike.{never_before}
 use Rattle.shadow_history.proofs.cell.hebrew_before.Goals as goal
 

@@ -1,6 +1,6 @@
 use Rattle.std.proofs.Common.{◌-◌, List, reverse, sym, subst, arith}
-use Rattle.race_gate.specs.declared.answer.Entry.{Entry}
-use Rattle.race_gate.specs.Legal.{IsLegal}
+use Rattle.model_histories.specs.declared.answer.Entry.{Entry}
+use Rattle.model_histories.specs.Legal.{IsLegal}
 use Rattle.race_gate.proofs.Races.{legal-part}
 use Rattle.spawn_chains.proofs.Numbers.{no_entry}
 use Rattle.spawn_chains.proofs.Asked.{told_begun}

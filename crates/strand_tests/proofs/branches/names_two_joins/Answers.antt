@@ -1,6 +1,6 @@
 use Rattle.std.proofs.Common.{[], refl, inl, inr}
-use Rattle.control_history.specs.Updated.{updated}
-use Rattle.control_history.specs.History.{joined}
+use Rattle.model_strands.specs.Updated.{updated}
+use Rattle.model_strands.specs.History.{joined}
 use Rattle.strand_tests.proofs.BranchExamples.{first_spawn_legal, first_join_legal, second_spawn_legal, second_join_legal, first_join, second_join, first_return, second_return, returned-once, joined-once, returned-twice, joined-twice}
 use Rattle.branch_names.proofs.Events.{room-follows}
 use Rattle.strand_tests.proofs.branches.names_two_joins.Goals as goal

@@ -1,6 +1,6 @@
 use Rattle.std.proofs.Common.{[]}
 use Rattle.std.specs.Prelude.{Some}
-use Rattle.trace_values.specs.Limits.{max_cells}
+use Rattle.text_words.specs.Limits.{max_cells}
 use Rattle.trace_text.specs.Lines.{FreshName, Number, OfName, if_there}
 use Rattle.trace_text.proofs.Outcomes.{takes}
 use Rattle.trace_text.proofs.line.memory.Goals as goal

@@ -1,7 +1,7 @@
 use Rattle.std.proofs.Common.{[], ◌∷◌}
 use Rattle.std.specs.Prelude.{Some}
 use Rattle.trace_text.specs.Lines.{a_strand, a_value, Cell, Mark, OfNumber, if_there}
-use Rattle.trace_values.specs.Causes.{both_of}
+use Rattle.text_words.specs.Causes.{both_of}
 use Rattle.trace_text.proofs.Outcomes.{takes}
 use Rattle.trace_text.proofs.line.of_cell_and_value.Goals as goal
 

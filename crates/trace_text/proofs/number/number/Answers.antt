@@ -1,6 +1,6 @@
 use Rattle.std.proofs.Common.{arith, refl}
 use Rattle.std.proofs.lemmas.Grind.{common_steps}
-use Rattle.trace_values.specs.Text.{BeginsWithDigit}
+use Rattle.text_words.specs.Text.{BeginsWithDigit}
 use Rattle.trace_text.proofs.Numbers.{number_of_parsed, no_number}
 use Rattle.trace_text.proofs.Outcomes.{lowest_bad_number}
 use Rattle.trace_text.proofs.number.number.Goals as goal

@@ -1,4 +1,4 @@
-use Rattle.trace_values.specs.Limits.{max_cells}
+use Rattle.text_words.specs.Limits.{max_cells}
 use Rattle.trace_text.specs.Lines.{Number}
 use Rattle.trace_text.proofs.Outcomes.{left_ok, left_err}
 use Rattle.trace_text.proofs.place.length.Goals as goal

@@ -1,9 +1,9 @@
 use Rattle.std.proofs.Common.{◌≡◌, ◌++◌, ℕ, List, lit<, sym, subst}
 use Rattle.std.specs.Prelude.{None, Some, codes}
 use Rattle.std.proofs.lemmas.Str.Pattern.{strip_prefix_char}
-use Rattle.trace_values.specs.declared.fault.Cause.TheVariants.{BadNumber}
+use Rattle.text_words.specs.declared.fault.Cause.TheVariants.{BadNumber}
 use Rattle.trace_text.specs.Lines.{Mark}
-use Rattle.trace_values.specs.Causes.{IsLowest}
+use Rattle.text_words.specs.Causes.{IsLowest}
 use Rattle.trace_text.specs.Faults.{WordFault}
 use Rattle.trace_text.proofs.CellWords.{lowest_bad_word}
 use Rattle.trace_text.proofs.Outcomes.{lowest_bad_mark}

@@ -1,5 +1,5 @@
 use Rattle.std.proofs.Common.{◌≡◌, slice_index_or, arith}
-use Rattle.trace_values.specs.Limits.{max_strand}
+use Rattle.text_words.specs.Limits.{max_strand}
 use Rattle.trace_text.proofs.PlainRequests.{next_number}
 use Rattle.trace_text.proofs.plain.strand.Goals as goal
 

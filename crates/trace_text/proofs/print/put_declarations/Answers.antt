@@ -1,6 +1,6 @@
 use Rattle.std.proofs.Common.{◌+◌, ◌++◌, List, drop, arith, refl, sym, ap, ◌∙◌}
 use Rattle.std.specs.Prelude.{string_bytes}
-use Rattle.trace_values.specs.declared.value.Mem.{Mem}
+use Rattle.text_words.specs.declared.value.Mem.{Mem}
 use Rattle.trace_text.specs.Printing.{declarations, text_from}
 use Rattle.trace_text.proofs.Printed.{drop_memory, declared_step}
 use Rattle.trace_text.proofs.print.put_declarations.Goals as goal

@@ -1,6 +1,6 @@
 use Rattle.std.proofs.Common.{◌≡◌, ◌++◌, List, drop}
 use Rattle.std.specs.Prelude.{string_bytes}
-use Rattle.trace_values.specs.Values.{Known}
+use Rattle.text_words.specs.Values.{Known}
 use Rattle.trace_text.specs.Printing.{Entry, text_from, declarations}
 use Rattle.trace_text.proofs.print.put_declarations.Given as goal
 

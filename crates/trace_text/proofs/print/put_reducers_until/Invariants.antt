@@ -1,7 +1,7 @@
 use Rattle.std.proofs.Common.{◌≡◌, ◌++◌, List, length}
 use Rattle.std.specs.Prelude.{string_bytes}
-use Rattle.trace_values.specs.declared.value.Reducer.{Reducer}
-use Rattle.trace_values.specs.Values.{Known}
+use Rattle.text_words.specs.declared.value.Reducer.{Reducer}
+use Rattle.text_words.specs.Values.{Known}
 use Rattle.trace_text.specs.Printing.{Entry, text_from, TakesReducers}
 use Rattle.trace_text.proofs.print.put_reducers_until.Given as goal
 

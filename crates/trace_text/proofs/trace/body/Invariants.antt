@@ -1,7 +1,7 @@
 use Rattle.std.proofs.Common.{ℕ, ◌+◌, ◌≤◌, length}
-use Rattle.trace_values.specs.declared.fault.Cause.{Cause}
-use Rattle.trace_values.specs.Values.{Contents}
-use Rattle.trace_values.specs.Text.{lines}
+use Rattle.text_words.specs.declared.fault.Cause.{Cause}
+use Rattle.text_words.specs.Values.{Contents}
+use Rattle.text_words.specs.Text.{lines}
 use Rattle.trace_text.specs.Grammar.{LinesMean, nothing}
 use Rattle.trace_text.specs.Faults.{LinesFault}
 use Rattle.trace_text.specs.Drafts.{so_far}

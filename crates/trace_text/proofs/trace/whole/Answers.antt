@@ -1,5 +1,5 @@
 use Rattle.std.proofs.Common.{◌≡◌, ◌∷◌}
-use Rattle.trace_values.specs.Text.{lines}
+use Rattle.text_words.specs.Text.{lines}
 use Rattle.trace_text.specs.Drafts.{so_far}
 use Rattle.trace_text.proofs.RoomFaults.{lines_split, whole_read}
 use Rattle.trace_text.proofs.trace.whole.Goals as goal

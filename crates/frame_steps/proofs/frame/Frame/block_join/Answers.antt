@@ -1,5 +1,5 @@
 use Rattle.std.proofs.Common.{◌≡◌, ◌∙◌, ap, sym, List, [], ◌∷◌, None}
-use Rattle.program_steps.specs.Exchanges.{Exchange}
+use Rattle.model_programs.specs.Exchanges.{Exchange}
 use Rattle.frame_steps.specs.declared.phase.Phase.TheVariants.{Wanting}
 use Rattle.frame_steps.specs.Joins.{joins_after, topmost, open_join}
 use Rattle.frame_steps.specs.States.{State}

@@ -1,6 +1,6 @@
 use Rattle.std.proofs.Common.{◌≡◌, ◌∙◌, ap, refl}
-use Rattle.trace_values.specs.Text.{words}
-use Rattle.trace_values.specs.Causes.{IsLowest}
+use Rattle.text_words.specs.Text.{words}
+use Rattle.text_words.specs.Causes.{IsLowest}
 use Rattle.program_lines.specs.Grammar.{ItemMeans}
 use Rattle.program_lines.specs.Faults.{WordsFault}
 use Rattle.program_lines.specs.Items.{item_of}

@@ -1,6 +1,6 @@
 use Rattle.std.proofs.Common.{◌+◌, ◌∷◌, [], arith, ap, length}
 use Rattle.std.proofs.lemmas.List.{length-append}
-use Rattle.program_lines.specs.declared.statement.Statement.TheVariants.{End}
+use Rattle.model_bodies.specs.declared.statement.Statement.TheVariants.{End}
 use Rattle.program_text.specs.Drafts.{Open}
 use Rattle.program_text.proofs.Ends.{ended_long, on_err, part_ended, none_ended}
 use Rattle.program_text.proofs.open_function.Open.end.Goals as goal

@@ -1,5 +1,5 @@
 use Rattle.std.proofs.Common.{sym, ◌∙◌, ap}
-use Rattle.program_text.specs.Codes.{main_of}
+use Rattle.model_bodies.specs.Codes.{main_of}
 use Rattle.program_text.proofs.Whole.{assembled, whole_of_text}
 use Rattle.program_text.proofs.program.Program.parse.Goals as goal
 

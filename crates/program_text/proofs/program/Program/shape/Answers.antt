@@ -1,6 +1,6 @@
 use Rattle.std.proofs.Common.{◌++◌, ◌∷◌, [], map, take, rules, sym, ◌∙◌, ap}
 use Rattle.std.proofs.lemmas.List.{map_more, take_all}
-use Rattle.trace_values.specs.declared.value.Reducer.{Reducer}
+use Rattle.text_words.specs.declared.value.Reducer.{Reducer}
 use Rattle.program_text.proofs.program.Program.shape.Goals as goal
 
 pub returns-clause-cells : goal.returns-clause-cells

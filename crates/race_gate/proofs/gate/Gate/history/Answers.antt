@@ -1,5 +1,5 @@
 use Rattle.std.proofs.Common.{◌≤◌, length, subst}
-use Rattle.race_gate.specs.States.{State}
+use Rattle.model_histories.specs.States.{State}
 use Rattle.race_gate.proofs.gate.Gate.history.Goals as goal
 
 pub returns-clause-entries : goal.returns-clause-entries

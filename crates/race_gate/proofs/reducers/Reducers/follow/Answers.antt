@@ -1,5 +1,5 @@
 use Rattle.std.proofs.Common.{◌≡◌, ◌<◌, ◌+◌, length, inl, inr, refl, sym, subst}
-use Rattle.control_history.specs.History.{joined, ended_joined}
+use Rattle.model_strands.specs.History.{joined, ended_joined}
 use Rattle.branch_names.specs.Names.{Takes, TakesJoin}
 use Rattle.reducer_views.specs.Held.{split_of}
 use Rattle.race_gate.specs.Books.{Books}

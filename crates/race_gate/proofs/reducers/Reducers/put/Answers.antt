@@ -1,5 +1,5 @@
 use Rattle.std.proofs.Common.{◌<◌, length, refl, sym, subst, arith}
-use Rattle.access_table.specs.declared.kind.Kind.TheVariants as kind
+use Rattle.model_accesses.specs.declared.kind.Kind.TheVariants as kind
 use Rattle.race_gate.specs.Books.{Books}
 use Rattle.race_gate.proofs.Answering.{running-there, answers-put, answers-refused_put}
 use Rattle.race_gate.proofs.reducers.Reducers.put.Goals as goal

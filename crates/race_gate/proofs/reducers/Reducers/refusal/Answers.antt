@@ -1,6 +1,7 @@
 use Rattle.std.proofs.Common.{◌≡◌, inl, Option, Some, None, refl, sym, subst}
 use Rattle.std.specs.Option.{IsNone}
-use Rattle.view_read_rule.specs.Reads.{ReducerRead, StandsOn}
+use Rattle.model_accesses.specs.Reads.{ReducerRead}
+use Rattle.view_read_rule.specs.Reads.{StandsOn}
 use Rattle.race_gate.specs.Books.{Books, Keeps}
 use Rattle.race_gate.proofs.Answering.{reads-named}
 use Rattle.race_gate.proofs.Reading.{unset-read, refused-read, found-read}

@@ -1,5 +1,5 @@
 use Rattle.std.proofs.Common.{◌<◌, length, ap, refl, ◌∙◌, arith}
-use Rattle.reducer_views.specs.Products.{number_of}
+use Rattle.model_reducers.specs.Products.{number_of}
 use Rattle.reducer_views.proofs.Following.{home_lent, view_found, view_untouched}
 use Rattle.reducer_views.proofs.views.Views.get.Goals as goal
 

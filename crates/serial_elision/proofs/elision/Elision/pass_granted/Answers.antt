@@ -1,5 +1,5 @@
 use Rattle.std.proofs.Common.{◌+◌}
-use Rattle.program_steps.specs.Values.{with_ok}
+use Rattle.model_programs.specs.Values.{with_ok}
 use Rattle.serial_elision.specs.States.{moved}
 use Rattle.serial_elision.proofs.Stacks.{topped}
 use Rattle.serial_elision.proofs.elision.Elision.pass_granted.Goals as goal

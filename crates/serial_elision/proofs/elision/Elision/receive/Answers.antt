@@ -1,6 +1,6 @@
 use Rattle.std.proofs.Common.{◌+◌}
-use Rattle.program_steps.specs.Values.{with_ok}
-use Rattle.serial_elision.specs.Evaluation.{with_register}
+use Rattle.model_programs.specs.Values.{with_ok}
+use Rattle.model_programs.specs.Evaluation.{with_register}
 use Rattle.serial_elision.specs.States.{moved}
 use Rattle.serial_elision.proofs.Stacks.{topped}
 use Rattle.serial_elision.proofs.elision.Elision.receive.Goals as goal

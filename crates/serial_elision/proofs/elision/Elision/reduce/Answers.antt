@@ -1,5 +1,5 @@
 use Rattle.std.proofs.Common.{drop, ◌+◌, Some, refl, sym, ap, ◌∙◌, arith, length}
-use Rattle.trace_values.specs.Declarations.{cells_of}
+use Rattle.text_words.specs.Declarations.{cells_of}
 use Rattle.serial_elision.specs.States.{state_of, store_of, monoids_in, callers_of, left_at}
 use Rattle.serial_elision.proofs.Soundness.{next_fits, next_within, within, reducer_fits, reducer_known}
 use Rattle.serial_elision.proofs.Reducing.{update_makes, put_makes}

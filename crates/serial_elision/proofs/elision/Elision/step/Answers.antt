@@ -2,7 +2,7 @@ use Rattle.std.proofs.Common.{◌≡◌, ◌≤◌, ◌<◌, Some, ap, refl, sym
 use Rattle.std.proofs.lemmas.Bool.{ltb-false, ltb-true}
 use Rattle.std.proofs.lemmas.Option.{slice_get-get_or}
 use Rattle.std.specs.Prelude.{slice_get}
-use Rattle.trace_values.specs.Declarations.{cells_of}
+use Rattle.text_words.specs.Declarations.{cells_of}
 use Rattle.serial_elision.specs.States.{state_of, monoids_in}
 use Rattle.serial_elision.proofs.Elisions.{left_stands, left_makes}
 use Rattle.serial_elision.proofs.elision.Elision.step.Goals as goal

@@ -1,5 +1,5 @@
 use Rattle.std.proofs.Common.{◌+◌}
-use Rattle.serial_elision.specs.Evaluation.{with_register}
+use Rattle.model_programs.specs.Evaluation.{with_register}
 use Rattle.serial_elision.specs.States.{moved}
 use Rattle.serial_elision.proofs.Stacks.{topped}
 use Rattle.serial_elision.proofs.elision.Elision.take.Goals as goal

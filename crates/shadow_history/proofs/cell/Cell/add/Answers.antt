@@ -1,5 +1,5 @@
 use Rattle.std.proofs.Common.{sym, ◌∙◌, subst}
-use Rattle.addresses.specs.Address.{english, hebrew}
+use Rattle.law_addresses.specs.Address.{english, hebrew}
 use Rattle.shadow_history.specs.Shadow.{AreKept}
 use Rattle.shadow_history.proofs.Added.{extreme-first}
 use Rattle.shadow_history.proofs.cell.Cell.add.Goals.{in-Some, in-None}

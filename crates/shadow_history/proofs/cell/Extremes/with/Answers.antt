@@ -1,6 +1,6 @@
 use Rattle.std.proofs.Common.{[], ◌∷◌, ◌++◌, refl, sym, subst}
-use Rattle.addresses.specs.Address.{english, hebrew}
-use Rattle.addresses.proofs.Orders.{english-ranks, hebrew-ranks}
+use Rattle.law_addresses.specs.Address.{english, hebrew}
+use Rattle.law_addresses.proofs.Orders.{english-ranks, hebrew-ranks}
 use Rattle.shadow_history.specs.Accesses.{IsExtreme}
 use Rattle.shadow_history.specs.Shadow.{access_of}
 use Rattle.shadow_history.proofs.Added.{extreme-stays, extreme-moves, not_later}

@@ -1,5 +1,5 @@
 use Rattle.std.proofs.Common.{inl, refl}
-use Rattle.access_table.specs.declared.kind.Kind.TheVariants.{Write, Bump, Read}
+use Rattle.model_accesses.specs.declared.kind.Kind.TheVariants.{Write, Bump, Read}
 use Rattle.shadow_history.proofs.Remembers.{begun-there, kept-there, remembers-added}
 use Rattle.shadow_history.proofs.shadow.Shadow.add.Goals.{in-Write, in-Bump, in-Read, in-Update, in-Put, in-Get}
 use Rattle.shadow_history.proofs.shadow.Shadow.add.Goals as goal

@@ -1,5 +1,5 @@
 use Rattle.std.proofs.Common.{inl, refl, arith}
-use Rattle.access_table.specs.declared.kind.Kind.TheVariants.{Write, Bump, Read}
+use Rattle.model_accesses.specs.declared.kind.Kind.TheVariants.{Write, Bump, Read}
 use Rattle.shadow_history.proofs.SameKinds.{from-second, from-third, of-memory}
 use Rattle.shadow_history.proofs.Remembers.{kept-there, begun-there}
 use Rattle.shadow_history.proofs.Witnesses.{witness-found, exact-found, exact-none}

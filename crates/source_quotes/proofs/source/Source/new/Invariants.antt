@@ -1,6 +1,6 @@
 use Rattle.std.proofs.Common.{◌≡◌, ◌++◌, ℕ, List, length, map}
 use denote.Ref.{Bor}
-use Rattle.trace_values.specs.Text.{lines}
+use Rattle.text_words.specs.Text.{lines}
 use Rattle.source_quotes.proofs.source.Source.new.Given as goal
 
 -- the lines so far and those of the rest are all lines

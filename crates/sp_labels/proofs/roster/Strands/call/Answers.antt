@@ -1,8 +1,8 @@
 use Rattle.std.proofs.Common.{◌∷◌, ◌∙◌, sym, subst, ap, get_or, None}
 use Rattle.slab.specs.Slab.{Slab}
 use Rattle.sp_labels.specs.declared.record.Scope.{Scope}
-use Rattle.control_history.specs.Strands.{Running}
-use Rattle.control_history.specs.History.{call}
+use Rattle.model_strands.specs.Strands.{Running}
+use Rattle.model_strands.specs.History.{call}
 use Rattle.sp_labels.specs.Roster.{Follows}
 use Rattle.sp_labels.proofs.Acting.{acting-known}
 use Rattle.sp_labels.proofs.Quiet.{follows-call}

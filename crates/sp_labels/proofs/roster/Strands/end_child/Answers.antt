@@ -1,7 +1,7 @@
 use Rattle.std.proofs.Common.{◌≡◌, ◌≢◌, ◌∷◌, ◌∙◌, sym, ap, subst, arith, refl}
-use Rattle.control_history.specs.History.{ended, ended_joined}
-use Rattle.control_history.specs.Blocks.{enclosing}
-use Rattle.control_history.specs.Counts.{children_left}
+use Rattle.model_strands.specs.History.{ended, ended_joined}
+use Rattle.model_strands.specs.Blocks.{enclosing}
+use Rattle.law_strands.specs.Counts.{children_left}
 use Rattle.sp_labels.specs.declared.record.Standing.TheVariants.{Over}
 use Rattle.sp_labels.specs.declared.record.Record.{Record}
 use Rattle.sp_labels.specs.Roster.{Follows, record_at, IsPut}

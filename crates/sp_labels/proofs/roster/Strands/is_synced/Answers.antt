@@ -1,7 +1,7 @@
 use mathlib.Core.Bool.{not}
 use Rattle.std.proofs.Common.{◌≡◌, Bool, true, false, IsTrue, sym, subst, refl}
-use Rattle.control_history.specs.Strands.{Running}
-use Rattle.control_history.specs.Blocks.{stack, IsSynced}
+use Rattle.model_strands.specs.Strands.{Running}
+use Rattle.model_strands.specs.Blocks.{stack, IsSynced}
 use Rattle.sp_labels.specs.Roster.{Follows}
 use Rattle.sp_labels.proofs.Queries.{running-known}
 use Rattle.sp_labels.proofs.Acting.{in-block, in-synced}

@@ -1,7 +1,7 @@
 use Rattle.std.proofs.Common.{rules, ◌∷◌, sym, subst, refl}
-use Rattle.control_history.specs.Strands.{Running}
-use Rattle.control_history.specs.History.{resumed, finished}
-use Rattle.control_history.specs.Blocks.{IsSynced}
+use Rattle.model_strands.specs.Strands.{Running}
+use Rattle.model_strands.specs.History.{resumed, finished}
+use Rattle.model_strands.specs.Blocks.{IsSynced}
 use Rattle.sp_labels.specs.Roster.{Follows}
 use Rattle.sp_labels.proofs.Puts.{standing-put}
 use Rattle.sp_labels.proofs.Acting.{acting-known, in-root, in-child, in-call}

@@ -1,5 +1,5 @@
 use Rattle.std.proofs.Common.{sym, ap, subst}
-use Rattle.control_history.specs.Strands.{Running}
+use Rattle.model_strands.specs.Strands.{Running}
 use Rattle.sp_labels.specs.Roster.{Roster, Follows}
 use Rattle.sp_labels.proofs.Acting.{acting-known, in-block, in-synced, reserved-follows}
 use Rattle.sp_labels.proofs.roster.Strands.spawn.Goals as goal

@@ -1,5 +1,5 @@
 use Rattle.std.proofs.Common.{◌≡◌, ◌+◌, ◌∷◌, ◌<◌, ◌∙◌, ℕ, true, refl, sym, subst, length, arith}
-use Rattle.control_history.specs.History.{split}
+use Rattle.model_strands.specs.History.{split}
 use Rattle.order_list.specs.Order.{insert_behind}
 use Rattle.sp_labels.specs.Roster.{Follows}
 use Rattle.sp_labels.proofs.Puts.{standing-put}

@@ -1,8 +1,8 @@
 use Rattle.std.proofs.Common.{◌≡◌, ◌+◌, ◌∷◌, ◌<◌, ◌∙◌, ℕ, false, sym, ap, subst, length, arith, refl}
-use Rattle.control_history.specs.History.{split}
-use Rattle.control_history.specs.Blocks.{enclosing}
-use Rattle.control_history.specs.Strands.{unused}
-use Rattle.control_history.specs.Counts.{children_left}
+use Rattle.model_strands.specs.History.{split}
+use Rattle.model_strands.specs.Blocks.{enclosing}
+use Rattle.model_strands.specs.Strands.{unused}
+use Rattle.law_strands.specs.Counts.{children_left}
 use Rattle.order_list.specs.Order.{insert_behind}
 use Rattle.sp_labels.specs.declared.record.Standing.TheVariants.{Over}
 use Rattle.sp_labels.specs.declared.record.Record.{Record}

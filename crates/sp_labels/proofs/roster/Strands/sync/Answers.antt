@@ -1,6 +1,6 @@
 use Rattle.std.proofs.Common.{◌∷◌, sym, subst, arith}
-use Rattle.control_history.specs.Strands.{Running}
-use Rattle.control_history.specs.History.{joined, waits}
+use Rattle.model_strands.specs.Strands.{Running}
+use Rattle.model_strands.specs.History.{joined, waits}
 use Rattle.sp_labels.specs.Roster.{Follows}
 use Rattle.sp_labels.proofs.Puts.{standing-put}
 use Rattle.sp_labels.proofs.Acting.{acting-known, block-known, in-block, in-synced}

@@ -1,5 +1,5 @@
 use Rattle.std.proofs.Common.{rules, ◌≡◌, ◌∷◌, ◌++◌, [], ap, ◌∙◌}
-use Rattle.trace_values.specs.declared.value.Request.{Request}
+use Rattle.model_accesses.specs.declared.request.Request.{Request}
 use Rattle.steal_workers.proofs.worker.Worker.ask.Goals as goal
 
 pub returns-then-is_same_request-clause-kept : goal.returns-then-is_same_request-clause-kept

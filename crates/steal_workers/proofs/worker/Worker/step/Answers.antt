@@ -1,6 +1,6 @@
 use Rattle.std.proofs.Common.{true, refl, sym, subst, ap, ◌∙◌}
-use Rattle.trace_values.specs.declared.value.Request.{Request}
-use Rattle.race_gate.specs.declared.answer.Receipt.{Receipt}
+use Rattle.model_accesses.specs.declared.request.Request.{Request}
+use Rattle.model_histories.specs.declared.reply.Receipt.{Receipt}
 use Rattle.frame_steps.specs.Frames.{IsAfter}
 use Rattle.steal_workers.specs.Workers.{AsksFor, IsWanted}
 use Rattle.steal_workers.proofs.Asking.{on_ok, roomy}

@@ -1,7 +1,7 @@
 use Rattle.std.proofs.Common.{◌≡◌, ◌∙◌, ap, refl}
-use Rattle.trace_values.specs.Text.{words}
+use Rattle.text_words.specs.Text.{words}
 use Rattle.trace_text.specs.Grammar.{ItemMeans}
-use Rattle.trace_values.specs.Causes.{IsLowest}
+use Rattle.text_words.specs.Causes.{IsLowest}
 use Rattle.trace_text.specs.Faults.{WordsFault}
 use Rattle.trace_text.specs.Items.{item_of}
 use Rattle.trace_text.specs.Drafts.{so_far}

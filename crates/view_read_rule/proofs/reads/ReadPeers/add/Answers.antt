@@ -1,6 +1,7 @@
 use Rattle.std.proofs.Common.{◌∙◌, ◌++◌, ◌∷◌, [], Some, sym, subst}
 use Rattle.std.proofs.Math.ListN.{set}
-use Rattle.view_read_rule.specs.Reads.{ReducerRead, witness_of, Remembers}
+use Rattle.model_accesses.specs.Reads.{ReducerRead, witness_of}
+use Rattle.view_read_rule.specs.Reads.{Remembers}
 use Rattle.view_read_rule.proofs.Firsts.{kept-read, none-there, some-there, remembers-first, remembers-still}
 use Rattle.view_read_rule.proofs.reads.ReadPeers.add.Goals as goal
 

@@ -1,9 +1,9 @@
 use Rattle.std.proofs.Common.{◌≡◌, ◌≢◌, ◌∙◌, Some, sym, ap, refl}
-use Rattle.control_history.specs.Branches.{branch}
+use Rattle.law_strands.specs.Branches.{branch}
 use Rattle.branch_names.proofs.Queries.{named-begun}
-use Rattle.shadow_history.specs.declared.witness.Witness.{Witness}
+use Rattle.model_accesses.specs.declared.witness.Witness.{Witness}
 use Rattle.view_read_rule.specs.declared.reads.ViewVerdict.TheVariants.{Refused}
-use Rattle.view_read_rule.specs.Reads.{ReducerRead, witness_of}
+use Rattle.model_accesses.specs.Reads.{ReducerRead, witness_of}
 use Rattle.view_read_rule.proofs.Firsts.{first-of, none-of, kept-read, some-kept, none-kept, put-read}
 use Rattle.view_read_rule.proofs.Granted.{all-same, other-peers}
 use Rattle.view_read_rule.proofs.reads.ReadPeers.judge.Goals as goal

@@ -1,5 +1,0 @@
-use Rattle.addresses.proofs.Branches.{branches-peers, names-tell}
-use Rattle.addresses.proofs.laws.branch_law.Goals as goal
-
-pub returns : goal.returns
-returns c = record { peers = branches-peers; names = names-tell }

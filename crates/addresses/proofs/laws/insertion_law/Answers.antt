@@ -1,5 +1,0 @@
-use Rattle.addresses.proofs.Sorted.{spawn-orders, opening-orders, english-places, hebrew-places}
-use Rattle.addresses.proofs.laws.insertion_law.Goals as goal
-
-pub returns : goal.returns
-returns c = record { spawn = spawn-orders; opening = opening-orders; english = english-places; hebrew = hebrew-places }

@@ -1,6 +1,0 @@
-use Rattle.addresses.proofs.Intervals.{views-intervals, branches-intervals}
-use Rattle.addresses.proofs.Segments.{joins-combine}
-use Rattle.addresses.proofs.laws.interval_law.Goals as goal
-
-pub returns : goal.returns
-returns c = record { views = views-intervals; branches = branches-intervals; joins = joins-combine }

@@ -1,7 +1,0 @@
-use Rattle.addresses.proofs.Orders.{english-total, hebrew-total}
-use Rattle.addresses.proofs.Relations.{serial-decides}
-use Rattle.addresses.proofs.Extensions.{split-parts}
-use Rattle.addresses.proofs.laws.order_law.Goals as goal
-
-pub returns : goal.returns
-returns c = record { english = english-total; hebrew = hebrew-total; serial = serial-decides; sides = split-parts }

@@ -1,7 +1,0 @@
-use Rattle.clean_runs.proofs.Trees.{expanded}
-use Rattle.clean_runs.proofs.Runs.{serial_list}
-use Rattle.clean_runs.proofs.laws.serial_list_law.Goals as goal
-
-pub returns : goal.returns
-returns c = λ shape entries legal.
-    let tree = expanded shape entries legal in (tree.all, tree.expands, serial_list shape entries legal tree.all tree.expands)

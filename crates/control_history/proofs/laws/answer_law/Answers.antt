@@ -1,5 +1,0 @@
-use Rattle.control_history.proofs.Finish.{answer_law, unsynced_law}
-use Rattle.control_history.proofs.laws.answer_law.Goals as goal
-
-pub returns : goal.returns
-returns c = record { one = answer_law; unsynced = unsynced_law }

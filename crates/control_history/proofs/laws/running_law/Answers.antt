@@ -1,5 +1,0 @@
-use Rattle.control_history.proofs.Sinks.{running_law, running_address_law}
-use Rattle.control_history.proofs.laws.running_law.Goals as goal
-
-pub returns : goal.returns
-returns c = record { paths = running_law; addresses = running_address_law }

@@ -1,0 +1,4 @@
+pub mod Scripts
+pub mod Answers
+pub mod Requests
+pub mod Activations

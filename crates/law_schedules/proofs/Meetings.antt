@@ -1,0 +1,115 @@
+-- Where a part asks what the whole did at that place, what comes before it is the same in both.
+use Rattle.std.proofs.Common.{◌≡◌, ◌⊎◌, inl, inr, ◌<◌, true, [], ◌∷◌, ◌++◌, length, refl, sym, ◌∙◌, subst}
+use Rattle.model_strands.specs.Address.{Address}
+use Rattle.law_addresses.specs.Address.{reaches}
+use Rattle.law_addresses.proofs.Relations.{reaches-self}
+use Rattle.model_strands.specs.Addresses.{address}
+use Rattle.model_histories.specs.declared.answer.Entry.{Entry}
+use Rattle.model_histories.specs.Entries.{Entries, control_part}
+use Rattle.model_histories.specs.Shapes.{Shape}
+use Rattle.model_histories.specs.Legal.{IsLegal}
+use Rattle.race_gate.proofs.Races.{legal-part}
+use Rattle.model_runs.specs.Frames.{Targets, frame_in}
+use Rattle.law_schedules.specs.Traces.{spoken_by, beginning, walk, Item, place, item_of, trace, Precedes, IsLaterOf}
+use Rattle.law_schedules.proofs.Swaps.{Member}
+use Rattle.law_schedules.proofs.Fronts.{active_begun}
+use Rattle.law_schedules.proofs.Traces.{placed, deed_of}
+use Rattle.law_schedules.proofs.Parts.{IsPart, included, reached}
+use Rattle.law_schedules.proofs.Comparisons.{within_frame, leads_first, must_lead, member_before}
+
+module _ (shape : Shape) (mine T : Targets) where
+  -- the whole is a history with an entry after some others, and the part comes to an entry at the same place with the same deeds of its frame before
+  pub record Meeting : Type 0 where
+    pub later : Entries
+    pub entry : Entry
+    pub before : Entries
+    pub part : Entries
+    pub next : Entry
+    pub whole_legal : IsLegal shape (later ++ entry ∷ before)
+    pub part_legal : IsLegal shape (next ∷ part)
+    pub is_part : IsPart shape mine T (later ++ entry ∷ before) part
+    pub begin : (item_of mine part next).begin ≡ (item_of T before entry).begin
+    pub earlier : (item_of mine part next).earlier ≡ (item_of T before entry).earlier
+
+  abbrev begun_at : Item → Address → Item
+  begun_at x begin = record { begin = begin; newest = x.newest; earlier = x.earlier }
+
+  begin_at : (x : Item) (a : Address) → a ≡ x.begin → begun_at x a ≡ x
+  begin_at x a e = λ i. record { begin = e i; newest = x.newest; earlier = x.earlier }
+
+  module _ (meeting : Meeting) where
+    abbrev pub whole : Entries
+    whole = meeting.later ++ meeting.entry ∷ meeting.before
+
+    abbrev pub own : Item
+    own = item_of mine meeting.part meeting.next
+
+    abbrev pub other : Item
+    other = item_of T meeting.before meeting.entry
+
+    pub place_same : place own ≡ place other
+    place_same = λ i. (walk (meeting.begin i) (meeting.earlier i)).here
+
+    precedes_same : (y : Item) → Precedes y own → Precedes y other
+    precedes_same y (inl p) = inl (subst (λ a. (reaches (place y) a ≡ true) × (place y ≡ a → ⊥)) place_same p)
+    precedes_same y (inr p) = inr (p.0 ∙ meeting.begin, subst (λ l. length y.earlier < length l) meeting.earlier p.1)
+
+    -- the whole was legal when it came to its entry
+    pub earlier_legal : (later : Entries) (entry : Entry) (before : Entries) → IsLegal shape (later ++ entry ∷ before) → IsLegal shape (entry ∷ before)
+    earlier_legal [] entry before l = l
+    earlier_legal (d ∷ later) entry before l = earlier_legal later entry before l.0
+
+    pub then_legal : IsLegal shape (meeting.entry ∷ meeting.before)
+    then_legal = earlier_legal meeting.later meeting.entry meeting.before meeting.whole_legal
+
+    pub member_later : (later : Entries) (entry : Entry) (before : Entries) (y : Item) → Member (trace T (entry ∷ before)) y → Member (trace T (later ++ entry ∷ before)) y
+    member_later [] entry before y m = m
+    member_later (d ∷ later) entry before y m = inr (member_later later entry before y m)
+
+    pub mine_in_whole : (y : Item) → Member (trace mine meeting.part) y → Member (trace T whole) y
+    mine_in_whole y m = included shape mine T whole meeting.part meeting.part_legal.0 meeting.whole_legal meeting.is_part y m
+
+    pub theirs_in_whole : (y : Item) → Member (trace T meeting.before) y → Member (trace T whole) y
+    theirs_in_whole y m = member_later meeting.later meeting.entry meeting.before y (inr m)
+
+    -- what reaches the place and was done in the part was done in the whole before
+    pub mine_before : (y : Item) → Member (trace mine meeting.part) y → reaches (place y) (place own) ≡ true → Member (trace T meeting.before) y
+    mine_before y m r =
+        member_before shape T meeting.later meeting.entry meeting.before meeting.whole_legal other y refl (mine_in_whole y m)
+        (precedes_same y (leads_first shape mine meeting.part meeting.next meeting.part_legal y m r))
+
+    -- and the other way
+    pub theirs_before : (y : Item) → Member (trace T meeting.before) y → reaches (place y) (place other) ≡ true → Member (trace mine meeting.part) y
+    theirs_before y m r = go (leads_first shape T meeting.before meeting.entry then_legal y m r)
+      where
+        go : Precedes y other → Member (trace mine meeting.part) y
+        go (inl p) =
+            let at = placed shape mine meeting.part meeting.next meeting.part_legal in
+            let there : place other ≡ address (control_part meeting.part) meeting.next.request.strand = sym place_same ∙ at in
+            reached shape mine T whole meeting.part meeting.part_legal.0 meeting.whole_legal meeting.is_part meeting.next.request.strand meeting.part_legal.1.runs
+            whole meeting.whole_legal (λ z n. n) y (theirs_in_whole y m)
+            (subst (λ a. reaches (place y) a ≡ true) there p.0) (λ q. p.1 (q ∙ sym there))
+        go (inr p) =
+            let own_frame = frame_in meeting.part meeting.next.request.strand in
+            let begun = active_begun (legal-part shape meeting.part meeting.part_legal.0) meeting.next.request.strand (inl meeting.part_legal.1.runs) in
+            let w : IsLaterOf (y.newest ∷ y.earlier) other.earlier =
+            within_frame shape T (meeting.entry ∷ meeting.before) then_legal y other (inr m) (inl refl) p.0 p.1 in
+            let v : IsLaterOf (y.newest ∷ y.earlier) (spoken_by mine meeting.part own_frame) = subst (IsLaterOf (y.newest ∷ y.earlier)) (sym meeting.earlier) w in
+            let b : beginning (control_part meeting.part) own_frame ≡ y.begin = meeting.begin ∙ sym p.0 in
+            subst (Member (trace mine meeting.part)) (begin_at y (beginning (control_part meeting.part) own_frame) b)
+            (deed_of shape mine meeting.part meeting.part_legal.0 own_frame begun y.newest y.earlier v)
+
+    -- what is comparable reaches the place
+    pub mine_leads : (y : Item) → Member (trace mine meeting.part) y → (reaches (place y) (place own) ≡ true) ⊎ (reaches (place own) (place y) ≡ true) →
+        reaches (place y) (place own) ≡ true
+    mine_leads y m (inl r) = r
+    mine_leads y m (inr r) =
+        let q = must_lead shape mine meeting.part meeting.next meeting.part_legal y m r in
+        subst (λ a. reaches a (place own) ≡ true) q (reaches-self (place own))
+
+    pub theirs_leads : (y : Item) → Member (trace T meeting.before) y → (reaches (place y) (place other) ≡ true) ⊎ (reaches (place other) (place y) ≡ true) →
+        reaches (place y) (place other) ≡ true
+    theirs_leads y m (inl r) = r
+    theirs_leads y m (inr r) =
+        let q = must_lead shape T meeting.before meeting.entry then_legal y m r in
+        subst (λ a. reaches a (place other) ≡ true) q (reaches-self (place other))

@@ -1,0 +1,9 @@
+pub mod Addresses
+pub mod Lists
+pub mod Branches
+pub mod Acts
+pub mod Counts
+pub mod Views
+pub mod Gatherings
+pub mod Examples
+pub mod Laws

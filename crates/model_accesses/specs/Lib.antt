@@ -1,0 +1,4 @@
+pub mod Table
+pub mod Asking
+pub mod Accesses
+pub mod Reads

@@ -1,0 +1,4 @@
+pub mod Codes
+pub mod Trees
+pub mod Bodies
+pub mod Sound

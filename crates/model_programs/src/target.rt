@@ -1,0 +1,10 @@
+//! The functions that spawns name.
+
+/// A function that is spawned or called.
+#[derive(Clone, Copy, Debug, PartialEq, Eq)]
+pub struct Target {
+    /// Its number.
+    pub function: u32,
+    /// What its parameter takes.
+    pub argument: u64,
+}

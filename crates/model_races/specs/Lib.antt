@@ -1,0 +1,9 @@
+pub mod Accesses
+pub mod Races
+pub mod Memory
+pub mod Verdicts
+pub mod Reducers
+pub mod ViewReads
+pub mod ReducerVerdicts
+pub mod Judged
+pub mod Laws

@@ -1,0 +1,6 @@
+pub mod Items
+pub mod Steps
+pub mod Entries
+pub mod Views
+pub mod GetValues
+pub mod Products

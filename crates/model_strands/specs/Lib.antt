@@ -1,0 +1,12 @@
+pub mod Updated
+pub mod History
+pub mod Strands
+pub mod Blocks
+pub mod Legal
+pub mod Dag
+pub mod Peers
+pub mod Extensions
+pub mod SerialOrder
+pub mod Address
+pub mod Addresses
+pub mod Laws

@@ -1,5 +1,0 @@
-use Rattle.program_runs.proofs.Examples.{examples_law}
-use Rattle.program_runs.proofs.laws.examples_law.Goals as goal
-
-pub returns : goal.returns
-returns c = examples_law

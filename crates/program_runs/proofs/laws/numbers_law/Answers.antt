@@ -1,5 +1,0 @@
-use Rattle.program_runs.proofs.Numbering.{numbers_law}
-use Rattle.program_runs.proofs.laws.numbers_law.Goals as goal
-
-pub returns : goal.returns
-returns c = numbers_law

@@ -1,5 +1,0 @@
-use Rattle.program_runs.proofs.Histories.{prefix_run}
-use Rattle.program_runs.proofs.laws.prefix_law.Goals as goal
-
-pub returns : goal.returns
-returns c = prefix_run

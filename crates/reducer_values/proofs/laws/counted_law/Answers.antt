@@ -1,5 +1,0 @@
-use Rattle.reducer_values.proofs.Law.{counted_law}
-use Rattle.reducer_values.proofs.laws.counted_law.Goals as goal
-
-pub returns : goal.returns
-returns c = counted_law

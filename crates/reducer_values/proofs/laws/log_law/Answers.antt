@@ -1,5 +1,0 @@
-use Rattle.reducer_values.proofs.Law.{log_law}
-use Rattle.reducer_values.proofs.laws.log_law.Goals as goal
-
-pub returns : goal.returns
-returns c = log_law

@@ -1,5 +1,0 @@
-use Rattle.reducer_values.proofs.Accesses.{projection_law}
-use Rattle.reducer_values.proofs.laws.projection_law.Goals as goal
-
-pub returns : goal.returns
-returns c = projection_law

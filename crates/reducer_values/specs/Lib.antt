@@ -1,8 +1,0 @@
-pub mod Items
-pub mod Accesses
-pub mod Entries
-pub mod Logs
-pub mod Views
-pub mod GetValues
-pub mod Examples
-pub mod Laws

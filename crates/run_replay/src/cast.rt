@@ -1,0 +1,241 @@
+//! The frames of a history, and in which of them each strand stands.
+
+ghost use Rattle.std.specs.Prelude.{◌≡◌, ◌≢◌, ◌⊎◌, ◌<◌, ◌++◌, [], ◌∷◌, List, length, slice_get, Some, IfOk, IfErr, IfSome, OnOk, Err};
+ghost use Rattle.model_histories.specs.Shapes.{most_entries};
+ghost use Rattle.model_histories.specs.States.{State as GateState, opening};
+ghost use Rattle.race_gate.specs.Cores.{IsCoreOf};
+ghost use Rattle.frame_steps.specs.States.{State};
+ghost use Rattle.frame_steps.specs.Frames.{Stands};
+ghost use Rattle.frame_steps.specs.declared.phase.Phase.{Phase};
+ghost use Rattle.run_replay.specs.declared.cast.Slot.{Slot};
+ghost use Rattle.program_text.specs.Shapes.{shape_in};
+ghost use Rattle.run_replay.specs.Casts.{new_seats, IsBegun, Opens, IsPlayed, IsMisfit};
+ghost use Rattle.run_replay.specs.Slots.{AreHeld, OpensIn, PlaysIn};
+ghost use Rattle.run_replay.specs.Turns.{IsTurn, HasNoTurn};
+ghost use Rattle.run_replay.specs.declared.turn.Misfit.{Misfit};
+
+use crate::turn::{Misfit, confirm, turn};
+use frame_steps::Frame;
+use function_steps::Target;
+use program_text::Program;
+use race_gate::{Answer, Core, Entry};
+use std::alloc::{AllocError, Allocator};
+
+/// A frame, and its number among the frames in order of their spawns, that of the root function being 0.
+#[derive(Drop)]
+pub struct Slot<A: Allocator> {
+    number: usize,
+    frame: Frame<A>,
+}
+
+/// A core with what is played before it. A frame that begins takes the slot of one that has ended, so there are as many slots as frames
+/// were alive at once. For each frame that has begun there is its slot, also where another has it now, and for each strand that has begun
+/// or is reserved the number of its frame. The entries that were played are not kept.
+#[derive(Drop)]
+pub struct Cast<A: Allocator + Copy> {
+    alloc: A,
+    pub core: Core<A>,
+    slots: Vec<Slot<A>, A>,
+    homes: Vec<usize, A>,
+    seats: Vec<usize, A>,
+    free: Vec<usize, A>,
+}
+
+/// A core of the program's shape, before any entry.
+fn core_of<A: Allocator + Copy, B: Allocator>(
+    alloc: A,
+    program: &Program<B>,
+) -> Result<Core<A>, AllocError>
+    ensures { IfOk result (λ core. IsCoreOf core (opening (shape_in program.now) most_entries)) }
+{
+    let shape = program.shape(alloc)?;
+    Core::new(alloc, &shape, 1_000_000)
+}
+
+/// A list of one item.
+fn alone<T: Drop, A: Allocator>(alloc: A, item: T) -> Result<Vec<T, A>, AllocError>
+    ensures { IfOk result (λ list. list.items ≡ item ∷ []) }
+{
+    let mut list = Vec::new(alloc);
+    list.push(item)?;
+    Ok(list)
+}
+
+/// Seats the strands of a split.
+fn seat<A: Allocator>(
+    seats: &mut Vec<usize, A>,
+    child: usize,
+    spawner: usize,
+    first: bool,
+) -> Result<(), AllocError>
+    ensures { OnOk result (seats.new.items ≡ seats.old.items ++ new_seats first child spawner) }
+{
+    seats.push(child)?;
+    seats.push(spawner)?;
+    if first {
+        seats.push(spawner)?;
+    }
+    Ok(())
+}
+
+/// Goes on with the frame of this number by an entry, and gives the function that it spawns. The slot is another's where the frame has
+/// ended.
+fn turn_of<A: Allocator, B: Allocator>(
+    slot: &mut Slot<A>,
+    number: usize,
+    program: &Program<B>,
+    entry: Entry,
+) -> Result<Option<Target>, Misfit>
+    requires stands { slot.old.number ≡ number → Stands program.now.functions slot.old.frame }
+    ensures ok { IfOk result (λ target.
+        (slot.old.number ≡ number) × (slot.new.number ≡ number) × IsTurn program.now.functions entry target slot.old.frame slot.new.frame) }
+    ensures strange { result ≡ Err Misfit.Strange →
+        (slot.old.number ≢ number) ⊎ ((slot.old.number ≡ number) × HasNoTurn program.now.functions entry slot.old.frame) }
+{
+    if slot.number != number {
+        return Err(Misfit::Strange);
+    }
+    turn(&mut slot.frame, program, entry)
+}
+
+impl<A: Allocator + Copy> Cast<A> {
+    /// The root function before its first request.
+    pub fn open<B: Allocator>(alloc: A, program: &Program<B>) -> Result<Cast<A>, AllocError>
+        ensures core { IfOk result (λ cast. IsCoreOf cast.core (opening (shape_in program.now) most_entries)) }
+        ensures opens { IfOk result (λ cast.
+            OpensIn program.now.functions (shape_in program.now) (opening (shape_in program.now) most_entries)
+            cast.slots.items cast.homes.items cast.seats.items) }
+    {
+        let frame = Frame::new(alloc, program, program.main(), 0);
+        let slots = alone(alloc, Slot { number: 0, frame })?;
+        let homes = alone(alloc, 0)?;
+        let seats = alone(alloc, 0)?;
+        Ok(Cast {
+            alloc,
+            core: core_of(alloc, program)?,
+            slots,
+            homes,
+            seats,
+            free: Vec::new(alloc),
+        })
+    }
+
+    /// A slot whose frame has ended, if one is known.
+    fn freed(&mut self) -> Option<usize>
+        ensures ended { IfSome result (λ home.
+            (slot : Slot A) × (slice_get self.old.slots.items home ≡ Some slot) × (slot.frame.phase ≡ Phase.Over)) }
+        ensures rest { (self.new.slots ≡ self.old.slots) × (self.new.homes ≡ self.old.homes)
+            × (self.new.seats ≡ self.old.seats) × (self.new.core ≡ self.old.core) }
+    {
+        let home = self.free.pop()?;
+        match self.slots.get(home) {
+            Some(slot) => {
+                if slot.frame.is_over() {
+                    Some(home)
+                } else {
+                    None
+                }
+            }
+            None => None,
+        }
+    }
+
+    /// Gives a frame that begins a slot, one whose frame has ended or a new one.
+    fn house<B: Allocator>(
+        &mut self,
+        program: &Program<B>,
+        number: usize,
+        target: Target,
+    ) -> Result<usize, AllocError>
+        requires there { target.function < length program.now.functions }
+        ensures frames { IfOk result (λ home.
+            (frames : List State) → (length frames ≡ number) → AreHeld self.old.slots.items self.old.homes.items frames →
+            (next : List State) × AreHeld self.new.slots.items (self.old.homes.items ++ home ∷ []) next
+            × IsBegun program.now.functions target frames next) }
+        ensures rest { OnOk result ((self.new.homes ≡ self.old.homes)
+            × (self.new.seats ≡ self.old.seats) × (self.new.core ≡ self.old.core)) }
+    {
+        match self.freed() {
+            Some(home) => {
+                let slot = &mut self.slots[home];
+                slot.frame
+                    .restart(program, target.function, target.argument);
+                slot.number = number;
+                Ok(home)
+            }
+            None => {
+                let home = self.slots.len();
+                let frame = Frame::new(self.alloc, program, target.function, target.argument);
+                self.slots.push(Slot { number, frame })?;
+                Ok(home)
+            }
+        }
+    }
+
+    /// Begins a spawned function: its child and, in the spawner's frame, the next strand and where the block begins its join.
+    fn begin<B: Allocator>(
+        &mut self,
+        program: &Program<B>,
+        place: usize,
+        target: Target,
+        first: bool,
+    ) -> Result<(), AllocError>
+        requires there { target.function < length program.now.functions }
+        ensures frames { OnOk result ((frames : List State) → AreHeld self.old.slots.items self.old.homes.items frames →
+            (next : List State) × AreHeld self.new.slots.items self.new.homes.items next
+            × IsBegun program.now.functions target frames next) }
+        ensures seats { OnOk result (self.new.seats.items ≡ self.old.seats.items ++ new_seats first (length self.old.homes.items) place) }
+        ensures core { OnOk result (self.new.core ≡ self.old.core) }
+    {
+        let child = self.homes.len();
+        let home = self.house(program, child, target)?;
+        self.homes.push(home)?;
+        seat(&mut self.seats, child, place, first)
+    }
+
+    /// Keeps a slot for another frame where its frame has ended by this answer.
+    fn vacate(&mut self, home: usize, answer: Answer) -> Result<(), Misfit>
+        ensures rest { (self.new.slots ≡ self.old.slots) × (self.new.homes ≡ self.old.homes)
+            × (self.new.seats ≡ self.old.seats) × (self.new.core ≡ self.old.core) }
+        ensures err { IfErr result (λ fault. fault ≡ Misfit.Memory) }
+    {
+        match answer {
+            Answer::Ended | Answer::EndedJoined(_) => match self.free.push(home) {
+                Ok(()) => Ok(()),
+                Err(_) => Err(Misfit::Memory),
+            },
+            _ => Ok(()),
+        }
+    }
+
+    /// Plays an entry: its frame asks, and the core answers.
+    pub fn play<B: Allocator>(&mut self, program: &Program<B>, entry: Entry) -> Result<(), Misfit>
+        requires plays { (state : GateState) × IsCoreOf self.old.core state ×
+            PlaysIn program.now.functions (shape_in program.now) state self.old.slots.items self.old.homes.items self.old.seats.items }
+        ensures ok { (state : GateState) → IsCoreOf self.old.core state →
+            PlaysIn program.now.functions (shape_in program.now) state self.old.slots.items self.old.homes.items self.old.seats.items →
+            OnOk result ((next : GateState) × IsCoreOf self.new.core next ×
+            PlaysIn program.now.functions (shape_in program.now) next self.new.slots.items self.new.homes.items self.new.seats.items ×
+            IsPlayed entry state next) }
+        ensures strange { (state : GateState) → IsCoreOf self.old.core state →
+            PlaysIn program.now.functions (shape_in program.now) state self.old.slots.items self.old.homes.items self.old.seats.items →
+            result ≡ Err Misfit.Strange → IsMisfit program.now.functions (shape_in program.now) entry state }
+    {
+        let place = match self.seats.get(entry.request.strand as usize) {
+            Some(place) => *place,
+            None => return Err(Misfit::Strange),
+        };
+        let home = self.homes[place];
+        let target = turn_of(&mut self.slots[home], place, program, entry)?;
+        confirm(&mut self.core, entry)?;
+        match (target, entry.answer) {
+            (Some(target), Answer::Split(strands)) => {
+                match self.begin(program, place, target, strands.first) {
+                    Ok(()) => Ok(()),
+                    Err(_) => Err(Misfit::Memory),
+                }
+            }
+            _ => self.vacate(home, entry.answer),
+        }
+    }
+}

@@ -1,0 +1,77 @@
+//! One entry: the turn of its frame, and the gate's answer.
+
+ghost use Rattle.std.specs.Prelude.{◌≡◌, ◌≢◌, ◌↔◌, IsTrue, IfOk, OnOk, Err};
+ghost use Rattle.model_histories.specs.States.{State};
+ghost use Rattle.model_histories.specs.Faults.{HasCause};
+ghost use Rattle.race_gate.specs.Cores.{IsCoreOf};
+ghost use Rattle.frame_steps.specs.Frames.{Stands};
+ghost use Rattle.run_replay.specs.Turns.{IsTurn, HasNoTurn, IsEntered, IsOdd};
+ghost use Rattle.run_replay.specs.declared.turn.Misfit.{Misfit};
+
+use frame_steps::{Frame, FrameFault};
+use function_steps::Target;
+use program_text::Program;
+use race_gate::{Answer, Core, Entry, GateFault};
+use std::alloc::Allocator;
+
+/// Why an entry is not played.
+#[derive(Clone, Copy, Debug, PartialEq, Eq)]
+pub enum Misfit {
+    /// It does not follow, or is not answered so, or is one too many.
+    Strange,
+    /// There is no memory.
+    Memory,
+}
+
+/// Goes on with a frame by an entry, and gives the function that it spawns.
+pub fn turn<A: Allocator, B: Allocator>(
+    frame: &mut Frame<A>,
+    program: &Program<B>,
+    entry: Entry,
+) -> Result<Option<Target>, Misfit>
+    requires stands { Stands program.now.functions frame.old }
+    ensures ok { IfOk result (λ target. IsTurn program.now.functions entry target frame.old frame.new) }
+    ensures strange { result ≡ Err Misfit.Strange → HasNoTurn program.now.functions entry frame.old }
+{
+    if frame.is_over() {
+        return Err(Misfit::Strange);
+    }
+    let want = frame.next(program);
+    if want.act != entry.request.act || want.line != entry.request.line {
+        return Err(Misfit::Strange);
+    }
+    let target = frame.spawns(program);
+    match frame.answer(program, &entry.answer) {
+        Ok(()) => Ok(target),
+        Err(FrameFault::Strange) => Err(Misfit::Strange),
+        Err(FrameFault::Memory) => Err(Misfit::Memory),
+    }
+}
+
+fn is_same_answer(one: Answer, other: Answer) -> bool
+    ensures { IsTrue result ↔ one ≡ other }
+{
+    one == other
+}
+
+/// Has a core judge an entry's request, and compares the answer. A request that has another fault of the gate than want of
+/// memory is strange, so want of memory is told only where it has none.
+pub fn confirm<A: Allocator + Clone>(core: &mut Core<A>, entry: Entry) -> Result<(), Misfit>
+    ensures ok { (state : State) → IsCoreOf core.old state →
+        OnOk result ((next : State) × IsCoreOf core.new next × IsEntered entry state next) }
+    ensures strange { (state : State) → IsCoreOf core.old state → result ≡ Err Misfit.Strange → IsOdd entry state }
+    ensures fault { (state : State) → IsCoreOf core.old state →
+        (fault : GateFault) → fault ≢ GateFault.Memory → HasCause state entry.request fault → result ≡ Err Misfit.Strange }
+{
+    match core.judge(entry.request) {
+        Ok(answer) => {
+            if is_same_answer(answer, entry.answer) {
+                Ok(())
+            } else {
+                Err(Misfit::Strange)
+            }
+        }
+        Err(GateFault::Memory) => Err(Misfit::Memory),
+        Err(_) => Err(Misfit::Strange),
+    }
+}

@@ -1,0 +1,7 @@
+pub mod Text
+pub mod Limits
+pub mod Values
+pub mod Causes
+pub mod Names
+pub mod Declarations
+pub mod Index

@@ -1,0 +1,245 @@
+//! The names that are declared.
+
+ghost use Rattle.std.specs.Prelude.{◌≡◌, ◌+◌, ◌<◌, ◌≤◌, [], OnOk, OnErr, OnSome, unwrap_or, length};
+ghost use Rattle.std.specs.List.{All};
+ghost use Rattle.text_words.specs.Text.{IsName};
+ghost use Rattle.text_words.specs.Limits.{max_cells, max_reducers};
+ghost use Rattle.text_words.specs.Names.{IsFresh};
+ghost use Rattle.text_words.specs.Declarations.{cells_of, memory_from, with_memory, with_reducer};
+ghost use Rattle.text_words.specs.Index.{named, name_of_memory, IsApart, IsInRange};
+
+use crate::name::Name;
+use crate::value::{Mem, Reducer, Version};
+use indexmap::IndexMap;
+use model_reducers::Monoid;
+use std::alloc::{AllocError, Allocator};
+use std::hash::{BuildHasherDefault, FoldHasher};
+use std::marker::Model;
+
+/// What a name stands for.
+#[derive(Clone, Copy, Debug)]
+pub enum Named {
+    /// The cell of a memory of one cell.
+    Single(u32),
+    /// An array.
+    Array { first: u32, cells: u32 },
+    /// The reducer with that number.
+    Reducer(u32),
+}
+
+/// The memory that a line declares.
+fn memory(at: u32, first: u32, name: &str, length: Option<u32>) -> Mem
+    requires { IsName name.now }
+    ensures { result ≡ memory_from at first name.now length }
+{
+    Mem {
+        name: Name::new(name),
+        cells: length.unwrap_or(1),
+        array: length.is_some(),
+        first,
+        line: at,
+    }
+}
+
+/// What the name of a memory stands for.
+fn named_of(mem: &Mem) -> Named
+    ensures { result ≡ name_of_memory mem.now }
+{
+    let first = mem.first;
+    let cells = mem.cells;
+    if mem.array {
+        Named::Array { first, cells }
+    } else {
+        Named::Single(first)
+    }
+}
+
+/// How many hints there are.
+const HINTS: usize = 256;
+
+/// Which hint a name has. Names that differ mostly do so at their ends, in the middle or in their lengths.
+#[inline(always)]
+fn hint_of(name: &[u8]) -> usize
+    ensures { result < 256 }
+{
+    let hint = match name {
+        [] => 0,
+        [only] => *only,
+        [.., before, last] => last
+            .wrapping_add(before.wrapping_mul(10))
+            .wrapping_add(name[name.len() / 2].wrapping_mul(37))
+            .wrapping_add((name.len() % HINTS) as u8),
+    };
+    usize::from(hint)
+}
+
+/// The declarations of a text, whose names are found in constant time. Contracts see the version and the lists of declarations.
+#[derive(Drop)]
+pub struct Names<'a, A: Allocator> {
+    version: Version,
+    mems: Vec<Mem, A>,
+    reducers: Vec<Reducer, A>,
+    cells: u32,
+    index: IndexMap<&'a str, Named, BuildHasherDefault<FoldHasher>, A>,
+    // Where in the index the newest name with that hint stands. Nothing rests on it but speed.
+    hints: [usize; HINTS],
+}
+
+impl<'a, A: Allocator> Model for Names<'a, A> {
+    ghost use Rattle.text_words.specs.Values.{Known};
+    ghost use Rattle.text_words.specs.Index.{IsIndexed};
+
+    ghost Value = { Known };
+
+    ghost view = { λ names. record { version = names.version; mems = names.mems.items; reducers = names.reducers.items } };
+
+    ghost invariant = { λ names.
+        IsIndexed (record { version = names.version; mems = names.mems.items; reducers = names.reducers.items })
+        names.cells names.index.entries };
+}
+
+impl<'a, A: Allocator + Copy> Names<'a, A> {
+    /// No names yet.
+    pub fn new(alloc: A, version: Version) -> Names<'a, A>
+        ensures { result ≡ record { version = version; mems = []; reducers = [] } }
+    {
+        Names {
+            version,
+            mems: Vec::new(alloc),
+            reducers: Vec::new(alloc),
+            cells: 0,
+            index: IndexMap::new(alloc),
+            hints: [0; HINTS],
+        }
+    }
+
+    /// The version of the text.
+    pub fn version(&self) -> Version
+        ensures { result ≡ self.now.version }
+    {
+        self.version
+    }
+
+    /// What a name stands for, if it is declared.
+    pub fn find(&self, name: &str) -> Option<Named>
+        ensures named { result ≡ named self.now name.now }
+        ensures apart { IsApart self.now name.now }
+        ensures in_range { All IsInRange self.now.mems }
+    {
+        self.find_bytes(name.as_bytes())
+    }
+
+    /// What a name stands for whose bytes these are, if it is declared. No other bytes are found.
+    #[inline(always)]
+    pub fn find_bytes(&self, name: &[u8]) -> Option<Named>
+        ensures named { result ≡ named self.now name.now }
+        ensures is_name { OnSome result (IsName name.now) }
+        ensures apart { IsApart self.now name.now }
+        ensures in_range { All IsInRange self.now.mems }
+    {
+        match self.index.get_index(self.hints[hint_of(name)]) {
+            Some((key, found)) if key.as_bytes() == name => Some(*found),
+            _ => self.searched(name),
+        }
+    }
+
+    /// What a name stands for, by the index.
+    #[inline(never)]
+    fn searched(&self, name: &[u8]) -> Option<Named>
+        ensures { result ≡ named self.now name.now }
+    {
+        match str::from_utf8(name) {
+            Ok(name) => self.index.get(name).copied(),
+            Err(_) => None,
+        }
+    }
+
+    /// How many cells the memories have.
+    pub fn cells(&self) -> u32
+        ensures cells { result ≡ cells_of self.now.mems }
+        ensures few { result ≤ max_cells }
+    {
+        self.cells
+    }
+
+    /// How many reducers there are.
+    pub fn reducer_count(&self) -> usize
+        ensures count { result ≡ length self.now.reducers }
+        ensures few { result ≤ max_reducers }
+    {
+        self.reducers.len()
+    }
+
+    /// Adds a memory of one cell or of so many.
+    pub fn add_memory(
+        &mut self,
+        at: u32,
+        name: &'a str,
+        length: Option<u32>,
+    ) -> Result<(), AllocError>
+        requires is_name { IsName name.now }
+        requires fresh { IsFresh self.old name.now }
+        requires room { cells_of self.old.mems + unwrap_or length 1 ≤ max_cells }
+        ensures ok { OnOk result (self.new ≡ with_memory at self.old name.now length) }
+        ensures err { OnErr result (self.new ≡ self.old) }
+    {
+        let mem = memory(at, self.cells, name, length);
+        let named = named_of(&mem);
+        let cells = mem.cells;
+        let place = self.index.len();
+        self.mems.push(mem)?;
+        match self.index.insert(name, named) {
+            Ok(_) => {
+                self.hints[hint_of(name.as_bytes())] = place;
+                self.cells += cells;
+                Ok(())
+            }
+            Err(_) => {
+                self.mems.pop();
+                Err(AllocError)
+            }
+        }
+    }
+
+    /// Adds a reducer.
+    pub fn add_reducer(&mut self, at: u32, name: &'a str, monoid: Monoid) -> Result<(), AllocError>
+        requires is_name { IsName name.now }
+        requires fresh { IsFresh self.old name.now }
+        requires room { length self.old.reducers < max_reducers }
+        ensures ok { OnOk result (self.new ≡ with_reducer at self.old name.now monoid) }
+        ensures err { OnErr result (self.new ≡ self.old) }
+    {
+        let number = self.reducers.len() as u32;
+        let place = self.index.len();
+        self.reducers.push(Reducer {
+            name: Name::new(name),
+            monoid,
+            line: at,
+        })?;
+        match self.index.insert(name, Named::Reducer(number)) {
+            Ok(_) => {
+                self.hints[hint_of(name.as_bytes())] = place;
+                Ok(())
+            }
+            Err(_) => {
+                self.reducers.pop();
+                Err(AllocError)
+            }
+        }
+    }
+
+    /// The version and the declarations.
+    pub fn into_parts(self) -> (Version, Vec<Mem, A>, Vec<Reducer, A>)
+        ensures { self.entry ≡ record { version = result.0; mems = result.1.items; reducers = result.2.items } }
+    {
+        let Names {
+            version,
+            mems,
+            reducers,
+            cells: _,
+            index: _,
+            hints: _,
+        } = self;
+        (version, mems, reducers)
+    }
+}

@@ -1,0 +1,31 @@
+use Rattle.std.proofs.Common.{rules}
+use Rattle.std.proofs.lemmas.Result.{IfErr-weaker}
+use Rattle.tool_commands.proofs.TracedCauses.{not_run, not_created, not_written, recorded_ran, recorded_kept, recorded_first}
+use Rattle.tool_commands.proofs.performing.record_file.Goals as goal
+
+pub returns-in-Err-told-clause-fault : goal.returns-in-Err-told-clause-fault
+returns-in-Err-told-clause-fault g c = not_run _ _ _ _ _ c.args.limit c.in-Err-told.fault c.in-Err-told.ensures.fault (search rules)
+
+pub returns-in-Err-create-clause-fault : goal.returns-in-Err-create-clause-fault
+returns-in-Err-create-clause-fault g c =
+    not_created _ _ _ c.args.limit _ _ _ c.in-Ok-told.ensures.ok (search rules) _ _ c.in-Err-create.fault c.in-Err-create.ensures.fault
+
+pub returns-clause-done : goal.returns-clause-done
+returns-clause-done g c =
+    recorded_ran _ _ _ c.args.limit _ _ _ c.in-Ok-told.ensures.ok (search rules) _ _ _ _ c.write_traced-answer.result
+    c.write_traced-answer.ensures.status c.write_traced-answer.ensures.kept c.write_traced-answer.ensures.written
+
+pub returns-clause-fault : goal.returns-clause-fault
+returns-clause-fault g c =
+    IfErr-weaker c.write_traced-answer.result _ _
+    (λ fault stops. not_written _ _ _ c.args.limit _ _ _ c.in-Ok-told.ensures.ok (search rules) _ _ _ _ fault stops) c.write_traced-answer.ensures.fault
+
+pub returns-clause-recorded : goal.returns-clause-recorded
+returns-clause-recorded g c =
+    recorded_kept _ _ _ c.args.limit _ _ _ c.in-Ok-told.ensures.ok (search rules) _ _ _ _ _ _ c.write_traced-answer.result
+    c.write_traced-answer.ensures.status c.write_traced-answer.ensures.kept c.write_traced-answer.ensures.written (search rules) (search rules)
+
+pub returns-clause-recorded_first : goal.returns-clause-recorded_first
+returns-clause-recorded_first g c =
+    recorded_first _ _ _ c.args.limit _ _ _ c.in-Ok-told.ensures.ok (search rules) _ _ _ _ _ _ c.write_traced-answer.result
+    c.write_traced-answer.ensures.fault (search rules) (search rules)

@@ -1,0 +1,17 @@
+-- The names of a job's files.
+use Rattle.std.specs.Prelude.{ℕ, ◌≡◌, ◌⊎◌, Bool, true, false, List}
+use Rattle.std.specs.String.{string_bytes}
+use Rattle.tool_commands.specs.declared.words.Job.{Job}
+use Rattle.tool_commands.specs.declared.words.Job.TheVariants.{Judge, Elide, Run, Record, Explain, Replay, Draw, Show}
+
+-- A trace would be written over its program: both have one name, or the host says that the two names are of one file.
+abbrev pub OverwritesProgram : (says_one : List ℕ → List ℕ → Bool → Type 0) → Job → Type 0
+OverwritesProgram says_one (Record file workers limit trace) =
+    (string_bytes file ≡ string_bytes trace) ⊎ says_one (string_bytes file) (string_bytes trace) true
+OverwritesProgram says_one job = ⊥
+
+-- None would be: where there is a trace, it has another name, and the host says that the two names are not of one file.
+abbrev pub SparesProgram : (says_one : List ℕ → List ℕ → Bool → Type 0) → Job → Type 0
+SparesProgram says_one (Record file workers limit trace) =
+    (string_bytes file ≡ string_bytes trace → ⊥) × says_one (string_bytes file) (string_bytes trace) false
+SparesProgram says_one job = Unit {0}

@@ -1,0 +1,114 @@
+-- What a job does: from what standard input and files hold to what is written, and the status.
+use Rattle.std.specs.Prelude.{ℕ, Bool, true, false, ◌≡◌, ◌⊎◌, Option, Some, Result, Ok, Err, List}
+use Rattle.std.specs.String.{string_bytes}
+use Rattle.std.specs.Io.KnownBytes.{Appends}
+use Rattle.model_histories.specs.declared.reply.Reply.{Reply}
+use Rattle.tool_commands.specs.declared.fault.CliFault.{CliFault}
+use Rattle.tool_commands.specs.declared.words.Job.{Job}
+use Rattle.tool_commands.specs.declared.words.Job.TheVariants.{Judge, Elide, Run, Record, Explain, Replay, Draw, Show}
+use Rattle.tool_commands.specs.declared.words.Color.{Color}
+use Rattle.tool_commands.specs.declared.words.Color.TheVariants.{Auto, Always, Never}
+use Rattle.tool_commands.specs.Explanations.{Manner, IsExplained, HasExplanationCause}
+use Rattle.tool_commands.specs.Drawings.{IsDrawn, HasDrawingCause}
+use Rattle.tool_commands.specs.Elided.{IsElided, HasElisionCause}
+use Rattle.tool_commands.specs.Faults.{status_of_fault}
+use Rattle.tool_commands.specs.Replays.{reading, IsReplayed, HasReplayCause}
+use Rattle.tool_commands.specs.Runs.{IsRan, HasRunCause}
+use Rattle.tool_commands.specs.Sources.{Sources, source_of}
+use Rattle.tool_commands.specs.Statuses.{status_of_replies}
+use Rattle.tool_commands.specs.Streams.{IsAnswered, HasCause, StopsWriting}
+use Rattle.tool_commands.specs.Traced.{IsTraced, IsReportCut, HasTracedCause}
+
+-- whether words are painted, as these words ask for: on a terminal, of which nothing is said here, always, or never
+abbrev pub IsPaintedBy : Color → Bool → Type 0
+IsPaintedBy Auto is_painted = Unit {0}
+IsPaintedBy Always is_painted = is_painted ≡ true
+IsPaintedBy Never is_painted = is_painted ≡ false
+
+-- it is told by the name of the file
+abbrev pub IsMannerOf : (file : List ℕ) → Color → Manner → Type 0
+IsMannerOf file color manner = (manner.file ≡ file) × IsPaintedBy color manner.is_painted
+
+-- The job was done at this status. What a reader leaves behind is the end of what its source holds, where that is known.
+abbrev pub IsPerformed : Sources → Job → (wrote writes : Option (List ℕ)) → (status : ℕ) → Type 0
+IsPerformed sources (Judge file limit) wrote writes status =
+    (behind : Option (List ℕ)) × (replies : List Reply) × (status ≡ status_of_replies replies) ×
+    IsAnswered (source_of sources file) behind wrote writes limit replies
+IsPerformed sources (Elide file limit) wrote writes status = (behind : Option (List ℕ)) × (status ≡ 0) ×
+    IsElided (sources.file (string_bytes file)) behind wrote writes limit
+IsPerformed sources (Run file workers limit) wrote writes status = (behind : Option (List ℕ)) ×
+    IsRan (reading (sources.file (string_bytes file)) behind) wrote writes limit status
+IsPerformed sources (Record file workers limit trace) wrote writes status = (behind : Option (List ℕ)) ×
+    IsRan (reading (sources.file (string_bytes file)) behind) wrote writes limit status
+IsPerformed sources (Explain file workers limit color) wrote writes status = (behind : Option (List ℕ)) × (manner : Manner) ×
+    IsMannerOf (string_bytes file) color manner ×
+    IsExplained manner (reading (sources.file (string_bytes file)) behind) wrote writes limit status
+IsPerformed sources (Replay file trace) wrote writes status = (program_behind : Option (List ℕ)) × (trace_behind : Option (List ℕ)) ×
+    IsReplayed (reading (sources.file (string_bytes file)) program_behind) (reading (sources.file (string_bytes trace)) trace_behind)
+    wrote writes status
+IsPerformed sources (Draw file) wrote writes status = (behind : Option (List ℕ)) ×
+    IsDrawn (reading (sources.file (string_bytes file)) behind) wrote writes status
+IsPerformed sources (Show text) wrote writes status = (status ≡ 0) × Appends wrote writes (string_bytes text)
+
+-- Why the job was not done, or not wholly: each fault has the cause that it has in the job's own call.
+abbrev pub HasJobCause : Sources → Job → (wrote writes : Option (List ℕ)) → CliFault → Type 0
+HasJobCause sources (Judge file limit) wrote writes fault = (behind : Option (List ℕ)) ×
+    HasCause (source_of sources file) behind wrote writes limit fault
+HasJobCause sources (Elide file limit) wrote writes fault = (behind : Option (List ℕ)) ×
+    HasElisionCause (sources.file (string_bytes file)) behind wrote writes limit fault
+HasJobCause sources (Run file workers limit) wrote writes fault = (behind : Option (List ℕ)) ×
+    HasRunCause (reading (sources.file (string_bytes file)) behind) wrote writes limit fault
+HasJobCause sources (Record file workers limit trace) wrote writes fault =
+    (behind : Option (List ℕ)) × (traced : Option (List ℕ)) × (traces : Option (List ℕ)) ×
+    HasTracedCause (reading (sources.file (string_bytes file)) behind) traced traces wrote writes limit fault
+HasJobCause sources (Explain file workers limit color) wrote writes fault = (behind : Option (List ℕ)) × (manner : Manner) ×
+    IsMannerOf (string_bytes file) color manner ×
+    HasExplanationCause manner (reading (sources.file (string_bytes file)) behind) wrote writes limit fault
+HasJobCause sources (Replay file trace) wrote writes fault = (program_behind : Option (List ℕ)) × (trace_behind : Option (List ℕ)) ×
+    HasReplayCause (reading (sources.file (string_bytes file)) program_behind) (reading (sources.file (string_bytes trace)) trace_behind)
+    wrote writes fault
+HasJobCause sources (Draw file) wrote writes fault = (behind : Option (List ℕ)) ×
+    HasDrawingCause (reading (sources.file (string_bytes file)) behind) wrote writes fault
+HasJobCause sources (Show text) wrote writes fault = StopsWriting wrote writes (string_bytes text) fault
+
+-- Of a job that records: the file of the trace, which held `blank` when it was made, has the trace of the run that is reported.
+abbrev pub IsRecorded : Sources → Job → (blank : Option (List ℕ)) →
+    (made : List ℕ → Option (List ℕ)) → (wrote writes : Option (List ℕ)) → (status : ℕ) → Type 0
+IsRecorded sources (Record file workers limit trace) blank made wrote writes status = (behind : Option (List ℕ)) ×
+    IsTraced (reading (sources.file (string_bytes file)) behind) blank (made (string_bytes trace)) wrote writes limit status
+IsRecorded sources job blank made wrote writes status = Unit {0}
+
+-- Of a job that records, where only a part of the report could be written: the file has the trace of the run that was to be reported.
+abbrev pub IsRecordedFirst : Sources → Job → (blank : Option (List ℕ)) →
+    (made : List ℕ → Option (List ℕ)) → (wrote writes : Option (List ℕ)) → Type 0
+IsRecordedFirst sources (Record file workers limit trace) blank made wrote writes = (behind : Option (List ℕ)) ×
+    IsReportCut (reading (sources.file (string_bytes file)) behind) blank (made (string_bytes trace)) wrote writes limit
+IsRecordedFirst sources job blank made wrote writes = Unit {0}
+
+-- The file of the job's trace can't be created.
+abbrev pub BarsTrace : (List ℕ → Type 0) → Job → Type 0
+BarsTrace bars (Record file workers limit trace) = bars (string_bytes trace)
+BarsTrace bars job = ⊥
+
+-- One of the job's files can't be opened.
+abbrev pub LacksFile : (List ℕ → Type 0) → Job → Type 0
+LacksFile lacks (Judge (Some file) limit) = lacks (string_bytes file)
+LacksFile lacks (Elide file limit) = lacks (string_bytes file)
+LacksFile lacks (Run file workers limit) = lacks (string_bytes file)
+LacksFile lacks (Record file workers limit trace) = lacks (string_bytes file)
+LacksFile lacks (Explain file workers limit color) = lacks (string_bytes file)
+LacksFile lacks (Replay file trace) = lacks (string_bytes file) ⊎ lacks (string_bytes trace)
+LacksFile lacks (Draw file) = lacks (string_bytes file)
+LacksFile lacks job = ⊥
+
+-- the job starts no thread and waits for none
+abbrev pub IsAlone : Job → Type 0
+IsAlone (Run file workers limit) = ⊥
+IsAlone (Record file workers limit trace) = ⊥
+IsAlone (Explain file workers limit color) = ⊥
+IsAlone job = Unit {0}
+
+-- the exit status of the process: that of the job, or that of the fault
+abbrev pub status_of_answer : Result ℕ CliFault → ℕ
+status_of_answer (Ok status) = status
+status_of_answer (Err fault) = status_of_fault fault

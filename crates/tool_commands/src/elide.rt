@@ -1,0 +1,157 @@
+//! Writing the elision of the program that a reader gives.
+
+ghost use Rattle.std.specs.Prelude.{◌≡◌, ◌↔◌, ◌≤◌, ◌≢◌, ◌++◌, ◌+◌, ℕ, List, [], true, false, IfOk, IfErr, OnOk, IsErrOf, IsTrue};
+ghost use Rattle.text_words.specs.declared.fault.TextFault.{TextFault as SpecFault};
+ghost use Rattle.trace_text.specs.Shapes.{name_in};
+ghost use Rattle.program_text.specs.Grammar.{TextMeans};
+ghost use Rattle.program_text.specs.Programs.{contents};
+ghost use Rattle.model_histories.specs.Shapes.{most_entries};
+ghost use Rattle.tool_commands.specs.Watched.{held, has_failed, is_delivered, calls_of, IsCalledAtMost};
+ghost use Rattle.tool_commands.specs.Faults.{fault_of_program};
+ghost use Rattle.tool_commands.specs.Streams.{most_reads};
+ghost use Rattle.tool_commands.specs.ElisionText.{cell_line, cell_lines, memory_text, elision_text};
+ghost use Rattle.tool_commands.specs.Elided.{ElidesContents, StopsElision, IsElided, IsProgramFault, HasElisionCause};
+
+use crate::fault::CliFault;
+use crate::streams::{parse_program, read_text, write_text};
+use crate::watched::Watched;
+use program_text::Program;
+use race_report::{push_number, push_words};
+use serial_elision::{ElideFault, elide};
+use std::alloc::{AllocError, Allocator};
+use std::io::{Read, Write};
+use text_words::{Mem, TextFault};
+
+/// Adds the name of a memory's cell with this index.
+fn push_name<A: Allocator>(text: &mut Vec<u8, A>, mem: &Mem, index: usize) -> Result<(), AllocError>
+    ensures { OnOk result (text.new.items ≡ text.old.items ++ name_in mem.now index) }
+{
+    push_words(text, mem.name.as_str())?;
+    if mem.array {
+        push_number(text, "[", index as u64)?;
+        push_words(text, "]")?;
+    }
+    Ok(())
+}
+
+/// Adds the line of a memory's cell with this index.
+fn push_cell<A: Allocator>(
+    text: &mut Vec<u8, A>,
+    mem: &Mem,
+    index: usize,
+    value: u64,
+) -> Result<(), AllocError>
+    ensures { OnOk result (text.new.items ≡ text.old.items ++ cell_line mem.now index value) }
+{
+    push_name(text, mem, index)?;
+    push_number(text, " ", value)?;
+    push_words(text, "\n")
+}
+
+/// Adds the lines of a memory's cells.
+fn push_cells<A: Allocator>(
+    text: &mut Vec<u8, A>,
+    mem: &Mem,
+    values: &[u64],
+) -> Result<(), AllocError>
+    ensures { OnOk result (text.new.items ≡ text.old.items ++ cell_lines mem.now 0 values.now) }
+{
+    for (index, value) in values.iter().enumerate() {
+        push_cell(text, mem, index, *value)?;
+    }
+    Ok(())
+}
+
+/// Adds the lines of all cells.
+pub(crate) fn push_memory<A: Allocator>(
+    text: &mut Vec<u8, A>,
+    mems: &[Mem],
+    values: &[u64],
+) -> Result<(), AllocError>
+    ensures { OnOk result (text.new.items ≡ text.old.items ++ memory_text mems.now values.now) }
+{
+    let mut rest = values;
+    for mem in mems {
+        let (own, others) = rest.split_at(rest.len().min(mem.cells as usize));
+        push_cells(text, mem, own)?;
+        rest = others;
+    }
+    Ok(())
+}
+
+/// A line for each cell, and one for the number of requests.
+fn elision_lines<A: Allocator>(
+    alloc: A,
+    mems: &[Mem],
+    values: &[u64],
+    requests: u32,
+) -> Result<Vec<u8, A>, AllocError>
+    ensures { IfOk result (λ text. text.items ≡ elision_text mems.now values.now requests) }
+{
+    let mut text = Vec::new(alloc);
+    push_memory(&mut text, mems, values)?;
+    push_number(&mut text, "requests ", u64::from(requests))?;
+    push_words(&mut text, "\n")?;
+    Ok(text)
+}
+
+/// The lines of a program's elision.
+fn elided<A: Allocator + Copy>(
+    alloc: A,
+    program: &Program<A>,
+    limit: u32,
+) -> Result<Vec<u8, A>, CliFault>
+    ensures ok { IfOk result (λ lines. ElidesContents (contents program.now) limit lines.items) }
+    ensures fault { IfErr result (StopsElision (contents program.now) limit) }
+{
+    match elide(alloc, program, limit) {
+        Ok(elided) => {
+            match elision_lines(
+                alloc,
+                program.mems.as_slice(),
+                elided.memory.as_slice(),
+                elided.requests,
+            ) {
+                Ok(lines) => Ok(lines),
+                Err(_) => Err(CliFault::Memory),
+            }
+        }
+        Err(ElideFault::Limit) => Err(CliFault::Limit),
+        Err(ElideFault::Memory) => Err(CliFault::Memory),
+    }
+}
+
+/// Reads a program to its end and writes what its serial elision leaves: a line with the name and the value of each cell, in order, and
+/// then the number of requests. The status is 0.
+///
+/// It answers [`CliFault::Read`] or [`CliFault::Write`] exactly where the reader or the writer has failed, [`CliFault::TooLong`] for
+/// more than 67,108,864 bytes, [`CliFault::Program`] with the first fault of a text
+/// that means no program, [`CliFault::Limit`] only where the elision makes more requests than the limit, and [`CliFault::Memory`] where a
+/// growth was refused. Nothing is written then, but for the part that a failed write has taken. The reader is asked at most 67,108,865
+/// times, as its `calls` tells where it began with room for more than these.
+pub fn elide_text<A: Allocator + Copy, R: Read, W: Write>(
+    alloc: A,
+    program: &mut Watched<R>,
+    output: &mut Watched<W>,
+    limit: u32,
+) -> Result<u8, CliFault>
+    requires reader { has_failed program.old ≡ false }
+    requires writer { has_failed output.old ≡ false }
+    requires limit { limit ≤ most_entries }
+    ensures answered { IfOk result (λ status. (status ≡ 0)
+        × IsElided (R.remaining (held program.old)) (R.remaining (held program.new))
+        (W.contents (held output.old)) (W.contents (held output.new)) limit) }
+    ensures fault { IfErr result (HasElisionCause (R.remaining (held program.old)) (R.remaining (held program.new))
+        (W.contents (held output.old)) (W.contents (held output.new)) limit) }
+    ensures read_failed { IsErrOf result CliFault.Read ↔ IsTrue (has_failed program.new) }
+    ensures delivered { OnOk result (is_delivered output.new ≡ true) }
+    ensures write_failed { IsErrOf result CliFault.Write ↔ IsTrue (has_failed output.new) }
+    ensures reads { IsCalledAtMost most_reads (calls_of program.old) (calls_of program.new) }
+    ensures unwritten { IfErr result (λ fault. fault ≢ CliFault.Write → output.new ≡ output.old) }
+{
+    let text = read_text(alloc, program)?;
+    let program = parse_program(alloc, text)?;
+    let lines = elided(alloc, &program, limit)?;
+    write_text(output, lines.as_slice())?;
+    Ok(0)
+}

@@ -1,0 +1,189 @@
+//! Judging the trace that a reader gives.
+
+ghost use Rattle.std.specs.Prelude.{◌≡◌, ◌↔◌, ◌≤◌, ◌≢◌, ◌++◌, ◌∷◌, ◌+◌, ◌<◌, ℕ, List, [], Option, true, false, length};
+ghost use Rattle.std.specs.Prelude.{map, IfOk, IfErr, OnOk, OnErr, IsErrOf, IsTrue, MatchResult};
+ghost use Rattle.std.specs.Io.KnownBytes.{Appends};
+ghost use Rattle.trace_text.specs.Grammar.{TextMeans};
+ghost use Rattle.text_words.specs.Limits.{max_requests};
+ghost use Rattle.trace_text.specs.Traces.{contents};
+ghost use Rattle.model_histories.specs.Shapes.{most_entries, most_cells, most_reducers};
+ghost use Rattle.race_gate.specs.Shapes.{shape_of};
+ghost use Rattle.race_gate.specs.Cores.{IsCore};
+ghost use Rattle.model_histories.specs.States.{State};
+ghost use Rattle.model_histories.specs.declared.reply.Reply.{Reply as SpecReply};
+ghost use Rattle.model_accesses.specs.declared.request.Request.{Request as SpecRequest};
+ghost use Rattle.tool_commands.specs.Watched.{held, has_failed, is_delivered, calls_of, IsCalledAtMost};
+ghost use Rattle.tool_commands.specs.Waiting.{most_filled};
+ghost use Rattle.tool_commands.specs.Meetings.{IsTold, HasJudged, Tells, TellsTrace};
+ghost use Rattle.race_report.specs.VerdictText.{HasWords, line_of, verdict_text};
+ghost use Rattle.tool_commands.specs.Statuses.{status_of_replies};
+ghost use Rattle.tool_commands.specs.Streams.{most_reads, declared_shape, requests_of, IsJudgedBy, JudgesTrace};
+ghost use Rattle.tool_commands.specs.Streams.{AreReplies, AnswersText, IsAnswered, StopsWriting, StopsAnswer, HasCause};
+
+use crate::fault::CliFault;
+use crate::status::Met;
+use crate::streams::{deliver, parse_trace, read_text, write_bytes};
+use crate::waiting::Waiting;
+use crate::watched::Watched;
+use race_gate::{Core, Reply};
+use std::alloc::{AllocError, Allocator};
+use std::io::{Read, Write};
+use text_words::Request;
+use trace_text::Trace;
+
+/// What is told of the replies to requests: the verdict lines that wait to be written, and what the exit status wants to know of all.
+#[derive(Drop)]
+struct Verdicts<A: Allocator> {
+    lines: Waiting<A>,
+    met: Met,
+}
+
+/// Writes the lines that wait, where no write has failed, and lets them go.
+fn give<A: Allocator, W: Write>(output: &mut Watched<W>, lines: &mut Waiting<A>)
+    ensures told { (wrote : Option (List ℕ)) (text : List ℕ) →
+        IsTold wrote (W.contents (held output.old)) (has_failed output.old) lines.old.text text →
+        IsTold wrote (W.contents (held output.new)) (has_failed output.new) lines.new.text text }
+    ensures none { lines.new.text ≡ [] }
+    ensures room { lines.new.filled ≤ most_filled }
+{
+    if !output.failed() {
+        // The writer notes where this fails.
+        let _ = write_bytes(output, lines.as_slice());
+    }
+    lines.clear();
+}
+
+/// Adds the verdict line of a reply to those that wait, which are written first where it might not fit.
+fn put<A: Allocator, W: Write>(output: &mut Watched<W>, lines: &mut Waiting<A>, reply: &Reply)
+    requires { HasWords reply.now }
+    ensures { (wrote : Option (List ℕ)) (text : List ℕ) →
+        IsTold wrote (W.contents (held output.old)) (has_failed output.old) lines.old.text text →
+        IsTold wrote (W.contents (held output.new)) (has_failed output.new) lines.new.text (text ++ line_of reply.now) }
+{
+    if !lines.has_room() {
+        give(output, lines);
+    }
+    lines.add(reply);
+}
+
+/// Judges a request and tells the reply.
+fn tell<A: Allocator + Clone, W: Write>(
+    core: &mut Core<A>,
+    verdicts: &mut Verdicts<A>,
+    output: &mut Watched<W>,
+    request: Request,
+)
+    requires { IsCore core.old }
+    ensures { (start : State) (wrote : Option (List ℕ)) (requests : List SpecRequest) (replies : List SpecReply) →
+        HasJudged start requests replies core.old verdicts.old wrote (W.contents (held output.old)) (has_failed output.old) →
+        (reply : SpecReply) × HasJudged start (requests ++ request ∷ []) (replies ++ reply ∷ []) core.new verdicts.new
+        wrote (W.contents (held output.new)) (has_failed output.new) }
+{
+    let reply = core.reply(request);
+    put(output, &mut verdicts.lines, &reply);
+    verdicts.met.meet(&reply);
+}
+
+/// Judges the requests of a trace in their order, and tells the replies one by one. All memory that this may fail for is taken first, so
+/// nothing is written then.
+fn judge<A: Allocator + Copy, W: Write>(
+    alloc: A,
+    trace: &Trace<A>,
+    output: &mut Watched<W>,
+    limit: u32,
+) -> Result<Verdicts<A>, AllocError>
+    requires limit { limit ≤ most_entries }
+    ensures told { IfOk result
+        (TellsTrace (contents trace.now) limit (W.contents (held output.old)) (W.contents (held output.new)) (has_failed output.new)) }
+    ensures unwritten { OnErr result (output.new ≡ output.old) }
+{
+    let shape = trace.shape(alloc)?;
+    let mut core = Core::new(alloc, &shape, limit)?;
+    let mut verdicts = Verdicts {
+        lines: Waiting::new(alloc)?,
+        met: Met::new(),
+    };
+    // There are no more spawns than requests. Room that is not filled costs nothing, and a pass that counts them would.
+    core.make_room(trace.lines.len());
+    for line in trace.lines.iter() {
+        tell(&mut core, &mut verdicts, output, line.request);
+    }
+    Ok(verdicts)
+}
+
+/// Writes the lines that wait behind the last reply, and sees to it that all are delivered.
+fn finish<A: Allocator, W: Write>(
+    output: &mut Watched<W>,
+    mut verdicts: Verdicts<A>,
+) -> Result<u8, CliFault>
+    ensures answered { IfOk result (λ status. (wrote : Option (List ℕ)) (replies : List SpecReply) →
+        Tells replies verdicts wrote (W.contents (held output.old)) (has_failed output.old) →
+        (status ≡ status_of_replies replies) × Appends wrote (W.contents (held output.new)) (verdict_text replies)) }
+    ensures fault { IfErr result (λ fault. (wrote : Option (List ℕ)) (replies : List SpecReply) →
+        Tells replies verdicts wrote (W.contents (held output.old)) (has_failed output.old) →
+        StopsWriting wrote (W.contents (held output.new)) (verdict_text replies) fault) }
+    ensures only { IfErr result (λ fault. fault ≡ CliFault.Write) }
+    ensures delivered { OnOk result (is_delivered output.new ≡ true) }
+    ensures failed { IsErrOf result CliFault.Write ↔ IsTrue (has_failed output.new) }
+{
+    give(output, &mut verdicts.lines);
+    if output.failed() {
+        return Err(CliFault::Write);
+    }
+    deliver(output)?;
+    Ok(verdicts.met.status())
+}
+
+/// Tells what is to be told of the requests of the trace that a text means; the text is let go.
+fn answer_text<A: Allocator + Copy, W: Write>(
+    alloc: A,
+    text: Vec<u8, A>,
+    output: &mut Watched<W>,
+    limit: u32,
+) -> Result<u8, CliFault>
+    requires writer { has_failed output.old ≡ false }
+    requires limit { limit ≤ most_entries }
+    ensures answered { IfOk result (λ status. (replies : List SpecReply) × (status ≡ status_of_replies replies)
+        × AnswersText text.items limit replies
+        × Appends (W.contents (held output.old)) (W.contents (held output.new)) (verdict_text replies)) }
+    ensures fault { IfErr result (StopsAnswer text.items limit (W.contents (held output.old)) (W.contents (held output.new))) }
+    ensures delivered { OnOk result (is_delivered output.new ≡ true) }
+    ensures write_failed { IsErrOf result CliFault.Write ↔ IsTrue (has_failed output.new) }
+    ensures unwritten { IfErr result (λ fault. fault ≢ CliFault.Write → output.new ≡ output.old) }
+{
+    let trace = parse_trace(alloc, text)?;
+    let verdicts = judge(alloc, &trace, output, limit)?;
+    finish(output, verdicts)
+}
+
+/// Reads a trace to its end, judges its requests in their order by a gate with this limit on the entries of its history, and writes
+/// the verdict line of each reply. It answers the exit status of the replies: 3 where one is a want of memory, else 4 where one is
+/// beyond the limit, else 2 where one is illegal, else 1 where one is refused, else 0.
+///
+/// It answers [`CliFault::Read`] or [`CliFault::Write`] exactly where the reader or the writer has failed, [`CliFault::TooLong`] for
+/// more than 67,108,864 bytes, [`CliFault::Trace`] with the first fault of a text that means no trace, and [`CliFault::Memory`] where
+/// a growth was refused. Nothing is written then, but for the part that was taken before a write failed. The reader is asked at most
+/// 67,108,865 times, since each piece but the last has a byte; its `calls` tells so where it began with room for more than these.
+pub fn judge_stream<A: Allocator + Copy, R: Read, W: Write>(
+    alloc: A,
+    input: &mut Watched<R>,
+    output: &mut Watched<W>,
+    limit: u32,
+) -> Result<u8, CliFault>
+    requires reader { has_failed input.old ≡ false }
+    requires writer { has_failed output.old ≡ false }
+    requires limit { limit ≤ most_entries }
+    ensures answered { IfOk result (λ status. (replies : List SpecReply) × (status ≡ status_of_replies replies)
+        × IsAnswered (R.remaining (held input.old)) (R.remaining (held input.new))
+        (W.contents (held output.old)) (W.contents (held output.new)) limit replies) }
+    ensures fault { IfErr result (HasCause (R.remaining (held input.old)) (R.remaining (held input.new))
+        (W.contents (held output.old)) (W.contents (held output.new)) limit) }
+    ensures read_failed { IsErrOf result CliFault.Read ↔ IsTrue (has_failed input.new) }
+    ensures delivered { OnOk result (is_delivered output.new ≡ true) }
+    ensures write_failed { IsErrOf result CliFault.Write ↔ IsTrue (has_failed output.new) }
+    ensures reads { IsCalledAtMost most_reads (calls_of input.old) (calls_of input.new) }
+    ensures unwritten { IfErr result (λ fault. fault ≢ CliFault.Write → output.new ≡ output.old) }
+{
+    let text = read_text(alloc, input)?;
+    answer_text(alloc, text, output, limit)
+}

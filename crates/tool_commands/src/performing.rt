@@ -1,0 +1,423 @@
+//! From a job to the exit status of the process.
+
+ghost use Rattle.std.specs.Prelude.{◌≡◌, ◌↔◌, ◌<◌, ◌≤◌, ◌≢◌, Some, None, true, false, IfOk, IfErr, OnOk, IsErr, IsErrOf, IsTrue};
+ghost use Rattle.model_histories.specs.Shapes.{most_entries};
+ghost use Rattle.std.specs.String.{string_bytes};
+ghost use Rattle.std.specs.Io.KnownBytes.{Appends};
+ghost use Rattle.tool_commands.specs.Jobs.{IsInRange};
+ghost use Rattle.tool_commands.specs.Streams.{StopsWriting};
+ghost use Rattle.tool_commands.specs.Watched.{held, has_failed, is_delivered};
+ghost use Rattle.tool_commands.specs.Performed.{IsPerformed, IsPaintedBy, HasJobCause, IsRecorded};
+ghost use Rattle.tool_commands.specs.Performed.{IsRecordedFirst, BarsTrace, LacksFile, IsAlone, status_of_answer};
+
+use crate::draw::draw_text;
+use crate::elide::elide_text;
+use crate::explain::{Manner, explain_text};
+use crate::fault::CliFault;
+use crate::host::Host;
+use crate::judge::judge_stream;
+use crate::replay::replay_text;
+use crate::run::{OpenDoor, run_text};
+use crate::streams::write_text;
+use crate::traced::{traced_text, write_traced};
+use crate::watched::Watched;
+use crate::words::{Color, Job};
+use std::alloc::Global;
+use std::io::Write;
+use std::sync::Wait;
+use std::thread::Threads;
+
+/// Judges the trace on standard input.
+fn judge_input<H: Host, W: Write>(
+    alloc: Global,
+    host: &mut Watched<H>,
+    limit: u32,
+    output: &mut Watched<W>,
+) -> Result<u8, CliFault>
+    requires host { has_failed host.old ≡ false }
+    requires writer { has_failed output.old ≡ false }
+    requires limit { limit ≤ most_entries }
+    ensures done { IfOk result (IsPerformed (H.sources (held host.old)) (Job.Judge None limit)
+        (W.contents (held output.old)) (W.contents (held output.new))) }
+    ensures fault { IfErr result (HasJobCause (H.sources (held host.old)) (Job.Judge None limit)
+        (W.contents (held output.old)) (W.contents (held output.new))) }
+    ensures delivered { OnOk result (is_delivered output.new ≡ true) }
+    ensures read_failed { IsErrOf result CliFault.Read ↔ IsTrue (has_failed host.new) }
+    ensures write_failed { IsErrOf result CliFault.Write ↔ IsTrue (has_failed output.new) }
+    ensures unwritten { IfErr result (λ fault. fault ≢ CliFault.Write → output.new ≡ output.old) }
+{
+    let mut input = host.input();
+    let answer = judge_stream(alloc, &mut input, output, limit);
+    host.note(&input);
+    answer
+}
+
+/// Judges the trace in a file.
+fn judge_file<H: Host, W: Write>(
+    alloc: Global,
+    host: &mut Watched<H>,
+    file: &String,
+    limit: u32,
+    output: &mut Watched<W>,
+) -> Result<u8, CliFault>
+    requires host { has_failed host.old ≡ false }
+    requires writer { has_failed output.old ≡ false }
+    requires limit { limit ≤ most_entries }
+    ensures done { IfOk result (IsPerformed (H.sources (held host.old)) (Job.Judge (Some file.now) limit)
+        (W.contents (held output.old)) (W.contents (held output.new))) }
+    ensures fault { IfErr result (HasJobCause (H.sources (held host.old)) (Job.Judge (Some file.now) limit)
+        (W.contents (held output.old)) (W.contents (held output.new))) }
+    ensures delivered { OnOk result (is_delivered output.new ≡ true) }
+    ensures read_failed { IsErrOf result CliFault.Read ↔ IsTrue (has_failed host.new) }
+    ensures write_failed { IsErrOf result CliFault.Write ↔ IsTrue (has_failed output.new) }
+    ensures unwritten { IfErr result (λ fault. fault ≢ CliFault.Write → output.new ≡ output.old) }
+    ensures lacking { LacksFile (H.lacks (held host.old)) (Job.Judge (Some file.now) limit) → IsErrOf result CliFault.Read }
+{
+    let mut trace = host.open(file.as_str())?;
+    let answer = judge_stream(alloc, &mut trace, output, limit);
+    host.note(&trace);
+    answer
+}
+
+/// Writes the elision of the program in a file.
+fn elide_file<H: Host, W: Write>(
+    alloc: Global,
+    host: &mut Watched<H>,
+    file: &String,
+    limit: u32,
+    output: &mut Watched<W>,
+) -> Result<u8, CliFault>
+    requires host { has_failed host.old ≡ false }
+    requires writer { has_failed output.old ≡ false }
+    requires limit { limit ≤ most_entries }
+    ensures done { IfOk result (IsPerformed (H.sources (held host.old)) (Job.Elide file.now limit)
+        (W.contents (held output.old)) (W.contents (held output.new))) }
+    ensures fault { IfErr result (HasJobCause (H.sources (held host.old)) (Job.Elide file.now limit)
+        (W.contents (held output.old)) (W.contents (held output.new))) }
+    ensures delivered { OnOk result (is_delivered output.new ≡ true) }
+    ensures read_failed { IsErrOf result CliFault.Read ↔ IsTrue (has_failed host.new) }
+    ensures write_failed { IsErrOf result CliFault.Write ↔ IsTrue (has_failed output.new) }
+    ensures unwritten { IfErr result (λ fault. fault ≢ CliFault.Write → output.new ≡ output.old) }
+    ensures lacking { LacksFile (H.lacks (held host.old)) (Job.Elide file.now limit) → IsErrOf result CliFault.Read }
+{
+    let mut program = host.open(file.as_str())?;
+    let answer = elide_text(alloc, &mut program, output, limit);
+    host.note(&program);
+    answer
+}
+
+/// Runs the program in a file by so many workers, and writes the report.
+fn run_file<H: Host, W: Write, R: Threads + Wait + Sync>(
+    threads: &R,
+    alloc: Global,
+    host: &mut Watched<H>,
+    file: &String,
+    workers: usize,
+    limit: u32,
+    output: &mut Watched<W>,
+) -> Result<u8, CliFault>
+    requires host { has_failed host.old ≡ false }
+    requires writer { has_failed output.old ≡ false }
+    requires workers { (0 < workers) × (workers ≤ 64) }
+    requires limit { limit ≤ most_entries }
+    ensures done { IfOk result (IsPerformed (H.sources (held host.old)) (Job.Run file.now workers limit)
+        (W.contents (held output.old)) (W.contents (held output.new))) }
+    ensures fault { IfErr result (HasJobCause (H.sources (held host.old)) (Job.Run file.now workers limit)
+        (W.contents (held output.old)) (W.contents (held output.new))) }
+    ensures delivered { OnOk result (is_delivered output.new ≡ true) }
+    ensures read_failed { IsErrOf result CliFault.Read ↔ IsTrue (has_failed host.new) }
+    ensures write_failed { IsErrOf result CliFault.Write ↔ IsTrue (has_failed output.new) }
+    ensures unwritten { IfErr result (λ fault. fault ≢ CliFault.Write → output.new ≡ output.old) }
+    ensures lacking { LacksFile (H.lacks (held host.old)) (Job.Run file.now workers limit) → IsErrOf result CliFault.Read }
+{
+    let mut program = host.open(file.as_str())?;
+    let answer = run_text(
+        threads,
+        alloc,
+        &mut program,
+        workers,
+        &OpenDoor,
+        output,
+        limit,
+    );
+    host.note(&program);
+    answer
+}
+
+/// Whether words are painted.
+fn is_painted<H: Host>(host: &Watched<H>, color: Color) -> bool
+    ensures { IsPaintedBy color result }
+{
+    match color {
+        Color::Auto => host.is_terminal(),
+        Color::Always => true,
+        Color::Never => false,
+    }
+}
+
+/// Runs the program in a file by so many workers, and explains the run.
+fn explain_file<H: Host, W: Write, R: Threads + Wait + Sync>(
+    threads: &R,
+    alloc: Global,
+    host: &mut Watched<H>,
+    file: &String,
+    workers: usize,
+    limit: u32,
+    color: Color,
+    output: &mut Watched<W>,
+) -> Result<u8, CliFault>
+    requires host { has_failed host.old ≡ false }
+    requires writer { has_failed output.old ≡ false }
+    requires workers { (0 < workers) × (workers ≤ 64) }
+    requires limit { limit ≤ most_entries }
+    ensures done { IfOk result (IsPerformed (H.sources (held host.old)) (Job.Explain file.now workers limit color)
+        (W.contents (held output.old)) (W.contents (held output.new))) }
+    ensures fault { IfErr result (HasJobCause (H.sources (held host.old)) (Job.Explain file.now workers limit color)
+        (W.contents (held output.old)) (W.contents (held output.new))) }
+    ensures delivered { OnOk result (is_delivered output.new ≡ true) }
+    ensures read_failed { IsErrOf result CliFault.Read ↔ IsTrue (has_failed host.new) }
+    ensures write_failed { IsErrOf result CliFault.Write ↔ IsTrue (has_failed output.new) }
+    ensures unwritten { IfErr result (λ fault. fault ≢ CliFault.Write → output.new ≡ output.old) }
+    ensures lacking { LacksFile (H.lacks (held host.old)) (Job.Explain file.now workers limit color) → IsErrOf result CliFault.Read }
+{
+    let mut program = host.open(file.as_str())?;
+    let manner = Manner {
+        is_painted: is_painted(host, color),
+        file: file.as_str(),
+    };
+    let answer = explain_text(
+        threads,
+        alloc,
+        &manner,
+        &mut program,
+        workers,
+        &OpenDoor,
+        output,
+        limit,
+    );
+    host.note(&program);
+    answer
+}
+
+/// Runs the program in a file by so many workers, and writes the trace of the run into a file and the report. The trace's file is
+/// created when the run is done.
+fn record_file<H: Host, W: Write, R: Threads + Wait + Sync>(
+    threads: &R,
+    alloc: Global,
+    host: &mut Watched<H>,
+    file: &String,
+    workers: usize,
+    limit: u32,
+    trace: &String,
+    output: &mut Watched<W>,
+) -> Result<u8, CliFault>
+    requires host { has_failed host.old ≡ false }
+    requires writer { has_failed output.old ≡ false }
+    requires workers { (0 < workers) × (workers ≤ 64) }
+    requires limit { limit ≤ most_entries }
+    ensures done { IfOk result (IsPerformed (H.sources (held host.old)) (Job.Record file.now workers limit trace.now)
+        (W.contents (held output.old)) (W.contents (held output.new))) }
+    ensures fault { IfErr result (HasJobCause (H.sources (held host.old)) (Job.Record file.now workers limit trace.now)
+        (W.contents (held output.old)) (W.contents (held output.new))) }
+    ensures delivered { OnOk result (is_delivered output.new ≡ true) }
+    ensures read_failed { IsErrOf result CliFault.Read ↔ IsTrue (has_failed host.new) }
+    ensures write_failed { IsErrOf result CliFault.Write ↔ IsTrue (has_failed output.new) }
+    ensures unwritten { IfErr result (λ fault. fault ≢ CliFault.Write → output.new ≡ output.old) }
+    ensures lacking { LacksFile (H.lacks (held host.old)) (Job.Record file.now workers limit trace.now) → IsErrOf result CliFault.Read }
+    ensures recorded { IfOk result (IsRecorded (H.sources (held host.old)) (Job.Record file.now workers limit trace.now)
+        (H.blank (held host.old)) (H.made (held host.new)) (W.contents (held output.old)) (W.contents (held output.new))) }
+    ensures recorded_first { IfErr result (λ fault. fault ≡ CliFault.Write →
+        IsRecordedFirst (H.sources (held host.old)) (Job.Record file.now workers limit trace.now)
+        (H.blank (held host.old)) (H.made (held host.new)) (W.contents (held output.old)) (W.contents (held output.new))) }
+    ensures barred { BarsTrace (H.bars (held host.old)) (Job.Record file.now workers limit trace.now) → IsErr result }
+{
+    let mut program = match host.open(file.as_str()) {
+        Ok(program) => program,
+        Err(fault) => return Err(fault),
+    };
+    let told = traced_text(threads, alloc, &mut program, workers, &OpenDoor, limit);
+    host.note(&program);
+    let told = match told {
+        Ok(told) => told,
+        Err(fault) => return Err(fault),
+    };
+    let mut created = match host.create(trace.as_str()) {
+        Ok(created) => created,
+        Err(fault) => return Err(fault),
+    };
+    let answer = write_traced(&told, &mut created, output);
+    host.close(trace.as_str(), created);
+    answer
+}
+
+/// Replays the trace in one file as a run of the program in another. Both are opened before either is read.
+fn replay_files<H: Host, W: Write>(
+    alloc: Global,
+    host: &mut Watched<H>,
+    file: &String,
+    trace: &String,
+    output: &mut Watched<W>,
+) -> Result<u8, CliFault>
+    requires host { has_failed host.old ≡ false }
+    requires writer { has_failed output.old ≡ false }
+    ensures done { IfOk result (IsPerformed (H.sources (held host.old)) (Job.Replay file.now trace.now)
+        (W.contents (held output.old)) (W.contents (held output.new))) }
+    ensures fault { IfErr result (HasJobCause (H.sources (held host.old)) (Job.Replay file.now trace.now)
+        (W.contents (held output.old)) (W.contents (held output.new))) }
+    ensures delivered { OnOk result (is_delivered output.new ≡ true) }
+    ensures read_failed { IsErrOf result CliFault.Read ↔ IsTrue (has_failed host.new) }
+    ensures write_failed { IsErrOf result CliFault.Write ↔ IsTrue (has_failed output.new) }
+    ensures unwritten { IfErr result (λ fault. fault ≢ CliFault.Write → output.new ≡ output.old) }
+    ensures lacking { LacksFile (H.lacks (held host.old)) (Job.Replay file.now trace.now) → IsErrOf result CliFault.Read }
+{
+    let mut program = host.open(file.as_str())?;
+    let mut entries = host.open(trace.as_str())?;
+    let answer = replay_text(alloc, &mut program, &mut entries, output);
+    host.note(&program);
+    host.note(&entries);
+    answer
+}
+
+/// Draws the trace in a file.
+fn draw_file<H: Host, W: Write>(
+    alloc: Global,
+    host: &mut Watched<H>,
+    file: &String,
+    output: &mut Watched<W>,
+) -> Result<u8, CliFault>
+    requires host { has_failed host.old ≡ false }
+    requires writer { has_failed output.old ≡ false }
+    ensures done { IfOk result (IsPerformed (H.sources (held host.old)) (Job.Draw file.now)
+        (W.contents (held output.old)) (W.contents (held output.new))) }
+    ensures fault { IfErr result (HasJobCause (H.sources (held host.old)) (Job.Draw file.now)
+        (W.contents (held output.old)) (W.contents (held output.new))) }
+    ensures delivered { OnOk result (is_delivered output.new ≡ true) }
+    ensures read_failed { IsErrOf result CliFault.Read ↔ IsTrue (has_failed host.new) }
+    ensures write_failed { IsErrOf result CliFault.Write ↔ IsTrue (has_failed output.new) }
+    ensures unwritten { IfErr result (λ fault. fault ≢ CliFault.Write → output.new ≡ output.old) }
+    ensures lacking { LacksFile (H.lacks (held host.old)) (Job.Draw file.now) → IsErrOf result CliFault.Read }
+{
+    let mut trace = host.open(file.as_str())?;
+    let answer = draw_text(alloc, &mut trace, output);
+    host.note(&trace);
+    answer
+}
+
+/// Writes a text.
+fn show<W: Write>(text: &String, output: &mut Watched<W>) -> Result<u8, CliFault>
+    requires { has_failed output.old ≡ false }
+    ensures done { IfOk result (λ status.
+        (status ≡ 0) × Appends (W.contents (held output.old)) (W.contents (held output.new)) (string_bytes text.now)) }
+    ensures fault { IfErr result (StopsWriting (W.contents (held output.old)) (W.contents (held output.new)) (string_bytes text.now)) }
+    ensures delivered { OnOk result (is_delivered output.new ≡ true) }
+    ensures write_failed { IsErrOf result CliFault.Write ↔ IsTrue (has_failed output.new) }
+{
+    write_text(output, text.as_str().as_bytes())?;
+    Ok(0)
+}
+
+/// Does a job that starts no thread, and waits for none: all but [`Job::Run`], [`Job::Record`] and [`Job::Explain`]. It is [`perform`] for
+/// these.
+pub fn perform_alone<H: Host, W: Write>(
+    alloc: Global,
+    host: &mut Watched<H>,
+    job: &Job,
+    output: &mut Watched<W>,
+) -> Result<u8, CliFault>
+    requires host { has_failed host.old ≡ false }
+    requires writer { has_failed output.old ≡ false }
+    requires ranges { IsInRange job.now }
+    requires alone { IsAlone job.now }
+    ensures done { IfOk result (IsPerformed (H.sources (held host.old)) job.now
+        (W.contents (held output.old)) (W.contents (held output.new))) }
+    ensures fault { IfErr result (HasJobCause (H.sources (held host.old)) job.now
+        (W.contents (held output.old)) (W.contents (held output.new))) }
+    ensures status { IfOk result (λ status. status ≤ 4) }
+    ensures delivered { OnOk result (is_delivered output.new ≡ true) }
+    ensures read_failed { IsErrOf result CliFault.Read ↔ IsTrue (has_failed host.new) }
+    ensures write_failed { IsErrOf result CliFault.Write ↔ IsTrue (has_failed output.new) }
+    ensures unwritten { IfErr result (λ fault. fault ≢ CliFault.Write → output.new ≡ output.old) }
+    ensures lacking { LacksFile (H.lacks (held host.old)) job.now → IsErrOf result CliFault.Read }
+{
+    match job {
+        Job::Judge { file: None, limit } => judge_input(alloc, host, *limit, output),
+        Job::Judge {
+            file: Some(file),
+            limit,
+        } => judge_file(alloc, host, file, *limit, output),
+        Job::Elide { file, limit } => elide_file(alloc, host, file, *limit, output),
+        Job::Replay { file, trace } => replay_files(alloc, host, file, trace, output),
+        Job::Draw { file } => draw_file(alloc, host, file, output),
+        Job::Show { text } => show(text, output),
+        Job::Run { .. } | Job::Record { .. } | Job::Explain { .. } => unreachable!(),
+    }
+}
+
+/// Does a job, and answers its exit status, which is 0 to 4: what [`judge_stream`], [`elide_text`], [`run_text`],
+/// [`explain_text`], [`replay_text`] or [`draw_text`] does with standard input or the files of its names, or writes the text that is to be
+/// shown. What is written is delivered then. All files of a job that are read are opened before one is read. A run that is recorded is done
+/// as [`run_traced_text`](crate::run_traced_text) does it; the file of its trace is created once the run is done, and has the trace before
+/// the report is written.
+///
+/// It answers [`CliFault::Read`] exactly where the host has failed, by a file that can't be opened or a reader that fails, and
+/// [`CliFault::Write`] exactly where the writer has; [`CliFault::Unwritten`] where the file of a trace can't be created or written, and
+/// each other fault where that call does. Nothing is written then, but for the part that a failed write has taken.
+pub fn perform<H: Host, W: Write, R: Threads + Wait + Sync>(
+    threads: &R,
+    alloc: Global,
+    host: &mut Watched<H>,
+    job: &Job,
+    output: &mut Watched<W>,
+) -> Result<u8, CliFault>
+    requires host { has_failed host.old ≡ false }
+    requires writer { has_failed output.old ≡ false }
+    requires ranges { IsInRange job.now }
+    ensures done { IfOk result (IsPerformed (H.sources (held host.old)) job.now
+        (W.contents (held output.old)) (W.contents (held output.new))) }
+    ensures fault { IfErr result (HasJobCause (H.sources (held host.old)) job.now
+        (W.contents (held output.old)) (W.contents (held output.new))) }
+    ensures status { IfOk result (λ status. status ≤ 4) }
+    ensures delivered { OnOk result (is_delivered output.new ≡ true) }
+    ensures read_failed { IsErrOf result CliFault.Read ↔ IsTrue (has_failed host.new) }
+    ensures write_failed { IsErrOf result CliFault.Write ↔ IsTrue (has_failed output.new) }
+    ensures unwritten { IfErr result (λ fault. fault ≢ CliFault.Write → output.new ≡ output.old) }
+    ensures lacking { LacksFile (H.lacks (held host.old)) job.now → IsErrOf result CliFault.Read }
+    ensures recorded { IfOk result (IsRecorded (H.sources (held host.old)) job.now (H.blank (held host.old)) (H.made (held host.new))
+        (W.contents (held output.old)) (W.contents (held output.new))) }
+    ensures recorded_first { IfErr result (λ fault. fault ≡ CliFault.Write → IsRecordedFirst (H.sources (held host.old)) job.now
+        (H.blank (held host.old)) (H.made (held host.new)) (W.contents (held output.old)) (W.contents (held output.new))) }
+    ensures barred { BarsTrace (H.bars (held host.old)) job.now → IsErr result }
+{
+    match job {
+        Job::Run {
+            file,
+            workers,
+            limit,
+        } => run_file(threads, alloc, host, file, *workers, *limit, output),
+        Job::Record {
+            file,
+            workers,
+            limit,
+            trace,
+        } => record_file(threads, alloc, host, file, *workers, *limit, trace, output),
+        Job::Explain {
+            file,
+            workers,
+            limit,
+            color,
+        } => explain_file(threads, alloc, host, file, *workers, *limit, *color, output),
+        job => perform_alone(alloc, host, job, output),
+    }
+}
+
+/// The exit status of the process, which is 0 to 4: that of the job, or that of the fault.
+pub fn exit_of(answer: &Result<u8, CliFault>) -> u8
+    requires { IfOk answer.now (λ status. status ≤ 4) }
+    ensures status { result ≡ status_of_answer answer.now }
+    ensures range { result ≤ 4 }
+{
+    match answer {
+        Ok(status) => *status,
+        Err(fault) => fault.status(),
+    }
+}

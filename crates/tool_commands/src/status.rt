@@ -1,0 +1,100 @@
+//! The exit status of a judged trace.
+
+ghost use Rattle.std.specs.Prelude.{◌≡◌, ◌++◌, ◌∷◌, [], List};
+ghost use Rattle.model_histories.specs.declared.reply.Reply.{Reply as SpecReply};
+ghost use Rattle.tool_commands.specs.Statuses.{is_memory as memory_spec, is_limit as limit_spec};
+ghost use Rattle.tool_commands.specs.Statuses.{is_illegal as illegal_spec, is_refusal as refusal_spec, status_of_replies};
+ghost use Rattle.tool_commands.specs.Meetings.{HasMet};
+
+use race_gate::{Answer, GateFault, Reply};
+
+fn is_memory(reply: &Reply) -> bool
+    ensures { result ≡ memory_spec reply.now }
+{
+    matches!(reply, Reply::Illegal(GateFault::Memory))
+}
+
+fn is_limit(reply: &Reply) -> bool
+    ensures { result ≡ limit_spec reply.now }
+{
+    matches!(reply, Reply::Illegal(GateFault::Limit))
+}
+
+fn is_illegal(reply: &Reply) -> bool
+    ensures { result ≡ illegal_spec reply.now }
+{
+    matches!(reply, Reply::Illegal(_))
+}
+
+fn is_refusal(reply: &Reply) -> bool
+    ensures { result ≡ refusal_spec reply.now }
+{
+    match reply {
+        Reply::Done(receipt) => { matches!(receipt.answer, Answer::Refused { .. } | Answer::Unset) }
+        Reply::Illegal(_) => false,
+    }
+}
+
+/// What the replies so far have among them, as far as the exit status tells it.
+#[derive(Clone, Copy, Debug)]
+pub(crate) struct Met {
+    memory: bool,
+    limit: bool,
+    illegal: bool,
+    refusal: bool,
+}
+
+impl Met {
+    /// Before the first reply.
+    pub(crate) fn new() -> Met
+        ensures { HasMet [] result }
+    {
+        Met {
+            memory: false,
+            limit: false,
+            illegal: false,
+            refusal: false,
+        }
+    }
+
+    /// Sees one reply more.
+    pub(crate) fn meet(&mut self, reply: &Reply)
+        ensures { (replies : List SpecReply) → HasMet replies self.old → HasMet (replies ++ reply.now ∷ []) self.new }
+    {
+        self.memory |= is_memory(reply);
+        self.limit |= is_limit(reply);
+        self.illegal |= is_illegal(reply);
+        self.refusal |= is_refusal(reply);
+    }
+
+    /// The exit status of the replies.
+    pub(crate) fn status(self) -> u8
+        ensures { (replies : List SpecReply) → HasMet replies self → result ≡ status_of_replies replies }
+    {
+        if self.illegal {
+            if self.memory {
+                3
+            } else if self.limit {
+                4
+            } else {
+                2
+            }
+        } else if self.refusal {
+            1
+        } else {
+            0
+        }
+    }
+}
+
+/// The exit status of replies: 3 where one is a want of memory, else 4 where one is beyond the limit, else 2 where one is illegal,
+/// else 1 where one is refused or unset, else 0.
+pub fn status_of(replies: &[Reply]) -> u8
+    ensures { result ≡ status_of_replies replies.now }
+{
+    let mut met = Met::new();
+    for reply in replies {
+        met.meet(reply);
+    }
+    met.status()
+}

@@ -1,0 +1,466 @@
+//! The words of the command line.
+
+ghost use Rattle.std.specs.Prelude.{◌≡◌, ◌<◌, ◌≤◌, IfOk, IfErr};
+ghost use Rattle.model_histories.specs.Shapes.{most_entries};
+ghost use Rattle.tool_commands.specs.Jobs.{IsInRange};
+ghost use Rattle.tool_commands.specs.Faults.{IsUsageFault, TellsUsage};
+
+use crate::fault::CliFault;
+use crate::help;
+use clap::error::ErrorKind;
+use clap::{Arg, ArgMatches, Command};
+use std::alloc::{AllocError, Global};
+use std::env::{self, Env};
+use std::io;
+
+/// The most entries that a history may have, and the limit where none is given.
+const MOST_ENTRIES: u32 = 1_000_000;
+
+/// The most workers, and how many there are where no number is given.
+const MOST_WORKERS: usize = 64;
+
+const WORKERS: usize = 2;
+
+/// A trace and its program have one name.
+pub(crate) const OVER_PROGRAM: &str =
+    "the trace would be written over the program: name another file with '--trace <OUT>'";
+
+/// When words are painted.
+#[derive(Clone, Copy, Debug, PartialEq, Eq)]
+pub enum Color {
+    /// Where a terminal shows them.
+    Auto,
+    /// In each case.
+    Always,
+    /// In none.
+    Never,
+}
+
+/// What the words of the command line ask for.
+#[derive(Debug, Drop)]
+pub enum Job {
+    /// To judge the trace in this file, or on standard input where there is none, with this limit on the entries of its history.
+    Judge {
+        file: Option<String>,
+        limit: u32,
+    },
+    /// To write the elision of the program in this file, with this limit on its requests.
+    Elide {
+        file: String,
+        limit: u32,
+    },
+    /// To run the program in this file by so many workers, with this limit on the entries of its history.
+    Run {
+        file: String,
+        workers: usize,
+        limit: u32,
+    },
+    /// To run it so, and to write the trace of the run into the file `trace`.
+    Record {
+        file: String,
+        workers: usize,
+        limit: u32,
+        trace: String,
+    },
+    /// To run the program in this file by so many workers, with this limit on the entries of its history, and to tell a person of the run.
+    Explain {
+        file: String,
+        workers: usize,
+        limit: u32,
+        color: Color,
+    },
+    /// To replay the trace in the second file as a run of the program in the first.
+    Replay {
+        file: String,
+        trace: String,
+    },
+    /// To draw the trace in this file.
+    Draw {
+        file: String,
+    },
+    /// To show a text: the help or the version.
+    Show {
+        text: String,
+    },
+}
+
+/// The argument that gives a limit.
+fn limit<'a>(alloc: Global, help: &'a str) -> Arg<'a> {
+    Arg::new(alloc, "limit")
+        .long("limit")
+        .value_name("N")
+        .help(help)
+}
+
+/// The argument that gives the number of workers.
+fn workers<'a>(alloc: Global) -> Arg<'a> {
+    Arg::new(alloc, "workers")
+        .long("workers")
+        .value_name("N")
+        .help("The workers, from 1 to 64 [default: 2]")
+}
+
+/// The argument that says when words are painted.
+fn painting<'a>(alloc: Global) -> Arg<'a> {
+    Arg::new(alloc, "color")
+        .long("color")
+        .value_name("WHEN")
+        .help("When words are painted: auto, always or never [default: auto]")
+}
+
+/// The argument that names a program's file.
+fn file<'a>(alloc: Global) -> Arg<'a> {
+    Arg::new(alloc, "file")
+        .value_name("FILE")
+        .required(true)
+        .help("The program")
+}
+
+/// The argument that names the file of the trace that is judged.
+fn judged<'a>(alloc: Global) -> Arg<'a> {
+    Arg::new(alloc, "file")
+        .value_name("FILE")
+        .help("The trace [default: standard input]")
+}
+
+/// The argument that names the file that a run's trace is written into.
+fn out<'a>(alloc: Global) -> Arg<'a> {
+    Arg::new(alloc, "trace")
+        .long("trace")
+        .value_name("OUT")
+        .help("A file, made or emptied, that the trace of the run is written into")
+}
+
+/// The argument that names a trace's file.
+fn trace<'a>(alloc: Global) -> Arg<'a> {
+    Arg::new(alloc, "trace")
+        .value_name("TRACE")
+        .required(true)
+        .help("The trace")
+}
+
+/// A command with its texts, and nothing else yet.
+fn described<'a>(alloc: Global, name: &'a str, about: &'a str, behind: &'a str) -> Command<'a> {
+    Command::new(alloc, name).about(about).after_help(behind)
+}
+
+fn judge_command<'a>(alloc: Global) -> Result<Command<'a>, AllocError> {
+    let limit = limit(
+        alloc,
+        "The most entries of the history, from 0 to 1000000 [default: 1000000]",
+    );
+    described(alloc, "judge", help::JUDGE, help::TRACE)
+        .arg(judged(alloc))?
+        .arg(limit)
+}
+
+fn elide_command<'a>(alloc: Global) -> Result<Command<'a>, AllocError> {
+    let limit = limit(
+        alloc,
+        "The most requests, from 0 to 1000000 [default: 1000000]",
+    );
+    described(alloc, "elide", help::ELIDE, help::LANGUAGE)
+        .long_about(help::ELISION)
+        .arg(file(alloc))?
+        .arg(limit)
+}
+
+fn run_command<'a>(alloc: Global) -> Result<Command<'a>, AllocError> {
+    let limit = limit(
+        alloc,
+        "The most entries of the history, from 0 to 1000000 [default: 1000000]",
+    );
+    described(alloc, "run", help::RUN, help::LANGUAGE)
+        .long_about(help::REPORT)
+        .arg(file(alloc))?
+        .arg(workers(alloc))?
+        .arg(limit)?
+        .arg(out(alloc))
+}
+
+fn explain_command<'a>(alloc: Global) -> Result<Command<'a>, AllocError> {
+    let limit = limit(
+        alloc,
+        "The most entries of the history, from 0 to 1000000 [default: 1000000]",
+    );
+    described(alloc, "explain", help::EXPLAIN, help::LANGUAGE)
+        .long_about(help::EXPLANATION)
+        .arg(file(alloc))?
+        .arg(workers(alloc))?
+        .arg(limit)?
+        .arg(painting(alloc))
+}
+
+fn replay_command<'a>(alloc: Global) -> Result<Command<'a>, AllocError> {
+    described(alloc, "replay", help::REPLAY, help::OUTCOME)
+        .arg(file(alloc))?
+        .arg(trace(alloc))
+}
+
+fn draw_command<'a>(alloc: Global) -> Result<Command<'a>, AllocError> {
+    described(alloc, "draw", help::DRAW, help::STRANDS)
+        .long_about(help::DRAWING)
+        .arg(trace(alloc))
+}
+
+/// The program's command without its subcommands.
+fn program<'a>(alloc: Global) -> Result<Command<'a>, AllocError> {
+    described(alloc, "cilkcheck", help::ABOUT, help::PROGRAM)
+        .version(help::VERSION)
+        .bin_name("cilkcheck")
+}
+
+/// A program that also has this command.
+fn with<'a>(
+    program: Command<'a>,
+    command: Result<Command<'a>, AllocError>,
+) -> Result<Command<'a>, AllocError> {
+    program.subcommand(command?)
+}
+
+/// The program's commands.
+fn commands<'a>(alloc: Global) -> Result<Command<'a>, AllocError> {
+    let judging = with(program(alloc)?, judge_command(alloc))?;
+    let eliding = with(judging, elide_command(alloc))?;
+    let running = with(eliding, run_command(alloc))?;
+    let explaining = with(running, explain_command(alloc))?;
+    let replaying = with(explaining, replay_command(alloc))?;
+    with(replaying, draw_command(alloc))
+}
+
+/// A usage fault with this text, which stands in one line; or want of memory.
+pub fn usage(alloc: Global, text: &str) -> CliFault
+    ensures fault { IsUsageFault result }
+    ensures tells { TellsUsage text.now result }
+{
+    match String::from_str(alloc, text) {
+        Ok(text) => CliFault::Usage(text),
+        Err(_) => CliFault::Memory,
+    }
+}
+
+/// A command that works on a file is given none.
+fn no_file(alloc: Global) -> CliFault
+    ensures { IsUsageFault result }
+{
+    usage(alloc, "no file is given; see 'cilkcheck --help'")
+}
+
+/// What the parser of the command line answers in place of a job: a text to show, or the first line of what is wrong.
+fn shown(alloc: Global, error: clap::Error) -> Result<Job, CliFault>
+    ensures job { IfOk result IsInRange }
+    ensures fault { IfErr result IsUsageFault }
+{
+    match error.kind() {
+        ErrorKind::OutOfMemory => return Err(CliFault::Memory),
+        ErrorKind::MissingRequiredArgument => return Err(no_file(alloc)),
+        _ => {}
+    }
+    let text = format!(in alloc; "{error}")?;
+    if error.use_stderr() {
+        let line = text.as_str().lines().next().unwrap_or("");
+        Err(usage(alloc, line.strip_prefix("error: ").unwrap_or(line)))
+    } else {
+        Ok(Job::Show { text })
+    }
+}
+
+/// How many workers the words of a command want.
+fn workers_of(alloc: Global, matches: &ArgMatches<'_>) -> Result<usize, CliFault>
+    ensures workers { IfOk result (λ workers. (0 < workers) × (workers ≤ 64)) }
+    ensures fault { IfErr result IsUsageFault }
+{
+    let Some(text) = matches.get_str("workers") else {
+        return Ok(WORKERS);
+    };
+    match text.parse::<usize>() {
+        Ok(workers) if 0 < workers && workers <= MOST_WORKERS => Ok(workers),
+        _ => Err(usage(
+            alloc,
+            "invalid value for '--workers <N>': a number from 1 to 64 is wanted",
+        )),
+    }
+}
+
+/// The limit that the words of a command give.
+fn limit_of(alloc: Global, matches: &ArgMatches<'_>) -> Result<u32, CliFault>
+    ensures limit { IfOk result (λ limit. limit ≤ most_entries) }
+    ensures fault { IfErr result IsUsageFault }
+{
+    let Some(text) = matches.get_str("limit") else {
+        return Ok(MOST_ENTRIES);
+    };
+    match text.parse::<u32>() {
+        Ok(limit) if limit <= MOST_ENTRIES => Ok(limit),
+        _ => Err(usage(
+            alloc,
+            "invalid value for '--limit <N>': a number from 0 to 1000000 is wanted",
+        )),
+    }
+}
+
+/// The name of a file that the words of a command give.
+fn file_of(alloc: Global, matches: &ArgMatches<'_>, argument: &str) -> Result<String, CliFault>
+    ensures fault { IfErr result IsUsageFault }
+{
+    let Some(name) = matches.get_str(argument) else {
+        return Err(no_file(alloc));
+    };
+    Ok(String::from_str(alloc, name)?)
+}
+
+/// The name of a file that the words of a command may give.
+fn given_file(
+    alloc: Global,
+    matches: &ArgMatches<'_>,
+    argument: &str,
+) -> Result<Option<String>, CliFault>
+    ensures fault { IfErr result IsUsageFault }
+{
+    let Some(name) = matches.get_str(argument) else {
+        return Ok(None);
+    };
+    Ok(Some(String::from_str(alloc, name)?))
+}
+
+fn judge_job(alloc: Global, matches: &ArgMatches<'_>) -> Result<Job, CliFault>
+    ensures job { IfOk result IsInRange }
+    ensures fault { IfErr result IsUsageFault }
+{
+    let file = given_file(alloc, matches, "file")?;
+    let limit = limit_of(alloc, matches)?;
+    Ok(Job::Judge { file, limit })
+}
+
+fn elide_job(alloc: Global, matches: &ArgMatches<'_>) -> Result<Job, CliFault>
+    ensures job { IfOk result IsInRange }
+    ensures fault { IfErr result IsUsageFault }
+{
+    let file = file_of(alloc, matches, "file")?;
+    let limit = limit_of(alloc, matches)?;
+    Ok(Job::Elide { file, limit })
+}
+
+/// The file that the trace of a run is written into, where one is named. It is none that holds the program, which would be lost.
+fn out_of(alloc: Global, matches: &ArgMatches<'_>, file: &str) -> Result<Option<String>, CliFault>
+    ensures fault { IfErr result IsUsageFault }
+{
+    match matches.get_str("trace") {
+        Some(name) if name == file => Err(usage(alloc, OVER_PROGRAM)),
+        _ => given_file(alloc, matches, "trace"),
+    }
+}
+
+fn run_job(alloc: Global, matches: &ArgMatches<'_>) -> Result<Job, CliFault>
+    ensures job { IfOk result IsInRange }
+    ensures fault { IfErr result IsUsageFault }
+{
+    let file = file_of(alloc, matches, "file")?;
+    let workers = workers_of(alloc, matches)?;
+    let limit = limit_of(alloc, matches)?;
+    match out_of(alloc, matches, file.as_str())? {
+        None => Ok(Job::Run {
+            file,
+            workers,
+            limit,
+        }),
+        Some(trace) => Ok(Job::Record {
+            file,
+            workers,
+            limit,
+            trace,
+        }),
+    }
+}
+
+/// When the words of a command want words to be painted.
+fn color_of(alloc: Global, matches: &ArgMatches<'_>) -> Result<Color, CliFault>
+    ensures fault { IfErr result IsUsageFault }
+{
+    match matches.get_str("color") {
+        None | Some("auto") => Ok(Color::Auto),
+        Some("always") => Ok(Color::Always),
+        Some("never") => Ok(Color::Never),
+        Some(_) => Err(usage(
+            alloc,
+            "invalid value for '--color <WHEN>': auto, always or never is wanted",
+        )),
+    }
+}
+
+fn explain_job(alloc: Global, matches: &ArgMatches<'_>) -> Result<Job, CliFault>
+    ensures job { IfOk result IsInRange }
+    ensures fault { IfErr result IsUsageFault }
+{
+    let file = file_of(alloc, matches, "file")?;
+    let workers = workers_of(alloc, matches)?;
+    let limit = limit_of(alloc, matches)?;
+    let color = color_of(alloc, matches)?;
+    Ok(Job::Explain {
+        file,
+        workers,
+        limit,
+        color,
+    })
+}
+
+fn replay_job(alloc: Global, matches: &ArgMatches<'_>) -> Result<Job, CliFault>
+    ensures job { IfOk result IsInRange }
+    ensures fault { IfErr result IsUsageFault }
+{
+    let file = file_of(alloc, matches, "file")?;
+    let trace = file_of(alloc, matches, "trace")?;
+    Ok(Job::Replay { file, trace })
+}
+
+fn draw_job(alloc: Global, matches: &ArgMatches<'_>) -> Result<Job, CliFault>
+    ensures job { IfOk result IsInRange }
+    ensures fault { IfErr result IsUsageFault }
+{
+    let file = file_of(alloc, matches, "trace")?;
+    Ok(Job::Draw { file })
+}
+
+/// What the words that were matched ask for.
+fn job_of(alloc: Global, matches: &ArgMatches<'_>) -> Result<Job, CliFault>
+    ensures job { IfOk result IsInRange }
+    ensures fault { IfErr result IsUsageFault }
+{
+    match matches.subcommand() {
+        Some(("judge", matches)) => judge_job(alloc, matches),
+        Some(("elide", matches)) => elide_job(alloc, matches),
+        Some(("run", matches)) => run_job(alloc, matches),
+        Some(("explain", matches)) => explain_job(alloc, matches),
+        Some(("replay", matches)) => replay_job(alloc, matches),
+        Some(("draw", matches)) => draw_job(alloc, matches),
+        _ => Err(usage(alloc, "no command is given; see 'cilkcheck --help'")),
+    }
+}
+
+/// Reads the words behind the program's name. A fault is [`CliFault::Usage`] or [`CliFault::Memory`].
+pub fn read_words(alloc: Global, words: &[&str]) -> Result<Job, CliFault>
+    ensures job { IfOk result IsInRange }
+    ensures fault { IfErr result IsUsageFault }
+{
+    let command = commands(alloc)?.no_binary_name(true);
+    match command.try_get_matches_from(words) {
+        Ok(matches) => job_of(alloc, &matches),
+        Err(error) => shown(alloc, error),
+    }
+}
+
+/// Reads the words that the program was called with, behind its name. A fault is [`CliFault::Usage`] or [`CliFault::Memory`].
+pub fn read_args<R: Env + Alloc<A = Global>>(rt: &R) -> Result<Job, CliFault>
+    ensures job { IfOk result IsInRange }
+    ensures fault { IfErr result IsUsageFault }
+{
+    let alloc = rt.alloc();
+    let words = match env::args(rt) {
+        Ok(words) => words,
+        Err(error) if error.kind() == io::ErrorKind::OutOfMemory => return Err(CliFault::Memory),
+        Err(_) => return Err(usage(alloc, "a word of the command line is no UTF-8")),
+    };
+    let words: Vec<String> = words.skip(1).collect(alloc)?;
+    let words: Vec<&str> = words.iter().map(|word| word.as_str()).collect(alloc)?;
+    read_words(alloc, words.as_slice())
+}

@@ -1,6 +1,0 @@
-use Rattle.std.proofs.Common.{arith}
-use Rattle.std.proofs.lemmas.Grind.{common_steps}
-use Rattle.trace_values.proofs.fault.both.Goals as goal
-
-pub returns-after-b-2 : goal.returns-after-b-2
-returns-after-b-2 g c = grind (arith, common_steps)

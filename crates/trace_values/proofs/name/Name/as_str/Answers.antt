@@ -1,4 +1,0 @@
-use Rattle.trace_values.proofs.name.Name.as_str.Goals as goal
-
-pub returns : goal.returns
-returns c = cc

@@ -1,6 +1,0 @@
-use Rattle.std.proofs.Common.{arith}
-use Rattle.std.proofs.lemmas.Grind.{common_steps}
-use Rattle.trace_values.proofs.name.is_name.Goals as goal
-
-pub returns-then-rest-lt-NAME_LEN : goal.returns-then-rest-lt-NAME_LEN
-returns-then-rest-lt-NAME_LEN c = grind (arith, common_steps)

@@ -1,4 +1,0 @@
-use Rattle.trace_values.proofs.names.Names.cells.Goals as goal
-
-pub returns-clause-cells : goal.returns-clause-cells
-returns-clause-cells g c = cc

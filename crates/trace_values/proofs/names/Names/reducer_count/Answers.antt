@@ -1,4 +1,0 @@
-use Rattle.trace_values.proofs.names.Names.reducer_count.Goals as goal
-
-pub returns-clause-count : goal.returns-clause-count
-returns-clause-count g c = cc

@@ -1,4 +1,0 @@
-use Rattle.trace_values.proofs.names.Names.version.Goals as goal
-
-pub returns : goal.returns
-returns g c = cc

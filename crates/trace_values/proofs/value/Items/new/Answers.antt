@@ -1,5 +1,0 @@
-use Rattle.std.proofs.Common.{refl}
-use Rattle.trace_values.proofs.value.Items.new.Goals as goal
-
-pub returns : goal.returns
-returns g c = refl
