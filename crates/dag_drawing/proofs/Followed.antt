@@ -58,63 +58,11 @@ After begun blocks edges strand act answer h = IsWalk begun blocks edges (with_e
 abbrev MayCome : ℕ → Act → Answer → History → Type 0
 MayCome strand act answer h = Running h strand × Belongs act answer × MatchOption (event_between strand act answer) (Unit {0}) (Allowed h)
 
-after_split : (begun : List Bool) (blocks : List (Option ℕ)) (edges : List Edge) (strand : ℕ) (act : Act) (spawned : Spawned) (h : History) →
-    IsWalk begun blocks edges h → MayCome strand act (Split spawned) h →
-    After (begun ++ marks_of spawned.first) (blocks ++ blocks_of spawned.first spawned.join (get_or blocks strand None))
-    (edges ++ forks strand spawned.child spawned.next) strand act (Split spawned) h
-after_split begun blocks edges strand Spawn spawned h walk (run, b, a) =
-    walk_split begun blocks edges h strand spawned.child spawned.next spawned.join spawned.first walk a
-after_split begun blocks edges strand act spawned h walk (run, b, a) = absurd b
-
-after_waits : (begun : List Bool) (blocks : List (Option ℕ)) (edges : List Edge) (strand : ℕ) (act : Act) (h : History) →
-    IsWalk begun blocks edges h → MayCome strand act Waits h →
-    After begun blocks (edges ++ arrival strand (get_or blocks strand None)) strand act Waits h
-after_waits begun blocks edges strand Sync h walk (run, b, a) = walk_waits begun blocks edges h strand walk run a
-after_waits begun blocks edges strand act h walk (run, b, a) = absurd b
-
-after_ended : (begun : List Bool) (blocks : List (Option ℕ)) (edges : List Edge) (strand : ℕ) (act : Act) (h : History) →
-    IsWalk begun blocks edges h → MayCome strand act Ended h →
-    After begun blocks (edges ++ arrival strand (get_or blocks strand None)) strand act Ended h
-after_ended begun blocks edges strand Return h walk (run, b, a) = walk_ended begun blocks edges h strand walk run a
-after_ended begun blocks edges strand act h walk (run, b, a) = absurd b
-
 joined_at : (h : History) (s j : ℕ) → Allowed h (joined s j) → enclosing (stack h s) ≡ Some j
 joined_at h s j (sync_joined run st none) = ap enclosing st
 
 returned_at : (h : History) (s j : ℕ) → Allowed h (ended_joined s j) → enclosing (stack h s) ≡ Some j
 returned_at h s j (last_return run st last) = ap enclosing st
-
-after_joined : (begun : List Bool) (blocks : List (Option ℕ)) (edges : List Edge) (strand : ℕ) (act : Act) (join : ℕ) (h : History) →
-    IsWalk begun blocks edges h → MayCome strand act (Joined join) h → (join < length begun) ×
-    After (set begun join true) blocks (edges ++ arrival strand (get_or blocks strand None)) strand act (Joined join) h
-after_joined begun blocks edges strand Sync join h walk (run, b, a) =
-    let known : join < unused h = join_known h strand join walk.legal (joined_at h strand join a) in
-    (omega (arith, known, walk.marks), walk_joined begun blocks edges h strand join walk run known a)
-after_joined begun blocks edges strand act join h walk (run, b, a) = absurd b
-
-after_returned : (begun : List Bool) (blocks : List (Option ℕ)) (edges : List Edge) (strand : ℕ) (act : Act) (join : ℕ) (h : History) →
-    IsWalk begun blocks edges h → MayCome strand act (EndedJoined join) h → (join < length begun) ×
-    After (set begun join true) blocks (edges ++ arrival strand (get_or blocks strand None)) strand act (EndedJoined join) h
-after_returned begun blocks edges strand Return join h walk (run, b, a) =
-    let known : join < unused h = join_known h strand join walk.legal (returned_at h strand join a) in
-    (omega (arith, known, walk.marks), walk_ended_joined begun blocks edges h strand join walk run known a)
-after_returned begun blocks edges strand act join h walk (run, b, a) = absurd b
-
-after_same : (begun : List Bool) (blocks : List (Option ℕ)) (edges : List Edge) (strand : ℕ) (act : Act) (h : History) →
-    IsWalk begun blocks edges h → MayCome strand act Same h → After begun blocks edges strand act Same h
-after_same begun blocks edges strand Sync h walk (run, b, a) = walk_same begun blocks edges h strand walk a
-after_same begun blocks edges strand Call h walk (run, b, a) = walk_call begun blocks edges h strand walk a
-after_same begun blocks edges strand act h walk (run, b, a) = absurd b
-
-after_resumed : (begun : List Bool) (blocks : List (Option ℕ)) (edges : List Edge) (strand : ℕ) (act : Act) (h : History) →
-    IsWalk begun blocks edges h → MayCome strand act Resumed h → After begun blocks edges strand act Resumed h
-after_resumed begun blocks edges strand Return h walk (run, b, a) = walk_resumed begun blocks edges h strand walk a
-after_resumed begun blocks edges strand act h walk (run, b, a) = absurd b
-
-after_finished : (begun : List Bool) (blocks : List (Option ℕ)) (edges : List Edge) (strand : ℕ) (act : Act) (h : History) →
-    IsWalk begun blocks edges h → MayCome strand act Finished h → After begun blocks edges strand act Finished h
-after_finished begun blocks edges strand Return h walk (run, b, a) = walk_finished begun blocks edges h strand walk run a
-after_finished begun blocks edges strand act h walk (run, b, a) = absurd b
 
 -- what an access is answered
 abbrev IsOfAccess : Answer → Type 0
@@ -152,107 +100,132 @@ no_event strand (Update reducer value) answer of = refl
 no_event strand (Put reducer value) answer of = refl
 no_event strand (Get reducer) answer of = refl
 
-after_access : (begun : List Bool) (blocks : List (Option ℕ)) (edges : List Edge) (strand : ℕ) (act : Act) (answer : Answer) (h : History) →
-    IsWalk begun blocks edges h → IsOfAccess answer → After begun blocks edges strand act answer h
-after_access begun blocks edges strand act answer h walk of =
-    subst (λ (o : Option Event). IsWalk begun blocks edges (with_event o h)) (sym (no_event strand act answer of)) walk
-
 -- the answer neither spawns nor ends a strand at a join
 abbrev pub IsQuiet : Answer → Type 0
 IsQuiet answer =
     ((spawned : Spawned) → answer ≡ Split spawned → ⊥) × ((join : ℕ) → answer ≡ Joined join → ⊥) × (answer ≡ Waits → ⊥) × (answer ≡ Ended → ⊥) ×
     ((join : ℕ) → answer ≡ EndedJoined join → ⊥)
 
-after_quiet : (begun : List Bool) (blocks : List (Option ℕ)) (edges : List Edge) (strand : ℕ) (act : Act) (answer : Answer) (h : History) →
-    IsWalk begun blocks edges h → MayCome strand act answer h → IsQuiet answer → After begun blocks edges strand act answer h
-after_quiet begun blocks edges strand act Same h walk may quiet = after_same begun blocks edges strand act h walk may
-after_quiet begun blocks edges strand act Resumed h walk may quiet = after_resumed begun blocks edges strand act h walk may
-after_quiet begun blocks edges strand act Finished h walk may quiet = after_finished begun blocks edges strand act h walk may
-after_quiet begun blocks edges strand act Granted h walk may quiet = after_access begun blocks edges strand act Granted h walk tt
-after_quiet begun blocks edges strand act (Value value) h walk may quiet = after_access begun blocks edges strand act (Value value) h walk tt
-after_quiet begun blocks edges strand act (Refused rule witness) h walk may quiet = after_access begun blocks edges strand act (Refused rule witness) h walk tt
-after_quiet begun blocks edges strand act Unset h walk may quiet = after_access begun blocks edges strand act Unset h walk tt
-after_quiet begun blocks edges strand act (Split spawned) h walk may quiet = absurd (quiet.0 spawned refl)
-after_quiet begun blocks edges strand act (Joined join) h walk may quiet = absurd (quiet.1 join refl)
-after_quiet begun blocks edges strand act Waits h walk may quiet = absurd (quiet.2 refl)
-after_quiet begun blocks edges strand act Ended h walk may quiet = absurd (quiet.3 refl)
-after_quiet begun blocks edges strand act (EndedJoined join) h walk may quiet = absurd (quiet.4 join refl)
+module _ (begun : List Bool) (blocks : List (Option ℕ)) (edges : List Edge) (strand : ℕ) (h : History) (walk : IsWalk begun blocks edges h) where
+  after_split : (act : Act) (spawned : Spawned) → MayCome strand act (Split spawned) h →
+      After (begun ++ marks_of spawned.first) (blocks ++ blocks_of spawned.first spawned.join (get_or blocks strand None))
+      (edges ++ forks strand spawned.child spawned.next) strand act (Split spawned) h
+  after_split Spawn spawned (run, b, a) = walk_split begun blocks edges h strand spawned.child spawned.next spawned.join spawned.first walk a
+  after_split act spawned (run, b, a) = absurd b
+
+  after_waits : (act : Act) → MayCome strand act Waits h → After begun blocks (edges ++ arrival strand (get_or blocks strand None)) strand act Waits h
+  after_waits Sync (run, b, a) = walk_waits begun blocks edges h strand walk run a
+  after_waits act (run, b, a) = absurd b
+
+  after_ended : (act : Act) → MayCome strand act Ended h → After begun blocks (edges ++ arrival strand (get_or blocks strand None)) strand act Ended h
+  after_ended Return (run, b, a) = walk_ended begun blocks edges h strand walk run a
+  after_ended act (run, b, a) = absurd b
+
+  after_joined : (act : Act) (join : ℕ) → MayCome strand act (Joined join) h → (join < length begun) ×
+      After (set begun join true) blocks (edges ++ arrival strand (get_or blocks strand None)) strand act (Joined join) h
+  after_joined Sync join (run, b, a) =
+      let known : join < unused h = join_known h strand join walk.legal (joined_at h strand join a) in
+      (omega (arith, known, walk.marks), walk_joined begun blocks edges h strand join walk run known a)
+  after_joined act join (run, b, a) = absurd b
+
+  after_returned : (act : Act) (join : ℕ) → MayCome strand act (EndedJoined join) h → (join < length begun) ×
+      After (set begun join true) blocks (edges ++ arrival strand (get_or blocks strand None)) strand act (EndedJoined join) h
+  after_returned Return join (run, b, a) =
+      let known : join < unused h = join_known h strand join walk.legal (returned_at h strand join a) in
+      (omega (arith, known, walk.marks), walk_ended_joined begun blocks edges h strand join walk run known a)
+  after_returned act join (run, b, a) = absurd b
+
+  after_same : (act : Act) → MayCome strand act Same h → After begun blocks edges strand act Same h
+  after_same Sync (run, b, a) = walk_same begun blocks edges h strand walk a
+  after_same Call (run, b, a) = walk_call begun blocks edges h strand walk a
+  after_same act (run, b, a) = absurd b
+
+  after_resumed : (act : Act) → MayCome strand act Resumed h → After begun blocks edges strand act Resumed h
+  after_resumed Return (run, b, a) = walk_resumed begun blocks edges h strand walk a
+  after_resumed act (run, b, a) = absurd b
+
+  after_finished : (act : Act) → MayCome strand act Finished h → After begun blocks edges strand act Finished h
+  after_finished Return (run, b, a) = walk_finished begun blocks edges h strand walk run a
+  after_finished act (run, b, a) = absurd b
+
+  after_access : (act : Act) (answer : Answer) → IsOfAccess answer → After begun blocks edges strand act answer h
+  after_access act answer of = subst (λ (o : Option Event). IsWalk begun blocks edges (with_event o h)) (sym (no_event strand act answer of)) walk
+
+  after_quiet : (act : Act) (answer : Answer) → MayCome strand act answer h → IsQuiet answer → After begun blocks edges strand act answer h
+  after_quiet act Same may quiet = after_same act may
+  after_quiet act Resumed may quiet = after_resumed act may
+  after_quiet act Finished may quiet = after_finished act may
+  after_quiet act Granted may quiet = after_access act Granted tt
+  after_quiet act (Value value) may quiet = after_access act (Value value) tt
+  after_quiet act (Refused rule witness) may quiet = after_access act (Refused rule witness) tt
+  after_quiet act Unset may quiet = after_access act Unset tt
+  after_quiet act (Split spawned) may quiet = absurd (quiet.0 spawned refl)
+  after_quiet act (Joined join) may quiet = absurd (quiet.1 join refl)
+  after_quiet act Waits may quiet = absurd (quiet.2 refl)
+  after_quiet act Ended may quiet = absurd (quiet.3 refl)
+  after_quiet act (EndedJoined join) may quiet = absurd (quiet.4 join refl)
 
 -- ---- one more of the entries in a slice
 
 abbrev At : List Entry → ℕ → History
 At told i = control_part (reverse (take i told))
 
-may_come : (told : List Entry) (i : ℕ) (d : Entry) → i < length told → IsLegalHistory (reverse told) → (answer : Answer) →
-    (get_or told i d).answer ≡ answer → MayCome (get_or told i d).request.strand (get_or told i d).request.act answer (At told i)
-may_come told i d below legal answer is =
-    let next = (legal_next told i d below legal).1 in
-    subst (λ (x : Answer). MayCome (get_or told i d).request.strand (get_or told i d).request.act x (At told i)) is (next.runs, next.belongs, next.allowed)
+module _ (told : List Entry) (i : ℕ) (d : Entry) (below : i < length told) (legal : IsLegalHistory (reverse told)) where
+  abbrev here : Entry
+  here = get_or told i d
 
--- the walk after the entry is the one after its act with its answer
-come : (told : List Entry) (i : ℕ) (d : Entry) → i < length told → (answer : Answer) → (get_or told i d).answer ≡ answer →
-    (begun old_begun : List Bool) (blocks old_blocks : List (Option ℕ)) (edges old_edges : List Edge) →
-    begun ≡ old_begun → blocks ≡ old_blocks → edges ≡ old_edges →
-    After old_begun old_blocks old_edges (get_or told i d).request.strand (get_or told i d).request.act answer (At told i) →
-    IsWalk begun blocks edges (At told (i + 1))
-come told i d below answer is begun old_begun blocks old_blocks edges old_edges e f g after =
-    let there : IsWalk old_begun old_blocks old_edges (At told (i + 1)) =
-    subst (λ (xs : Entries). IsWalk old_begun old_blocks old_edges (control_part xs)) (sym (so_far told i d below))
-    (subst (λ (x : Answer). After old_begun old_blocks old_edges (get_or told i d).request.strand (get_or told i d).request.act x (At told i)) (sym is) after) in
-    rw (e, f, g) there
+  may_come : (answer : Answer) → here.answer ≡ answer → MayCome here.request.strand here.request.act answer (At told i)
+  may_come answer is =
+      let next = (legal_next told i d below legal).1 in
+      subst (λ (x : Answer). MayCome here.request.strand here.request.act x (At told i)) is (next.runs, next.belongs, next.allowed)
 
-pub next_split : (told : List Entry) (i : ℕ) (d : Entry) → i < length told → IsLegalHistory (reverse told) →
-    (old_begun begun : List Bool) (old_blocks blocks : List (Option ℕ)) (old_edges edges : List Edge) → IsWalk old_begun old_blocks old_edges (At told i) →
-    (spawned : Spawned) → (get_or told i d).answer ≡ Split spawned → begun ≡ old_begun ++ marks_of spawned.first →
-    blocks ≡ old_blocks ++ blocks_of spawned.first spawned.join (get_or old_blocks (get_or told i d).request.strand None) →
-    edges ≡ old_edges ++ forks (get_or told i d).request.strand spawned.child spawned.next → IsWalk begun blocks edges (At told (i + 1))
-next_split told i d below legal old_begun begun old_blocks blocks old_edges edges walk spawned is e f g =
-    come told i d below (Split spawned) is begun _ blocks _ edges _ e f g
-    (after_split old_begun old_blocks old_edges (get_or told i d).request.strand (get_or told i d).request.act spawned (At told i) walk
-    (may_come told i d below legal (Split spawned) is))
+  -- the walk after the entry is the one after its act with its answer
+  come : (answer : Answer) → here.answer ≡ answer → (begun old_begun : List Bool) (blocks old_blocks : List (Option ℕ)) (edges old_edges : List Edge) →
+      begun ≡ old_begun → blocks ≡ old_blocks → edges ≡ old_edges →
+      After old_begun old_blocks old_edges here.request.strand here.request.act answer (At told i) → IsWalk begun blocks edges (At told (i + 1))
+  come answer is begun old_begun blocks old_blocks edges old_edges e f g after =
+      let there : IsWalk old_begun old_blocks old_edges (At told (i + 1)) =
+      subst (λ (xs : Entries). IsWalk old_begun old_blocks old_edges (control_part xs)) (sym (so_far told i d below))
+      (subst (λ (x : Answer). After old_begun old_blocks old_edges here.request.strand here.request.act x (At told i)) (sym is) after) in
+      rw (e, f, g) there
 
-pub next_end : (told : List Entry) (i : ℕ) (d : Entry) → i < length told → IsLegalHistory (reverse told) →
-    (old_begun begun : List Bool) (old_blocks blocks : List (Option ℕ)) (old_edges edges : List Edge) → IsWalk old_begun old_blocks old_edges (At told i) →
-    ((get_or told i d).answer ≡ Waits) ⊎ ((get_or told i d).answer ≡ Ended) → begun ≡ old_begun → blocks ≡ old_blocks →
-    edges ≡ old_edges ++ arrival (get_or told i d).request.strand (get_or old_blocks (get_or told i d).request.strand None) →
-    IsWalk begun blocks edges (At told (i + 1))
-next_end told i d below legal old_begun begun old_blocks blocks old_edges edges walk (inl is) e f g =
-    come told i d below Waits is begun _ blocks _ edges _ e f g
-    (after_waits old_begun old_blocks old_edges (get_or told i d).request.strand (get_or told i d).request.act (At told i) walk
-    (may_come told i d below legal Waits is))
-next_end told i d below legal old_begun begun old_blocks blocks old_edges edges walk (inr is) e f g =
-    come told i d below Ended is begun _ blocks _ edges _ e f g
-    (after_ended old_begun old_blocks old_edges (get_or told i d).request.strand (get_or told i d).request.act (At told i) walk
-    (may_come told i d below legal Ended is))
+  pub next_split : (old_begun begun : List Bool) (old_blocks blocks : List (Option ℕ)) (old_edges edges : List Edge) → IsWalk old_begun old_blocks old_edges (At told i) →
+      (spawned : Spawned) → here.answer ≡ Split spawned → begun ≡ old_begun ++ marks_of spawned.first →
+      blocks ≡ old_blocks ++ blocks_of spawned.first spawned.join (get_or old_blocks here.request.strand None) →
+      edges ≡ old_edges ++ forks here.request.strand spawned.child spawned.next → IsWalk begun blocks edges (At told (i + 1))
+  next_split old_begun begun old_blocks blocks old_edges edges walk spawned is e f g =
+      come (Split spawned) is begun _ blocks _ edges _ e f g
+      (after_split old_begun old_blocks old_edges here.request.strand (At told i) walk here.request.act spawned (may_come (Split spawned) is))
 
-pub join_within : (told : List Entry) (i : ℕ) (d : Entry) → i < length told → IsLegalHistory (reverse told) →
-    (begun : List Bool) (blocks : List (Option ℕ)) (edges : List Edge) → IsWalk begun blocks edges (At told i) → (join : ℕ) →
-    ((get_or told i d).answer ≡ Joined join) ⊎ ((get_or told i d).answer ≡ EndedJoined join) → join < length begun
-join_within told i d below legal begun blocks edges walk join (inl is) =
-    (after_joined begun blocks edges (get_or told i d).request.strand (get_or told i d).request.act join (At told i) walk
-    (may_come told i d below legal (Joined join) is)).0
-join_within told i d below legal begun blocks edges walk join (inr is) =
-    (after_returned begun blocks edges (get_or told i d).request.strand (get_or told i d).request.act join (At told i) walk
-    (may_come told i d below legal (EndedJoined join) is)).0
+  pub next_end : (old_begun begun : List Bool) (old_blocks blocks : List (Option ℕ)) (old_edges edges : List Edge) → IsWalk old_begun old_blocks old_edges (At told i) →
+      (here.answer ≡ Waits) ⊎ (here.answer ≡ Ended) → begun ≡ old_begun → blocks ≡ old_blocks →
+      edges ≡ old_edges ++ arrival here.request.strand (get_or old_blocks here.request.strand None) → IsWalk begun blocks edges (At told (i + 1))
+  next_end old_begun begun old_blocks blocks old_edges edges walk (inl is) e f g =
+      come Waits is begun _ blocks _ edges _ e f g
+      (after_waits old_begun old_blocks old_edges here.request.strand (At told i) walk here.request.act (may_come Waits is))
+  next_end old_begun begun old_blocks blocks old_edges edges walk (inr is) e f g =
+      come Ended is begun _ blocks _ edges _ e f g
+      (after_ended old_begun old_blocks old_edges here.request.strand (At told i) walk here.request.act (may_come Ended is))
 
-pub next_join : (told : List Entry) (i : ℕ) (d : Entry) → i < length told → IsLegalHistory (reverse told) →
-    (old_begun begun : List Bool) (old_blocks blocks : List (Option ℕ)) (old_edges edges : List Edge) → IsWalk old_begun old_blocks old_edges (At told i) →
-    (join : ℕ) → ((get_or told i d).answer ≡ Joined join) ⊎ ((get_or told i d).answer ≡ EndedJoined join) → begun ≡ set old_begun join true → blocks ≡ old_blocks →
-    edges ≡ old_edges ++ arrival (get_or told i d).request.strand (get_or old_blocks (get_or told i d).request.strand None) →
-    IsWalk begun blocks edges (At told (i + 1))
-next_join told i d below legal old_begun begun old_blocks blocks old_edges edges walk join (inl is) e f g =
-    come told i d below (Joined join) is begun _ blocks _ edges _ e f g
-    (after_joined old_begun old_blocks old_edges (get_or told i d).request.strand (get_or told i d).request.act join (At told i) walk
-    (may_come told i d below legal (Joined join) is)).1
-next_join told i d below legal old_begun begun old_blocks blocks old_edges edges walk join (inr is) e f g =
-    come told i d below (EndedJoined join) is begun _ blocks _ edges _ e f g
-    (after_returned old_begun old_blocks old_edges (get_or told i d).request.strand (get_or told i d).request.act join (At told i) walk
-    (may_come told i d below legal (EndedJoined join) is)).1
+  pub join_within : (begun : List Bool) (blocks : List (Option ℕ)) (edges : List Edge) → IsWalk begun blocks edges (At told i) → (join : ℕ) →
+      (here.answer ≡ Joined join) ⊎ (here.answer ≡ EndedJoined join) → join < length begun
+  join_within begun blocks edges walk join (inl is) =
+      (after_joined begun blocks edges here.request.strand (At told i) walk here.request.act join (may_come (Joined join) is)).0
+  join_within begun blocks edges walk join (inr is) =
+      (after_returned begun blocks edges here.request.strand (At told i) walk here.request.act join (may_come (EndedJoined join) is)).0
 
-pub next_quiet : (told : List Entry) (i : ℕ) (d : Entry) → i < length told → IsLegalHistory (reverse told) →
-    (begun : List Bool) (blocks : List (Option ℕ)) (edges : List Edge) → IsWalk begun blocks edges (At told i) →
-    IsQuiet (get_or told i d).answer → IsWalk begun blocks edges (At told (i + 1))
-next_quiet told i d below legal begun blocks edges walk quiet =
-    come told i d below (get_or told i d).answer refl begun begun blocks blocks edges edges refl refl refl
-    (after_quiet begun blocks edges (get_or told i d).request.strand (get_or told i d).request.act (get_or told i d).answer (At told i) walk
-    (may_come told i d below legal (get_or told i d).answer refl) quiet)
+  pub next_join : (old_begun begun : List Bool) (old_blocks blocks : List (Option ℕ)) (old_edges edges : List Edge) → IsWalk old_begun old_blocks old_edges (At told i) →
+      (join : ℕ) → (here.answer ≡ Joined join) ⊎ (here.answer ≡ EndedJoined join) → begun ≡ set old_begun join true → blocks ≡ old_blocks →
+      edges ≡ old_edges ++ arrival here.request.strand (get_or old_blocks here.request.strand None) → IsWalk begun blocks edges (At told (i + 1))
+  next_join old_begun begun old_blocks blocks old_edges edges walk join (inl is) e f g =
+      come (Joined join) is begun _ blocks _ edges _ e f g
+      (after_joined old_begun old_blocks old_edges here.request.strand (At told i) walk here.request.act join (may_come (Joined join) is)).1
+  next_join old_begun begun old_blocks blocks old_edges edges walk join (inr is) e f g =
+      come (EndedJoined join) is begun _ blocks _ edges _ e f g
+      (after_returned old_begun old_blocks old_edges here.request.strand (At told i) walk here.request.act join (may_come (EndedJoined join) is)).1
+
+  pub next_quiet : (begun : List Bool) (blocks : List (Option ℕ)) (edges : List Edge) → IsWalk begun blocks edges (At told i) →
+      IsQuiet here.answer → IsWalk begun blocks edges (At told (i + 1))
+  next_quiet begun blocks edges walk quiet =
+      come here.answer refl begun begun blocks blocks edges edges refl refl refl
+      (after_quiet begun blocks edges here.request.strand (At told i) walk here.request.act here.answer (may_come here.answer refl) quiet)

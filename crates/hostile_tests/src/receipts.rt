@@ -8,7 +8,8 @@ use crate::worked::PAIR;
 use locked_replay::{LockedGate, RunFault, Seat, WorkerLog, gather};
 use program_text::Program;
 use race_gate::{Answer, Receipt};
-use std::alloc::Global;
+use short_receipts::Receipts;
+use std::alloc::{AllocError, Global};
 use std::marker::Brand;
 use std::process::Abort;
 use std::sync::Wait;
@@ -42,26 +43,23 @@ enum Change {
     Request(usize, Request),
 }
 
-/// Makes the change, where there is such a receipt.
-fn alter(receipts: &mut Vec<Receipt>, change: Change) {
+/// The receipt at a place after the change.
+fn altered(receipt: Receipt, at: usize, change: Change) -> Receipt {
     match change {
-        Change::Nothing => {}
-        Change::Number(place, number) => {
-            if let Some(receipt) = receipts.get_mut(place) {
-                receipt.number = number;
-            }
-        }
-        Change::Answer(place, answer) => {
-            if let Some(receipt) = receipts.get_mut(place) {
-                receipt.answer = answer;
-            }
-        }
-        Change::Request(place, request) => {
-            if let Some(receipt) = receipts.get_mut(place) {
-                receipt.request = request;
-            }
-        }
+        Change::Number(place, number) if place == at => Receipt { number, ..receipt },
+        Change::Answer(place, answer) if place == at => Receipt { answer, ..receipt },
+        Change::Request(place, request) if place == at => Receipt { request, ..receipt },
+        _ => receipt,
     }
+}
+
+/// The receipts after the change.
+fn all_altered(alloc: Global, receipts: &Receipts, change: Change) -> Result<Receipts, AllocError> {
+    let mut all = Receipts::new(alloc);
+    for at in 0..receipts.len() {
+        all.push(altered(receipts.get(at), at, change))?;
+    }
+    Ok(all)
 }
 
 /// Asks on the seat, one request after another.
@@ -72,9 +70,9 @@ fn log_of<L: Ledger, R: Wait>(
     mut seat: Seat<L>,
     requests: &[Request],
 ) -> Result<WorkerLog<L>, RunFault> {
-    let mut receipts = Vec::new(alloc);
+    let mut receipts = Receipts::new(alloc);
     for request in requests {
-        receipts.reserve(1)?;
+        receipts.reserve()?;
         match locked.ask(rt, &mut seat, *request) {
             Ok(receipt) => receipts.push_reserved(receipt),
             Err(_) => return Err(RunFault::Limit),
@@ -110,7 +108,7 @@ fn gathered<L: Ledger, R: Wait>(
 {
     let (locked, seat) = LockedGate::<L>::new(gate_for(alloc, program)?, blank, 1);
     let mut log = log_of(rt, alloc, &locked, seat, requests)?;
-    alter(&mut log.receipts, changed);
+    log.receipts = all_altered(alloc, &log.receipts, changed)?;
     is_clean(alloc, program, locked, log)
 }
 

@@ -34,11 +34,6 @@ pub right_second : (monoids : List Monoid) (first second : List Effect) (store :
 right_second monoids [] second store r = r
 right_second monoids (one ∷ first) second store r = right_second monoids first second (after_act monoids one.act store) r.1
 
-pub right_both : (monoids : List Monoid) (first second : List Effect) (store : Store) → AreRight monoids store first →
-    AreRight monoids (after_all monoids first store) second → AreRight monoids store (first ++ second)
-right_both monoids [] second store r q = q
-right_both monoids (one ∷ first) second store r q = (r.0, right_both monoids first second (after_act monoids one.act store) r.1 q)
-
 -- what a clean answer is
 
 some_is : {A : Type 0} {x y : A} → Some x ≡ Some y → x ≡ y

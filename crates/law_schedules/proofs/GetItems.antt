@@ -32,7 +32,7 @@ use Rattle.law_schedules.proofs.Swaps.{Member}
 use Rattle.law_schedules.proofs.Traces.{ordered, distinct}
 use Rattle.law_schedules.proofs.Heard.{NoneRefused}
 use Rattle.law_schedules.proofs.Comparisons.{less_more, begins_same, same_item, precedes_leads, order_of}
-use Rattle.law_schedules.proofs.ReducerDeeds.{HasNumber, number_member, one_item, by_number, precedes_number, UpdateDeed, update_deed, deed_update, PutDeed, put_deed, deed_put}
+use Rattle.law_schedules.proofs.ReducerDeeds.{HasNumber, number_member, one_item, by_number, precedes_number, updating, putting, Deed, deed_of_change, change_of_deed}
 
 -- the serial order of deeds
 abbrev pub Serially : Item → Item → Type 0
@@ -111,8 +111,8 @@ module _ (shape : Shape) (T : Targets) where
     same_control : items_control (items_of r (steps_of H)) ≡ control_part H
     same_control = (projection_law r (steps_of H)).0 ∙ steps-control H
 
-    p : PutDeed shape T r H is.put
-    p = put_deed shape T r H l c is.put is.last.0
+    p : Deed shape T putting r H is.put
+    p = deed_of_change shape T putting r H l c is.put is.last.0
 
     p_done : Member (trace T H) p.deed
     p_done = number_member shape T H (number_of is.put) p.deed p.numbered
@@ -123,8 +123,8 @@ module _ (shape : Shape) (T : Targets) where
     counts_of : (u : NumberedEntry) → Present u is.counted → Counts (items_of r (steps_of H)) is.put s u
     counts_of u m = (is.counts.1 u).0 ((contains_present u is.counted).1 m)
 
-    deed_is : (u : NumberedEntry) → Present u is.counted → UpdateDeed shape T r H u
-    deed_is u m = update_deed shape T r H l c u (counts_of u m).0
+    deed_is : (u : NumberedEntry) → Present u is.counted → Deed shape T updating r H u
+    deed_is u m = deed_of_change shape T updating r H l c u (counts_of u m).0
 
     deed_at : (u : NumberedEntry) (m : Present u is.counted) → item_no H (number_of u) ≡ (deed_is u m).deed
     deed_at u m = item_no_is H (number_of u) (deed_is u m).deed (deed_is u m).numbered
@@ -133,10 +133,10 @@ module _ (shape : Shape) (T : Targets) where
         Serially (item_no H (number_of u)) (item_no H (number_of v))
     in_order u v m n o = subst₂ Serially (sym (deed_at u m)) (sym (deed_at v n)) (go o)
       where
-        d : UpdateDeed shape T r H u
+        d : Deed shape T updating r H u
         d = deed_is u m
 
-        e : UpdateDeed shape T r H v
+        e : Deed shape T updating r H v
         e = deed_is v n
 
         go : AreInSerialOrder (items_control (items_of r (steps_of H))) u v → Serially d.deed e.deed
@@ -175,7 +175,7 @@ module _ (shape : Shape) (T : Targets) where
 
     members_from : (y : Item) → IsCounted r H p.deed (address (control_part H) s) y → Present y (map the_item is.counted)
     members_from y m =
-        let d = deed_update shape T r m.1.0 H l c y m.0 m.1.1 in
+        let d = change_of_deed shape T updating r m.1.0 H l c y m.0 m.1.1 in
         let h = control_part H in
         let lh = legal-part shape H l in
         let lt = precedes_number shape T H l (number_of is.put) (number_of d.entry) p.deed y p.numbered d.numbered m.2 in
@@ -194,7 +194,7 @@ module _ (shape : Shape) (T : Targets) where
 
     last_of : (z : Item) → Member (trace T H) z → (w : ℕ) → z.newest.act ≡ Put r w → (z ≡ p.deed) ⊎ ((z ≢ p.deed) × (Precedes p.deed z → ⊥))
     last_of z m w q =
-        let d = deed_put shape T r w H l c z m q in
+        let d = change_of_deed shape T putting r w H l c z m q in
         let le = is.last.1 d.entry d.has in
         elim (less_more (number_of d.entry) (number_of is.put)) [
           | inl lt ↦ inr (

@@ -26,30 +26,89 @@ use Rattle.law_schedules.proofs.Traces.{placed, begun_on, ordered}
 use Rattle.law_schedules.proofs.Heard.{NoneRefused}
 use Rattle.law_schedules.proofs.Comparisons.{less_more, irreflexive}
 
+-- what changes the view of a reducer
+pub data Change : Type 0 where
+  updating putting : Change
+
+-- the act that makes the change
+abbrev pub changing : Change → (reducer value : ℕ) → Act
+changing updating reducer value = Update reducer value
+changing putting reducer value = Put reducer value
+
+-- and what it is among the items of the reducer
+abbrev item_changing : Change → (strand value : ℕ) → ReducerItem
+item_changing updating strand value = one.update strand value
+item_changing putting strand value = one.put strand value
+
+abbrev entry_changing : Change → (number strand value : ℕ) → NumberedEntry
+entry_changing updating number strand value = update_entry number strand value
+entry_changing putting number strand value = put_entry number strand value
+
+-- the entry is one of those that change the view so
+abbrev pub HasChange : Change → Items → NumberedEntry → Type 0
+HasChange updating items u = HasUpdate items u
+HasChange putting items u = HasPut items u
+
 -- an item that changes no view of the reducer
 abbrev IsQuiet : ReducerItem → Type 0
-IsQuiet item =
-    (items : Items) (u : NumberedEntry) →
-    (HasUpdate (item ∷ items) u → HasUpdate items u) × (HasUpdate items u → HasUpdate (item ∷ items) u) ×
-    (HasPut (item ∷ items) u → HasPut items u) × (HasPut items u → HasPut (item ∷ items) u)
+IsQuiet item = (change : Change) (items : Items) (u : NumberedEntry) → (HasChange change (item ∷ items) u → HasChange change items u) × (HasChange change items u → HasChange change (item ∷ items) u)
 
 -- an entry as the reducer sees it
 data Head (reducer strand : ℕ) (act : Act) (item : ReducerItem) : Type 0 where
-  updates : (value : ℕ) → act ≡ Update reducer value → item ≡ one.update strand value → Head reducer strand act item
-  puts : (value : ℕ) → act ≡ Put reducer value → item ≡ one.put strand value → Head reducer strand act item
+  changes : (change : Change) (value : ℕ) → act ≡ changing change reducer value → item ≡ item_changing change strand value → Head reducer strand act item
   silent : ((value : ℕ) → act ≡ Update reducer value → ⊥) → ((value : ℕ) → act ≡ Put reducer value → ⊥) → IsQuiet item → Head reducer strand act item
 
+-- an entry that has a change has it now, or had it before the newest change
+now_or_before : (change newest : Change) (items : Items) (strand value : ℕ) (u : NumberedEntry) → HasChange change (item_changing newest strand value ∷ items) u →
+    ((newest ≡ change) × (u ≡ entry_changing change (suc (length items)) strand value)) ⊎ HasChange change items u
+now_or_before updating updating items s v u (inl e) = inl (refl, e)
+now_or_before updating updating items s v u (inr h) = inr h
+now_or_before updating putting items s v u h = inr h
+now_or_before putting updating items s v u h = inr h
+now_or_before putting putting items s v u (inl e) = inl (refl, e)
+now_or_before putting putting items s v u (inr h) = inr h
+
+has_now : (change : Change) (items : Items) (strand value : ℕ) →
+    HasChange change (item_changing change strand value ∷ items) (entry_changing change (suc (length items)) strand value)
+has_now updating items s v = inl refl
+has_now putting items s v = inl refl
+
+has_before : (change newest : Change) (items : Items) (strand value : ℕ) (u : NumberedEntry) → HasChange change items u → HasChange change (item_changing newest strand value ∷ items) u
+has_before updating updating items s v u h = inr h
+has_before updating putting items s v u h = h
+has_before putting updating items s v u h = h
+has_before putting putting items s v u h = inr h
+
+-- what an entry of a change tells
+entry_tells : (change : Change) (number strand value : ℕ) → let u = entry_changing change number strand value in
+    (number_of u ≡ number) × (strand_of u ≡ strand) × (value_of u ≡ value)
+entry_tells updating n s v = (refl, refl, refl)
+entry_tells putting n s v = (refl, refl, refl)
+
+-- the act tells the change and its value
+one_change : (change other : Change) (reducer v w : ℕ) → changing change reducer v ≡ changing other reducer w → (change ≡ other) × (v ≡ w)
+one_change updating updating r v w e = (refl, cc)
+one_change updating putting r v w e = absurd (cc)
+one_change putting updating r v w e = absurd (cc)
+one_change putting putting r v w e = (refl, cc)
+
 quiet_event : (event : Event) → IsQuiet (one.control event)
-quiet_event event items u = ((λ h. h), (λ h. h), (λ h. h), (λ h. h))
+quiet_event event updating items u = ((λ h. h), (λ h. h))
+quiet_event event putting items u = ((λ h. h), (λ h. h))
 
 quiet_other : (strand : ℕ) → IsQuiet (one.other strand)
-quiet_other s items u = ((λ h. h), (λ h. h), (λ h. h), (λ h. h))
+quiet_other s updating items u = ((λ h. h), (λ h. h))
+quiet_other s putting items u = ((λ h. h), (λ h. h))
 
 abbrev item_with : ℕ → ℕ → Act → Answer → ReducerItem
 item_with reducer strand act answer = seen_by reducer (step_with (event_between strand act answer) strand act answer)
 
 abbrev item_at : ℕ → Entry → ReducerItem
 item_at reducer e = item_with reducer e.request.strand e.request.act e.answer
+
+no_change : (r : ℕ) (act : Act) → ((value : ℕ) → act ≡ Update r value → ⊥) → ((value : ℕ) → act ≡ Put r value → ⊥) → (change : Change) (value : ℕ) → act ≡ changing change r value → ⊥
+no_change r act no_update no_put updating = no_update
+no_change r act no_update no_put putting = no_put
 
 head : (r strand : ℕ) (act : Act) (answer : Answer) → Belongs act answer → IsCleanAnswer answer → Head r strand act (item_with r strand act answer)
 head r s Act.Spawn (Split t) b c = silent (λ v e. cc) (λ v e. cc) (quiet_event (split s t.child t.next t.join t.first))
@@ -67,12 +126,12 @@ head r s Act.Return Finished b c = silent (λ v e. cc) (λ v e. cc) (quiet_event
 head r s Act.Return _ b c = absurd b
 head r s (Update p v) Granted b c =
     item_cases (Head r s (Update p v)) p r (one.update s v) (one.other s)
-    (λ q. updates v (ap (λ z. Update z v) q) refl)
+    (λ q. changes updating v (ap (λ z. Update z v) q) refl)
     (λ ne. silent (λ w e. ne (cc)) (λ w e. cc) (quiet_other s))
 head r s (Update p v) _ b c = absurd b
 head r s (Put p v) Granted b c =
     item_cases (Head r s (Put p v)) p r (one.put s v) (one.other s)
-    (λ q. puts v (ap (λ z. Put z v) q) refl)
+    (λ q. changes putting v (ap (λ z. Put z v) q) refl)
     (λ ne. silent (λ w e. cc) (λ w e. ne (cc)) (quiet_other s))
 head r s (Put p v) (Refused rule w) b c = absurd c
 head r s (Put p v) _ b c = absurd b
@@ -126,64 +185,75 @@ module _ (shape : Shape) (T : Targets) where
     ]
   ]
 
-  -- the deed of an update
-  pub record UpdateDeed (reducer : ℕ) (H : Entries) (u : NumberedEntry) : Type 0 where
+  -- the deed of a change
+  pub record Deed (change : Change) (reducer : ℕ) (H : Entries) (u : NumberedEntry) : Type 0 where
     pub deed : Item
     pub numbered : HasNumber H (number_of u) deed
-    pub act : deed.newest.act ≡ Update reducer (value_of u)
+    pub act : deed.newest.act ≡ changing change reducer (value_of u)
     pub at : place deed ≡ address (control_part H) (strand_of u)
     pub begun : Begun (control_part H) (strand_of u)
 
-  update_now : (r : ℕ) (H : Entries) (e : Entry) → IsLegal shape (e ∷ H) → (v : ℕ) → e.request.act ≡ Update r v → (u : NumberedEntry) →
-      u ≡ update_entry (suc (length (items_of r (steps_of H)))) e.request.strand v → UpdateDeed r (e ∷ H) u
-  update_now r H e l v q u n =
+  deed_now : (change : Change) (r : ℕ) (H : Entries) (e : Entry) → IsLegal shape (e ∷ H) → (v : ℕ) → e.request.act ≡ changing change r v →
+      Deed change r (e ∷ H) (entry_changing change (suc (length (items_of r (steps_of H)))) e.request.strand v)
+  deed_now change r H e l v q =
       let t = begun_on shape H e l e.request.strand (inl l.1.runs) in
-      subst (UpdateDeed r (e ∷ H)) (sym n) (record {
+      let tells = entry_tells change (suc (length (items_of r (steps_of H)))) e.request.strand v in
+      record {
         deed = item_of T H e;
-        numbered = inl (ap suc (items_length r H), refl);
-        act = q;
-        at = placed shape T H e l ∙ sym t.1;
-        begun = t.0;
-      })
+        numbered = inl (tells.0 ∙ ap suc (items_length r H), refl);
+        act = q ∙ ap (changing change r) (sym tells.2);
+        at = placed shape T H e l ∙ sym t.1 ∙ ap (address (control_part (e ∷ H))) (sym tells.1);
+        begun = subst (Begun (control_part (e ∷ H))) (sym tells.1) t.0;
+      }
 
-  update_on : (r : ℕ) (H : Entries) (e : Entry) → IsLegal shape (e ∷ H) → (u : NumberedEntry) → UpdateDeed r H u → UpdateDeed r (e ∷ H) u
-  update_on r H e l u d =
+  deed_on : (change : Change) (r : ℕ) (H : Entries) (e : Entry) → IsLegal shape (e ∷ H) → (u : NumberedEntry) → Deed change r H u → Deed change r (e ∷ H) u
+  deed_on change r H e l u d =
       let t = begun_on shape H e l (strand_of u) d.begun in
       record { deed = d.deed; numbered = inr d.numbered; act = d.act; at = d.at ∙ sym t.1; begun = t.0 }
 
-  pub update_deed : (r : ℕ) (H : Entries) → IsLegal shape H → NoneRefused H → (u : NumberedEntry) → HasUpdate (items_of r (steps_of H)) u → UpdateDeed r H u
-  update_deed r [] l c u h = absurd h
-  update_deed r (e ∷ H) l c u h = go (update_deed r H l.0 c.1 u) (head r e.request.strand e.request.act e.answer l.1.belongs c.0) h
+  pub deed_of_change : (change : Change) (r : ℕ) (H : Entries) → IsLegal shape H → NoneRefused H → (u : NumberedEntry) → HasChange change (items_of r (steps_of H)) u → Deed change r H u
+  deed_of_change updating r [] l c u h = absurd h
+  deed_of_change putting r [] l c u h = absurd h
+  deed_of_change change r (e ∷ H) l c u h = go (deed_of_change change r H l.0 c.1 u) (head r e.request.strand e.request.act e.answer l.1.belongs c.0) h
     where
       s : ℕ
       s = e.request.strand
 
-      go : (HasUpdate (items_of r (steps_of H)) u → UpdateDeed r H u) → Head r s e.request.act (item_at r e) →
-          HasUpdate (item_at r e ∷ items_of r (steps_of H)) u → UpdateDeed r (e ∷ H) u
-      go older (updates v q i) h = elim (subst (λ z. HasUpdate (z ∷ items_of r (steps_of H)) u) i h) [
-        | inl n ↦ update_now r H e l v q u n
-        | inr n ↦ update_on r H e l u (older n)
-      ]
-      go older (puts v q i) h = update_on r H e l u (older (subst (λ z. HasUpdate (z ∷ items_of r (steps_of H)) u) i h))
-      go older (silent no_update no_put quiet) h = update_on r H e l u (older ((quiet (items_of r (steps_of H)) u).0 h))
+      items : Items
+      items = items_of r (steps_of H)
 
-  -- the update of a deed
-  pub record DeedUpdate (reducer value : ℕ) (H : Entries) (y : Item) : Type 0 where
+      go : (HasChange change items u → Deed change r H u) → Head r s e.request.act (item_at r e) → HasChange change (item_at r e ∷ items) u → Deed change r (e ∷ H) u
+      go older (changes newest v q i) h =
+          elim (now_or_before change newest items s v u (subst (λ z. HasChange change (z ∷ items) u) i h)) [
+            | inl n ↦ subst (Deed change r (e ∷ H)) (sym n.1) (deed_now change r H e l v (q ∙ ap (λ z. changing z r v) n.0))
+            | inr n ↦ deed_on change r H e l u (older n)
+          ]
+      go older (silent no_update no_put quiet) h = deed_on change r H e l u (older ((quiet change items u).0 h))
+
+  -- the change of a deed
+  pub record DeedChange (change : Change) (reducer value : ℕ) (H : Entries) (y : Item) : Type 0 where
     pub entry : NumberedEntry
-    pub has : HasUpdate (items_of reducer (steps_of H)) entry
+    pub has : HasChange change (items_of reducer (steps_of H)) entry
     pub numbered : HasNumber H (number_of entry) y
     pub value_is : value_of entry ≡ value
     pub at : address (control_part H) (strand_of entry) ≡ place y
     pub begun : Begun (control_part H) (strand_of entry)
 
-  pub deed_update : (r v : ℕ) (H : Entries) → IsLegal shape H → NoneRefused H → (y : Item) → Member (trace T H) y → y.newest.act ≡ Update r v → DeedUpdate r v H y
-  deed_update r v [] l c y m q = absurd m
-  deed_update r v (e ∷ H) l c y m q = go (λ n. deed_update r v H l.0 c.1 y n q) (head r e.request.strand e.request.act e.answer l.1.belongs c.0) m
+  pub change_of_deed : (change : Change) (r v : ℕ) (H : Entries) → IsLegal shape H → NoneRefused H → (y : Item) → Member (trace T H) y → y.newest.act ≡ changing change r v →
+      DeedChange change r v H y
+  change_of_deed change r v [] l c y m q = absurd m
+  change_of_deed change r v (e ∷ H) l c y m q = go (λ n. change_of_deed change r v H l.0 c.1 y n q) (head r e.request.strand e.request.act e.answer l.1.belongs c.0) m
     where
       s : ℕ
       s = e.request.strand
 
-      on : DeedUpdate r v H y → ((u : NumberedEntry) → HasUpdate (items_of r (steps_of H)) u → HasUpdate (item_at r e ∷ items_of r (steps_of H)) u) → DeedUpdate r v (e ∷ H) y
+      items : Items
+      items = items_of r (steps_of H)
+
+      the_entry : NumberedEntry
+      the_entry = entry_changing change (suc (length items)) s v
+
+      on : DeedChange change r v H y → ((u : NumberedEntry) → HasChange change items u → HasChange change (item_at r e ∷ items) u) → DeedChange change r v (e ∷ H) y
       on d more =
           let t = begun_on shape H e l (strand_of d.entry) d.begun in
           record {
@@ -195,115 +265,24 @@ module _ (shape : Shape) (T : Targets) where
             begun = t.0;
           }
 
-      now : (w : ℕ) → e.request.act ≡ Update r w → item_at r e ≡ one.update s w → y ≡ item_of T H e → DeedUpdate r v (e ∷ H) y
-      now w p i n =
+      now : item_at r e ≡ item_changing change s v → y ≡ item_of T H e → DeedChange change r v (e ∷ H) y
+      now i n =
           let t = begun_on shape H e l s (inl l.1.runs) in
-          let same : Update r w ≡ Update r v = sym p ∙ sym (ap (λ z. z.newest.act) n) ∙ q in
+          let tells = entry_tells change (suc (length items)) s v in
           record {
-            entry = update_entry (suc (length (items_of r (steps_of H)))) s w;
-            has = subst (λ z. HasUpdate (z ∷ items_of r (steps_of H)) (update_entry (suc (length (items_of r (steps_of H)))) s w)) (sym i) (inl refl);
-            numbered = inl (ap suc (items_length r H), n);
-            value_is = cc;
-            at = t.1 ∙ sym (placed shape T H e l) ∙ sym (ap place n);
-            begun = t.0;
+            entry = the_entry;
+            has = subst (λ z. HasChange change (z ∷ items) the_entry) (sym i) (has_now change items s v);
+            numbered = inl (tells.0 ∙ ap suc (items_length r H), n);
+            value_is = tells.2;
+            at = ap (address (control_part (e ∷ H))) tells.1 ∙ t.1 ∙ sym (placed shape T H e l) ∙ sym (ap place n);
+            begun = subst (Begun (control_part (e ∷ H))) (sym tells.1) t.0;
           }
 
-      go : (Member (trace T H) y → DeedUpdate r v H y) → Head r s e.request.act (item_at r e) → Member (trace T (e ∷ H)) y → DeedUpdate r v (e ∷ H) y
-      go older (updates w p i) (inl n) = now w p i n
-      go older (updates w p i) (inr n) =
-          on (older n) (λ u h. subst (λ z. HasUpdate (z ∷ items_of r (steps_of H)) u) (sym i) (inr h))
-      go older (puts w p i) (inl n) = absurd (let k : Put r w ≡ Update r v = sym p ∙ sym (ap (λ z. z.newest.act) n) ∙ q in cc)
-      go older (puts w p i) (inr n) = on (older n) (λ u h. subst (λ z. HasUpdate (z ∷ items_of r (steps_of H)) u) (sym i) h)
-      go older (silent no_update no_put quiet) (inl n) = absurd (no_update v (sym (ap (λ z. z.newest.act) n) ∙ q))
-      go older (silent no_update no_put quiet) (inr n) = on (older n) (λ u h. (quiet (items_of r (steps_of H)) u).1 h)
-
-  -- the deed of a put
-  pub record PutDeed (reducer : ℕ) (H : Entries) (u : NumberedEntry) : Type 0 where
-    pub deed : Item
-    pub numbered : HasNumber H (number_of u) deed
-    pub act : deed.newest.act ≡ Put reducer (value_of u)
-    pub at : place deed ≡ address (control_part H) (strand_of u)
-    pub begun : Begun (control_part H) (strand_of u)
-
-  put_now : (r : ℕ) (H : Entries) (e : Entry) → IsLegal shape (e ∷ H) → (v : ℕ) → e.request.act ≡ Put r v → (u : NumberedEntry) →
-      u ≡ put_entry (suc (length (items_of r (steps_of H)))) e.request.strand v → PutDeed r (e ∷ H) u
-  put_now r H e l v q u n =
-      let t = begun_on shape H e l e.request.strand (inl l.1.runs) in
-      subst (PutDeed r (e ∷ H)) (sym n) (record {
-        deed = item_of T H e;
-        numbered = inl (ap suc (items_length r H), refl);
-        act = q;
-        at = placed shape T H e l ∙ sym t.1;
-        begun = t.0;
-      })
-
-  put_on : (r : ℕ) (H : Entries) (e : Entry) → IsLegal shape (e ∷ H) → (u : NumberedEntry) → PutDeed r H u → PutDeed r (e ∷ H) u
-  put_on r H e l u d =
-      let t = begun_on shape H e l (strand_of u) d.begun in
-      record { deed = d.deed; numbered = inr d.numbered; act = d.act; at = d.at ∙ sym t.1; begun = t.0 }
-
-  pub put_deed : (r : ℕ) (H : Entries) → IsLegal shape H → NoneRefused H → (u : NumberedEntry) → HasPut (items_of r (steps_of H)) u → PutDeed r H u
-  put_deed r [] l c u h = absurd h
-  put_deed r (e ∷ H) l c u h = go (put_deed r H l.0 c.1 u) (head r e.request.strand e.request.act e.answer l.1.belongs c.0) h
-    where
-      s : ℕ
-      s = e.request.strand
-
-      go : (HasPut (items_of r (steps_of H)) u → PutDeed r H u) → Head r s e.request.act (item_at r e) →
-          HasPut (item_at r e ∷ items_of r (steps_of H)) u → PutDeed r (e ∷ H) u
-      go older (puts v q i) h = elim (subst (λ z. HasPut (z ∷ items_of r (steps_of H)) u) i h) [
-        | inl n ↦ put_now r H e l v q u n
-        | inr n ↦ put_on r H e l u (older n)
-      ]
-      go older (updates v q i) h = put_on r H e l u (older (subst (λ z. HasPut (z ∷ items_of r (steps_of H)) u) i h))
-      go older (silent no_update no_put quiet) h = put_on r H e l u (older ((quiet (items_of r (steps_of H)) u).2 h))
-
-  -- the put of a deed
-  pub record DeedPut (reducer value : ℕ) (H : Entries) (y : Item) : Type 0 where
-    pub entry : NumberedEntry
-    pub has : HasPut (items_of reducer (steps_of H)) entry
-    pub numbered : HasNumber H (number_of entry) y
-    pub value_is : value_of entry ≡ value
-    pub at : address (control_part H) (strand_of entry) ≡ place y
-    pub begun : Begun (control_part H) (strand_of entry)
-
-  pub deed_put : (r v : ℕ) (H : Entries) → IsLegal shape H → NoneRefused H → (y : Item) → Member (trace T H) y → y.newest.act ≡ Put r v → DeedPut r v H y
-  deed_put r v [] l c y m q = absurd m
-  deed_put r v (e ∷ H) l c y m q = go (λ n. deed_put r v H l.0 c.1 y n q) (head r e.request.strand e.request.act e.answer l.1.belongs c.0) m
-    where
-      s : ℕ
-      s = e.request.strand
-
-      on : DeedPut r v H y → ((u : NumberedEntry) → HasPut (items_of r (steps_of H)) u → HasPut (item_at r e ∷ items_of r (steps_of H)) u) → DeedPut r v (e ∷ H) y
-      on d more =
-          let t = begun_on shape H e l (strand_of d.entry) d.begun in
-          record {
-            entry = d.entry;
-            has = more d.entry d.has;
-            numbered = inr d.numbered;
-            value_is = d.value_is;
-            at = t.1 ∙ d.at;
-            begun = t.0;
-          }
-
-      now : (w : ℕ) → e.request.act ≡ Put r w → item_at r e ≡ one.put s w → y ≡ item_of T H e → DeedPut r v (e ∷ H) y
-      now w p i n =
-          let t = begun_on shape H e l s (inl l.1.runs) in
-          let same : Put r w ≡ Put r v = sym p ∙ sym (ap (λ z. z.newest.act) n) ∙ q in
-          record {
-            entry = put_entry (suc (length (items_of r (steps_of H)))) s w;
-            has = subst (λ z. HasPut (z ∷ items_of r (steps_of H)) (put_entry (suc (length (items_of r (steps_of H)))) s w)) (sym i) (inl refl);
-            numbered = inl (ap suc (items_length r H), n);
-            value_is = cc;
-            at = t.1 ∙ sym (placed shape T H e l) ∙ sym (ap place n);
-            begun = t.0;
-          }
-
-      go : (Member (trace T H) y → DeedPut r v H y) → Head r s e.request.act (item_at r e) → Member (trace T (e ∷ H)) y → DeedPut r v (e ∷ H) y
-      go older (puts w p i) (inl n) = now w p i n
-      go older (puts w p i) (inr n) =
-          on (older n) (λ u h. subst (λ z. HasPut (z ∷ items_of r (steps_of H)) u) (sym i) (inr h))
-      go older (updates w p i) (inl n) = absurd (let k : Update r w ≡ Put r v = sym p ∙ sym (ap (λ z. z.newest.act) n) ∙ q in cc)
-      go older (updates w p i) (inr n) = on (older n) (λ u h. subst (λ z. HasPut (z ∷ items_of r (steps_of H)) u) (sym i) h)
-      go older (silent no_update no_put quiet) (inl n) = absurd (no_put v (sym (ap (λ z. z.newest.act) n) ∙ q))
-      go older (silent no_update no_put quiet) (inr n) = on (older n) (λ u h. (quiet (items_of r (steps_of H)) u).3 h)
+      go : (Member (trace T H) y → DeedChange change r v H y) → Head r s e.request.act (item_at r e) → Member (trace T (e ∷ H)) y → DeedChange change r v (e ∷ H) y
+      go older (changes newest w p i) (inl n) =
+          let same = one_change newest change r w v (sym p ∙ sym (ap (λ z. z.newest.act) n) ∙ q) in
+          now (i ∙ ap (λ z. item_changing z s w) same.0 ∙ ap (item_changing change s) same.1) n
+      go older (changes newest w p i) (inr n) =
+          on (older n) (λ u h. subst (λ z. HasChange change (z ∷ items) u) (sym i) (has_before change newest items s w u h))
+      go older (silent no_update no_put quiet) (inl n) = absurd (no_change r e.request.act no_update no_put change v (sym (ap (λ z. z.newest.act) n) ∙ q))
+      go older (silent no_update no_put quiet) (inr n) = on (older n) (λ u h. (quiet change items u).1 h)

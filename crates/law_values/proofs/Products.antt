@@ -1,5 +1,5 @@
 -- Products of views that fit.
-use Rattle.std.proofs.Common.{◌≡◌, List, [], ◌∷◌, ◌++◌, All, fold, sym, ap, ◌∙◌}
+use Rattle.std.proofs.Common.{◌≡◌, List, [], ◌∷◌, ◌++◌, All, sym, ap, ◌∙◌}
 use Rattle.std.proofs.lemmas.List.Elements.{All-head, All-tail}
 use Rattle.model_reducers.specs.Views.{Reducer, product}
 use Rattle.law_values.specs.Views.{IsMonoidOn}
@@ -18,13 +18,3 @@ product_append Fits reducer k (a ∷ views) others fit fits =
     ap (reducer.combine a) (product_append Fits reducer k views others rest fits) ∙
     sym (k.associative a (product reducer views) (product reducer others) (All-head Fits a views fit) (product_fits Fits reducer k views rest)
     (product_fits Fits reducer k others fits))
-
--- the product from the left
-pub product_fold : {View : Type 0} (Fits : View → Type 0) (reducer : Reducer View) → IsMonoidOn Fits reducer → (a : View) (views : List View) → Fits a →
-    All Fits views → fold reducer.combine a views ≡ product reducer (a ∷ views)
-product_fold Fits reducer k a [] fit fits = sym (k.right_identity a fit)
-product_fold Fits reducer k a (b ∷ views) fit fits =
-    let here = All-head Fits b views fits in
-    let rest = All-tail Fits b views fits in
-    product_fold Fits reducer k (reducer.combine a b) views (k.closed a b fit here) rest ∙
-    k.associative a b (product reducer views) fit here (product_fits Fits reducer k views rest)

@@ -19,7 +19,7 @@ use Rattle.law_values.specs.Laws.{ValuesAre, ValueLaw}
 use Rattle.law_values.proofs.Lists.{in_flat}
 use Rattle.law_values.proofs.Steps.{written, put_numbered}
 use Rattle.law_values.proofs.Law.{log_law, counted_law}
-use Rattle.law_values.proofs.Products.{product_fits, product_append}
+use Rattle.law_values.proofs.Products.{product_append}
 
 -- the view that an update or a put makes
 abbrev view_of : {View : Type 0} → Reducer View → Entry → View
@@ -139,17 +139,6 @@ updates_image : {View : Type 0} (reducer : Reducer View) (h : Items) (us : List 
 updates_image reducer h [] k = refl
 updates_image reducer h (u ∷ us) k =
     ap₂ reducer.combine (update_view reducer h u (k u (inl refl))) (updates_image reducer h us (λ w i. k w (inr i)))
-
--- each view fits
-pub view_fits : {View : Type 0} (Fits : View → Type 0) (reducer : Reducer View) → IsMonoidOn Fits reducer → (h : Items) → EntriesFit Fits reducer h →
-    (x : ℕ) → Fits (view reducer h x)
-view_fits Fits reducer k h fit x =
-    subst Fits (sym (view_is_image Fits reducer k h fit x)) (product_fits Fits reducer k (map (view_of reducer) (log h x)) fitting)
-  where
-    fitting : All Fits (map (view_of reducer) (log h x))
-    fitting =
-        all_present Fits (map (view_of reducer) (log h x))
-        (λ v i. let t = present_map (view_of reducer) v (log h x) i in subst Fits t.2 (log_fits Fits reducer h fit x t.0 t.1))
 
 -- the view at a granted get
 view_at : {View : Type 0} (Fits : View → Type 0) (reducer : Reducer View) → IsMonoidOn Fits reducer → (h : Items) → EntriesFit Fits reducer h →

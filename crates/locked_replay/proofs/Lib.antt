@@ -7,3 +7,4 @@ mod Agreeing
 pub mod Wholes
 mod Faulted
 mod Gathered
+pub mod Rising

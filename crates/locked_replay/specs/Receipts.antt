@@ -1,5 +1,5 @@
 -- The receipts of entries.
-use Rattle.std.specs.Prelude.{◌≡◌, ◌+◌, ◌<◌, ℕ, Bool, true, false, List, [], ◌∷◌, ◌++◌, length}
+use Rattle.std.specs.Prelude.{◌≡◌, ◌+◌, ◌-◌, ◌<◌, ℕ, Bool, true, false, List, [], ◌∷◌, ◌++◌, get_or, length}
 use Rattle.std.specs.List.{AllAdjacentBelow}
 use Rattle.std.specs.List.Sorted.{IsPermutation}
 use Rattle.model_histories.specs.declared.answer.Entry.{Entry}
@@ -17,6 +17,10 @@ numbered number (entry ∷ entries) = receipt_of number entry ∷ numbered (numb
 -- each receipt has a lower number than the next
 abbrev pub Rises : List Receipt → Type 0
 Rises receipts = AllAdjacentBelow (λ one next. one.number < next.number) receipts (length receipts)
+
+-- the receipt at this place has a greater number than the one before, if there is one
+abbrev pub RisesAt : List Receipt → ℕ → Type 0
+RisesAt receipts at = 0 < at → (d : Receipt) → (get_or receipts (at - 1) d).number < (get_or receipts at d).number
 
 -- the items whose mark is set
 abbrev pub marked : {X : Type 0} → List Bool → List X → List X

@@ -4,13 +4,15 @@
 //! length of the gate's history, which is judged. Each worker counts what it asked on a [`Seat`], a share of the total, and keeps the
 //! receipts of the answers. [`gather`] takes the gate out of its lock, and answers Ok only where the receipts of all workers are the
 //! history's entries, each once, and the history is a finished run of the program. Where nothing was refused in it, it is the program's
-//! serial elision, and every run of the program agrees with it; [`laws::whole_law`] says so over the definitions alone.
+//! serial elision, and every run of the program agrees with it; [`laws::whole_law`] says so over the definitions alone. [`gate_for`]
+//! makes the gate of a program.
 #![tactic(auto)]
 
 mod fault;
 pub mod laws;
 mod locked;
 mod logs;
+mod opening;
 mod receipts;
 mod same;
 mod seat;
@@ -20,6 +22,7 @@ mod worker;
 pub use fault::RunFault;
 pub use locked::{Ask, LockedGate};
 pub use logs::check_logs;
+pub use opening::gate_for;
 pub use run_replay::{ReplayFault, replay};
 pub use seat::Seat;
 pub use whole::{Whole, check_run, gather};

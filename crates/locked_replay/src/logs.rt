@@ -35,7 +35,7 @@ fn mark_logs<L: Ledger>(marks: &mut [bool], entries: &[Entry], logs: &[WorkerLog
         (¬ (AreTheirs entries.now logs.now)) }
 {
     for log in logs {
-        if !mark_all(marks, entries, log.receipts.as_slice()) {
+        if !mark_all(marks, entries, &log.receipts) {
             return false;
         }
     }

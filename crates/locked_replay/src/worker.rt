@@ -1,7 +1,7 @@
 //! What one worker brings back.
 
 use crate::seat::Seat;
-use race_gate::Receipt;
+use short_receipts::Receipts;
 use std::sync::ledger::Ledger;
 
 /// What one worker brings back: the seat on which it asked, and the receipts that it got, in the order in which it got them.
@@ -10,5 +10,5 @@ pub struct WorkerLog<L: Ledger> {
     /// The seat on which it asked.
     pub seat: Seat<L>,
     /// The receipts that it got.
-    pub receipts: Vec<Receipt>,
+    pub receipts: Receipts,
 }

@@ -178,20 +178,6 @@ evened-more next items chain old new more start count group gap bound item e len
       locals_behind = λ place l known. (local_read place known).1 (omega arith) ∙ e.locals_behind place (omega arith) known;
     }
 
-pub evened-wider : (old new : List Place) (items : List ℕ) (start count group gap bound further : ℕ) → IsEvened old new items start count group gap bound → bound ≤ further → IsEvened old new items start count group gap further
-evened-wider old new items start count group gap bound further e more =
-    record {
-      len = e.len;
-      nexts = e.nexts;
-      inside = e.inside;
-      steps = e.steps;
-      below = λ place from to. omega (arith, e.below place from to);
-      groups_before = e.groups_before;
-      locals_before = e.locals_before;
-      groups_behind = e.groups_behind;
-      locals_behind = e.locals_behind;
-    }
-
 -- how the items around a row stand to a group, into which the row is moved
 pub record IsBetween (order : List ℕ) (old : List Place) (items : List ℕ) (start count group bound : ℕ) : Type 0 where
   pub before : (place : ℕ) → place + 1 ≡ start → get_or (labels_along (keys_of order old) items) place 0 < place_of group order * group_width

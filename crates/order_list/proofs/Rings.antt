@@ -22,9 +22,6 @@ module _ {next items : List ℕ} (ring : IsChain next items) where
   order_of-items =
       rw ring.next_len (walk-items next items 0 (λ _. ring.begins) (λ place l. rw (← add-one place) (ring.forward place (omega arith))))
 
-  pub chain_in_order : IsChain next (order_of next)
-  chain_in_order = rw order_of-items ring
-
   pub item_at : (item : ℕ) → item < length items → get_or items (place_of item items) 0 ≡ item
   item_at item known = get_or-place_of item items (ring.listing item known)
 

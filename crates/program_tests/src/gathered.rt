@@ -12,6 +12,7 @@ use model_strands::Spawned;
 use program_text::Program;
 use race_gate::{Answer, Entry};
 use race_report::report;
+use short_receipts::Receipts;
 use std::alloc::Global;
 use std::marker::Brand;
 use std::process::Abort;
@@ -37,7 +38,7 @@ fn log_of<L: Ledger, R: Wait>(
     mut seat: Seat<L>,
     entries: &[Entry],
 ) -> Result<WorkerLog<L>, Fail> {
-    let mut receipts = Vec::new(alloc);
+    let mut receipts = Receipts::new(alloc);
     for entry in entries {
         receipts.push(locked.ask(rt, &mut seat, entry.request)?)?;
     }

@@ -6,7 +6,8 @@ ghost use Rattle.model_histories.specs.Shapes.{most_cells};
 use crate::openings::{gate_for, gate_of_cells};
 use locked_replay::{LockedGate, RunFault, WorkerLog, gather};
 use program_text::Program;
-use race_gate::{Gate, GateFault, Receipt};
+use race_gate::{Gate, GateFault};
+use short_receipts::Receipts;
 use std::alloc::{AllocError, Global};
 use std::marker::Brand;
 use std::process::Abort;
@@ -53,7 +54,7 @@ fn ask<L: Ledger, R: Wait>(
     log: &mut WorkerLog<L>,
     request: Request,
 ) -> Result<(), RunFault> {
-    log.receipts.reserve(1)?;
+    log.receipts.reserve()?;
     match locked.ask(rt, &mut log.seat, request) {
         Ok(receipt) => {
             log.receipts.push_reserved(receipt);
@@ -65,11 +66,11 @@ fn ask<L: Ledger, R: Wait>(
 }
 
 /// The receipts at these places.
-fn kept(alloc: Global, receipts: &[Receipt], places: &[usize]) -> Result<Vec<Receipt>, AllocError> {
-    let mut kept = Vec::new(alloc);
+fn kept(alloc: Global, receipts: &Receipts, places: &[usize]) -> Result<Receipts, AllocError> {
+    let mut kept = Receipts::new(alloc);
     for place in places {
-        if let Some(receipt) = receipts.get(*place) {
-            kept.push(*receipt)?;
+        if *place < receipts.len() {
+            kept.push(receipts.get(*place))?;
         }
     }
     Ok(kept)
@@ -150,7 +151,7 @@ fn asked_of<L: Ledger, R: Wait>(
         stop(rt, locked, first)?;
     }
     let asked = first.seat.asked().wrapping_add(second.seat.asked());
-    first.receipts = kept(alloc, first.receipts.as_slice(), case.kept)?;
+    first.receipts = kept(alloc, &first.receipts, case.kept)?;
     Ok(asked)
 }
 
@@ -173,11 +174,11 @@ fn gathered_of<L: Ledger, R: Wait>(
     let (locked, mut seat) = LockedGate::<L>::new(gate, blank, 2);
     let mut second = WorkerLog {
         seat: seat.split(),
-        receipts: Vec::new(alloc),
+        receipts: Receipts::new(alloc),
     };
     let mut first = WorkerLog {
         seat,
-        receipts: Vec::new(alloc),
+        receipts: Receipts::new(alloc),
     };
     let asked = asked_of(rt, alloc, &locked, &mut first, &mut second, case, stopped)?;
     let clean = is_clean(alloc, program, locked, first, second)?;

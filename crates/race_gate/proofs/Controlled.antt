@@ -1,12 +1,12 @@
 -- Acts of control and accesses, and the books of reducers that there may be.
-use Rattle.std.proofs.Common.{◌≡◌, ℕ, length, Option, Some, None, refl, sym, ◌∙◌, ap, subst, arith}
+use Rattle.std.proofs.Common.{◌≡◌, ℕ, length, Option, Some, None, sym, ◌∙◌, ap, subst, arith}
 use Rattle.model_accesses.specs.declared.request.Act.{Act}
 use Rattle.model_accesses.specs.declared.request.Act.TheVariants.{Update, Put, Get}
 use Rattle.model_strands.specs.History.{Event, History}
 use Rattle.model_strands.specs.Legal.{Allowed}
 use Rattle.sp_labels.specs.Roster.{Roster}
 use Rattle.model_histories.specs.declared.answer.Answer.{Answer}
-use Rattle.race_gate.specs.Books.{Books, TakesEvent, KeepsRunning, KeepsStill, KeepsOn, AnswersAccess, HasRoom, OptionHasRoom, OptionHasReducer, OptionKeepsStill, OptionKeepsOn, OptionKeepsSome, OptionKeepsRunning, OptionAnswersAccess}
+use Rattle.race_gate.specs.Books.{Books, TakesEvent, KeepsRunning, KeepsStill, KeepsOn, AnswersAccess, OptionHasReducer, OptionKeepsStill, OptionKeepsSome, OptionKeepsRunning, OptionAnswersAccess}
 use Rattle.race_gate.specs.Steps.{GoesOn}
 use Rattle.race_gate.proofs.Entering.{last_allowed}
 
@@ -15,10 +15,6 @@ still-some None None history still some = tt
 still-some None (Some new) history still some = absurd still
 still-some (Some old) None history still some = absurd still
 still-some (Some old) (Some new) history still (steps, earlier, kept, same) = (steps, earlier, still.keeps steps earlier kept, same)
-
-pub still-same : (option : Option Books) → OptionKeepsStill option option
-still-same None = tt
-still-same (Some books) = record { monoids = refl; keeps = λ steps earlier kept. kept }
 
 pub still-by : (option : Option Books) (one new : Books) → option ≡ Some one → KeepsStill one new → OptionKeepsStill option (Some new)
 still-by None one new is still = absurd (cc)
@@ -34,16 +30,12 @@ takes-event books (Some one) history strand act answer strands is (steps, earlie
     (act, goes.event, goes.is, (steps, earlier, kept, subst (λ h. Allowed h goes.event) (sym same) (last_allowed goes.follows.legal))) in
     subst (λ b. TakesEvent b strand answer) same_books found
 
--- the books that there are go on with the event
-pub on-some : (old between : Option Books) (one new : Books) (event : Event) → OptionKeepsStill old between → between ≡ Some one → KeepsOn one new event →
-    OptionKeepsOn old (Some new) event
-on-some None None one new event still is on = absurd (cc)
-on-some None (Some found) one new event still is on = absurd still
-on-some (Some old) None one new event still is on = absurd still
-on-some (Some old) (Some found) one new event still is on =
-    let same : found ≡ one = cc in
-    let stays = subst (λ b. KeepsStill old b) same still in
-    record { monoids = on.monoids ∙ stays.monoids; keeps = λ steps earlier kept allowed. on.keeps steps earlier (stays.keeps steps earlier kept) allowed }
+-- books that were kept still go on with the event
+pub on-still : (old between new : Books) (event : Event) → KeepsStill old between → KeepsOn between new event → KeepsOn old new event
+on-still old between new event still on = record {
+  monoids = on.monoids ∙ still.monoids;
+  keeps = λ steps earlier kept allowed. on.keeps steps earlier (still.keeps steps earlier kept) allowed;
+}
 
 pub running-still : (option : Option Books) (one new : Books) (strand : ℕ) → option ≡ Some one → KeepsStill one new → OptionKeepsRunning option strand → KeepsRunning new strand
 running-still None one new strand is still none = absurd none
@@ -70,14 +62,3 @@ answers-still (Some found) one between new number strand act answer is still ans
       monoids = answers.monoids ∙ stays.monoids;
       answered = λ steps earlier kept runs. answers.answered steps earlier (stays.keeps steps earlier kept) runs;
     }
-
--- no books are kept at an event, and there is room in those that there are
-pub on-none : (old new : Option Books) (event : Event) → OptionKeepsStill old new → new ≡ None → OptionKeepsOn old new event
-on-none None None event still is = tt
-on-none None (Some new) event still is = absurd still
-on-none (Some old) None event still is = absurd still
-on-none (Some old) (Some new) event still is = absurd (cc)
-
-pub room-some : (option : Option Books) (one : Books) → option ≡ Some one → OptionHasRoom option → HasRoom one
-room-some None one is room = absurd (cc)
-room-some (Some found) one is room = let same : found ≡ one = cc in subst HasRoom same room

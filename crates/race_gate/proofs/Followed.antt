@@ -1,5 +1,5 @@
 -- What one history that the strands follow says, each says.
-use Rattle.std.proofs.Common.{◌≡◌, ℕ, true, refl, sym, subst, arith}
+use Rattle.std.proofs.Common.{◌≡◌, ℕ, refl, subst, arith}
 use Rattle.model_strands.specs.History.{History}
 use Rattle.model_strands.specs.Strands.{unused, Running}
 use Rattle.model_strands.specs.Blocks.{Stack, stack, IsSynced}
@@ -7,13 +7,6 @@ use Rattle.sp_labels.specs.Roster.{Roster, Follows, HasFewLeft, IsStanding, reco
 use Rattle.sp_labels.specs.declared.record.Scope.TheVariants.{Block}
 use Rattle.sp_labels.proofs.Queries.{running-known}
 use Rattle.sp_labels.proofs.Acting.{in-block, in-synced}
-
--- room tells nothing of the history
-pub follows-reserved : (old made : Roster) (history : History) → made ≡ record old { has_room = true } → Follows old history → Follows made history
-follows-reserved old made history is f =
-    let same : Follows (record old { has_room = true }) history =
-    record { legal = f.legal; count = f.count; below_call = f.below_call; each = f.each; english = f.english; hebrew = f.hebrew } in
-    subst (λ r. Follows r history) (sym is) same
 
 module _ (roster : Roster) (history other : History) (follows : Follows roster history) (also : Follows roster other) where
   pub running-in-each : (strand : ℕ) → Running history strand → Running other strand

@@ -111,10 +111,6 @@ abbrev pub OpensBooks : Option Books → List Monoid → Type 0
 OpensBooks None monoids = monoids ≡ []
 OpensBooks (Some books) monoids = (books.views.monoids ≡ monoids) × Keeps books [] []
 
-abbrev pub OptionHasRoom : Option Books → Type 0
-OptionHasRoom None = Unit {0}
-OptionHasRoom (Some books) = HasRoom books
-
 abbrev pub OptionKeepsStill : Option Books → Option Books → Type 0
 OptionKeepsStill None None = Unit {0}
 OptionKeepsStill (Some old) (Some new) = KeepsStill old new

@@ -19,6 +19,7 @@ pub enum Sort {
 }
 
 /// What the act asks for.
+#[inline(always)]
 pub fn sort_of(act: Act) -> Sort
     ensures { result ≡ sort_of act }
 {

@@ -93,6 +93,7 @@ fn copied<A: Allocator + Clone, B: Allocator>(
 }
 
 /// Whether the answer is that the root function returned.
+#[inline(always)]
 fn is_end(answer: Answer) -> bool
     ensures { IsTrue result ↔ IsEnd answer }
 {
@@ -195,6 +196,7 @@ impl<A: Allocator + Clone> Core<A> {
     }
 
     /// The first fault of a request that can be told without memory.
+    #[inline(always)]
     pub(crate) fn check(&self, request: Request) -> Result<(), GateFault>
         ensures fits { IsCore self.now }
         ensures fault { (state : State) → IsCoreOf self.now state →
@@ -219,6 +221,7 @@ impl<A: Allocator + Clone> Core<A> {
     }
 
     /// Answers a request that has no fault, and does what was granted. Where memory is refused, nothing changes.
+    #[inline(always)]
     pub(crate) fn answer(&mut self, request: Request) -> Result<Answer, GateFault>
         requires { (state : State) × IsCoreOf self.old state × IsFaultless state request }
         ensures { (state : State) → IsCoreOf self.old state → IsFaultless state request → MatchResult result
@@ -237,6 +240,7 @@ impl<A: Allocator + Clone> Core<A> {
     /// Answers a request of a strand and does what was granted, as [`Gate::judge`](crate::Gate::judge) does. A fault is the first one, in
     /// the order of [`GateFault`], that has its cause. It changes nothing, and none but the last depends on memory. A request that the
     /// rules of legal histories admit is answered unless the core was stopped, is at its limit, or has no memory.
+    #[inline(always)]
     pub fn judge(&mut self, request: Request) -> Result<Answer, GateFault>
         ensures judges { (state : State) → IsCoreOf self.old state →
             (next : State) × Judges state request (reply_with (self.old.entries + 1) request result) next × IsCoreOf self.new next }
@@ -248,6 +252,7 @@ impl<A: Allocator + Clone> Core<A> {
     }
 
     /// Answers a request as [`Core::judge`] does, and gives the reply of a gate that judged the same requests.
+    #[inline(always)]
     pub fn reply(&mut self, request: Request) -> Reply
         ensures { (state : State) → IsCoreOf self.old state → (next : State) × Judges state request result next × IsCoreOf self.new next }
     {

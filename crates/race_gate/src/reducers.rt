@@ -65,6 +65,7 @@ impl<A: Allocator + Clone> Reducers<A> {
     }
 
     /// Makes room for an event of control. A refusal changes nothing.
+    #[inline(always)]
     pub fn reserve_event(&mut self) -> Result<(), AllocError>
         ensures still { KeepsStill self.old self.new }
         ensures room { OnOk result (HasRoom self.new) }
@@ -74,6 +75,7 @@ impl<A: Allocator + Clone> Reducers<A> {
     }
 
     /// Makes room for an update or a put; a get needs none. A refusal changes nothing.
+    #[inline(always)]
     pub fn reserve_for(&mut self, act: Act) -> Result<(), AllocError>
         ensures still { KeepsStill self.old self.new }
         ensures room { OnOk result (HasRoomFor self.new act) }
@@ -85,6 +87,7 @@ impl<A: Allocator + Clone> Reducers<A> {
     }
 
     /// Judges an access by a running strand, and does it where it is granted. `number` is that of its entry. Takes no memory.
+    #[inline(always)]
     pub fn answer(&mut self, number: u32, strand: u32, act: Act) -> Answer
         requires in_range { OptionHasReducer (Some self.old) act }
         requires room { HasRoomFor self.old act }
@@ -119,6 +122,7 @@ impl<A: Allocator + Clone> Reducers<A> {
     }
 
     /// Takes in an update of the reducer by a running strand. Takes no memory.
+    #[inline(always)]
     fn update(&mut self, strand: u32, reducer: u32, value: u64) -> Answer
         requires in_range { reducer < length self.old.views.monoids }
         requires room { self.old.views.has_room ≡ true }

@@ -1,6 +1,6 @@
 //! The steps that the gate makes at a request.
 
-ghost use Rattle.std.specs.Prelude.{◌≡◌, ◌<◌, ◌↔◌, ℕ, List, length, slice_index, true, Some, IsTrue, IsSome, IfOk, IfErr, OnOk, OnErr};
+ghost use Rattle.std.specs.Prelude.{◌≡◌, ◌<◌, ◌↔◌, ℕ, List, length, slice_index, true, Some, IsTrue, IsSome, IfOk, IfErr, OnErr};
 ghost use Rattle.model_accesses.specs.Table.{is_memory_kind};
 ghost use Rattle.model_strands.specs.History.{Event, History};
 ghost use Rattle.model_strands.specs.Blocks.{stack, IsSynced};
@@ -11,8 +11,8 @@ ghost use Rattle.race_gate.specs.Shapes.{shape_of};
 ghost use Rattle.model_histories.specs.Shapes.{IsInRange};
 ghost use Rattle.model_histories.specs.Entries.{event_between};
 ghost use Rattle.model_histories.specs.Legal.{Belongs};
-ghost use Rattle.race_gate.specs.Books.{OptionKeepsStill, OptionKeepsOn, OptionKeepsRunning};
-ghost use Rattle.race_gate.specs.Books.{OptionAnswersAccess, OptionHasRoom, OptionHasReducer};
+ghost use Rattle.race_gate.specs.Books.{KeepsStill, KeepsOn, OptionKeepsStill, OptionKeepsOn, OptionKeepsRunning};
+ghost use Rattle.race_gate.specs.Books.{OptionAnswersAccess, OptionHasReducer};
 ghost use Rattle.model_races.specs.Accesses.{cell_access, is_granted};
 ghost use Rattle.model_races.specs.Memory.{effect};
 ghost use Rattle.model_races.specs.Verdicts.{IfValue};
@@ -28,6 +28,7 @@ use std::alloc::Allocator;
 use text_words::{Act, Shape};
 
 /// Whether the cell or reducer that an act names is there.
+#[inline(always)]
 pub fn is_in_range<A: Allocator>(shape: &Shape<A>, act: Act) -> bool
     ensures { IsTrue result ↔ IsInRange (shape_of shape.now) act }
 {
@@ -50,32 +51,8 @@ pub fn is_in_range<A: Allocator>(shape: &Shape<A>, act: Act) -> bool
     access_table!(ranges [])
 }
 
-/// Makes room for an event of control. Where it is refused, nothing changes.
-fn reserve<A: Allocator + Clone>(
-    strands: &mut Strands<A>,
-    reducers: &mut Option<Reducers<A>>,
-) -> Result<(), GateFault>
-    requires follows { FollowsSome strands.old }
-    requires numbers { (history : History) → Follows strands.old history → HasFewLeft history → ⊥ }
-    ensures room { OnOk result (strands.new.has_room ≡ true) }
-    ensures books_room { OnOk result (OptionHasRoom reducers.new) }
-    ensures follows { (history : History) → Follows strands.old history → Follows strands.new history }
-    ensures books { OptionKeepsStill reducers.old reducers.new }
-    ensures err { IfErr result (λ fault. fault ≡ GateFault.Memory) }
-{
-    if let Err(fault) = strands.reserve_event() {
-        match fault {
-            SpFault::Memory => return Err(GateFault::Memory),
-            _ => unreachable!(),
-        }
-    }
-    if let Some(reducers) = reducers {
-        reducers.reserve_event()?;
-    }
-    Ok(())
-}
-
-/// Lets a running strand spawn, sync, call or return. Room for the event is made first, and where it is refused nothing changes.
+/// Lets a running strand spawn, sync, call or return. Where memory is refused, nothing changes.
+#[inline(always)]
 pub fn control<A: Allocator + Clone>(
     strands: &mut Strands<A>,
     reducers: &mut Option<Reducers<A>>,
@@ -94,44 +71,80 @@ pub fn control<A: Allocator + Clone>(
     ensures still { OnErr result ((history : History) → Follows strands.old history → Follows strands.new history) }
     ensures books_still { OnErr result (OptionKeepsStill reducers.old reducers.new) }
 {
-    reserve(strands, reducers)?;
-    let answer = answer_to(strands, strand, act);
-    if let Some(reducers) = reducers {
-        reducers.follow(strand, answer);
+    match reducers {
+        None => answer_to(strands, strand, act),
+        Some(reducers) => control_with(strands, reducers, strand, act),
     }
+}
+
+/// The same in a program with reducers. Room for their part is made first.
+fn control_with<A: Allocator + Clone>(
+    strands: &mut Strands<A>,
+    reducers: &mut Reducers<A>,
+    strand: u32,
+    act: Act,
+) -> Result<Answer, GateFault>
+    requires control { IsControl act }
+    requires follows { FollowsWith strands.old (Some reducers.old) }
+    requires runs { Runs strands.old strand }
+    requires synced { act ≡ Act.Return → (history : History) → Follows strands.old history → IsSynced (stack history strand) }
+    requires numbers { (history : History) → Follows strands.old history → HasFewLeft history → ⊥ }
+    ensures ok { IfOk result (λ answer. (history : History) → Follows strands.old history → GoesOn history strand act answer strands.new) }
+    ensures books { IfOk result (λ answer.
+        (event : Event) → event_between strand act answer ≡ Some event → KeepsOn reducers.old reducers.new event) }
+    ensures err { IfErr result (λ fault. fault ≡ GateFault.Memory) }
+    ensures still { OnErr result (strands.new ≡ strands.old) }
+    ensures books_still { OnErr result (KeepsStill reducers.old reducers.new) }
+{
+    reducers.reserve_event()?;
+    let answer = answer_to(strands, strand, act)?;
+    reducers.follow(strand, answer);
     Ok(answer)
 }
 
-/// The answer to an act of control, with which the strands go on.
-fn answer_to<A: Allocator>(strands: &mut Strands<A>, strand: u32, act: Act) -> Answer
+/// The answer to an act of control, with which the strands go on. Where memory is refused, nothing changes.
+#[inline(always)]
+fn answer_to<A: Allocator>(
+    strands: &mut Strands<A>,
+    strand: u32,
+    act: Act,
+) -> Result<Answer, GateFault>
     requires control { IsControl act }
-    requires room { strands.old.has_room ≡ true }
     requires follows { FollowsSome strands.old }
     requires runs { Runs strands.old strand }
     requires synced { act ≡ Act.Return → (history : History) → Follows strands.old history → IsSynced (stack history strand) }
-    ensures { (history : History) → Follows strands.old history → GoesOn history strand act result strands.new }
+    requires numbers { (history : History) → Follows strands.old history → HasFewLeft history → ⊥ }
+    ensures ok { IfOk result (λ answer. (history : History) → Follows strands.old history → GoesOn history strand act answer strands.new) }
+    ensures err { IfErr result (λ fault. fault ≡ GateFault.Memory) }
+    ensures still { OnErr result (strands.new ≡ strands.old) }
 {
     match act {
         Act::Spawn => spawn(strands, strand),
-        Act::Sync => sync(strands, strand),
+        Act::Sync => Ok(sync(strands, strand)),
         Act::Call => call(strands, strand),
-        Act::Return => ret(strands, strand),
+        Act::Return => Ok(ret(strands, strand)),
         _ => unreachable!(),
     }
 }
 
-fn spawn<A: Allocator>(strands: &mut Strands<A>, strand: u32) -> Answer
-    requires room { strands.old.has_room ≡ true }
+#[inline(always)]
+fn spawn<A: Allocator>(strands: &mut Strands<A>, strand: u32) -> Result<Answer, GateFault>
     requires follows { FollowsSome strands.old }
     requires runs { Runs strands.old strand }
-    ensures { (history : History) → Follows strands.old history → GoesOn history strand Act.Spawn result strands.new }
+    requires numbers { (history : History) → Follows strands.old history → HasFewLeft history → ⊥ }
+    ensures ok { IfOk result (λ answer.
+        (history : History) → Follows strands.old history → GoesOn history strand Act.Spawn answer strands.new) }
+    ensures err { IfErr result (λ fault. fault ≡ GateFault.Memory) }
+    ensures still { OnErr result (strands.new ≡ strands.old) }
 {
     match strands.spawn(strand) {
-        Ok(spawned) => Answer::Split(spawned),
+        Ok(spawned) => Ok(Answer::Split(spawned)),
+        Err(SpFault::Memory) => Err(GateFault::Memory),
         Err(_) => unreachable!(),
     }
 }
 
+#[inline(always)]
 fn sync<A: Allocator>(strands: &mut Strands<A>, strand: u32) -> Answer
     requires follows { FollowsSome strands.old }
     requires runs { Runs strands.old strand }
@@ -145,18 +158,23 @@ fn sync<A: Allocator>(strands: &mut Strands<A>, strand: u32) -> Answer
     }
 }
 
-fn call<A: Allocator>(strands: &mut Strands<A>, strand: u32) -> Answer
-    requires room { strands.old.has_room ≡ true }
+#[inline(always)]
+fn call<A: Allocator>(strands: &mut Strands<A>, strand: u32) -> Result<Answer, GateFault>
     requires follows { FollowsSome strands.old }
     requires runs { Runs strands.old strand }
-    ensures { (history : History) → Follows strands.old history → GoesOn history strand Act.Call result strands.new }
+    ensures ok { IfOk result (λ answer.
+        (history : History) → Follows strands.old history → GoesOn history strand Act.Call answer strands.new) }
+    ensures err { IfErr result (λ fault. fault ≡ GateFault.Memory) }
+    ensures still { OnErr result (strands.new ≡ strands.old) }
 {
     match strands.call(strand) {
-        Ok(()) => Answer::Same,
+        Ok(()) => Ok(Answer::Same),
+        Err(SpFault::Memory) => Err(GateFault::Memory),
         Err(_) => unreachable!(),
     }
 }
 
+#[inline(always)]
 fn ret<A: Allocator>(strands: &mut Strands<A>, strand: u32) -> Answer
     requires follows { FollowsSome strands.old }
     requires runs { Runs strands.old strand }
@@ -173,6 +191,7 @@ fn ret<A: Allocator>(strands: &mut Strands<A>, strand: u32) -> Answer
 }
 
 /// Judges an access of a cell by a running strand, and does it where it is granted. `number` is that of its entry.
+#[inline(always)]
 pub fn judge_access<A: Allocator>(
     strands: &Strands<A>,
     shadow: &mut Shadow<A>,
@@ -206,6 +225,7 @@ pub fn judge_access<A: Allocator>(
 }
 
 /// Does an access of a cell.
+#[inline(always)]
 fn perform(memory: &mut [u64], act: Act) -> Answer
     requires in_memory { (access : CellAccess) → cell_access act ≡ Some access → access.location < length memory.old }
     requires access { IsSome (cell_access act) }
@@ -232,6 +252,7 @@ fn perform(memory: &mut [u64], act: Act) -> Answer
 
 /// Judges an access of a reducer by a running strand, and does it where it is granted. Room for it is made first, and where it is
 /// refused nothing changes. `number` is that of its entry.
+#[inline(always)]
 pub fn judge_reducer<A: Allocator + Clone>(
     reducers: &mut Option<Reducers<A>>,
     number: u32,

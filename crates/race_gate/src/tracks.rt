@@ -57,6 +57,7 @@ impl<A: Allocator + Clone> Tracks<A> {
 
     /// Answers a request that has no fault, and does what was granted. `number` is that of its entry. Where memory is refused, nothing
     /// changes.
+    #[inline(always)]
     pub fn answer(
         &mut self,
         memory: &mut [u64],

@@ -18,7 +18,7 @@ use Rattle.race_pairs.specs.Refusals.{refusal_at, lines_of, lines_at, HasLines}
 use Rattle.race_pairs.specs.Firsts.{IsFirst, AreFirsts, hit, miss}
 use Rattle.race_pairs.specs.Pairs.{IsPair, ArePairsUpTo}
 use Rattle.race_pairs.specs.Tallies.{IsTally}
-use Rattle.race_pairs.proofs.Firsts.{firsts_none, firsts_same, firsts_more, one_first, tells_within, tells_never}
+use Rattle.race_pairs.proofs.Firsts.{firsts_same, firsts_more, one_first, tells_within, tells_never}
 
 -- the lines of a refusal
 pub told_lines : (told : List Entry) (number : ℕ) (refusal : Refusal) → refusal_at told number ≡ Some refusal → HasLines told number (lines_of told refusal)
@@ -270,18 +270,6 @@ tally_new same decides self told last pairs longer index indexed refusal refused
     unknown_at key e number h (inr new) (inr differs) =
         let alike : lines ≡ key = single_lines told (suc last) lines key has (subst (λ (n : ℕ). HasLines told n key) new h) in
         false≢true (sym differs ∙ (ap (same lines) (sym alike) ∙ self lines))
-
-pub tally_first : (same : Lines → Lines → Bool) (told : List Entry) (pairs : List Pair) (index : List (Lines × ℕ)) → pairs ≡ [] → index ≡ [] →
-    IsTally same told 0 pairs index
-tally_first same told pairs index e f = subst (λ (xs : List Pair). IsTally same told 0 xs index) (sym e)
-    (subst (λ (xs : List (Lines × ℕ)). IsTally same told 0 [] xs) (sym f) (record {
-      tallied = record { firsts = firsts_none (HasLines told) (λ key h. cc); each = λ k d lt. absurd (omega arith) };
-      known = λ lines place g. absurd (cc);
-      unknown = λ lines g number le h. (let is : number ≡ 0 = omega arith in no_zero lines (subst (λ (n : ℕ). HasLines told n lines) is h));
-    }))
-  where
-    no_zero : (lines : Lines) → HasLines told 0 lines → ⊥
-    no_zero lines h = cc
 
 pub times_within : (same : Lines → Lines → Bool) (told : List Entry) (last : ℕ) (pairs : List Pair) (index : List (Lines × ℕ)) → IsTally same told last pairs index →
     (place : ℕ) (d : Pair) → place < length pairs → (get_or pairs place d).times ≤ last

@@ -7,15 +7,6 @@ use Rattle.law_strands.proofs.Places.{below_or_beyond}
 use Rattle.race_pairs.specs.Firsts.{IsFirst, AreFirsts, Tells, none, hit, miss}
 
 module _ {K : Type 0} (tells : ℕ → K → Type 0) where
-  pub firsts_none : ((key : K) → tells 0 key → ⊥) → AreFirsts tells 0 []
-  firsts_none never = record {
-    rise = λ i j d lt within. absurd (omega arith);
-    each = λ number. (
-      λ c. absurd (let lt = c.1 in omega arith),
-      λ t. absurd (let is : number ≡ 0 = (let le = t.0 in omega arith) in never t.1.0 (subst (λ (n : ℕ). tells n t.1.0) is t.1.1)),
-    );
-  }
-
   pub firsts_same : (last : ℕ) (numbers : List ℕ) → (IsFirst tells (suc last) → ⊥) → AreFirsts tells last numbers → AreFirsts tells (suc last) numbers
   firsts_same last numbers not f = record {
     rise = f.rise;

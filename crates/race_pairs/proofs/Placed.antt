@@ -10,7 +10,7 @@ use Rattle.race_pairs.specs.declared.refusal.Lines.{Lines}
 use Rattle.race_pairs.specs.declared.refusal.Refusal.{Refusal}
 use Rattle.race_pairs.specs.Firsts.{IsFirst}
 use Rattle.race_pairs.specs.Places.{HasPlace, ArePlacesUpTo}
-use Rattle.race_pairs.proofs.Firsts.{firsts_none, firsts_same, firsts_more}
+use Rattle.race_pairs.proofs.Firsts.{firsts_same, firsts_more}
 
 -- the places so far, and a set of them
 pub record Placed (told : List Entry) (lines : Lines) (last : ℕ) (places seen : List ℕ) : Type 0 where
@@ -102,17 +102,6 @@ module _ (told : List Entry) (lines : Lines) (last : ℕ) (places seen more : Li
       has = has_more;
       misses = misses_more;
     }
-
-pub placed_first : (told : List Entry) (lines : Lines) (places seen : List ℕ) → places ≡ [] → seen ≡ [] → Placed told lines 0 places seen
-placed_first told lines places seen e f = subst (λ (xs : List ℕ). Placed told lines 0 xs seen) (sym e)
-    (subst (λ (xs : List ℕ). Placed told lines 0 [] xs) (sym f) (record {
-      placed = record { numbers = []; firsts = firsts_none (HasPlace told lines) (λ place h. absurd (let at = h.1 in cc)); each = tt };
-      has = λ place g. absurd (false≢true g);
-      misses = λ place g number le h. (let is : number ≡ 0 = omega arith in never place (subst (λ (n : ℕ). HasPlace told lines n place) is h));
-    }))
-  where
-    never : (place : ℕ) → HasPlace told lines 0 place → ⊥
-    never place h = let at = h.1 in cc
 
 -- As the code has it.
 

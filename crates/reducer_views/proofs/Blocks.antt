@@ -49,46 +49,47 @@ pub record Blocks (h : History) : Type 0 where
   pub last : (j : ℕ) → status h j ≡ reserved → (front : List ℕ) × (continuations h j ≡ front ++ (tail h j ∷ []))
   pub chain : (j : ℕ) → status h j ≡ reserved → AreLater (later h) (later h j) (continuations h j)
 
--- the homes after a split
-pub home_at_child : (h : History) (s c n j : ℕ) (first : Bool) (x : ℕ) → x ≡ c → x ≢ n → x ≢ j → home (split s c n j first ∷ h) x ≡ home h s
-home_at_child h s c n j true x e nn nj = updated_off (updated (updated (home h) c (home h s)) n n) j (home h s) x nj ∙ (updated_off (updated (home h) c (home h s)) n n x nn ∙ updated_at (home h) c (home h s) x e)
-home_at_child h s c n j false x e nn nj = updated_off (updated (home h) c (home h s)) n n x nn ∙ updated_at (home h) c (home h s) x e
+module _ (h : History) (s c n j : ℕ) where
+  -- the homes after a split
+  pub home_at_child : (first : Bool) (x : ℕ) → x ≡ c → x ≢ n → x ≢ j → home (split s c n j first ∷ h) x ≡ home h s
+  home_at_child true x e nn nj = updated_off (updated (updated (home h) c (home h s)) n n) j (home h s) x nj ∙ (updated_off (updated (home h) c (home h s)) n n x nn ∙ updated_at (home h) c (home h s) x e)
+  home_at_child false x e nn nj = updated_off (updated (home h) c (home h s)) n n x nn ∙ updated_at (home h) c (home h s) x e
 
-pub home_at_next : (h : History) (s c n j : ℕ) (first : Bool) (x : ℕ) → x ≡ n → x ≢ j → home (split s c n j first ∷ h) x ≡ n
-home_at_next h s c n j true x e nj = updated_off (updated (updated (home h) c (home h s)) n n) j (home h s) x nj ∙ updated_at (updated (home h) c (home h s)) n n x e
-home_at_next h s c n j false x e nj = updated_at (updated (home h) c (home h s)) n n x e
+  pub home_at_next : (first : Bool) (x : ℕ) → x ≡ n → x ≢ j → home (split s c n j first ∷ h) x ≡ n
+  home_at_next true x e nj = updated_off (updated (updated (home h) c (home h s)) n n) j (home h s) x nj ∙ updated_at (updated (home h) c (home h s)) n n x e
+  home_at_next false x e nj = updated_at (updated (home h) c (home h s)) n n x e
 
-pub home_at_join : (h : History) (s c n j : ℕ) (first : Bool) (x : ℕ) → first ≡ true → x ≡ j → home (split s c n j first ∷ h) x ≡ home h s
-home_at_join h s c n j true x t e = updated_at (updated (updated (home h) c (home h s)) n n) j (home h s) x e
-home_at_join h s c n j false x t e = absurd (cc)
+  pub home_at_join : (first : Bool) (x : ℕ) → first ≡ true → x ≡ j → home (split s c n j first ∷ h) x ≡ home h s
+  home_at_join true x t e = updated_at (updated (updated (home h) c (home h s)) n n) j (home h s) x e
+  home_at_join false x t e = absurd (cc)
 
-home_elsewhere : (h : History) (s c n j : ℕ) (first : Bool) (x : ℕ) → x ≢ c → x ≢ n → (first ≡ true → x ≢ j) → home (split s c n j first ∷ h) x ≡ home h x
-home_elsewhere h s c n j true x nc nn nj =
-    updated_off (updated (updated (home h) c (home h s)) n n) j (home h s) x (nj refl) ∙ (updated_off (updated (home h) c (home h s)) n n x nn ∙ updated_off (home h) c (home h s) x nc)
-home_elsewhere h s c n j false x nc nn nj = updated_off (updated (home h) c (home h s)) n n x nn ∙ updated_off (home h) c (home h s) x nc
+  home_elsewhere : (first : Bool) (x : ℕ) → x ≢ c → x ≢ n → (first ≡ true → x ≢ j) → home (split s c n j first ∷ h) x ≡ home h x
+  home_elsewhere true x nc nn nj =
+      updated_off (updated (updated (home h) c (home h s)) n n) j (home h s) x (nj refl) ∙ (updated_off (updated (home h) c (home h s)) n n x nn ∙ updated_off (home h) c (home h s) x nc)
+  home_elsewhere false x nc nn nj = updated_off (updated (home h) c (home h s)) n n x nn ∙ updated_off (home h) c (home h s) x nc
 
--- the later numbers after a split
-pub later_elsewhere : (h : History) (s c n j : ℕ) (first : Bool) (x : ℕ) → x ≢ c → x ≢ n → (first ≡ true → x ≢ j) → (first ≡ false → x ≢ home h s) → later (split s c n j first ∷ h) x ≡ later h x
-later_elsewhere h s c n j true x nc nn nj nh =
-    updated_off (updated (updated (later h) c 0) n 0) j n x (nj refl) ∙ (updated_off (updated (later h) c 0) n 0 x nn ∙ updated_off (later h) c 0 x nc)
-later_elsewhere h s c n j false x nc nn nj nh =
-    updated_off (updated (updated (later h) c 0) n 0) (home h s) n x (nh refl) ∙ (updated_off (updated (later h) c 0) n 0 x nn ∙ updated_off (later h) c 0 x nc)
+  -- the later numbers after a split
+  pub later_elsewhere : (first : Bool) (x : ℕ) → x ≢ c → x ≢ n → (first ≡ true → x ≢ j) → (first ≡ false → x ≢ home h s) → later (split s c n j first ∷ h) x ≡ later h x
+  later_elsewhere true x nc nn nj nh =
+      updated_off (updated (updated (later h) c 0) n 0) j n x (nj refl) ∙ (updated_off (updated (later h) c 0) n 0 x nn ∙ updated_off (later h) c 0 x nc)
+  later_elsewhere false x nc nn nj nh =
+      updated_off (updated (updated (later h) c 0) n 0) (home h s) n x (nh refl) ∙ (updated_off (updated (later h) c 0) n 0 x nn ∙ updated_off (later h) c 0 x nc)
 
-pub later_at_next : (h : History) (s c n j : ℕ) (first : Bool) (x : ℕ) → x ≡ n → x ≢ j → x ≢ home h s → later (split s c n j first ∷ h) x ≡ 0
-later_at_next h s c n j true x e nj nh = updated_off (updated (updated (later h) c 0) n 0) j n x nj ∙ updated_at (updated (later h) c 0) n 0 x e
-later_at_next h s c n j false x e nj nh = updated_off (updated (updated (later h) c 0) n 0) (home h s) n x nh ∙ updated_at (updated (later h) c 0) n 0 x e
+  pub later_at_next : (first : Bool) (x : ℕ) → x ≡ n → x ≢ j → x ≢ home h s → later (split s c n j first ∷ h) x ≡ 0
+  later_at_next true x e nj nh = updated_off (updated (updated (later h) c 0) n 0) j n x nj ∙ updated_at (updated (later h) c 0) n 0 x e
+  later_at_next false x e nj nh = updated_off (updated (updated (later h) c 0) n 0) (home h s) n x nh ∙ updated_at (updated (later h) c 0) n 0 x e
 
-pub later_at_child : (h : History) (s c n j : ℕ) (first : Bool) (x : ℕ) → x ≡ c → x ≢ n → x ≢ j → x ≢ home h s → later (split s c n j first ∷ h) x ≡ 0
-later_at_child h s c n j true x e nn nj nh =
-    updated_off (updated (updated (later h) c 0) n 0) j n x nj ∙ (updated_off (updated (later h) c 0) n 0 x nn ∙ updated_at (later h) c 0 x e)
-later_at_child h s c n j false x e nn nj nh =
-    updated_off (updated (updated (later h) c 0) n 0) (home h s) n x nh ∙ (updated_off (updated (later h) c 0) n 0 x nn ∙ updated_at (later h) c 0 x e)
+  pub later_at_child : (first : Bool) (x : ℕ) → x ≡ c → x ≢ n → x ≢ j → x ≢ home h s → later (split s c n j first ∷ h) x ≡ 0
+  later_at_child true x e nn nj nh =
+      updated_off (updated (updated (later h) c 0) n 0) j n x nj ∙ (updated_off (updated (later h) c 0) n 0 x nn ∙ updated_at (later h) c 0 x e)
+  later_at_child false x e nn nj nh =
+      updated_off (updated (updated (later h) c 0) n 0) (home h s) n x nh ∙ (updated_off (updated (later h) c 0) n 0 x nn ∙ updated_at (later h) c 0 x e)
 
-pub later_at_join : (h : History) (s c n j x : ℕ) → x ≡ j → later (split s c n j true ∷ h) x ≡ n
-later_at_join h s c n j x e = updated_at (updated (updated (later h) c 0) n 0) j n x e
+  pub later_at_join : (x : ℕ) → x ≡ j → later (split s c n j true ∷ h) x ≡ n
+  later_at_join x e = updated_at (updated (updated (later h) c 0) n 0) j n x e
 
-pub later_at_home : (h : History) (s c n j x : ℕ) → x ≡ home h s → later (split s c n j false ∷ h) x ≡ n
-later_at_home h s c n j x e = updated_at (updated (updated (later h) c 0) n 0) (home h s) n x e
+  pub later_at_home : (x : ℕ) → x ≡ home h s → later (split s c n j false ∷ h) x ≡ n
+  later_at_home x e = updated_at (updated (updated (later h) c 0) n 0) (home h s) n x e
 
 nothing_in : {X : Type 0} (xs : List X) → ((x : X) → Present x xs → ⊥) → xs ≡ []
 nothing_in [] none = refl

@@ -33,7 +33,7 @@ use Rattle.model_reducers.specs.Products.{identity_of, product_of, update_view, 
 use Rattle.reducer_views.specs.declared.pieces.Piece.{Piece}
 use Rattle.reducer_views.specs.declared.touched.Touch.{Touch}
 use Rattle.reducer_views.specs.Touched.{touches_of, look_up, added, view_or, gathered, IsTouch}
-use Rattle.reducer_views.specs.Pieces.{Kept, kept_of, all_kept, home_at, later_at, touches_at, view_in, AreKept, SameHomes, SetsAt, ChangesAt, AreLater, product_from, Combines, more_strands, Grown}
+use Rattle.reducer_views.specs.Pieces.{Kept, all_kept, home_at, later_at, touches_at, view_in, AreKept, SameHomes, SetsAt, ChangesAt, AreLater, product_from, Combines, more_strands, Grown}
 use Rattle.reducer_views.specs.Homes.{home, later, IsCurrent}
 use Rattle.reducer_views.specs.Held.{Holding, Holds, view_of, IsQuiet, QuietLaw}
 use Rattle.reducer_views.proofs.Associative.{product_of_assoc, product_of-fits, identity-right, identity_of-fits}

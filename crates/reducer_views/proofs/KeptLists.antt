@@ -11,7 +11,7 @@ use Rattle.reducer_views.specs.Touched.{Touches, touches_of, look_up, listed_of,
 use Rattle.reducer_views.specs.Pieces.{Kept, kept_of, all_kept, kept_at, home_at, later_at, touches_at, view_in, AreKept, SameHomes, WithTouches, TakesOver, SetsAt, ChangesAt, AreLater, product_from, Combines}
 use Rattle.law_strands.proofs.Updates.{same_or_not}
 use Rattle.reducer_views.proofs.Listed.{look_up-listed_of}
-use Rattle.reducer_views.proofs.Touches.{both_touch, both_view, added_touch, added_view}
+use Rattle.reducer_views.proofs.Touches.{both_touch, both_view}
 
 abbrev pub nothing_kept : Kept
 nothing_kept = record { home = 0; later = 0; touches = [] }
@@ -77,16 +77,6 @@ kept_with monoids old new sound same touched = record {
   where
     twice : (x : ℕ) → later_at new (later_at new x) ≡ later_at old (later_at old x)
     twice x = same.laters (later_at new x) ∙ ap (later_at old) (same.laters x)
-
-pub touched_with : (monoids : List Monoid) (old new : List Kept) (home : ℕ) (touches : Touches) → AreKept monoids old → WithTouches old new home touches → AreTouches monoids touches →
-    (x : ℕ) → AreTouches monoids (touches_at new x)
-touched_with monoids old new home touches sound w fits x = elim (same_or_not x home) [
-  | inl e ↦ subst (λ y. AreTouches monoids (touches_at new y)) (sym e) (subst (AreTouches monoids) (sym w.changed) fits)
-  | inr ne ↦ subst (AreTouches monoids) (sym (w.others x ne)) (sound.touched x)
-]
-
-pub kept_changed : (monoids : List Monoid) (old new : List Kept) (home : ℕ) (touches : Touches) → AreKept monoids old → WithTouches old new home touches → AreTouches monoids touches → AreKept monoids new
-kept_changed monoids old new home touches sound w fits = kept_with monoids old new sound w.same (touched_with monoids old new home touches sound w fits)
 
 pub taken_over : (strands first second : List Kept) (home later : ℕ) (empty touches : Touches) → home ≢ later → WithTouches strands first later empty → ((reducer : ℕ) → empty reducer ≡ None) →
     WithTouches first second home touches → ((reducer : ℕ) → touches reducer ≡ both (touches_at first home reducer) (touches_at strands later reducer)) → TakesOver strands second home later

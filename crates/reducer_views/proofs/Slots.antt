@@ -2,9 +2,9 @@
 use Rattle.std.proofs.Common.{◌≡◌, ◌≢◌, ℕ, ◌+◌, ◌-◌, ◌*◌, ◌/◌, ◌%◌, ◌^◌, ◌<◌, ◌≤◌, suc, zero, Bool, true, false, IsTrue, Option, Some, None, Box, refl, sym, ap, ap₂, ◌∙◌, subst, arith, lit<}
 use Rattle.std.proofs.Math.Nat.{pow-le-pow_right, pow-succ'}
 use Rattle.reducer_views.specs.declared.touched.Touch.{Touch}
-use Rattle.reducer_views.specs.declared.touched.Slot.{Slot, Slot', Held-Slot-odd, None', Some', out-Slot, roll-Slot}
-use Rattle.reducer_views.specs.Touched.{Touches, spread, touches_from, touches_behind, touches_of, Changes, both}
-use Rattle.reducer_views.proofs.Touches.{spread_first, spread_odd, spread_even, changes_first, changes_odd, changes_even, spread_both}
+use Rattle.reducer_views.specs.declared.touched.Slot.{Slot, Slot', None', Some', out-Slot, roll-Slot}
+use Rattle.reducer_views.specs.Touched.{Touches, spread, touches_from, touches_of, Changes, added, both}
+use Rattle.reducer_views.proofs.Touches.{spread_odd, spread_even, changes_first, changes_odd, changes_even, spread_both}
 
 pub touches_out : {A : Type 0} (slot : Slot A) (reducer : ℕ) →
     touches_from slot reducer ≡ spread (out-Slot A slot).touch (touches_of (out-Slot A slot).odd) (touches_of (out-Slot A slot).even) reducer
@@ -23,9 +23,6 @@ touches_roll {A} touch (Some odd) None reducer = refl
 touches_roll {A} touch (Some odd) (Some even) reducer = refl
 
 -- where a reducer is found
-pub found_first : {A : Type 0} (slot : Slot A) (number : ℕ) → number ≡ 0 → touches_from slot number ≡ (out-Slot A slot).touch
-found_first {A} slot number e = touches_out slot number ∙ spread_first (out-Slot A slot).touch (touches_of (out-Slot A slot).odd) (touches_of (out-Slot A slot).even) number e
-
 pub found_odd : {A : Type 0} (slot : Slot A) (number : ℕ) → number ≢ 0 → number % 2 ≡ 1 → touches_of (out-Slot A slot).odd ((number - 1) / 2) ≡ touches_from slot number
 found_odd {A} slot number ne o = sym (touches_out slot number ∙ spread_odd (out-Slot A slot).touch (touches_of (out-Slot A slot).odd) (touches_of (out-Slot A slot).even) number ne o)
 
@@ -90,6 +87,34 @@ set_even {A} old slot even reducer touch before ne o change =
     (touches_roll (out-Slot A slot).touch (out-Slot A slot).odd even)
     (from_out slot (spread (out-Slot A slot).touch (touches_of (out-Slot A slot).odd) (touches_of even)) reducer touch
     (changes_even (out-Slot A slot).touch (touches_of (out-Slot A slot).odd) (touches_of (out-Slot A slot).even) (touches_of even) reducer touch ne o change))
+
+-- a touch is combined behind a slot, by where it stands
+before_slot : {A : Type 0} (slots : Option (Box (Slot A) A)) (box : Box (Slot A) A) (slot : Slot A) → slots ≡ Some box → slot ≡ box.value → (other : ℕ) →
+    touches_from slot other ≡ touches_of slots other
+before_slot {A} slots box slot slots_is slot_is other =
+    ap (λ (s : Slot A). touches_from s other) slot_is ∙ sym (ap (λ (s : Option (Box (Slot A) A)). touches_of s other) slots_is)
+
+pub gather_odd : {A : Type 0} (slots : Option (Box (Slot A) A)) (box : Box (Slot A) A) (slot : Slot A) (odd : Option (Box (Slot A) A)) (reducer : ℕ) (touch : Touch) →
+    slots ≡ Some box → slot ≡ box.value → reducer ≢ 0 → reducer % 2 ≡ 1 →
+    Changes (touches_of (out-Slot A slot).odd) (touches_of odd) ((reducer - 1) / 2) (added (touches_of (out-Slot A slot).odd ((reducer - 1) / 2)) touch) →
+    Changes (touches_of slots) (touches_from (roll-Slot A (record { touch = (out-Slot A slot).touch; odd = odd; even = (out-Slot A slot).even }))) reducer
+    (added (touches_of slots reducer) touch)
+gather_odd {A} slots box slot odd reducer touch slots_is slot_is ne o change =
+    let before = before_slot slots box slot slots_is slot_is in
+    set_odd (touches_of slots) slot odd reducer (added (touches_of slots reducer) touch) before ne o
+    (subst (λ (t : Option Touch). Changes (touches_of (out-Slot A slot).odd) (touches_of odd) ((reducer - 1) / 2) (added t touch))
+    (found_odd slot reducer ne o ∙ before reducer) change)
+
+pub gather_even : {A : Type 0} (slots : Option (Box (Slot A) A)) (box : Box (Slot A) A) (slot : Slot A) (even : Option (Box (Slot A) A)) (reducer : ℕ) (touch : Touch) →
+    slots ≡ Some box → slot ≡ box.value → reducer ≢ 0 → reducer % 2 ≢ 1 →
+    Changes (touches_of (out-Slot A slot).even) (touches_of even) ((reducer - 1) / 2) (added (touches_of (out-Slot A slot).even ((reducer - 1) / 2)) touch) →
+    Changes (touches_of slots) (touches_from (roll-Slot A (record { touch = (out-Slot A slot).touch; odd = (out-Slot A slot).odd; even = even }))) reducer
+    (added (touches_of slots reducer) touch)
+gather_even {A} slots box slot even reducer touch slots_is slot_is ne o change =
+    let before = before_slot slots box slot slots_is slot_is in
+    set_even (touches_of slots) slot even reducer (added (touches_of slots reducer) touch) before ne o
+    (subst (λ (t : Option Touch). Changes (touches_of (out-Slot A slot).even) (touches_of even) ((reducer - 1) / 2) (added t touch))
+    (found_even slot reducer ne o ∙ before reducer) change)
 
 -- a slot that was written
 opened : (A : Type 0) (touch : Option Touch) (odd even : Option (Box (Slot A) A)) →

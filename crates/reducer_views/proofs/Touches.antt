@@ -1,12 +1,11 @@
 -- Tables of touches: where a reducer stands, and what two of them make.
-use Rattle.std.proofs.Common.{◌≡◌, ◌≢◌, ◌⊎◌, inl, inr, ℕ, ◌+◌, ◌-◌, ◌*◌, ◌/◌, ◌%◌, List, Option, Some, None, refl, sym, ap, ap₂, ◌∙◌, subst, subst₂, arith}
+use Rattle.std.proofs.Common.{◌≡◌, ◌≢◌, inl, inr, ℕ, ◌-◌, ◌/◌, ◌%◌, List, Option, Some, None, refl, sym, ap, ap₂, ◌∙◌, subst, arith}
 use Rattle.std.proofs.lemmas.Bool.Decides.{eqb_tells}
 use Rattle.model_reducers.specs.declared.monoid.Monoid.{Monoid}
-use Rattle.model_reducers.specs.declared.view.View.{View}
 use Rattle.reducer_views.specs.declared.touched.Touch.{Touch}
 use Rattle.reducer_views.specs.Products.{FitsMonoid}
 use Rattle.model_reducers.specs.Products.{identity_of, product_of, monoid_of}
-use Rattle.reducer_views.specs.Touched.{Touches, untouched, spread, Changes, combined, both, added, view_or, gathered, IsTouch, AreTouches}
+use Rattle.reducer_views.specs.Touched.{Touches, spread, Changes, both, added, view_or, gathered, IsTouch, AreTouches}
 use Rattle.reducer_views.proofs.Associative.{product_of-fits, identity-left, identity-right, identity_of-fits}
 
 pub spread_first : (first : Option Touch) (odd even : Touches) (reducer : ℕ) → reducer ≡ 0 → spread first odd even reducer ≡ first
@@ -46,10 +45,6 @@ spread_both first first' first'' odd odd' odd'' even even' even'' a b c reducer 
   | is_even ne e ↦ spread_even first'' odd'' even'' reducer ne e ∙ (c ((reducer - 1) / 2) ∙ sym (ap₂ both (spread_even first odd even reducer ne e) (spread_even first' odd' even' reducer ne e)))
 ]
 
-pub both_none : (touch : Option Touch) → both touch None ≡ touch
-both_none None = refl
-both_none (Some touch) = refl
-
 -- one touch of a table changes, by the part where it stands
 pub changes_first : (first : Option Touch) (odd even : Touches) (reducer : ℕ) (touch : Touch) → reducer ≡ 0 → Changes (spread first odd even) (spread (Some touch) odd even) reducer touch
 changes_first first odd even reducer touch e = record {
@@ -88,10 +83,6 @@ changes_even first odd even even' reducer touch nr o change = record {
     | is_even nz z ↦ spread_even first odd even' other nz z ∙ (change.others ((other - 1) / 2) (λ e. ne (halves_even other reducer nz nr z o e)) ∙ sym (spread_even first odd even other nz z))
   ];
 }
-
--- a table that is as the old one
-pub changes_like : (old old' new : Touches) (reducer : ℕ) (touch : Touch) → ((other : ℕ) → old' other ≡ old other) → Changes old' new reducer touch → Changes old new reducer touch
-changes_like old old' new reducer touch e change = record { changed = change.changed; others = λ other ne. change.others other ne ∙ e other }
 
 -- Touches of reducers with these monoids
 

@@ -1,6 +1,6 @@
 -- What is kept of the strands, by their numbers.
 use Rattle.std.specs.Prelude.{◌≡◌, ◌≢◌, ◌⊎◌, ◌+◌, ◌<◌, ◌≤◌, ℕ, Bool, true, false, List, []}
-use Rattle.std.specs.Prelude.{◌∷◌, length, slice_index_or, map, Option, Some, None, Contains}
+use Rattle.std.specs.Prelude.{◌∷◌, length, slice_index_or, map, Some, None, Contains}
 use Rattle.model_reducers.specs.declared.monoid.Monoid.{Monoid}
 use Rattle.model_reducers.specs.declared.view.View.{View}
 use Rattle.reducer_views.specs.declared.pieces.Piece.{Piece}

@@ -6,7 +6,7 @@ ghost use Rattle.reducer_views.specs.Pieces.{AreKept, AreLater, Combines, Grown,
 ghost use Rattle.reducer_views.specs.Pieces.{TakesOver, all_kept, first_kept, home_at, later_at, touches_at};
 ghost use Rattle.reducer_views.specs.Touched.{added};
 
-use crate::touched::{Slots, Spare, Touch, absorb, gather, set};
+use crate::touched::{Slots, Spare, Touch, absorb, gather, give_back, set};
 use std::alloc::{AllocError, Allocator};
 
 /// What is kept of a strand.
@@ -92,8 +92,8 @@ pub fn set_at<A: Allocator>(
     set(&mut pieces[home as usize].slots, spare, reducer, touch);
 }
 
-/// Combines what is touched at a later number on the right of what is at a home.
-fn take_over<A: Allocator>(pieces: &mut [Piece<A>], home: u32, later: u32)
+/// Combines what is touched at a later number on the right of what is at a home. What slots both had, go to the reserve.
+fn take_over<A: Allocator>(pieces: &mut [Piece<A>], spare: &mut Spare<A>, home: u32, later: u32)
     requires home_known { home < length pieces.old }
     requires later_known { later < length pieces.old }
     requires apart { home < later }
@@ -101,10 +101,11 @@ fn take_over<A: Allocator>(pieces: &mut [Piece<A>], home: u32, later: u32)
 {
     let mut slots = pieces[later as usize].slots.take();
     absorb(&mut pieces[home as usize].slots, &mut slots);
+    give_back(&mut slots, spare);
 }
 
 /// Combines the views of a block's children and of its syncing strand, in order, at the home of its join.
-pub fn gather_block<A: Allocator>(pieces: &mut [Piece<A>], join: u32)
+pub fn gather_block<A: Allocator>(pieces: &mut [Piece<A>], spare: &mut Spare<A>, join: u32)
     requires known { join < length pieces.old }
     requires sound { (monoids : List Monoid) × AreKept monoids (all_kept pieces.old) }
     ensures same { SameHomes (all_kept pieces.old) (all_kept pieces.new) }
@@ -117,7 +118,7 @@ pub fn gather_block<A: Allocator>(pieces: &mut [Piece<A>], join: u32)
     let home = piece.home;
     let mut at = piece.later;
     while at != 0 {
-        take_over(pieces, home, at);
+        take_over(pieces, spare, home, at);
         at = pieces[at as usize].later;
     }
 }

@@ -67,6 +67,8 @@ fn fresh<A: Allocator + Clone>(alloc: &A) -> Result<Box<Slot<A>, A>, AllocError>
 }
 
 /// Fills the reserve. A refused growth answers `AllocError`.
+#[cold]
+#[inline(never)]
 pub fn fill<A: Allocator + Clone>(spare: &mut Spare<A>, alloc: &A) -> Result<(), AllocError>
     ensures ok { OnOk result (DEPTH ≤ vec_len spare.new) }
     ensures kept { vec_len spare.old ≤ vec_len spare.new }
@@ -150,13 +152,36 @@ fn behind(earlier: Option<Touch>, later: Touch) -> Touch
     }
 }
 
-/// Combines a touch on the right of the reducer's.
+/// Combines a touch on the right of the reducer's, in its slot where there is one, and else with slots of the reserve.
 pub fn gather<A: Allocator>(slots: &mut Slots<A>, spare: &mut Spare<A>, reducer: u32, touch: Touch)
     requires { reducer + 1 < 2 ^ vec_len spare.old }
     ensures { Changes (touches_of slots.old) (touches_of slots.new) reducer (added (touches_of slots.old reducer) touch) }
 {
-    let now = behind(find(slots, reducer), touch);
-    set(slots, spare, reducer, now);
+    let Some(slot) = slots else {
+        set(slots, spare, reducer, touch);
+        return;
+    };
+    let slot: &mut Slot<A> = slot;
+    if reducer == 0 {
+        slot.touch = Some(behind(slot.touch, touch));
+    } else if reducer % 2 == 1 {
+        gather(&mut slot.odd, spare, (reducer - 1) / 2, touch);
+    } else {
+        gather(&mut slot.even, spare, (reducer - 1) / 2, touch);
+    }
+}
+
+/// Gives the slots of a table back to the reserve, as far as there is room for them.
+pub fn give_back<A: Allocator>(slots: &mut Slots<A>, spare: &mut Spare<A>) {
+    let Some(slot) = slots else { return };
+    let behind: &mut Slot<A> = slot;
+    give_back(&mut behind.odd, spare);
+    give_back(&mut behind.even, spare);
+    if spare.len() < spare.capacity()
+        && let Some(slot) = slots.take()
+    {
+        spare.push_reserved(slot);
+    }
 }
 
 /// Combines the views of a later piece on the right, and leaves of it the slots that both pieces had.

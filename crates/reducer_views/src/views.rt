@@ -11,7 +11,7 @@ ghost use Rattle.reducer_views.specs.Homes.{IsCurrent};
 ghost use Rattle.model_reducers.specs.Products.{number_of};
 
 use crate::pieces::{Piece, first_piece, gather_at, gather_block, grow, set_at};
-use crate::touched::{Spare, Touch, fill, find};
+use crate::touched::{DEPTH, Spare, Touch, fill, find};
 use crate::view::{identity, of_put, of_update, value};
 use model_reducers::Monoid;
 use model_strands::Spawned;
@@ -71,6 +71,7 @@ impl<A: Allocator + Clone> Views<A> {
     }
 
     /// Makes room for the next event. A refused growth answers `AllocError` and changes nothing; where there is room, none is asked for.
+    #[inline(always)]
     pub fn reserve_event(&mut self) -> Result<(), AllocError>
         ensures ok { OnOk result (self.new ≡ record self.old { has_room = true }) }
         ensures err { OnErr result (self.new ≡ self.old) }
@@ -78,7 +79,9 @@ impl<A: Allocator + Clone> Views<A> {
     {
         if !self.has_room {
             self.pieces.reserve(3)?;
-            fill(&mut self.spare, &self.alloc)?;
+            if self.spare.len() < DEPTH {
+                fill(&mut self.spare, &self.alloc)?;
+            }
             self.has_room = true;
         }
         Ok(())
@@ -127,7 +130,7 @@ impl<A: Allocator + Clone> Views<A> {
             Allowed (control_steps steps) (ended_joined strand join) →
             Holds self.new (control (ended_joined strand join) ∷ steps) }
     {
-        gather_block(&mut self.pieces, join);
+        gather_block(&mut self.pieces, &mut self.spare, join);
         self.has_room = false;
     }
 

@@ -57,6 +57,7 @@ fn hebrew_before<A: Allocator>(strands: &Strands<A>, a: u32, b: u32) -> bool
 
 impl Extremes {
     /// The strand of the two, the English-last first, that is parallel to a running one.
+    #[inline(always)]
     fn parallel_to<A: Allocator>(self, strands: &Strands<A>, strand: u32) -> Option<Extreme>
         requires runs { Runs strands.now strand }
         requires begun { HaveBegun strands.now (Some self) }
@@ -81,6 +82,7 @@ impl Extremes {
     }
 
     /// The last ones of these and a new one.
+    #[inline(always)]
     fn with<A: Allocator>(self, strands: &Strands<A>, new: Extreme) -> Extremes
         requires new_begun { HasBegun strands.now new.strand }
         requires begun { HaveBegun strands.now (Some self) }
@@ -118,6 +120,7 @@ impl Cell {
         read: None,
     };
 
+    #[inline(always)]
     fn extremes(&self, kind: Kind) -> Option<Extremes>
         ensures { result ≡ extremes_of self.now kind }
     {
@@ -129,6 +132,7 @@ impl Cell {
         }
     }
 
+    #[inline(always)]
     fn keep(&mut self, kind: Kind, extremes: Extremes)
         requires { IsTrue (is_memory_kind kind) }
         ensures kept { extremes_of self.new kind ≡ Some extremes }
@@ -142,7 +146,9 @@ impl Cell {
         }
     }
 
-    /// The access of one earlier kind that is the witness for a running strand, if any is parallel to it.
+    /// The access of one earlier kind that is the witness for a running strand, if any is parallel to it. Each caller names the kind, so
+    /// that no kind is told apart when it runs.
+    #[inline(always)]
     pub fn find<A: Allocator>(
         &self,
         strands: &Strands<A>,
@@ -166,6 +172,7 @@ impl Cell {
     }
 
     /// Takes in an access of one kind.
+    #[inline(always)]
     pub fn add<A: Allocator>(&mut self, strands: &Strands<A>, kind: Kind, strand: u32, entry: u32)
         requires memory { IsTrue (is_memory_kind kind) }
         requires new_begun { HasBegun strands.now strand }

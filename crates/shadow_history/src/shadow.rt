@@ -41,6 +41,7 @@ impl<A: Allocator> Shadow<A> {
 
     /// The witness against a new access of a running strand: an earlier access that races with it, or None where none
     /// does. The kinds are tried in the order of the table, in each the English-last strand before the Hebrew-last.
+    #[inline(always)]
     pub fn find<B: Allocator>(
         &self,
         strands: &Strands<B>,
@@ -78,6 +79,7 @@ impl<A: Allocator> Shadow<A> {
     }
 
     /// Takes in a granted access of a running strand.
+    #[inline(always)]
     pub fn add<B: Allocator>(
         &mut self,
         strands: &Strands<B>,

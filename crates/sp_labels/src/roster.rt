@@ -1,11 +1,13 @@
 //! The strands of one spawn-sync program.
 
-ghost use Rattle.std.specs.Prelude.{◌≡◌, ◌≢◌, ◌⊎◌, ◌↔◌, ℕ, [], ◌∷◌, true, false, IsTrue, IfOk, IfErr, OnOk, OnErr, IsErrOf};
+ghost use Rattle.std.specs.Prelude.{◌≡◌, ◌≢◌, ◌⊎◌, ◌↔◌, ◌+◌, ◌<◌, ◌≤◌, ℕ, [], ◌∷◌, true, false, length};
+ghost use Rattle.std.specs.Prelude.{IsTrue, IfOk, IfErr, OnOk, OnErr, IsErrOf};
 ghost use Rattle.model_strands.specs.History.{History, call};
 ghost use Rattle.model_strands.specs.Strands.{Running, Begun};
 ghost use Rattle.model_strands.specs.Blocks.{IsSynced, Stack, spawned, block, stack};
 ghost use Rattle.model_strands.specs.Dag.{Reaches, IsParallel};
 ghost use Rattle.law_strands.specs.Addresses.{IsEnglishBefore, IsHebrewBefore};
+ghost use Rattle.order_list.specs.Order.{most_items};
 ghost use Rattle.sp_labels.specs.Roster.{Follows, HasBegun, HasFewLeft, event_of_spawn, event_of_sync, event_of_return};
 
 use crate::answer::{Returned, SpFault, Synced};
@@ -18,6 +20,27 @@ use std::marker::Model;
 
 /// The spawns after which there may be no number left for a strand, where each makes three.
 const MOST_SPAWNS: usize = 1_000_000;
+
+/// How many places of an order are reserved at once, so that most events find theirs.
+const AHEAD: u32 = 96;
+
+/// Reserves places for three more strands, and where there are numbers left for many, theirs too.
+#[inline(always)]
+fn reserve_three<A: Allocator>(order: &mut OrderList<A>) -> Result<(), OrderFault>
+    ensures items { order.new.items ≡ order.old.items }
+    ensures ok { OnOk result (3 ≤ order.new.reserved) }
+    ensures err { OnErr result (order.new ≡ order.old) }
+    ensures full { IsErrOf result OrderFault.Full ↔ (most_items < length order.old.items + 3) }
+    ensures memory { IsErrOf result OrderFault.Memory → order.old.reserved < 3 }
+{
+    if order.reserved() < 3 {
+        match order.reserve(AHEAD) {
+            Err(OrderFault::Full) => {}
+            asked => return asked,
+        }
+    }
+    order.reserve(3)
+}
 
 /// The strands of one spawn-sync program.
 pub struct Strands<A: Allocator> {
@@ -103,12 +126,12 @@ impl<A: Allocator> Strands<A> {
         if self.has_room {
             return Ok(());
         }
-        match self.english.reserve(3) {
+        match reserve_three(&mut self.english) {
             Ok(()) => {}
             Err(OrderFault::Full) => return Err(SpFault::Full),
             Err(OrderFault::Memory) => return Err(SpFault::Memory),
         }
-        match self.hebrew.reserve(3) {
+        match reserve_three(&mut self.hebrew) {
             Ok(()) => {}
             Err(OrderFault::Full) => return Err(SpFault::Full),
             Err(OrderFault::Memory) => return Err(SpFault::Memory),

@@ -309,17 +309,6 @@ outstanding_told makers entries lineage first second one two c begun begun_too a
     (record { entry = get_or makers one 0; spawner = spawner; spawned = spawned; peer = peer; parallel = z.1; ordered = z.2 })) (sym e)
     (outstanding_second makers entries lineage first second one two c begun begun_too alike differ (get_or makers one 0) at_one spawner spawned is peer opposite)
 
--- a strand whose climb ended at the other's end has that one's address before its own
-pub climbed_first : (entries : Entries) (first second one two : ℕ) → Climbs entries first second one two → one ≡ two → one ≡ first →
-    IsPrefix (address (control_part entries) first) (address (control_part entries) second)
-climbed_first entries first second one two c e f =
-    subst (λ (x : ℕ). IsPrefix (address (control_part entries) x) (address (control_part entries) second)) (sym e ∙ f) c.two_begins
-
-pub climbed_second : (entries : Entries) (first second one two : ℕ) → Climbs entries first second one two → one ≡ two → two ≡ second →
-    IsPrefix (address (control_part entries) second) (address (control_part entries) first)
-climbed_second entries first second one two c e f =
-    subst (λ (x : ℕ). IsPrefix (address (control_part entries) x) (address (control_part entries) first)) (e ∙ f) c.one_begins
-
 pub swapped : (entries : Entries) (first second : ℕ) (found : Option OpenSpawn) → IfSome found (IsOutstanding entries second first) →
     IfSome found (IsOutstanding entries first second)
 swapped entries first second (Some found) o = outstanding_swap entries first second found o

@@ -7,3 +7,4 @@ pub mod Ready
 pub mod Sharing
 pub mod Sums
 pub mod Thefts
+mod Finished

@@ -8,8 +8,8 @@ use Rattle.std.proofs.lemmas.List.{length-map, map-set, get_or-map}
 use Rattle.std.proofs.lemmas.List.Elements.{All-head, All-tail}
 use Rattle.std.proofs.lemmas.Simd.{map-map}
 use Rattle.locked_replay.specs.declared.worker.WorkerLog.{WorkerLog}
-use Rattle.model_histories.specs.declared.reply.Receipt.{Receipt}
 use Rattle.std.specs.Global.{Vec}
+use Rattle.short_receipts.specs.Lists.{Listed}
 use Rattle.std.specs.List.{list_any}
 use Rattle.steal_workers.specs.declared.hand.Hand.{Hand}
 use Rattle.steal_workers.specs.declared.ends.Ends.{Ends}
@@ -63,5 +63,5 @@ module _ {L : Type 0} where
   -- the run's end is seen in the logs as in the workers
   pub same_end : (workers : List (Worker L)) (logs : List (WorkerLog L)) → map (λ log. log.receipts) logs ≡ map (λ worker. worker.receipts) workers → some_finished logs ≡ saw_end workers
   same_end workers logs same =
-      let ended : Vec Receipt → Bool = λ receipts. list_any (λ receipt. finishes receipt.answer) receipts.items in
+      let ended : Listed → Bool = λ receipts. list_any (λ receipt. finishes receipt.answer) receipts.items in
       sym (list_any-map ended (λ log. log.receipts) logs) ∙ ap (list_any ended) same ∙ list_any-map ended (λ worker. worker.receipts) workers

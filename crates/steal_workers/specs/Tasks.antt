@@ -9,4 +9,4 @@ IsOn strand task next = (next.strand ≡ strand) × (next.program ≡ task.progr
 
 -- nothing was said yet by the function with this argument
 abbrev pub IsBegun : (function argument : ℕ) → Task → Type 0
-IsBegun function argument task = IsAfter task.program.now.functions function argument [] task.frame
+IsBegun function argument task = IsAfter task.program.now.functions function argument [] task.frame.value

@@ -111,7 +111,7 @@ KeepsReceipt request before after (Err fault) =
 abbrev pub IsWanted : Task → Request → Type 0
 IsWanted task request =
     (function argument : ℕ) (history : List Exchange) (x : Exchange)
-    → IsAfter task.program.now.functions function argument history task.frame
+    → IsAfter task.program.now.functions function argument history task.frame.value
     → CanFollow task.program.now.functions function argument history x
     → (x.act ≡ request.act) × (x.line ≡ request.line)
 

@@ -9,7 +9,9 @@ ghost use Rattle.steal_workers.specs.Tasks.{IsOn};
 use crate::task::Task;
 use std::alloc::Global;
 use std::collections::BTreeMap;
+use std::sync::atomic::{AtomicU64, Ordering};
 use std::sync::{Mutex, Wait};
+use std::time::Duration;
 use thiserror::Error;
 
 /// Why a call for a join has no answer.
@@ -22,6 +24,9 @@ pub enum LotFault {
     #[error("out of memory")]
     Memory,
 }
+
+/// For how many microseconds a worker dozes that finds nothing to do.
+const DOZE: u64 = 100;
 
 /// What came for a join.
 #[derive(Drop)]
@@ -38,14 +43,12 @@ enum Place<'p> {
 #[derive(Drop)]
 struct Places<'p> {
     by_join: BTreeMap<u32, Place<'p>>,
-    closed: bool,
 }
 
 impl<'p> Places<'p> {
     fn park(&mut self, join: u32, task: Task<'p>) -> Result<Option<Task<'p>>, LotFault>
         ensures parks { Parks join task.entry (get nat_cmp self.old.by_join join) result (get nat_cmp self.new.by_join join) }
         ensures others { (other : ℕ) → other ≢ join → get nat_cmp self.new.by_join other ≡ get nat_cmp self.old.by_join other }
-        ensures closed { self.new.closed ≡ self.old.closed }
     {
         match self.by_join.get_mut(&join) {
             Some(place) => match place {
@@ -65,7 +68,6 @@ impl<'p> Places<'p> {
     fn wake(&mut self, join: u32) -> Result<Option<Task<'p>>, LotFault>
         ensures wakes { Wakes join (get nat_cmp self.old.by_join join) result (get nat_cmp self.new.by_join join) }
         ensures others { (other : ℕ) → other ≢ join → get nat_cmp self.new.by_join other ≡ get nat_cmp self.old.by_join other }
-        ensures closed { self.new.closed ≡ self.old.closed }
     {
         match self.by_join.get_mut(&join) {
             Some(place) => match std::mem::replace(place, Place::Met) {
@@ -87,6 +89,8 @@ impl<'p> Places<'p> {
 #[derive(Drop)]
 pub struct Lot<'p> {
     places: Mutex<Places<'p>>,
+    /// 1 once the lot is closed, 0 before.
+    closed: AtomicU64,
 }
 
 impl<'p> Lot<'p> {
@@ -95,8 +99,8 @@ impl<'p> Lot<'p> {
         Lot {
             places: Mutex::new(Places {
                 by_join: BTreeMap::new(alloc),
-                closed: false,
             }),
+            closed: AtomicU64::new(0),
         }
     }
 
@@ -120,13 +124,19 @@ impl<'p> Lot<'p> {
         self.places.lock(rt).wake(join)
     }
 
-    /// Closes the lot: the run is over.
-    pub fn close<R: Wait>(&self, rt: &R) {
-        self.places.lock(rt).closed = true;
+    /// Closes the lot: the run is over. Whoever dozes wakes.
+    pub fn close<R: Wait>(&self, _rt: &R) {
+        self.closed.store(1, Ordering::SeqCst);
+        self.closed.wake_all();
     }
 
     /// Whether the lot is closed.
-    pub fn look<R: Wait>(&self, rt: &R) -> bool {
-        self.places.lock(rt).closed
+    pub fn look<R: Wait>(&self, _rt: &R) -> bool {
+        self.closed.load(Ordering::SeqCst) != 0
+    }
+
+    /// Sleeps for a short while, or until the lot is closed. It may come back at once.
+    pub(crate) fn doze<R: Wait>(&self, rt: &R) {
+        self.closed.park_timeout(rt, 0, Duration::from_micros(DOZE));
     }
 }

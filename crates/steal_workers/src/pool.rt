@@ -19,6 +19,7 @@ use crate::worker::Worker;
 use locked_replay::{Ask, RunFault, Seat, WorkerLog};
 use program_text::Program;
 use race_gate::{Answer, Receipt};
+use short_receipts::Receipts;
 use std::alloc::{AllocError, Global};
 use std::snapshot::Snapshot;
 use std::sync::Wait;
@@ -78,22 +79,27 @@ fn hire_each<'p, L: Ledger>(
     Ok(hired)
 }
 
-fn is_finishing(receipt: &Receipt) -> bool
-    ensures { result ≡ finishes receipt.now.answer }
+fn is_finishing(receipt: Receipt) -> bool
+    ensures { result ≡ finishes receipt.answer }
 {
     matches!(receipt.answer, Answer::Finished)
 }
 
-fn has_finished(receipts: &[Receipt]) -> bool
-    ensures { result ≡ list_any (λ receipt. finishes receipt.answer) receipts.now }
+fn has_finished(receipts: &Receipts) -> bool
+    ensures { result ≡ list_any (λ receipt. finishes receipt.answer) receipts.now.items }
 {
-    receipts.iter().any(is_finishing)
+    for at in 0..receipts.len() {
+        if is_finishing(receipts.get(at)) {
+            return true;
+        }
+    }
+    false
 }
 
 fn some_log_finished<L: Ledger>(logs: &[WorkerLog<L>]) -> bool
     ensures { result ≡ some_finished logs.now }
 {
-    logs.iter().any(|log| has_finished(log.receipts.as_slice()))
+    logs.iter().any(|log| has_finished(&log.receipts))
 }
 
 /// Starts the workers, and says whether all of them could be started. Where one could not, the run is over.

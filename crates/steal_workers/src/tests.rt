@@ -49,15 +49,17 @@ fn received<L: Ledger + Send + Sync, R: Threads + Wait + Sync>(
 {
     let (locked, seat) = LockedGate::<L>::new(gate(alloc)?, blank, PARTS);
     let logs = run(rt, alloc, program, workers, &locked, seat)?;
-    let mut receipts = Vec::new(alloc);
+    let mut answers = Vec::new(alloc);
     for log in logs.iter() {
-        receipts.extend_from_slice(log.receipts.as_slice())?;
+        for at in 0..log.receipts.len() {
+            answers.push(log.receipts.get(at).answer)?;
+        }
     }
-    let finished = receipts
+    let finished = answers
         .iter()
-        .filter(|receipt| receipt.answer == Answer::Finished)
+        .filter(|answer| **answer == Answer::Finished)
         .count();
-    Ok((receipts.len(), finished))
+    Ok((answers.len(), finished))
 }
 
 #[test]
@@ -102,16 +104,23 @@ fn come_for_joins<R: Wait + Abort>(
     program: &Program<Global>,
 ) -> Result<(), Fail> {
     let lot = Lot::new(alloc);
+    let mut spare = Vec::new(alloc);
     assert!(rt; lot.wake(rt, 3)?.is_none());
-    let parked = lot.park(rt, 3, Task::root(alloc, program))?;
+    let parked = lot.park(rt, 3, Task::root(alloc, program, &mut spare)?)?;
     assert!(rt; parked.map(|task| task.strand) == Some(3));
     assert!(rt; matches!(lot.wake(rt, 3), Err(LotFault::Torn)));
     assert!(rt; lot.wake(rt, 6)?.is_none());
     assert!(rt; matches!(lot.wake(rt, 6), Err(LotFault::Torn)));
-    assert!(rt; lot.park(rt, 4, Task::root(alloc, program))?.is_none());
+    assert!(rt;
+        lot.park(rt, 4, Task::root(alloc, program, &mut spare)?)?
+            .is_none()
+    );
     assert!(rt; lot.wake(rt, 4)?.map(|task| task.strand) == Some(4));
-    assert!(rt; lot.park(rt, 5, Task::root(alloc, program))?.is_none());
-    let again = lot.park(rt, 5, Task::root(alloc, program));
+    assert!(rt;
+        lot.park(rt, 5, Task::root(alloc, program, &mut spare)?)?
+            .is_none()
+    );
+    let again = lot.park(rt, 5, Task::root(alloc, program, &mut spare)?);
     assert!(rt; matches!(again, Err(LotFault::Torn)));
     assert!(rt; !lot.look(rt));
     lot.close(rt);

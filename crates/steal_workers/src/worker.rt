@@ -9,12 +9,13 @@ ghost use Rattle.steal_workers.specs.Goings.{GoesOn, HandsOut, IsAtJoin};
 use crate::ends::Ends;
 use crate::fault::{fault_of, meeting_of, refusal_of};
 use crate::lot::Lot;
-use crate::task::Task;
+use crate::task::{Spare, Task};
 use crossbeam_utils::Backoff;
 use function_steps::Target;
 use locked_replay::{Ask, RunFault, Seat, WorkerLog};
 use program_text::Program;
-use race_gate::{Answer, Receipt};
+use race_gate::Answer;
+use short_receipts::Receipts;
 use std::alloc::{AllocError, Global};
 use std::sync::Wait;
 use std::sync::ledger::Ledger;
@@ -42,12 +43,13 @@ enum Going {
     Ends,
 }
 
-/// Hands out a task that does not go ahead. What comes out goes on in its place.
+/// Hands out a task that does not go ahead. What comes out goes on in its place, and the frame of a task that has ended is kept in reserve.
 fn hand_out<'p, R: Wait>(
     rt: &R,
     lot: &Lot<'p>,
     going: Going,
     task: Task<'p>,
+    spare: &mut Spare,
 ) -> Result<Option<Task<'p>>, RunFault>
     ensures handed { HandsOut going task.entry result }
     ensures torn { result ≡ Err RunFault.Torn → IsAtJoin going }
@@ -55,8 +57,14 @@ fn hand_out<'p, R: Wait>(
     match going {
         Going::Ahead => Ok(Some(task)),
         Going::Parks(join) => lot.park(rt, join, task).map_err(meeting_of),
-        Going::Wakes(join) => lot.wake(rt, join).map_err(meeting_of),
-        Going::Ends => Ok(None),
+        Going::Wakes(join) => {
+            task.retire(spare);
+            lot.wake(rt, join).map_err(meeting_of)
+        }
+        Going::Ends => {
+            task.retire(spare);
+            Ok(None)
+        }
     }
 }
 
@@ -73,15 +81,16 @@ fn is_same_request(one: Request, other: Request) -> bool
     one.strand == other.strand && one.line == other.line && is_same_act(one.act, other.act)
 }
 
-/// A worker: what was asked on its seat before it began, what it was told since, and its ends of the deques.
+/// A worker: what was asked on its seat before it began, what it was told since, its ends of the deques, and frames to be used again.
 #[derive(Drop)]
 pub(crate) struct Worker<'p, L: Ledger> {
     pub before: u64,
     pub seat: Seat<L>,
-    pub receipts: Vec<Receipt>,
+    pub receipts: Receipts,
     pub ends: Ends<'p>,
+    pub spare: Spare,
     pub fault: Option<RunFault>,
-    ghost counted: { seat.asked ≡ before + vec_len receipts },
+    ghost counted: { seat.asked ≡ before + length receipts.items },
 }
 
 impl<'p, L: Ledger> Worker<'p, L> {
@@ -95,8 +104,9 @@ impl<'p, L: Ledger> Worker<'p, L> {
         Worker {
             before: seat.asked(),
             seat,
-            receipts: Vec::new(alloc),
+            receipts: Receipts::new(alloc),
             ends,
+            spare: Vec::new(alloc),
             fault: None,
         }
     }
@@ -110,7 +120,8 @@ impl<'p, L: Ledger> Worker<'p, L> {
         ensures station { station_of self.new ≡ station_of self.old }
         ensures ok { OnOk result (own_view self.new.ends ≡ pushing 0 (own_view self.old.ends)) }
     {
-        self.ends.push(Task::root(alloc, program))
+        let root = Task::root(alloc, program, &mut self.spare)?;
+        self.ends.push(root)
     }
 
     /// Asks, and keeps the receipt, which has to be of that request.
@@ -125,7 +136,7 @@ impl<'p, L: Ledger> Worker<'p, L> {
         ensures kept { KeepsReceipt request self.old.receipts.items self.new.receipts.items result }
     {
         let Worker { seat, receipts, .. } = self;
-        receipts.reserve(1)?;
+        receipts.reserve()?;
         let receipt = gate.ask(rt, seat, request).map_err(fault_of)?;
         receipts.push_reserved(receipt);
         if is_same_request(receipt.request, request) {
@@ -237,7 +248,7 @@ impl<'p, L: Ledger> Worker<'p, L> {
     {
         match target {
             Some(target) => {
-                let task = Task::spawned(alloc, program, child, target);
+                let task = Task::spawned(alloc, program, child, target, &mut self.spare)?;
                 self.ends.push(task)?;
                 Ok(())
             }
@@ -260,7 +271,7 @@ impl<'p, L: Ledger> Worker<'p, L> {
         for _ in rt.forever() {
             match self.step(rt, alloc, gate, lot, &mut task)? {
                 Going::Ahead => {}
-                going => match hand_out(rt, lot, going, task)? {
+                going => match hand_out(rt, lot, going, task, &mut self.spare)? {
                     Some(next) => task = next,
                     None => return Ok(()),
                 },
@@ -290,7 +301,11 @@ impl<'p, L: Ledger> Worker<'p, L> {
                     if lot.look(rt) {
                         break;
                     }
-                    backoff.snooze();
+                    if backoff.is_completed() {
+                        lot.doze(rt);
+                    } else {
+                        backoff.snooze();
+                    }
                 }
             }
         }
@@ -321,7 +336,7 @@ impl<'p, L: Ledger> Worker<'p, L> {
 
     /// What the worker brings back, and its ends of the deques.
     pub(crate) fn ended(self) -> (WorkerLog<L>, Ends<'p>)
-        ensures log { (result.0.seat.asked ≡ self.entry.before + vec_len result.0.receipts) × (result.0.receipts ≡ self.entry.receipts) }
+        ensures log { (result.0.seat.asked ≡ self.entry.before + length result.0.receipts.items) × (result.0.receipts ≡ self.entry.receipts) }
         ensures ends { result.1 ≡ self.entry.ends }
     {
         let Worker {
@@ -329,6 +344,7 @@ impl<'p, L: Ledger> Worker<'p, L> {
             seat,
             receipts,
             ends,
+            spare: _,
             fault: _,
         } = self;
         (WorkerLog { seat, receipts }, ends)

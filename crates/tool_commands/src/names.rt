@@ -2,7 +2,7 @@
 
 ghost use Rattle.std.specs.Prelude.{IfErr, OnOk};
 ghost use Rattle.tool_commands.specs.Faults.{IsUsageFault};
-ghost use Rattle.tool_commands.specs.Names.{OverwritesProgram, SparesProgram};
+ghost use Rattle.tool_commands.specs.Names.{OverwritesProgram, SparesProgram, TellsOverwriting};
 ghost use Rattle.tool_commands.specs.Watched.{held};
 
 use crate::fault::CliFault;
@@ -21,6 +21,7 @@ const OVER_FILE: &str =
 pub fn check_names<H: Host>(alloc: Global, host: &Watched<H>, job: &Job) -> Result<(), CliFault>
     ensures passed { OnOk result (SparesProgram (H.says_one (held host.now)) job.now) }
     ensures refused { IfErr result (λ fault. IsUsageFault fault × OverwritesProgram (H.says_one (held host.now)) job.now) }
+    ensures told { IfErr result (TellsOverwriting job.now) }
 {
     let Job::Record { file, trace, .. } = job else {
         return Ok(());

@@ -17,7 +17,9 @@ use crate::fault::CliFault;
 use crate::outcome::{Outcome, outcome_of, refusal_status};
 use crate::streams::{parse_program, read_text, write_text};
 use crate::watched::Watched;
-use locked_replay::{Ask, LockedGate, RunFault, Seat, Whole, WorkerLog, check_run, gather};
+use locked_replay::{
+    Ask, LockedGate, RunFault, Seat, Whole, WorkerLog, check_run, gate_for, gather,
+};
 use program_text::Program;
 use race_gate::{Gate, GateFault, Receipt};
 use race_report::{push_words, report};
@@ -81,19 +83,6 @@ pub fn fault_of(fault: RunFault) -> CliFault
         RunFault::Strange => CliFault::Strange,
         RunFault::Memory => CliFault::Memory,
     }
-}
-
-/// A gate of the program, which was asked nothing.
-fn fresh_gate(
-    alloc: Global,
-    program: &Program<Global>,
-    limit: u32,
-) -> Result<Gate<Global>, AllocError>
-    requires { limit ≤ most_entries }
-    ensures { IfOk result (λ gate. gate.history ≡ []) }
-{
-    let shape = program.shape(alloc)?;
-    Gate::new(alloc, &shape, limit)
 }
 
 /// What the workers bring back that ask this gate through the door.
@@ -231,7 +220,7 @@ pub fn some_run<L: Ledger + Send + Sync, D: Door + Sync, R: Threads + Wait + Syn
     ensures within { IfOk result (λ whole. length whole.entries.items ≤ limit) }
     ensures fault { IfErr result (λ cut. IsRunFault (contents program.now) limit (fault_of_run cut.fault)) }
 {
-    let Ok(gate) = fresh_gate(alloc, program, limit) else {
+    let Ok(gate) = gate_for(alloc, program, limit) else {
         return Err(Cut {
             fault: RunFault::Memory,
             gate: None,

@@ -11,7 +11,8 @@ use std::io;
 use std::io::{Read, Write};
 
 /// A reader or a writer of std, whether it has failed, and whether what was written is delivered. A host may be watched too: it has
-/// failed where it could not open a file, or where one of its readers that it was shown has failed.
+/// failed where it could not open a file, or where one of its readers that it was shown has failed, and what else is noted of it stays as
+/// it was.
 #[derive(Debug, Drop)]
 pub struct Watched<T> {
     inner: T,
@@ -73,6 +74,7 @@ impl<H: Host> Watched<H> {
         ensures fresh { has_failed result ≡ false }
         ensures calls { calls_of result ≡ 0 }
         ensures failed { has_failed self.new ≡ has_failed self.old }
+        ensures kept { (is_delivered self.new ≡ is_delivered self.old) × (calls_of self.new ≡ calls_of self.old) }
     {
         Watched::new(self.inner.input())
     }
@@ -86,6 +88,7 @@ impl<H: Host> Watched<H> {
         ensures failed { has_failed self.new ≡ (has_failed self.old || is_err result) }
         ensures same { held self.new ≡ held self.old }
         ensures lacking { H.lacks (held self.old) name.now → IsErr result }
+        ensures kept { (is_delivered self.new ≡ is_delivered self.old) × (calls_of self.new ≡ calls_of self.old) }
     {
         match self.inner.open(name) {
             Ok(file) => Ok(Watched::new(file)),
@@ -103,6 +106,7 @@ impl<H: Host> Watched<H> {
         ensures fault { IfErr result (λ fault. fault ≡ CliFault.Unwritten) }
         ensures failed { has_failed self.new ≡ has_failed self.old }
         ensures barred { H.bars (held self.old) name.now → IsErr result }
+        ensures kept { (is_delivered self.new ≡ is_delivered self.old) × (calls_of self.new ≡ calls_of self.old) }
     {
         match self.inner.create(name) {
             Ok(file) => Ok(Watched::new(file)),
@@ -114,6 +118,7 @@ impl<H: Host> Watched<H> {
     pub fn close(&mut self, name: &str, file: Watched<H::Created>)
         ensures made { H.made (held self.new) name.now ≡ H.Created.contents (held file) }
         ensures failed { has_failed self.new ≡ has_failed self.old }
+        ensures kept { (is_delivered self.new ≡ is_delivered self.old) × (calls_of self.new ≡ calls_of self.old) }
     {
         self.inner.close(name, file.into_inner());
     }
@@ -134,6 +139,7 @@ impl<H: Host> Watched<H> {
     pub fn note<R>(&mut self, reader: &Watched<R>)
         ensures failed { has_failed self.new ≡ (has_failed self.old || has_failed reader.now) }
         ensures same { held self.new ≡ held self.old }
+        ensures kept { (is_delivered self.new ≡ is_delivered self.old) × (calls_of self.new ≡ calls_of self.old) }
     {
         self.failed |= reader.failed;
     }

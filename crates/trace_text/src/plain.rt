@@ -29,13 +29,12 @@ pub struct Plain<'b> {
     pub rest: &'b [u8],
 }
 
-/// The value of a digit.
+/// The value of a digit, and more than 9 of any other byte.
 #[inline(always)]
-fn digit_of(byte: u8) -> u64
-    requires { 48 ≤ byte }
-    ensures { result + 48 ≡ byte }
+fn digit_of(byte: u8) -> u8
+    ensures { result ≤ 9 → result + 48 ≡ byte }
 {
-    u64::from(byte - b'0')
+    byte.wrapping_sub(b'0')
 }
 
 /// So many digits are a number of 64 bits, whichever they are.
@@ -50,11 +49,11 @@ fn head_number(bytes: &[u8]) -> Option<(u64, &[u8])>
     let mut value: u64 = 0;
     let mut length = 0;
     while length < most {
-        let byte = bytes[length];
-        if byte < b'0' || byte > b'9' {
+        let digit = digit_of(bytes[length]);
+        if digit > 9 {
             break;
         }
-        value = value * 10 + digit_of(byte);
+        value = value * 10 + u64::from(digit);
         length += 1;
     }
     if length == 0 {

@@ -1,6 +1,5 @@
-use Rattle.std.proofs.Common.{rules, ◌⊎◌, ◌++◌, ◌<◌, List, length, take, subst, ◌∙◌}
-use Rattle.model_histories.specs.declared.reply.Receipt.{Receipt}
-use Rattle.locked_replay.specs.Receipts.{Rises, AreMarked, AreAstray}
+use Rattle.std.proofs.Common.{rules, ◌<◌, length, take, subst, ◌∙◌}
+use Rattle.locked_replay.specs.Receipts.{AreMarked}
 use Rattle.locked_replay.specs.Logs.{all_receipts}
 use Rattle.locked_replay.proofs.Theirs.{rise_next, receipts_next, not_theirs}
 use Rattle.locked_replay.proofs.logs.mark_logs.Goals as goal
@@ -12,7 +11,7 @@ returns-then-not-mark_all g c are =
     let before = all_receipts (take c.loop-log.log-index logs) in
     let refused = c.if-not-mark_all.ensures.marks before (c.loop-log.invariant.1 are).1 in
     not_theirs logs c.loop-log.log-index c.log-item.result (search rules) c.log-item.is entries
-    (subst (λ (l : List Receipt). (Rises l → ⊥) ⊎ AreAstray entries (before ++ l)) c.as_slice.ensures.value refused)
+    refused
 
 pub loop-log-preserved : goal.loop-log-preserved
 loop-log-preserved g c =
@@ -24,7 +23,7 @@ loop-log-preserved g c =
       c.mark_all.ensures.length ∙ c.loop-log.invariant.0,
       λ are. (
           let known = c.loop-log.invariant.1 are in
-          let taken = subst (λ (l : List Receipt). Rises l × AreMarked marks entries (before ++ l)) c.as_slice.ensures.value (c.if-not-mark_all.ensures.marks before known.1) in (
+          let taken = c.if-not-mark_all.ensures.marks before known.1 in (
             rise_next logs c.loop-log.log-index c.log-item.result low c.log-item.is known.0 taken.0,
             subst (AreMarked marks entries) (receipts_next logs c.loop-log.log-index c.log-item.result low c.log-item.is) taken.1,
           )

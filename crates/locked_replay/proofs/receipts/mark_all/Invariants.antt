@@ -7,5 +7,5 @@ use Rattle.locked_replay.proofs.receipts.mark_all.Given as goal
 abbrev pub invariant-loop-at : goal.invariant-loop-at
 invariant-loop-at l =
     (length l.marks ≡ length l.entries) ×
-    AllAdjacentBelow (λ one next. one.number < next.number) l.receipts l.at ×
-    ((met : List Receipt) → AreMarked l.initial.marks l.entries met → AreMarked l.marks l.entries (met ++ take l.at l.receipts))
+    AllAdjacentBelow (λ one next. one.number < next.number) l.receipts.items l.at ×
+    ((met : List Receipt) → AreMarked l.initial.marks l.entries met → AreMarked l.marks l.entries (met ++ take l.at l.receipts.items))

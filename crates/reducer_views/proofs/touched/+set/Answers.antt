@@ -1,4 +1,4 @@
-use Rattle.std.proofs.Common.{rules, ap, ◌∙◌, arith}
+use Rattle.std.proofs.Common.{ap, ◌∙◌, arith}
 use Rattle.reducer_views.specs.Touched.{touches_from}
 use Rattle.reducer_views.proofs.Slots.{enough, some_left, set_first, set_odd, set_even}
 use Rattle.reducer_views.proofs.touched.+set.Goals as goal

@@ -1,0 +1,71 @@
+-- Receipts in small numbers.
+use Rattle.std.specs.Prelude.{◌≡◌, ◌≢◌, ℕ, Bool, true, false, ◌+◌, ◌*◌, ◌%◌, ◌^◌}
+use Rattle.model_accesses.specs.declared.request.Act.{Act}
+use Rattle.model_accesses.specs.declared.request.Act.TheVariants as act
+use Rattle.model_histories.specs.declared.answer.Answer.{Answer}
+use Rattle.model_histories.specs.declared.answer.Answer.TheVariants as answer
+use Rattle.model_histories.specs.declared.reply.Receipt.{Receipt}
+use Rattle.short_receipts.specs.declared.deed.Short.{Short}
+use Rattle.short_receipts.specs.declared.deed.Deed.{Deed}
+use Rattle.short_receipts.specs.declared.deed.Deed.TheVariants.{Open, Spawn, Call, Pass, Join, Wait, Resume, End, EndJoin, Finish}
+use Rattle.short_receipts.specs.declared.deed.Deed.TheVariants.{Read, Write, Bump, Update, Put, Get, Long}
+
+-- what was asked
+abbrev pub act_of : Deed → Act
+act_of (Open child join) = act.Spawn
+act_of (Spawn child join) = act.Spawn
+act_of Call = act.Call
+act_of Pass = act.Sync
+act_of (Join join) = act.Sync
+act_of Wait = act.Sync
+act_of Resume = act.Return
+act_of End = act.Return
+act_of (EndJoin join) = act.Return
+act_of Finish = act.Return
+act_of (Read cell value) = act.Read cell
+act_of (Write cell value) = act.Write cell value
+act_of (Bump cell value) = act.Bump cell value
+act_of (Update reducer value) = act.Update reducer value
+act_of (Put reducer value) = act.Put reducer value
+act_of (Get reducer value) = act.Get reducer
+act_of Long = act.Call
+
+-- what was answered; a spawner's next strand has the number behind its child's
+abbrev pub answer_of : Deed → Answer
+answer_of (Open child join) = answer.Split (record { child = child; next = (child + 1) % 2 ^ 32; join = join; first = true })
+answer_of (Spawn child join) = answer.Split (record { child = child; next = (child + 1) % 2 ^ 32; join = join; first = false })
+answer_of Call = answer.Same
+answer_of Pass = answer.Same
+answer_of (Join join) = answer.Joined join
+answer_of Wait = answer.Waits
+answer_of Resume = answer.Resumed
+answer_of End = answer.Ended
+answer_of (EndJoin join) = answer.EndedJoined join
+answer_of Finish = answer.Finished
+answer_of (Read cell value) = answer.Value value
+answer_of (Write cell value) = answer.Granted
+answer_of (Bump cell value) = answer.Granted
+answer_of (Update reducer value) = answer.Granted
+answer_of (Put reducer value) = answer.Granted
+answer_of (Get reducer value) = answer.Value value
+answer_of Long = answer.Same
+
+-- whether the receipt is kept beside, and at which place
+abbrev pub is_long : Deed → Bool
+is_long Long = true
+is_long _ = false
+
+abbrev pub index_of : Short → ℕ
+index_of short = short.strand * 2 ^ 32 + short.number
+
+-- the receipt of these small numbers
+abbrev pub plain : Short → Receipt
+plain short = record {
+  number = short.number;
+  request = record { strand = short.strand; line = short.line; act = act_of short.deed };
+  answer = answer_of short.deed;
+}
+
+-- the deed says what was asked and answered
+abbrev pub IsShortOf : Act → Answer → Deed → Type 0
+IsShortOf asked answered deed = (is_long deed ≢ true) × (act_of deed ≡ asked) × (answer_of deed ≡ answered)

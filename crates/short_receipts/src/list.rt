@@ -1,0 +1,121 @@
+//! A list of receipts.
+
+ghost use Rattle.std.specs.Prelude.{◌≡◌, ◌↔◌, ◌<◌, ◌++◌, ◌∷◌, [], true, get_or, length, slice_get, Some, IsTrue, OnOk, OnErr};
+ghost use Rattle.short_receipts.specs.Shorts.{index_of as index_spec, plain as plain_spec};
+
+use crate::deed::{Short, index_of, is_long, long_at, plain, short_of};
+use model_histories::Receipt;
+use std::alloc::{AllocError, Global};
+use std::marker::Model;
+
+/// The receipt that is kept beside.
+fn long_of(longs: &[Receipt], short: Short) -> Receipt
+    ensures { result ≡ get_or longs.now (index_spec short) (plain_spec short) }
+{
+    match longs.get(index_of(short) as usize) {
+        Some(receipt) => *receipt,
+        None => plain(short),
+    }
+}
+
+/// Receipts in their order.
+#[derive(Drop)]
+pub struct Receipts {
+    shorts: Vec<Short>,
+    longs: Vec<Receipt>,
+    has_room: bool,
+}
+
+impl Model for Receipts {
+    ghost use Rattle.std.specs.Prelude.{◌≡◌, ◌<◌, true, vec_len, vec_capacity};
+    ghost use Rattle.short_receipts.specs.Lists.{Listed, receipts_of, AreKept};
+
+    ghost Value = { Listed };
+
+    ghost view = { λ list. record { items = receipts_of list.longs.items list.shorts.items; has_room = list.has_room } };
+
+    ghost invariant = { λ list. AreKept list.longs.items list.shorts.items
+        × (list.has_room ≡ true → (vec_len list.shorts < vec_capacity list.shorts) × (vec_len list.longs < vec_capacity list.longs)) };
+}
+
+impl Receipts {
+    /// No receipts.
+    pub fn new(alloc: Global) -> Receipts
+        ensures { result.items ≡ [] }
+    {
+        Receipts {
+            shorts: Vec::new(alloc),
+            longs: Vec::new(alloc),
+            has_room: false,
+        }
+    }
+
+    /// Makes room for a receipt. Where there is no memory for it, nothing changes.
+    #[inline(always)]
+    pub fn reserve(&mut self) -> Result<(), AllocError>
+        ensures ok { OnOk result (self.new ≡ record self.old { has_room = true }) }
+        ensures err { OnErr result (self.new ≡ self.old) }
+    {
+        if !self.has_room {
+            self.shorts.reserve(1)?;
+            self.longs.reserve(1)?;
+            self.has_room = true;
+        }
+        Ok(())
+    }
+
+    /// Adds a receipt at the end, for which room was made.
+    #[inline(always)]
+    pub fn push_reserved(&mut self, receipt: Receipt)
+        requires { self.old.has_room ≡ true }
+        ensures { self.new.items ≡ self.old.items ++ receipt ∷ [] }
+    {
+        self.has_room = false;
+        match short_of(receipt) {
+            Some(short) => self.shorts.push_reserved(short),
+            None => {
+                let short = long_at(self.longs.len());
+                self.longs.push_reserved(receipt);
+                self.shorts.push_reserved(short);
+            }
+        }
+    }
+
+    /// Adds a receipt at the end. Where there is no memory for it, the list stays as it is.
+    pub fn push(&mut self, receipt: Receipt) -> Result<(), AllocError>
+        ensures pushed { OnOk result (self.new.items ≡ self.old.items ++ receipt ∷ []) }
+        ensures unchanged { OnErr result (self.new ≡ self.old) }
+    {
+        self.reserve()?;
+        self.push_reserved(receipt);
+        Ok(())
+    }
+
+    /// How many receipts there are.
+    pub fn len(&self) -> usize
+        ensures { result ≡ length self.now.items }
+    {
+        self.shorts.len()
+    }
+
+    /// Whether there are none.
+    pub fn is_empty(&self) -> bool
+        ensures { IsTrue result ↔ (self.now.items ≡ []) }
+    {
+        self.shorts.is_empty()
+    }
+
+    /// The receipt at a place.
+    #[inline(always)]
+    pub fn get(&self, at: usize) -> Receipt
+        requires { at < length self.now.items }
+        ensures { slice_get self.now.items at ≡ Some result }
+    {
+        let short = self.shorts[at];
+        if is_long(short.deed) {
+            long_of(self.longs.as_slice(), short)
+        } else {
+            plain(short)
+        }
+    }
+}
