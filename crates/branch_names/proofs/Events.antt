@@ -14,13 +14,13 @@ use Rattle.law_strands.proofs.Law.{begun_below}
 use Rattle.law_strands.proofs.Kept.{begun_stays}
 use Rattle.law_strands.proofs.Finish.{running_of}
 use Rattle.law_strands.proofs.Branches.{branch_names, branch_stays}
-use Rattle.branch_names.specs.declared.branches.Name.{Name}
-use Rattle.branch_names.specs.declared.branches.Name.TheVariants.{Given, Kept}
+use Rattle.branch_names.specs.declared.branches.BranchName.{BranchName}
+use Rattle.branch_names.specs.declared.branches.BranchName.TheVariants.{Given, Kept}
 use Rattle.branch_names.specs.Names.{Names, Follows, Takes, TakesJoin, Begins, OtherEventsLaw, number_of, name_at}
 use Rattle.branch_names.proofs.Tables.{Tells, tells-again, tells-given, tells-kept, tells-begun}
 
 -- a list of names is that of a legal history
-pub record AreNamesOf (names : List Name) (history : History) : Type 0 where
+pub record AreNamesOf (names : List BranchName) (history : History) : Type 0 where
   pub legal : Legal history
   pub count : length names ≡ unused history
   pub tells : Tells names (Begun history) (branch history)
@@ -74,7 +74,7 @@ begun-split history spawner child next join first legal after strand lt = ((λ b
     go (inr begun) (elsewhere off known now place words) = inr (sym now ∙ begun)
 
 -- the child and the next strand have begun, and each has a branch that no other strand has
-tells-split : (names : List Name) (history : History) (spawner child next join : ℕ) (first : Bool) → AreNamesOf names history → Legal (split spawner child next join first ∷ history) →
+tells-split : (names : List BranchName) (history : History) (spawner child next join : ℕ) (first : Bool) → AreNamesOf names history → Legal (split spawner child next join first ∷ history) →
     Begun (split spawner child next join first ∷ history) child → Begun (split spawner child next join first ∷ history) next →
     branch (split spawner child next join first ∷ history) child ≡ left (suc (length history)) → branch (split spawner child next join first ∷ history) next ≡ right (suc (length history)) →
     Tells ((names ++ Given child ∷ []) ++ Given next ∷ []) (Begun (split spawner child next join first ∷ history)) (branch (split spawner child next join first ∷ history))
@@ -111,7 +111,7 @@ tells-split names history spawner child next join first are after begun_child be
             omega (arith, (branch_names are.legal).right_known strand (suc (length history)) (sym (branch_stays after strand (known strand before)) ∙ (e ∙ next_branch)))
 
 -- a later spawn of a block
-follows-later : (names : List Name) (history : History) (spawner child next join : ℕ) → AreNamesOf names history → Legal (split spawner child next join false ∷ history) →
+follows-later : (names : List BranchName) (history : History) (spawner child next join : ℕ) → AreNamesOf names history → Legal (split spawner child next join false ∷ history) →
     AreNamesOf ((names ++ Given child ∷ []) ++ Given next ∷ []) (split spawner child next join false ∷ history)
 follows-later names history spawner child next join are after = record {
   legal = after;
@@ -137,7 +137,7 @@ reserved-not-begun now e (inl begun) = let same_status : reserved ≡ running = 
 reserved-not-begun now e (inr begun) = let same_status : reserved ≡ over = sym e ∙ begun in cc
 
 -- the first spawn of a block
-follows-first : (names : List Name) (history : History) (spawner child next join kept : ℕ) → AreNamesOf names history → Legal (split spawner child next join true ∷ history) →
+follows-first : (names : List BranchName) (history : History) (spawner child next join kept : ℕ) → AreNamesOf names history → Legal (split spawner child next join true ∷ history) →
     kept ≡ number_of (name_at names spawner) →
     AreNamesOf (((names ++ Given child ∷ []) ++ Given next ∷ []) ++ Kept kept ∷ []) (split spawner child next join true ∷ history)
 follows-first names history spawner child next join kept are after kept_is = record {
@@ -183,12 +183,12 @@ follows-first names history spawner child next join kept are after kept_is = rec
 pub spawner-known : (branches : Names) (spawner child next join : ℕ) (first : Bool) → Takes branches (split spawner child next join first) → spawner < length branches.names
 spawner-known branches spawner child next join first (history, follows, after) = omega (arith, follows.count, (numbers-of history spawner child next join first follows.legal after).spawner_known)
 
-two-pushed : (items names one two : List Name) (child next : ℕ) → items ≡ names → one ≡ items ++ Given child ∷ [] → two ≡ one ++ Given next ∷ [] →
+two-pushed : (items names one two : List BranchName) (child next : ℕ) → items ≡ names → one ≡ items ++ Given child ∷ [] → two ≡ one ++ Given next ∷ [] →
     two ≡ (names ++ Given child ∷ []) ++ Given next ∷ []
 two-pushed items names one two child next same_items first second = second ∙ ap (λ list. list ++ Given next ∷ []) (first ∙ ap (λ list. list ++ Given child ∷ []) same_items)
 
 -- What is pushed at the first spawn of a block follows it.
-pub pushed-first : (items one two three : List Name) (branches new : Names) (history : History) (spawner child next join kept : ℕ) (first : Bool) → items ≡ branches.names →
+pub pushed-first : (items one two three : List BranchName) (branches new : Names) (history : History) (spawner child next join kept : ℕ) (first : Bool) → items ≡ branches.names →
     one ≡ items ++ Given child ∷ [] → two ≡ one ++ Given next ∷ [] → three ≡ two ++ Kept kept ∷ [] → first ≡ true → new.names ≡ three →
     Follows branches history → Legal (split spawner child next join first ∷ history) → kept ≡ number_of (name_at branches.names spawner) → Follows new (split spawner child next join first ∷ history)
 pushed-first items one two three branches new history spawner child next join kept true same_items is_one is_two is_three opens is_new follows after kept_is =
@@ -198,7 +198,7 @@ pushed-first items one two three branches new history spawner child next join ke
 pushed-first items one two three branches new history spawner child next join kept false same_items is_one is_two is_three opens is_new follows after kept_is = absurd (cc)
 
 -- What is pushed at a later spawn follows it.
-pub pushed-later : (items one two : List Name) (branches new : Names) (history : History) (spawner child next join : ℕ) (first : Bool) → items ≡ branches.names →
+pub pushed-later : (items one two : List BranchName) (branches new : Names) (history : History) (spawner child next join : ℕ) (first : Bool) → items ≡ branches.names →
     one ≡ items ++ Given child ∷ [] → two ≡ one ++ Given next ∷ [] → first ≡ false → new.names ≡ two →
     Follows branches history → Legal (split spawner child next join first ∷ history) → Follows new (split spawner child next join first ∷ history)
 pushed-later items one two branches new history spawner child next join false same_items is_one is_two continues is_new follows after =
@@ -229,7 +229,7 @@ join-known history (ended strand) join at after = absurd at
 join-known history (finished strand) join at after = absurd at
 
 -- the strand that ends makes the join begin
-tells-joined : (names : List Name) (history : History) (ending join kept : ℕ) → AreNamesOf names history → Running history ending → join < length names → kept ≡ number_of (name_at names join) →
+tells-joined : (names : List BranchName) (history : History) (ending join kept : ℕ) → AreNamesOf names history → Running history ending → join < length names → kept ≡ number_of (name_at names join) →
     Tells (set names join (Given kept))
     (λ strand. (updated (updated (status history) ending over) join running strand ≡ running) ⊎ (updated (updated (status history) ending over) join running strand ≡ over)) (branch history)
 tells-joined names history ending join kept are run lt kept_is =
@@ -244,7 +244,7 @@ tells-joined names history ending join kept are run lt kept_is =
     still : (strand : ℕ) → Begun history strand → (updated (status history) ending over strand ≡ running) ⊎ (updated (status history) ending over strand ≡ over)
     still strand begun = updated_case (λ now. (now ≡ running) ⊎ (now ≡ over)) (status history) ending over strand (λ at. inr refl) (λ off. begun)
 
-follows-joined : (names : List Name) (history : History) (event : Event) (join kept : ℕ) → AreNamesOf names history → Begins event join → Legal (event ∷ history) →
+follows-joined : (names : List BranchName) (history : History) (event : Event) (join kept : ℕ) → AreNamesOf names history → Begins event join → Legal (event ∷ history) →
     kept ≡ number_of (name_at names join) → AreNamesOf (set names join (Given kept)) (event ∷ history)
 follows-joined names history (joined ending begun) join kept are at after kept_is =
     subst (λ place. AreNamesOf (set names place (Given kept)) (joined ending begun ∷ history)) at
@@ -271,7 +271,7 @@ follows-joined names history (ended strand) join kept are at after kept_is = abs
 follows-joined names history (finished strand) join kept are at after kept_is = absurd at
 
 -- A name that is given to the join follows an event that begins it.
-pub given-joined : (items : List Name) (branches new : Names) (history : History) (event : Event) (join kept : ℕ) → items ≡ branches.names → new.names ≡ set items join (Given kept) →
+pub given-joined : (items : List BranchName) (branches new : Names) (history : History) (event : Event) (join kept : ℕ) → items ≡ branches.names → new.names ≡ set items join (Given kept) →
     Follows branches history → Begins event join → Legal (event ∷ history) → kept ≡ number_of (name_at branches.names join) → Follows new (event ∷ history)
 given-joined items branches new history event join kept same_items is_new follows at after kept_is =
     names-follow new (event ∷ history)
@@ -283,7 +283,7 @@ pub joined-known : (branches : Names) (join : ℕ) → TakesJoin branches join �
 joined-known branches join (event, at, (history, follows, after)) = omega (arith, follows.count, join-known history event join at after)
 
 -- The number that was read is that of the name.
-pub number-read : (items names : List Name) (strand number : ℕ) (name : Name) → items ≡ names → strand < length names → name ≡ get_or items strand name → number ≡ number_of name →
+pub number-read : (items names : List BranchName) (strand number : ℕ) (name : BranchName) → items ≡ names → strand < length names → name ≡ get_or items strand name → number ≡ number_of name →
     number ≡ number_of (name_at names strand)
 number-read items names strand number name same_items lt read number_is =
     number_is ∙ ap number_of (get_or_read items strand name (omega (arith, ap length same_items)) read (Kept 0) ∙ ap (λ list. name_at list strand) same_items)

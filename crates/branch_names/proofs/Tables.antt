@@ -5,19 +5,19 @@ use Rattle.std.proofs.Math.ListN.{set}
 use Rattle.std.proofs.Common.{length-append}
 use Rattle.law_strands.specs.Branches.{Branch}
 use Rattle.law_strands.proofs.Updates.{same_or_not}
-use Rattle.branch_names.specs.declared.branches.Name.{Name}
-use Rattle.branch_names.specs.declared.branches.Name.TheVariants.{Given, Kept}
+use Rattle.branch_names.specs.declared.branches.BranchName.{BranchName}
+use Rattle.branch_names.specs.declared.branches.BranchName.TheVariants.{Given, Kept}
 use Rattle.branch_names.specs.Names.{number_of, IsGiven, name_at}
 
 -- the names tell which of these strands have begun and which have one of these branches
-pub record Tells (names : List Name) (HasBegun : ℕ → Type 0) (branch_of : ℕ → Branch) : Type 0 where
+pub record Tells (names : List BranchName) (HasBegun : ℕ → Type 0) (branch_of : ℕ → Branch) : Type 0 where
   pub given : (strand : ℕ) → strand < length names → IsGiven (name_at names strand) ↔ HasBegun strand
   pub below : (strand : ℕ) → strand < length names → number_of (name_at names strand) < length names
   pub agree : (first second : ℕ) → first < length names → second < length names →
       (number_of (name_at names first) ≡ number_of (name_at names second)) ↔ (branch_of first ≡ branch_of second)
 
 -- what is told of the strands that have names is all that counts
-pub tells-again : (names : List Name) (HasBegun BegunNow : ℕ → Type 0) (branch_of branch_now : ℕ → Branch) → Tells names HasBegun branch_of →
+pub tells-again : (names : List BranchName) (HasBegun BegunNow : ℕ → Type 0) (branch_of branch_now : ℕ → Branch) → Tells names HasBegun branch_of →
     ((strand : ℕ) → strand < length names → HasBegun strand ↔ BegunNow strand) → ((strand : ℕ) → strand < length names → branch_now strand ≡ branch_of strand) →
     Tells names BegunNow branch_now
 tells-again names HasBegun BegunNow branch_of branch_now tells begun stays = record {
@@ -30,14 +30,14 @@ tells-again names HasBegun BegunNow branch_of branch_now tells begun stays = rec
 }
 
 -- a strand after one more name
-pub data Pushed (names : List Name) (name : Name) (strand : ℕ) : Type 0 where
+pub data Pushed (names : List BranchName) (name : BranchName) (strand : ℕ) : Type 0 where
   older : strand < length names → name_at (names ++ name ∷ []) strand ≡ name_at names strand → Pushed names name strand
   newest : strand ≡ length names → name_at (names ++ name ∷ []) strand ≡ name → Pushed names name strand
 
-length-pushed : (names : List Name) (name : Name) → length (names ++ name ∷ []) ≡ suc (length names)
+length-pushed : (names : List BranchName) (name : BranchName) → length (names ++ name ∷ []) ≡ suc (length names)
 length-pushed names name = omega (arith, length-append names (name ∷ []))
 
-pub pushed : (names : List Name) (name : Name) (strand : ℕ) → strand < length (names ++ name ∷ []) → Pushed names name strand
+pub pushed : (names : List BranchName) (name : BranchName) (strand : ℕ) → strand < length (names ++ name ∷ []) → Pushed names name strand
 pushed names name strand lt = go (same_or_not strand (length names))
   where
     go : (strand ≡ length names) ⊎ (strand ≢ length names) → Pushed names name strand
@@ -45,7 +45,7 @@ pushed names name strand lt = go (same_or_not strand (length names))
     go (inr ne) = let before : strand < length names = omega (arith, length-pushed names name) in older before (get_or_append_left names (name ∷ []) (Kept 0) strand before)
 
 -- a strand begins with a branch and a number that no other has
-pub tells-given : (names : List Name) (HasBegun : ℕ → Type 0) (branch_of : ℕ → Branch) (number : ℕ) → Tells names HasBegun branch_of → number ≡ length names → HasBegun number →
+pub tells-given : (names : List BranchName) (HasBegun : ℕ → Type 0) (branch_of : ℕ → Branch) (number : ℕ) → Tells names HasBegun branch_of → number ≡ length names → HasBegun number →
     ((strand : ℕ) → strand < length names → branch_of strand ≢ branch_of number) → Tells (names ++ Given number ∷ []) HasBegun branch_of
 tells-given names HasBegun branch_of number tells new begun fresh = record {
   given = λ strand lx. given_at strand (pushed names (Given number) strand lx);
@@ -77,7 +77,7 @@ tells-given names HasBegun branch_of number tells new begun fresh = record {
     from strand other e (newest ax ex) (newest ay ey) = ap number_of ex ∙ sym (ap number_of ey)
 
 -- a number is kept for a join that has not begun and has the branch of its opener
-pub tells-kept : (names : List Name) (HasBegun : ℕ → Type 0) (branch_of : ℕ → Branch) (opener join number : ℕ) → Tells names HasBegun branch_of → opener < length names →
+pub tells-kept : (names : List BranchName) (HasBegun : ℕ → Type 0) (branch_of : ℕ → Branch) (opener join number : ℕ) → Tells names HasBegun branch_of → opener < length names →
     number ≡ number_of (name_at names opener) → join ≡ length names → (HasBegun join → ⊥) → branch_of join ≡ branch_of opener → Tells (names ++ Kept number ∷ []) HasBegun branch_of
 tells-kept names HasBegun branch_of opener join number tells known number_is new not_begun same_branch = record {
   given = λ strand lx. given_at strand (pushed names (Kept number) strand lx);
@@ -100,7 +100,7 @@ tells-kept names HasBegun branch_of opener join number tells known number_is new
     given_at strand (newest at e) = ((λ t. absurd (subst IsGiven e t)), (λ t. absurd (not_begun (subst HasBegun (at ∙ sym new) t))))
 
 -- a join begins with the number that was kept for it
-pub tells-begun : (names : List Name) (HasBegun BegunNow : ℕ → Type 0) (branch_of : ℕ → Branch) (join number : ℕ) → Tells names HasBegun branch_of → join < length names →
+pub tells-begun : (names : List BranchName) (HasBegun BegunNow : ℕ → Type 0) (branch_of : ℕ → Branch) (join number : ℕ) → Tells names HasBegun branch_of → join < length names →
     number ≡ number_of (name_at names join) → BegunNow join → ((strand : ℕ) → strand < length names → strand ≢ join → HasBegun strand ↔ BegunNow strand) → Tells (set names join (Given number)) BegunNow branch_of
 tells-begun names HasBegun BegunNow branch_of join number tells known number_is begun others = record {
   given = λ strand lx. given_at strand (omega (arith, length-set names join (Given number))) (same_or_not strand join);

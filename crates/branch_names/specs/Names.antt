@@ -1,7 +1,7 @@
 -- The names of branches, and the control histories that they follow.
 use Rattle.std.specs.Prelude.{◌≡◌, ◌↔◌, ◌<◌, ◌≤◌, ◌+◌, ◌∷◌, ℕ, Bool, true, List, length, slice_index_or}
-use Rattle.branch_names.specs.declared.branches.Name.{Name}
-use Rattle.branch_names.specs.declared.branches.Name.TheVariants.{Given, Kept}
+use Rattle.branch_names.specs.declared.branches.BranchName.{BranchName}
+use Rattle.branch_names.specs.declared.branches.BranchName.TheVariants.{Given, Kept}
 use Rattle.model_strands.specs.History.{Event, split, joined, ended_joined, History}
 use Rattle.model_strands.specs.Strands.{unused, Begun}
 use Rattle.model_strands.specs.Legal.{Legal}
@@ -10,19 +10,19 @@ use Rattle.law_strands.specs.Branches.{branch}
 -- The names of strands and of joins that have not begun, by their numbers, and whether the next event that begins strands
 -- needs no memory.
 pub record Names : Type 0 where
-  pub names : List Name
+  pub names : List BranchName
   pub has_room : Bool
 
 -- the number that stands for the branch
-abbrev pub number_of : Name → ℕ
+abbrev pub number_of : BranchName → ℕ
 number_of (Given number) = number
 number_of (Kept number) = number
 
-abbrev pub IsGiven : Name → Type 0
+abbrev pub IsGiven : BranchName → Type 0
 IsGiven (Given number) = Unit {0}
 IsGiven (Kept number) = ⊥
 
-abbrev pub name_at : List Name → ℕ → Name
+abbrev pub name_at : List BranchName → ℕ → BranchName
 name_at names strand = slice_index_or names strand (Kept 0)
 
 -- The names are those of a legal history: they are given to just the strands that have begun, and two of them have one

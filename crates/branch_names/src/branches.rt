@@ -15,21 +15,21 @@ use std::marker::Model;
 
 /// What is kept of a strand, in eight bytes.
 #[derive(Debug, Clone, Copy, PartialEq, Eq)]
-pub enum Name {
+pub enum BranchName {
     /// The strand has begun, and this number stands for its branch.
     Given(u32),
     /// The join has not begun, and this number is kept for it.
     Kept(u32),
 }
 
-const _: () = prove!(size_of::<Name>() == 8);
+const _: () = prove!(size_of::<BranchName>() == 8);
 
-impl Name {
+impl BranchName {
     fn number(self) -> u32
         ensures { result ≡ number_of self }
     {
         match self {
-            Name::Given(number) | Name::Kept(number) => number,
+            BranchName::Given(number) | BranchName::Kept(number) => number,
         }
     }
 }
@@ -40,7 +40,7 @@ impl Name {
 /// the strand that opened its block.
 #[derive(Drop)]
 pub struct Branches<A: Allocator> {
-    names: Vec<Name, A>,
+    names: Vec<BranchName, A>,
     has_room: bool,
 }
 
@@ -61,7 +61,7 @@ impl<A: Allocator> Branches<A> {
         ensures room { IfOk result (λ branches. branches.has_room ≡ false) }
     {
         let mut names = Vec::with_capacity(alloc, 1)?;
-        names.push_reserved(Name::Given(0));
+        names.push_reserved(BranchName::Given(0));
         Ok(Branches {
             names,
             has_room: false,
@@ -98,10 +98,10 @@ impl<A: Allocator> Branches<A> {
     {
         self.has_room = false;
         let kept = self.names[strand as usize].number();
-        self.names.push_reserved(Name::Given(spawned.child));
-        self.names.push_reserved(Name::Given(spawned.next));
+        self.names.push_reserved(BranchName::Given(spawned.child));
+        self.names.push_reserved(BranchName::Given(spawned.next));
         if spawned.first {
-            self.names.push_reserved(Name::Kept(kept));
+            self.names.push_reserved(BranchName::Kept(kept));
         }
     }
 
@@ -114,7 +114,7 @@ impl<A: Allocator> Branches<A> {
     {
         self.has_room = false;
         let kept = self.names[join as usize].number();
-        self.names[join as usize] = Name::Given(kept);
+        self.names[join as usize] = BranchName::Given(kept);
     }
 
     /// Whether the strand has begun, so that its branch has its name. Takes no memory.
@@ -122,7 +122,7 @@ impl<A: Allocator> Branches<A> {
         ensures begun { (history : History) → Follows self.now history → IsTrue result ↔ Begun history strand }
         ensures named { IsTrue result ↔ IsNamed self.now strand }
     {
-        matches!(self.names.get(strand as usize), Some(Name::Given(_)))
+        matches!(self.names.get(strand as usize), Some(BranchName::Given(_)))
     }
 
     /// Whether two strands have one branch, and so the same peers, now and ever after. Takes no memory.

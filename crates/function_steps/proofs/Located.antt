@@ -1,7 +1,7 @@
 -- Activations in their program.
 use Rattle.std.proofs.lemmas.Bool.{ltb-true, lt-ltb, leb-true, le-leb}
 use Rattle.std.proofs.lemmas.Option.{slice_get_within, get_or_from_slice_get}
-use Rattle.text_words.specs.Limits.{max_cells}
+use Rattle.model_accesses.specs.Limits.{most_cells}
 use Rattle.model_accesses.specs.declared.request.Act.{Act}
 use Rattle.model_bodies.specs.declared.statement.Operand.{Operand}
 use Rattle.model_bodies.specs.declared.statement.Expression.{Expression}
@@ -118,17 +118,17 @@ module _ (cells reducers : ℕ) where
       let q = leb-true (first + count) cells b.1 in
       omega arith
 
-  located_most : cells ≤ max_cells → (location : Location) → IsTrue (is_located cells location) → IsTrue (is_located max_cells location)
-  located_most few (Cell cell) e = let p = ltb-true cell cells e in lt-ltb cell max_cells (omega arith)
+  located_most : cells ≤ most_cells → (location : Location) → IsTrue (is_located cells location) → IsTrue (is_located most_cells location)
+  located_most few (Cell cell) e = let p = ltb-true cell cells e in lt-ltb cell most_cells (omega arith)
   located_most few (Element first count index) e =
       let b = both (nat_lt 0 count) (nat_le (first + count) cells) e in
       let q = leb-true (first + count) cells b.1 in
-      let r : first + count ≤ max_cells = omega arith in
-      let s = le-leb (first + count) max_cells r in
+      let r : first + count ≤ most_cells = omega arith in
+      let s = le-leb (first + count) most_cells r in
       let t = b.0 in
-      ap (λ x. x && nat_le (first + count) max_cells) t ∙ s
+      ap (λ x. x && nat_le (first + count) most_cells) t ∙ s
 
-  pub placed : (functions : ℕ) (statement : Statement) → cells ≤ max_cells → IsTrue (is_within cells reducers functions statement) → IsTrue (is_placed statement)
+  pub placed : (functions : ℕ) (statement : Statement) → cells ≤ most_cells → IsTrue (is_within cells reducers functions statement) → IsTrue (is_placed statement)
   placed functions (Read line register location) few e = located_most few location e
   placed functions (Write line location value) few e = located_most few location e
   placed functions (Bump line location value) few e = located_most few location e

@@ -1,6 +1,6 @@
 -- What a statement asks, and what an answer to it does.
 use Rattle.std.specs.Prelude.{ℕ, ◌≡◌, ◌<◌, Option, Some, None, Bool, true}
-use Rattle.text_words.specs.Limits.{max_cells}
+use Rattle.model_accesses.specs.Limits.{most_cells}
 use Rattle.model_bodies.specs.declared.statement.Statement.{Statement}
 use Rattle.model_bodies.specs.declared.statement.Statement.TheVariants.{Let, Read, Write, Bump, Update, Put, Get}
 use Rattle.model_bodies.specs.declared.statement.Statement.TheVariants.{Spawn, Call, Sync, ParallelFor, If, Else, End}
@@ -79,9 +79,9 @@ pub record Asks (rest : Tree) (end_line : ℕ) (registers : Registers) (want : W
 
 -- The cells of a statement's location are there, in the largest memory.
 abbrev pub is_placed : Statement → Bool
-is_placed (Read line register location) = is_located max_cells location
-is_placed (Write line location value) = is_located max_cells location
-is_placed (Bump line location value) = is_located max_cells location
+is_placed (Read line register location) = is_located most_cells location
+is_placed (Write line location value) = is_located most_cells location
+is_placed (Bump line location value) = is_located most_cells location
 is_placed _ = true
 
 -- The cell or the reducer of an act is there, where there are so many.

@@ -1,7 +1,7 @@
 //! Values of operands, expressions and locations.
 
 ghost use Rattle.std.specs.Prelude.{◌≡◌, IsTrue};
-ghost use Rattle.text_words.specs.Limits.{max_cells};
+ghost use Rattle.model_accesses.specs.Limits.{most_cells};
 ghost use Rattle.model_bodies.specs.Sound.{is_located};
 ghost use Rattle.model_programs.specs.Values.{value_of, result_of, cell_of};
 
@@ -32,7 +32,7 @@ pub fn result_of(registers: &[u64; REGISTERS], expression: Expression) -> u64
 
 /// The number of the cell that a location means, whose index is taken modulo the array's length.
 pub fn cell_of(registers: &[u64; REGISTERS], location: Location) -> u32
-    requires { IsTrue (is_located max_cells location) }
+    requires { IsTrue (is_located most_cells location) }
     ensures { result ≡ cell_of location registers.now }
 {
     match location {

@@ -1,7 +1,8 @@
 //! Worked histories with cells, the faults of the gate, and long runs.
 
 ghost use Rattle.std.specs.Prelude.{◌≤◌, length};
-ghost use Rattle.model_histories.specs.Shapes.{most_entries, most_reducers};
+ghost use Rattle.model_reducers.specs.Limits.{most_reducers};
+ghost use Rattle.model_histories.specs.Shapes.{most_entries};
 
 mod random;
 mod reducers;

@@ -38,7 +38,7 @@ pub fn extremes_law()
 /// A branch, which is an address without the joins at its end, decides the peers of a strand among any strands
 /// that come with the other side of each spawn. Names tell branches apart where a join takes over its opener's and no
 /// two branches have the same one.
-pub fn branch_law()
+pub fn address_branch_law()
     ensures peers { BranchesArePeers }
     ensures names { NamesDecide }
 {}

@@ -7,7 +7,7 @@
 //! proofs alone. Its theorems are the contracts of the functions of [`laws`], which do nothing: reach is 'before
 //! in both orders' and parallel is 'the orders disagree' ([`laws::reach_law`]), two strands of any number tell
 //! whether one of them is parallel to a running one ([`laws::extremes_law`]), and a branch decides the peers
-//! ([`laws::branch_law`]).
+//! ([`laws::address_branch_law`]).
 #![tactic(auto)]
 
 pub mod laws;

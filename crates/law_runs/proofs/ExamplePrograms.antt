@@ -4,7 +4,7 @@ use Rattle.std.specs.Prelude.{codes}
 use Rattle.std.proofs.lemmas.List.Sums.{AllPass-from_list_all}
 use Rattle.text_words.specs.declared.value.Version.TheVariants.{One}
 use Rattle.text_words.specs.Text.{is_text_byte, IsName}
-use Rattle.text_words.specs.Limits.{max_lines}
+use Rattle.text_words.specs.Limits.{most_lines}
 use Rattle.text_words.specs.Names.{SingleMeans}
 use Rattle.model_bodies.specs.declared.statement.Operand.TheVariants.{Number, Held}
 use Rattle.model_bodies.specs.declared.statement.Location.TheVariants.{Cell}
@@ -148,7 +148,7 @@ module _ (ok_there : 0 < 17) (parameter_there : 1 < 17) (named_there : 2 < 17) w
   behind_main main counted = record { known = two_memories; functions = main ∷ []; current = None; lines = counted }
 
   -- the lines of the function that writes
-  last_lines : (at counted end : ℕ) (body : List Statement) → at ≤ max_lines → at + 1 ≤ max_lines → at + 1 + 1 ≤ max_lines → counted ≤ max_statements →
+  last_lines : (at counted end : ℕ) (body : List Statement) → at ≤ most_lines → at + 1 ≤ most_lines → at + 1 + 1 ≤ most_lines → counted ≤ max_statements →
       counted + 1 ≤ max_statements → counted + 1 + 1 ≤ max_statements →
       LinesMean names at (behind_main (main_code end body) counted) writer_lines (contents_of (main_code end body ∷ writer_code at ∷ []))
   last_lines at counted end body one_line two_line three_line one_more two_more three_more =

@@ -5,7 +5,8 @@ use Rattle.std.specs.List.{list_all}
 use Rattle.std.specs.Char.{is_ascii_lowercase}
 use Rattle.std.proofs.lemmas.List.Sums.{AllPass-from_list_all}
 use Rattle.text_words.specs.Text.{words, is_text_byte, is_name_byte, IsName}
-use Rattle.text_words.specs.Limits.{max_cells, max_lines}
+use Rattle.model_accesses.specs.Limits.{most_cells}
+use Rattle.text_words.specs.Limits.{most_lines}
 use Rattle.text_words.specs.Names.{SingleMeans}
 use Rattle.text_words.specs.Declarations.{cells_of}
 use Rattle.model_bodies.specs.declared.statement.Register.{Register}
@@ -28,14 +29,14 @@ pub named_by : (byte : ℕ) (bytes : List ℕ) → is_ascii_lowercase byte ≡ t
 named_by byte bytes first rest short = (first, AllPass-from_list_all is_name_byte bytes rest, short)
 
 -- one line of a text with these functions
-module _ (names : List (List ℕ)) (at : ℕ) (so_far : Draft) (line : List ℕ) (small : at ≤ max_lines) (bytes : list_all is_text_byte line ≡ true) where
+module _ (names : List (List ℕ)) (at : ℕ) (so_far : Draft) (line : List ℕ) (small : at ≤ most_lines) (bytes : list_all is_text_byte line ≡ true) where
   said : (ws : List (List ℕ)) (item : Item) → words line ≡ ws → ItemMeans at (scope_of names so_far) ws item → IsInOrder so_far item → HasRoom so_far item →
       LineMeans names at so_far line item
   said ws item e means order room =
       (small, AllPass-from_list_all is_text_byte line bytes, subst (λ (w : List (List ℕ)). ItemMeans at (scope_of names so_far) w item) (sym e) means, order, room)
 
   pub declared_line : (name : List ℕ) → words line ≡ codes "mem" ∷ name ∷ [] → IsName name → IsFresh (scope_of names so_far) name → begun so_far ≡ 0 →
-      cells_of so_far.known.mems + 1 ≤ max_cells → LineMeans names at so_far line (Declared name None)
+      cells_of so_far.known.mems + 1 ≤ most_cells → LineMeans names at so_far line (Declared name None)
   declared_line name e is fresh first room =
       said (codes "mem" ∷ name ∷ []) (Declared name None) e ((FreshName, name) ∷ [], (name ∷ [], refl, tt, refl), ((refl, is, fresh), tt)) first room
 

@@ -9,13 +9,7 @@ pub record Shape : Type 0 where
   pub cells : ℕ
   pub monoids : List Monoid
 
--- the most cells, the most reducers, and the most entries of a history
-abbrev pub most_cells : ℕ
-most_cells = 1_000_000
-
-abbrev pub most_reducers : ℕ
-most_reducers = 256
-
+-- the most entries of a history
 abbrev pub most_entries : ℕ
 most_entries = 1_000_000
 

@@ -1,3 +1,4 @@
+pub mod Limits
 pub mod Items
 pub mod Steps
 pub mod Entries

@@ -7,7 +7,7 @@ use Rattle.text_words.specs.declared.fault.Cause.TheVariants.{NotText, BadHeader
 use Rattle.program_lines.specs.declared.keyword.Keyword.{Keyword}
 use Rattle.program_lines.specs.declared.keyword.Keyword.TheVariants.{Mem, Reducer, Func, Let, Access, Spawn, Call, Sync, ParallelFor, If, Else, End}
 use Rattle.trace_text.specs.Lines as trace
-use Rattle.program_lines.specs.Scopes.{Scope, max_registers}
+use Rattle.program_lines.specs.Scopes.{NameScope, max_registers}
 use Rattle.program_lines.specs.Places.{Place, Common, FreshName, OperandWord, LocationWord, AssignedRegister, FunctionName, ParameterName}
 use Rattle.program_lines.specs.Table.{wanted, optional, Placed, placed, IsArranged}
 use Rattle.program_lines.specs.Faults.{WordFault, SomeFault, WordsFault}
@@ -28,7 +28,7 @@ abbrev HasAssigned : List Place → Type 0
 HasAssigned [] = ⊥
 HasAssigned (place ∷ places) = (is_assigned place ≡ true) ⊎ HasAssigned places
 
-module _ (scope : Scope) where
+module _ (scope : NameScope) where
   no_room : (place : Place) (word : List ℕ) → WordFault scope place word TooMany → (is_assigned place ≡ true) × (max_registers ≤ length scope.registers)
   no_room (Common place) word f = absurd f
   no_room AssignedRegister word f = (refl, f.1)

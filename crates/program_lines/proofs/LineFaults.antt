@@ -10,7 +10,7 @@ use Rattle.program_lines.specs.declared.keyword.Keyword.{Keyword}
 use Rattle.program_lines.specs.declared.keyword.Keyword.TheVariants as begin
 use Rattle.trace_text.specs.Lines.{OfName, OfMonoid}
 use Rattle.program_lines.specs.declared.item.Item as code
-use Rattle.program_lines.specs.Scopes.{Scope}
+use Rattle.program_lines.specs.Scopes.{NameScope}
 use Rattle.program_lines.specs.Places.{Value, Plain, OfRegister}
 use Rattle.program_lines.specs.Table.{spelling, HasKeyword, wanted, optional, Placed, placed, IsArranged, WordsMean, Says}
 use Rattle.program_lines.specs.Grammar.{Item, Blank, Declared, Reduces, Begins, Does, Decides, Otherwise, Ends, ItemMeans, number_if_there, keyword_of_statement, statement_values}
@@ -43,7 +43,7 @@ arranged_once version ws keyword other ps qs a b =
 
 -- ---- faults of words
 
-module _ (scope : Scope) where
+module _ (scope : NameScope) where
   some_not_below : (pairs : List Placed) (lower : Cause) → cause_number lower < 3 → SomeFault scope pairs lower → ⊥
   some_not_below [] lower l f = f
   some_not_below (pair ∷ pairs) lower l (inl f) = below_word scope pair.0 pair.1 lower l f

@@ -18,7 +18,7 @@ use Rattle.model_bodies.specs.declared.statement.Operand.{Operand}
 use Rattle.model_bodies.specs.declared.statement.Operand.TheVariants.{Number, Held}
 use Rattle.model_bodies.specs.declared.statement.Location.{Location}
 use Rattle.model_bodies.specs.declared.statement.Location.TheVariants.{Cell, Element}
-use Rattle.program_lines.specs.Scopes.{Scope, register_named}
+use Rattle.program_lines.specs.Scopes.{NameScope, register_named}
 use Rattle.program_lines.specs.Places.{Place, Common, OperandWord, LocationWord, OfLocation, OperandMeans, ElementMeans, LocationMeans}
 use Rattle.program_lines.specs.Faults.{HasShape, HasOperandShape, HasIndexedShape, IsNoNumber, IsNoRegister, WordFault}
 use Rattle.program_lines.specs.Locations.{SingleIs, ElementIs, IsElementFault}
@@ -46,7 +46,7 @@ unnamed o n h k = cc
 
 -- ---- operands
 
-module _ (scope : Scope) where
+module _ (scope : NameScope) where
   pub below_word : (place : Place) (word : List ℕ) (lower : Cause) → cause_number lower < 3 → WordFault scope place word lower → ⊥
   below_word (Common place) word lower l f = common_below scope.known place word lower l f
   below_word place word NotText l f = f
@@ -133,7 +133,7 @@ same_parts : (word name rest other index : List ℕ) → IsSplit word name rest 
 same_parts word name rest other index s shape =
     same_split name other rest (index ++ 93 ∷ []) s.front (name_no_bracket other shape.1) (sym s.whole ∙ (shape.0 ∙ flat other index))
 
-pub no_closing : (scope : Scope) (word name rest : List ℕ) → IsSplit word name rest → ((front : List ℕ) → rest ≢ front ++ 93 ∷ []) → IsLowest (WordFault scope LocationWord word) BadWord
+pub no_closing : (scope : NameScope) (word name rest : List ℕ) → IsSplit word name rest → ((front : List ℕ) → rest ≢ front ++ 93 ∷ []) → IsLowest (WordFault scope LocationWord word) BadWord
 no_closing scope word name rest s h =
     lowest_bad_word scope LocationWord word
     (λ shape. elim shape [
@@ -141,7 +141,7 @@ no_closing scope word name rest s h =
       | inr e ↦ h e.1 (same_parts word name rest e.0 e.1 s e.2).1
     ])
 
-module _ (scope : Scope) (word name index : List ℕ) (s : IsSplit word name (index ++ 93 ∷ [])) where
+module _ (scope : NameScope) (word name index : List ℕ) (s : IsSplit word name (index ++ 93 ∷ [])) where
   element_is : word ≡ element_word name index
   element_is = s.whole ∙ sym (flat name index)
 
@@ -190,7 +190,7 @@ module _ (scope : Scope) (word name index : List ℕ) (s : IsSplit word name (in
 
 -- ---- faults of elements
 
-module _ (scope : Scope) (name index : List ℕ) (n : IsName name) where
+module _ (scope : NameScope) (name index : List ℕ) (n : IsName name) where
   -- the index has a fault
   pub index_fault : (cause : Cause) → IsLowest (WordFault scope OperandWord index) cause → IsElementFault scope name index cause
   index_fault NotText f = f.0
@@ -209,14 +209,14 @@ module _ (scope : Scope) (name index : List ℕ) (n : IsName name) where
 
 -- ---- what a word names has no fault
 
-single_no_fault : (scope : Scope) (word : List ℕ) (cell : ℕ) (cause : Cause) → SingleMeans scope.known.mems word cell → WordFault scope LocationWord word cause → ⊥
+single_no_fault : (scope : NameScope) (word : List ℕ) (cell : ℕ) (cause : Cause) → SingleMeans scope.known.mems word cell → WordFault scope LocationWord word cause → ⊥
 single_no_fault scope word cell BadWord m f = f (inl m.0)
 single_no_fault scope word cell BadNumber m f = no_element word f.0 f.1 (name_no_bracket word m.0) f.2.0
 single_no_fault scope word cell UnknownName m (inl f) = f.1 m.1 m.2
 single_no_fault scope word cell UnknownName m (inr f) = no_element word f.0 f.1 (name_no_bracket word m.0) f.2.0
 single_no_fault scope word cell cause m f = f
 
-module _ (scope : Scope) (word name index : List ℕ) (first count : ℕ) (operand : Operand) (e : word ≡ element_word name index) (m : ElementMeans scope name index first count operand) where
+module _ (scope : NameScope) (word name index : List ℕ) (first count : ℕ) (operand : Operand) (e : word ≡ element_word name index) (m : ElementMeans scope name index first count operand) where
   split_of : IsSplit word name (index ++ 93 ∷ [])
   split_of = record { whole = e ∙ flat name index; front = name_no_bracket name m.0 }
 
@@ -237,6 +237,6 @@ module _ (scope : Scope) (word name index : List ℕ) (first count : ℕ) (opera
       (subst (λ x. IsUndeclared scope.known.mems x true ⊎ IsNoRegister scope.registers f.1) same.0 f.3))
   element_no_fault cause f = f
 
-pub location_no_fault : (scope : Scope) (word : List ℕ) (location : Location) → LocationMeans scope word location → (cause : Cause) → WordFault scope LocationWord word cause → ⊥
+pub location_no_fault : (scope : NameScope) (word : List ℕ) (location : Location) → LocationMeans scope word location → (cause : Cause) → WordFault scope LocationWord word cause → ⊥
 location_no_fault scope word (Cell cell) m cause f = single_no_fault scope word cell cause m f
 location_no_fault scope word (Element first count operand) m cause f = element_no_fault scope word m.0 m.1 first count operand m.2 m.3 cause f

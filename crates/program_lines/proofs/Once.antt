@@ -25,7 +25,7 @@ use Rattle.model_bodies.specs.declared.statement.Expression.{Expression}
 use Rattle.model_bodies.specs.declared.statement.Expression.TheVariants.{Plain as PlainOperand, Sum, Difference, Product, Less}
 use Rattle.model_bodies.specs.declared.statement.Statement.{Statement}
 use Rattle.model_bodies.specs.declared.statement.Statement.TheVariants.{Let, Read, Write, Bump, Update, Put, Get, Spawn, Call, Sync, ParallelFor, If, Else, End}
-use Rattle.program_lines.specs.Scopes.{Scope, register_named}
+use Rattle.program_lines.specs.Scopes.{NameScope, register_named}
 use Rattle.program_lines.specs.Places.{Place, Common, FreshName, OperandWord, LocationWord, AssignedRegister, KnownRegister, FunctionName, ParameterName, Sign, Exactly, Value, Plain, OfOperand, OfLocation, OfRegister, OfAssigned, OfSign, Nothing, WordMeans, OperandMeans, ElementMeans, LocationMeans, AssignedMeans}
 use Rattle.program_lines.specs.Table.{spelling, Placed, WordsMean, Says}
 use Rattle.program_lines.specs.Grammar.{Item, Blank, Declared, Reduces, Begins, Does, Decides, Otherwise, Ends, ItemMeans, number_if_there, keyword_of_statement, statement_values}
@@ -67,7 +67,7 @@ same_location : (a b x y : ℕ) (i j : Operand) → a ≡ b → x ≡ y → i �
 same_location a b x y i j e f g =
     ap (λ (t : ℕ). Element t x i) e ∙ (ap (λ (t : ℕ). Element b t i) f ∙ ap (λ (t : Operand). Element b y t) g)
 
-element_once : (scope : Scope) (name index : List ℕ) (a b x y : ℕ) (i j : Operand) → ElementMeans scope name index a x i → ElementMeans scope name index b y j → Element a x i ≡ Element b y j
+element_once : (scope : NameScope) (name index : List ℕ) (a b x y : ℕ) (i j : Operand) → ElementMeans scope name index a x i → ElementMeans scope name index b y j → Element a x i ≡ Element b y j
 element_once scope name index a b x y i j m n =
     let mem : m.1.0 ≡ n.1.0 = same_some _ _ _ m.1.1.0 n.1.1.0 in
     same_location a b x y i j
@@ -75,7 +75,7 @@ element_once scope name index a b x y i j m n =
     (m.1.3 ∙ (ap (λ (t : Mem). t.cells) mem ∙ sym n.1.3))
     (operand_once scope.registers index i j m.2 n.2)
 
-location_once : (scope : Scope) (word : List ℕ) (a b : Location) → LocationMeans scope word a → LocationMeans scope word b → a ≡ b
+location_once : (scope : NameScope) (word : List ℕ) (a b : Location) → LocationMeans scope word a → LocationMeans scope word b → a ≡ b
 location_once scope word (Cell a) (Cell b) m n =
     let mem : m.1 ≡ n.1 = same_some _ _ _ m.2.0 n.2.0 in
     ap Cell (m.3 ∙ (ap (λ (t : Mem). t.first) mem ∙ sym n.3))
@@ -96,7 +96,7 @@ assigned_once registers word a b (Some v) (Some w) m n =
 
 -- ---- words in their places
 
-module _ (scope : Scope) where
+module _ (scope : NameScope) where
   pub word_once : (place : Place) (word : List ℕ) (v w : Value) → WordMeans scope place word v → WordMeans scope place word w → v ≡ w
   word_once (Common place) word (Plain v) (Plain w) m n = ap Plain (common_once scope.known place word v w m n)
   word_once FreshName word (Plain (trace.OfName a)) (Plain (trace.OfName b)) m n = ap (λ (t : List ℕ). Plain (trace.OfName t)) (m.0 ∙ sym n.0)
@@ -220,7 +220,7 @@ item_by at begin.End values = Ends
 item_by at keyword values = access_by at keyword (first_of_values values) (first_of_values (behind_first values))
 
 -- what a line other than a blank one says
-abbrev IsSaid : ℕ → Scope → List (List ℕ) → Item → Type 0
+abbrev IsSaid : ℕ → NameScope → List (List ℕ) → Item → Type 0
 IsSaid at scope ws item = (keyword : Keyword) × (values : List Value) × Says scope ws keyword values × (item_by at keyword values ≡ item)
 
 -- a statement that names no new register
@@ -238,7 +238,7 @@ let_back at register (Difference a b) named line e = naming_statement (λ t. Let
 let_back at register (Product a b) named line e = naming_statement (λ t. Let t register (Product a b)) at line named e
 let_back at register (Less a b) named line e = naming_statement (λ t. Let t register (Less a b)) at line named e
 
-module _ (at : ℕ) (scope : Scope) (ws : List (List ℕ)) where
+module _ (at : ℕ) (scope : NameScope) (ws : List (List ℕ)) where
   statement_said : (statement : Statement) (named : Option (List ℕ)) → ItemMeans at scope ws (Does statement named)
       → item_by at (keyword_of_statement statement) (statement_values statement named) ≡ Does statement named
   statement_said (Let line register value) named m = let_back at register value named line m.1

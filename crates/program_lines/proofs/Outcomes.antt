@@ -14,7 +14,7 @@ use Rattle.trace_text.proofs.Outcomes.{word_clean as common_clean}
 use Rattle.program_lines.specs.declared.operator.Operator.{Operator}
 use Rattle.model_bodies.specs.declared.statement.Operand.{Operand}
 use Rattle.model_bodies.specs.declared.statement.Register.{Register}
-use Rattle.program_lines.specs.Scopes.{Scope, register_named, function_named, max_registers, IsFresh}
+use Rattle.program_lines.specs.Scopes.{NameScope, register_named, function_named, max_registers, IsFresh}
 use Rattle.program_lines.specs.Places.{Place, Common, FreshName, OperandWord, LocationWord, AssignedRegister, KnownRegister, FunctionName, ParameterName, Sign, Exactly, Value, Plain, OfOperand, OfLocation, OfRegister, OfAssigned, OfSign, Nothing, WordMeans, OperandMeans, RegisterMeans, AssignedMeans, IsRegisterName}
 use Rattle.program_lines.specs.Table.{Placed, placed, WordsMean}
 use Rattle.program_lines.specs.Grammar.{number_if_there}
@@ -22,7 +22,7 @@ use Rattle.program_lines.specs.Faults.{WordFault, SomeFault}
 use Rattle.program_lines.specs.Outcome.{Reads, TakesWord, IsPlacedFault, Fits}
 use Rattle.program_lines.proofs.LocationWords.{below_word, unnamed, operand_shape, operand_number, operand_known, location_no_fault}
 
-module _ (scope : Scope) where
+module _ (scope : NameScope) where
   -- ---- a word that means something has no fault
 
   fresh_no_fault : (word : List ℕ) → IsName word → IsFresh scope word → (cause : Cause) → WordFault scope FreshName word cause → ⊥

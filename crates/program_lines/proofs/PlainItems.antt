@@ -29,7 +29,7 @@ use Rattle.model_bodies.specs.declared.statement.Location.{Location}
 use Rattle.model_bodies.specs.declared.statement.Location.TheVariants.{Cell, Element}
 use Rattle.model_bodies.specs.declared.statement.Statement.{Statement}
 use Rattle.model_bodies.specs.declared.statement.Statement.TheVariants.{Let, Read, Write, Bump, Update, Put, Get, Spawn, Call, Sync, ParallelFor, If, Else, End}
-use Rattle.program_lines.specs.Scopes.{Scope, ok_word, register_named, function_named, IsFresh}
+use Rattle.program_lines.specs.Scopes.{NameScope, ok_word, register_named, function_named, IsFresh}
 use Rattle.program_lines.specs.Places.{Place, Common, FreshName, OperandWord, LocationWord, AssignedRegister, KnownRegister, FunctionName, ParameterName, Sign, Exactly, Value, Plain, OfOperand, OfLocation, OfRegister, OfAssigned, OfSign, Nothing, WordMeans, OperandMeans, RegisterMeans, ElementMeans, LocationMeans, IsRegisterName, sign_spelling}
 use Rattle.program_lines.specs.Table.{spelling, wanted, optional, Placed, placed, WordsMean, Says}
 use Rattle.program_lines.specs.Grammar.{Item, Blank, Declared, Reduces, Begins, Does, Decides, Otherwise, Ends, ItemMeans, number_if_there, keyword_of_statement, expression_values, statement_values}
@@ -159,11 +159,11 @@ abbrev AllLead : List (List ℕ) → List Value → Type 0
 AllLead rest [] = Unit {0}
 AllLead rest (value ∷ values) = Leads rest value × AllLead rest values
 
-module _ (scope : Scope) (rest : List (List ℕ)) (numbered : IsTrue (is_numbered 0 scope.known.mems)) (some : All (λ (mem : Mem). 1 ≤ mem.cells) scope.known.mems) where
+module _ (scope : NameScope) (rest : List (List ℕ)) (numbered : IsTrue (is_numbered 0 scope.known.mems)) (some : All (λ (mem : Mem). 1 ≤ mem.cells) scope.known.mems) where
   abbrev all_registers : List (List ℕ)
   all_registers = scope.registers ++ rest
 
-  abbrev printed : Scope
+  abbrev printed : NameScope
   printed = record { known = scope.known; functions = scope.functions; begun = 0; registers = all_registers }
 
   operand_plain : (word : List ℕ) (operand : Operand) → OperandMeans scope.registers word operand
@@ -351,10 +351,10 @@ lead_statement (If line register otherwise) named more = (tt, tt)
 lead_statement (Else line after) named more = tt
 lead_statement (End line) named more = tt
 
-abbrev pub IsPlainItem : ℕ → Scope → Item → List (List ℕ) → Type 0
+abbrev pub IsPlainItem : ℕ → NameScope → Item → List (List ℕ) → Type 0
 IsPlainItem at scope item line = ItemMeans at scope line item × ArePlain line
 
-module _ (at : ℕ) (scope : Scope) (ws : List (List ℕ)) (item_more : List (List ℕ)) (numbered : IsTrue (is_numbered 0 scope.known.mems)) (some : All (λ (mem : Mem). 1 ≤ mem.cells) scope.known.mems) where
+module _ (at : ℕ) (scope : NameScope) (ws : List (List ℕ)) (item_more : List (List ℕ)) (numbered : IsTrue (is_numbered 0 scope.known.mems)) (some : All (λ (mem : Mem). 1 ≤ mem.cells) scope.known.mems) where
   does_printed : (statement : Statement) (named : Option (List ℕ)) → ItemMeans at scope ws (Does statement named)
       → IsPlainItem at scope (Does statement named)
       (statement_words (record { known = scope.known; functions = scope.functions; begun = 0; registers = scope.registers ++ behind (Does statement named) item_more }) statement)
@@ -381,7 +381,7 @@ module _ (at : ℕ) (scope : Scope) (ws : List (List ℕ)) (item_more : List (Li
   item_printed Ends m = says_plain scope item_more numbered some ws begin.End [] tt m
 
 -- the words of an item that some words say in the scope say it
-pub item_plain : (at : ℕ) (scope : Scope) (ws : List (List ℕ)) (item : Item) (more : List (List ℕ)) → IsTrue (is_numbered 0 scope.known.mems)
+pub item_plain : (at : ℕ) (scope : NameScope) (ws : List (List ℕ)) (item : Item) (more : List (List ℕ)) → IsTrue (is_numbered 0 scope.known.mems)
     → All (λ (mem : Mem). 1 ≤ mem.cells) scope.known.mems → ItemMeans at scope ws item
     → ItemMeans at scope (item_words (scope_behind scope item more) item) item × ArePlain (item_words (scope_behind scope item more) item)
 item_plain at scope ws item more numbered some m = item_printed at scope ws more numbered some item m
@@ -391,7 +391,7 @@ pub plain_again : (line : List (List ℕ)) → ArePlain line → words (spaced l
 plain_again [] h = refl
 plain_again (word ∷ line) h = words_spaced word line h
 
-pub item_text : (at : ℕ) (scope : Scope) (ws more : List (List ℕ)) (item : Item) → IsTrue (is_numbered 0 scope.known.mems)
+pub item_text : (at : ℕ) (scope : NameScope) (ws more : List (List ℕ)) (item : Item) → IsTrue (is_numbered 0 scope.known.mems)
     → All (λ (mem : Mem). 1 ≤ mem.cells) scope.known.mems → ItemMeans at scope ws item
     → IsTextLine (spaced (item_words (scope_behind scope item more) item)) × ItemMeans at scope (words (spaced (item_words (scope_behind scope item more) item))) item
 item_text at scope ws more item numbered some m =

@@ -19,7 +19,7 @@ use Rattle.model_bodies.specs.declared.statement.Operand.{Operand}
 use Rattle.model_bodies.specs.declared.statement.Operand.TheVariants.{Number, Held}
 use Rattle.model_bodies.specs.declared.statement.Location.{Location}
 use Rattle.model_bodies.specs.declared.statement.Location.TheVariants.{Cell, Element}
-use Rattle.program_lines.specs.Scopes.{Scope, max_registers, ok_word, register_named, function_named, HasNotBegun, IsFresh}
+use Rattle.program_lines.specs.Scopes.{NameScope, max_registers, ok_word, register_named, function_named, HasNotBegun, IsFresh}
 use Rattle.program_lines.specs.Places.{Place, Common, FreshName, OperandWord, LocationWord, AssignedRegister, KnownRegister, FunctionName, ParameterName, Sign, Exactly, Value, Plain, OfOperand, OfLocation, OfRegister, OfAssigned, OfSign, Nothing, IsRegisterName, OperandMeans, sign_spelling}
 use Rattle.program_lines.specs.Locations.{SingleIs, ElementIs, IsElementFault}
 use Rattle.program_lines.specs.Outcome.{Reads, Fits}
@@ -29,7 +29,7 @@ use Rattle.program_lines.proofs.Outcomes.{reads, lowest_twice, lowest_no_registe
 use Rattle.program_lines.proofs.Within.{below_by, position_below}
 
 -- what is read of a word in its place: its value, or the lowest cause
-abbrev pub Reading : Scope → Place → List ℕ → Type 0
+abbrev pub Reading : NameScope → Place → List ℕ → Type 0
 Reading scope place word = (answer : Result Value Cause) × Reads scope place word answer (λ value. value)
 
 -- the number of a register that is known, where there are no more than a function can have
@@ -44,7 +44,7 @@ register_name_or_not word = both_or_not (name_or_not word) (differs (word_or_not
     differs (inl e) = inr (λ h. h e)
     differs (inr h) = inl h
 
-module _ (scope : Scope) (few : length scope.registers ≤ max_registers) where
+module _ (scope : NameScope) (few : length scope.registers ≤ max_registers) where
   abbrev register_with : (word : List ℕ) (index : ℕ) → register_named scope.registers word ≡ Some index → Register
   register_with word index e = record { index = index; in_range = register_below scope.registers word index few e }
 

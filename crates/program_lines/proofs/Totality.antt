@@ -7,14 +7,14 @@ use Rattle.text_words.specs.declared.fault.Cause.TheVariants.{BadWord}
 use Rattle.text_words.specs.declared.value.Version.{Version}
 use Rattle.text_words.specs.declared.value.Version.TheVariants.{One, Two}
 use Rattle.text_words.specs.Causes.{IsLowest}
-use Rattle.text_words.specs.Limits.{max_cells}
+use Rattle.model_accesses.specs.Limits.{most_cells}
 use Rattle.text_words.proofs.Decided.{OrNot, word_or_not}
 use Rattle.trace_text.specs.Lines as trace
 use Rattle.program_lines.specs.declared.keyword.Keyword.{Keyword}
 use Rattle.program_lines.specs.declared.keyword.Keyword.TheVariants as begin
 use Rattle.program_lines.specs.declared.operator.Operator.{Operator}
 use Rattle.program_lines.specs.declared.operator.Operator.TheVariants.{Plus, Minus, Times, Below}
-use Rattle.program_lines.specs.Scopes.{Scope, max_registers}
+use Rattle.program_lines.specs.Scopes.{NameScope, max_registers}
 use Rattle.program_lines.specs.Places.{Place, Common, FreshName, OperandWord, LocationWord, AssignedRegister, KnownRegister, FunctionName, ParameterName, Sign, Exactly, Value, Plain, OfOperand, OfLocation, OfRegister, OfAssigned, OfSign, Nothing, WordMeans}
 use Rattle.program_lines.specs.Table.{spelling, HasKeyword, wanted, optional, Placed, placed, WordsMean, Says}
 use Rattle.program_lines.specs.Grammar.{Item, Blank, ItemMeans, number_if_there, expression_values}
@@ -93,7 +93,7 @@ each_same : (places : List Place) (values : List Value) → all_formed places []
 each_same [] values = refl
 each_same (place ∷ places) values = ap (λ (vs : List Value). formed place (first_of_values values) ∷ vs) (each_same places (behind_first values))
 
-module _ (scope : Scope) where
+module _ (scope : NameScope) where
   common_formed : (place : trace.Place) (word : List ℕ) (value : trace.Value) → trace.WordMeans scope.known place word value → Plain value ≡ formed (Common place) (Plain value)
   common_formed (trace.Number low high) word (trace.OfNumber number) m = refl
   common_formed (trace.Number low high) word value m = absurd m
@@ -160,7 +160,7 @@ module _ (scope : Scope) where
   said_as : (ws : List (List ℕ)) (keyword : Keyword) (values : List Value) → Says scope ws keyword values → values ≡ all_formed (wanted keyword) (optional keyword) values
   said_as ws keyword values says = words_formed (wanted keyword) (optional keyword) says.1.0 says.0 values says.1.3 says.2
 
-  counted : (values : List Value) → all_formed [] (Common (trace.Number 1 max_cells) ∷ []) values ≡ number_if_there (count_in values)
+  counted : (values : List Value) → all_formed [] (Common (trace.Number 1 most_cells) ∷ []) values ≡ number_if_there (count_in values)
   counted [] = refl
   counted (value ∷ values) = refl
 
@@ -222,10 +222,10 @@ module _ (scope : Scope) where
 -- ---- lines
 
 -- words say something, or have a lowest cause
-abbrev pub Told : ℕ → Scope → List (List ℕ) → Type 0
+abbrev pub Told : ℕ → NameScope → List (List ℕ) → Type 0
 Told at scope ws = ((item : Item) × ItemMeans at scope ws item) ⊎ ((why : Cause) × IsLowest (WordsFault scope ws) why)
 
-words_told : (at : ℕ) (scope : Scope) (ws : List (List ℕ)) → length scope.registers ≤ max_registers → Told at scope ws
+words_told : (at : ℕ) (scope : NameScope) (ws : List (List ℕ)) → length scope.registers ≤ max_registers → Told at scope ws
 words_told at scope [] few = inl (Blank, refl)
 words_told at scope (word ∷ arguments) few = go (keyword_or_not scope.known.version word)
   where

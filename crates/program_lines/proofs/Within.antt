@@ -13,18 +13,18 @@ use Rattle.model_bodies.specs.declared.statement.Location.{Location}
 use Rattle.model_bodies.specs.declared.statement.Location.TheVariants.{Cell, Element}
 use Rattle.model_bodies.specs.declared.statement.Statement.{Statement}
 use Rattle.model_bodies.specs.declared.statement.Statement.TheVariants.{Let, Read, Write, Bump, Update, Put, Get, Spawn, Call, Sync, ParallelFor, If, Else, End}
-use Rattle.program_lines.specs.Scopes.{Scope}
+use Rattle.program_lines.specs.Scopes.{NameScope}
 use Rattle.program_lines.specs.Places.{Place, Common, OperandWord, LocationWord, AssignedRegister, FunctionName, Value, Plain, OfOperand, OfLocation, OfAssigned, WordMeans, LocationMeans}
 use Rattle.program_lines.specs.Table.{Placed, placed, WordsMean}
 use Rattle.program_lines.specs.Grammar.{Does, ItemMeans}
 
 -- the cells are there
-abbrev pub IsLocated : Scope → Location → Type 0
+abbrev pub IsLocated : NameScope → Location → Type 0
 IsLocated scope (Cell cell) = cell < cells_of scope.known.mems
 IsLocated scope (Element first count index) = (0 < count) × (first + count ≤ cells_of scope.known.mems)
 
 -- the cells, the reducer and the function are there
-abbrev pub IsWithinScope : Scope → Statement → Type 0
+abbrev pub IsWithinScope : NameScope → Statement → Type 0
 IsWithinScope scope (Read line register location) = IsLocated scope location
 IsWithinScope scope (Write line location value) = IsLocated scope location
 IsWithinScope scope (Bump line location value) = IsLocated scope location
@@ -46,7 +46,7 @@ position_below test from number (x ∷ xs) e =
     below_by (test x) from number (from + length (x ∷ xs)) (position_from test (from + 1) xs) (omega arith)
     (λ f. let later = position_below test (from + 1) number xs f in omega arith) e
 
-module _ (scope : Scope) (numbered : IsTrue (is_numbered 0 scope.known.mems)) (some : All (λ (mem : Mem). 1 ≤ mem.cells) scope.known.mems) where
+module _ (scope : NameScope) (numbered : IsTrue (is_numbered 0 scope.known.mems)) (some : All (λ (mem : Mem). 1 ≤ mem.cells) scope.known.mems) where
   memory_within : (name : List ℕ) (array : Bool) (mem : Mem) → IsDeclared scope.known.mems name array mem → (1 ≤ mem.cells) × (mem.first + mem.cells ≤ cells_of scope.known.mems)
   memory_within name array mem d = (
     found_of_all (λ (x : Mem). 1 ≤ x.cells) _ scope.known.mems mem some d.0,

@@ -8,7 +8,7 @@ use Rattle.text_words.specs.Names.{element_word}
 use Rattle.trace_text.specs.Faults.{IsUndeclared, WordFault as CommonFault}
 use Rattle.program_lines.specs.declared.keyword.Keyword.{Keyword}
 use Rattle.program_lines.specs.declared.operator.Operator.{Operator}
-use Rattle.program_lines.specs.Scopes.{Scope, max_registers, register_named, function_named, IsFresh}
+use Rattle.program_lines.specs.Scopes.{NameScope, max_registers, register_named, function_named, IsFresh}
 use Rattle.program_lines.specs.Places.{Place, Common, FreshName, OperandWord, LocationWord, AssignedRegister, KnownRegister}
 use Rattle.program_lines.specs.Places.{FunctionName, ParameterName, Sign, Exactly, IsRegisterName, sign_spelling}
 use Rattle.program_lines.specs.Table.{Placed, IsArranged}
@@ -47,7 +47,7 @@ IsBadNumber OperandWord word = IsNoNumber word
 IsBadNumber LocationWord word = (name : List ℕ) × (index : List ℕ) × HasIndexedShape word name index × IsNoNumber index
 IsBadNumber place word = ⊥
 
-abbrev pub IsUnknownName : Scope → Place → List ℕ → Type 0
+abbrev pub IsUnknownName : NameScope → Place → List ℕ → Type 0
 IsUnknownName scope OperandWord word = IsNoRegister scope.registers word
 IsUnknownName scope LocationWord word =
     (IsName word × IsUndeclared scope.known.mems word false)
@@ -57,17 +57,17 @@ IsUnknownName scope KnownRegister word = IsNoRegister scope.registers word
 IsUnknownName scope FunctionName word = IsName word × (function_named scope.functions word ≡ None)
 IsUnknownName scope place word = ⊥
 
-abbrev pub IsTwiceNamed : Scope → Place → List ℕ → Type 0
+abbrev pub IsTwiceNamed : NameScope → Place → List ℕ → Type 0
 IsTwiceNamed scope FreshName word = IsFresh scope word → ⊥
 IsTwiceNamed scope place word = ⊥
 
 -- A new register, for which there is no room.
-abbrev pub HasNoRoom : Scope → Place → List ℕ → Type 0
+abbrev pub HasNoRoom : NameScope → Place → List ℕ → Type 0
 HasNoRoom scope AssignedRegister word = (register_named scope.registers word ≡ None) × (max_registers ≤ length scope.registers)
 HasNoRoom scope place word = ⊥
 
 -- What is wrong with a word in its place.
-abbrev pub WordFault : Scope → Place → List ℕ → Cause → Type 0
+abbrev pub WordFault : NameScope → Place → List ℕ → Cause → Type 0
 WordFault scope (Common place) word cause = CommonFault scope.known place word cause
 WordFault scope place word BadWord = HasShape place word → ⊥
 WordFault scope place word BadNumber = IsBadNumber place word
@@ -76,13 +76,13 @@ WordFault scope place word TwiceNamed = IsTwiceNamed scope place word
 WordFault scope place word TooMany = HasNoRoom scope place word
 WordFault scope place word cause = ⊥
 
-abbrev pub SomeFault : Scope → List Placed → Cause → Type 0
+abbrev pub SomeFault : NameScope → List Placed → Cause → Type 0
 SomeFault scope [] cause = ⊥
 SomeFault scope (pair ∷ pairs) cause = WordFault scope pair.0 pair.1 cause ⊎ SomeFault scope pairs cause
 
 -- What is wrong with the words of a line. They are of another shape where no keyword arranges them, or where in each
 -- arrangement some word is.
-abbrev pub WordsFault : Scope → List (List ℕ) → Cause → Type 0
+abbrev pub WordsFault : NameScope → List (List ℕ) → Cause → Type 0
 WordsFault scope ws BadWord =
     (0 < length ws)
     × ((keyword : Keyword) (pairs : List Placed) → IsArranged scope.known.version ws keyword pairs → SomeFault scope pairs BadWord)

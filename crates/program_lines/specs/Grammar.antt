@@ -12,7 +12,7 @@ use Rattle.model_bodies.specs.declared.statement.Expression.TheVariants.{Plain a
 use Rattle.model_bodies.specs.declared.statement.Statement.{Statement}
 use Rattle.model_bodies.specs.declared.statement.Statement.TheVariants.{Let, Read, Write, Bump, Update, Put, Get}
 use Rattle.model_bodies.specs.declared.statement.Statement.TheVariants.{Spawn, Call, Sync, ParallelFor, If, Else, End}
-use Rattle.program_lines.specs.Scopes.{Scope}
+use Rattle.program_lines.specs.Scopes.{NameScope}
 use Rattle.program_lines.specs.Places.{Value, Plain, OfOperand, OfLocation, OfRegister, OfAssigned, OfSign, Nothing}
 use Rattle.program_lines.specs.Table.{Says}
 
@@ -103,7 +103,7 @@ number_if_there None = []
 number_if_there (Some number) = Plain (OfNumber number) ∷ []
 
 -- What the words of the line with the number `at` say in their scope.
-abbrev pub ItemMeans : ℕ → Scope → List (List ℕ) → Item → Type 0
+abbrev pub ItemMeans : ℕ → NameScope → List (List ℕ) → Item → Type 0
 ItemMeans at scope ws Blank = ws ≡ []
 ItemMeans at scope ws (Declared name length) = Says scope ws word.Mem (Plain (OfName name) ∷ number_if_there length)
 ItemMeans at scope ws (Reduces name monoid) = Says scope ws word.Reducer (Plain (OfName name) ∷ Plain (OfMonoid monoid) ∷ [])

@@ -6,7 +6,7 @@ use Rattle.program_lines.specs.declared.item.Item as code
 use Rattle.program_lines.specs.declared.item.Item.TheVariants as code_item
 use Rattle.program_lines.specs.declared.operator.Operator.{Operator}
 use Rattle.model_bodies.specs.declared.statement.Operand.{Operand}
-use Rattle.program_lines.specs.Scopes.{Scope}
+use Rattle.program_lines.specs.Scopes.{NameScope}
 use Rattle.program_lines.specs.Places.{Value, OfOperand, OfSign}
 use Rattle.program_lines.specs.Table.{spelling, placed, wanted, optional}
 use Rattle.program_lines.specs.Grammar.{Item, Blank, Declared, Reduces, Begins, Does, Decides, Otherwise, Ends, ItemMeans}
@@ -24,7 +24,7 @@ item_of code_item.Otherwise = Otherwise
 item_of code_item.Ends = Ends
 
 -- The answer is what the keyword and the words behind it say, or the lowest cause why they say nothing.
-abbrev pub IsRead : ℕ → Scope → Keyword → List (List ℕ) → Result code.Item Cause → Type 0
+abbrev pub IsRead : ℕ → NameScope → Keyword → List (List ℕ) → Result code.Item Cause → Type 0
 IsRead at scope keyword words answer =
     MatchResult answer (λ item. ItemMeans at scope (spelling keyword ∷ words) (item_of item))
     (λ cause. IsPlacedFault scope (placed (wanted keyword) (optional keyword) words) cause)

@@ -12,7 +12,7 @@ use Rattle.model_bodies.specs.declared.statement.Operand.{Operand}
 use Rattle.model_bodies.specs.declared.statement.Operand.TheVariants.{Number, Held}
 use Rattle.model_bodies.specs.declared.statement.Location.{Location}
 use Rattle.model_bodies.specs.declared.statement.Location.TheVariants.{Cell, Element}
-use Rattle.program_lines.specs.Scopes.{Scope, ok_word, register_named, function_named, IsFresh}
+use Rattle.program_lines.specs.Scopes.{NameScope, ok_word, register_named, function_named, IsFresh}
 
 -- A place as in traces, a name for a memory, a reducer or a function, an operand, a location, the register that is assigned, a register
 -- that decides, the name of a function, the name of a parameter, a sign between operands, and one word only.
@@ -57,14 +57,14 @@ OperandMeans registers word (Number number) = IsNumberIn 0 max_value word number
 OperandMeans registers word (Held register) = RegisterMeans registers word register
 
 -- The name names an array, and the index is an operand. It is taken modulo the length when the access is made.
-abbrev pub ElementMeans : Scope → (name index : List ℕ) → (first count : ℕ) → Operand → Type 0
+abbrev pub ElementMeans : NameScope → (name index : List ℕ) → (first count : ℕ) → Operand → Type 0
 ElementMeans scope name index first count operand =
     IsName name
     × ((mem : Mem) × IsDeclared scope.known.mems name true mem × (first ≡ mem.first) × (count ≡ mem.cells))
     × OperandMeans scope.registers index operand
 
 -- The name of a memory of one cell, or the name of an array and an operand in brackets.
-abbrev pub LocationMeans : Scope → List ℕ → Location → Type 0
+abbrev pub LocationMeans : NameScope → List ℕ → Location → Type 0
 LocationMeans scope word (Cell cell) = SingleMeans scope.known.mems word cell
 LocationMeans scope word (Element first count operand) =
     (name : List ℕ) × (index : List ℕ) × (word ≡ element_word name index) × ElementMeans scope name index first count operand
@@ -75,7 +75,7 @@ AssignedMeans registers word register None = IsRegisterName word × (register_na
 AssignedMeans registers word register (Some name) =
     (name ≡ word) × IsRegisterName word × (register_named registers word ≡ None) × (register.index ≡ length registers + 1)
 
-abbrev pub WordMeans : Scope → Place → List ℕ → Value → Type 0
+abbrev pub WordMeans : NameScope → Place → List ℕ → Value → Type 0
 WordMeans scope (Common place) word (Plain value) = trace.WordMeans scope.known place word value
 WordMeans scope FreshName word (Plain (trace.OfName name)) = (name ≡ word) × IsName word × IsFresh scope word
 WordMeans scope OperandWord word (OfOperand operand) = OperandMeans scope.registers word operand

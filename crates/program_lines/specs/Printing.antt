@@ -19,7 +19,7 @@ use Rattle.model_bodies.specs.declared.statement.Statement.{Statement}
 use Rattle.model_bodies.specs.declared.statement.Statement.TheVariants.{Read, Write, Bump, Update, Put, Get, Spawn, Call, ParallelFor}
 use Rattle.program_lines.specs.declared.keyword.Keyword.{Keyword}
 use Rattle.program_lines.specs.declared.keyword.Keyword.TheVariants as word
-use Rattle.program_lines.specs.Scopes.{Scope, ok_word}
+use Rattle.program_lines.specs.Scopes.{NameScope, ok_word}
 use Rattle.program_lines.specs.Places.{Place, Common, FunctionName, Exactly, Value, Plain, OfOperand}
 use Rattle.program_lines.specs.Places.{OfLocation, OfRegister, OfAssigned, OfSign, sign_spelling}
 use Rattle.program_lines.specs.Table.{spelling, wanted, optional}
@@ -53,7 +53,7 @@ location_word mems registers (Cell cell) = name_of_cell mems cell
 location_word mems registers (Element first count index) = element_word (name_of_array mems first) (operand_word registers index)
 
 -- The word for a value in its place.
-abbrev pub plain_word : Scope → Place → Value → List ℕ
+abbrev pub plain_word : NameScope → Place → Value → List ℕ
 plain_word scope (Common place) (Plain value) = common_word scope.known place value
 plain_word scope FunctionName (Plain (OfNumber number)) = name_of_function scope.functions number
 plain_word scope place (Plain (OfName name)) = name
@@ -66,22 +66,22 @@ plain_word scope (Exactly other) value = other
 plain_word scope place value = []
 
 -- The words for values in the places of a line.
-abbrev pub plain_words : Scope → List Place → List Place → List Value → List (List ℕ)
+abbrev pub plain_words : NameScope → List Place → List Place → List Value → List (List ℕ)
 plain_words scope places last [] = []
 plain_words scope [] [] (value ∷ values) = []
 plain_words scope [] (place ∷ last) (value ∷ values) = plain_word scope place value ∷ plain_words scope last [] values
 plain_words scope (place ∷ places) last (value ∷ values) = plain_word scope place value ∷ plain_words scope places last values
 
-abbrev pub words_for : Scope → Keyword → List Value → List (List ℕ)
+abbrev pub words_for : NameScope → Keyword → List Value → List (List ℕ)
 words_for scope keyword values = spelling keyword ∷ plain_words scope (wanted keyword) (optional keyword) values
 
 -- The words of a statement behind its keyword, where the scope has all registers of its function.
-abbrev pub argument_words : Scope → Statement → List (List ℕ)
+abbrev pub argument_words : NameScope → Statement → List (List ℕ)
 argument_words scope statement =
     plain_words scope (wanted (keyword_of_statement statement))
     (optional (keyword_of_statement statement)) (statement_values statement None)
 
-abbrev pub statement_words : Scope → Statement → List (List ℕ)
+abbrev pub statement_words : NameScope → Statement → List (List ℕ)
 statement_words scope statement = words_for scope (keyword_of_statement statement) (statement_values statement None)
 
 -- The words of an expression.
@@ -93,7 +93,7 @@ expression_words registers (Product left right) = operand_word registers left �
 expression_words registers (Less left right) = operand_word registers left ∷ codes "<" ∷ operand_word registers right ∷ []
 
 -- The words of what a line says.
-abbrev pub item_words : Scope → Item → List (List ℕ)
+abbrev pub item_words : NameScope → Item → List (List ℕ)
 item_words scope Blank = []
 item_words scope (Declared name length) = words_for scope word.Mem (Plain (OfName name) ∷ number_if_there length)
 item_words scope (Reduces name monoid) = words_for scope word.Reducer (Plain (OfName name) ∷ Plain (OfMonoid monoid) ∷ [])
@@ -106,7 +106,7 @@ item_words scope Ends = words_for scope word.End []
 -- ---- scopes that are printed
 
 -- The scope of the statements of a function with these registers.
-abbrev pub printed_scope : Version → List Mem → List Reducer → (functions registers : List (List ℕ)) → Scope
+abbrev pub printed_scope : Version → List Mem → List Reducer → (functions registers : List (List ℕ)) → NameScope
 printed_scope version mems reducers functions registers =
     record { known = known_of version mems reducers; functions = functions; begun = 0; registers = registers }
 
@@ -128,13 +128,13 @@ IsAccess (Get line register reducer) = Unit {0}
 IsAccess statement = ⊥
 
 -- The registers that are known behind the line.
-abbrev pub registers_behind : Scope → Item → List (List ℕ)
+abbrev pub registers_behind : NameScope → Item → List (List ℕ)
 registers_behind scope (Begins name parameter) = parameter ∷ []
 registers_behind scope (Does statement (Some name)) = scope.registers ++ name ∷ []
 registers_behind scope item = scope.registers
 
 -- The scope in which a line is printed: its function has these registers, and names more on later lines.
-abbrev pub scope_behind : Scope → Item → List (List ℕ) → Scope
+abbrev pub scope_behind : NameScope → Item → List (List ℕ) → NameScope
 scope_behind scope item more = record {
   known = scope.known;
   functions = scope.functions;

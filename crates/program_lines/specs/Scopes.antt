@@ -15,7 +15,7 @@ max_functions_named = 4294967295
 
 -- The functions are those of the whole text, in the order of their lines. So many of them have begun on earlier lines. The registers are
 -- those of the open function other than `ok`; outside a function there are none.
-pub record Scope : Type 0 where
+pub record NameScope : Type 0 where
   pub known : Known
   pub functions : List (List ℕ)
   pub begun : ℕ
@@ -37,9 +37,9 @@ abbrev pub with_name : List (List ℕ) → List ℕ → List (List ℕ)
 with_name names name = cond (list_any (bytes_eq name) names) names (names ++ name ∷ [])
 
 -- No function of that name has begun.
-abbrev pub HasNotBegun : Scope → List ℕ → Type 0
+abbrev pub HasNotBegun : NameScope → List ℕ → Type 0
 HasNotBegun scope name = (number : ℕ) → function_named scope.functions name ≡ Some number → scope.begun ≤ number
 
 -- Memories, reducers and functions share one space of names, and this name is none of theirs so far.
-abbrev pub IsFresh : Scope → List ℕ → Type 0
+abbrev pub IsFresh : NameScope → List ℕ → Type 0
 IsFresh scope name = IsUndeclaredName scope.known name × HasNotBegun scope name

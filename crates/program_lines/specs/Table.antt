@@ -5,12 +5,12 @@ use Rattle.model_accesses.specs.Table.{spelling as kind_spelling}
 use Rattle.std.specs.Prelude.{ℕ}
 use Rattle.text_words.specs.declared.value.Version.{Version}
 use Rattle.text_words.specs.Names.{IsSecond}
-use Rattle.text_words.specs.Limits.{max_cells}
+use Rattle.model_accesses.specs.Limits.{most_cells}
 use Rattle.trace_text.specs.Lines as trace
 use Rattle.program_lines.specs.declared.keyword.Keyword.{Keyword}
 use Rattle.program_lines.specs.declared.keyword.Keyword.TheVariants.{Mem, Reducer, Func, Let, Access, Spawn}
 use Rattle.program_lines.specs.declared.keyword.Keyword.TheVariants.{Call, Sync, ParallelFor, If, Else, End}
-use Rattle.program_lines.specs.Scopes.{Scope}
+use Rattle.program_lines.specs.Scopes.{NameScope}
 use Rattle.program_lines.specs.Places.{Place, Common, FreshName, OperandWord, LocationWord, AssignedRegister}
 use Rattle.program_lines.specs.Places.{KnownRegister, FunctionName, ParameterName, Sign, Exactly, Value, WordMeans}
 
@@ -56,7 +56,7 @@ wanted End = []
 
 -- What may stand at its end, all of it or nothing.
 abbrev pub optional : Keyword → List Place
-optional Mem = Common (trace.Number 1 max_cells) ∷ []
+optional Mem = Common (trace.Number 1 most_cells) ∷ []
 optional Let = Sign ∷ OperandWord ∷ []
 optional keyword = []
 
@@ -79,11 +79,11 @@ IsArranged version ws keyword pairs =
     × (placed (wanted keyword) (optional keyword) arguments ≡ Some pairs)
 
 -- Each word means its value.
-abbrev pub WordsMean : Scope → List Placed → List Value → Type 0
+abbrev pub WordsMean : NameScope → List Placed → List Value → Type 0
 WordsMean scope [] [] = Unit {0}
 WordsMean scope (pair ∷ pairs) (value ∷ values) = WordMeans scope pair.0 pair.1 value × WordsMean scope pairs values
 WordsMean scope pairs values = ⊥
 
 -- The words are this keyword and words that mean these values.
-abbrev pub Says : Scope → List (List ℕ) → Keyword → List Value → Type 0
+abbrev pub Says : NameScope → List (List ℕ) → Keyword → List Value → Type 0
 Says scope ws keyword values = (pairs : List Placed) × IsArranged scope.known.version ws keyword pairs × WordsMean scope pairs values

@@ -25,4 +25,4 @@ pub use laws::{
 pub use line::read_line;
 pub use model_bodies::{Expression, Location, Operand, REGISTERS, Register, Statement};
 pub use print::put_statement;
-pub use scope::{FUNCTION_NAMES, FunctionNames, Scope};
+pub use scope::{FUNCTION_NAMES, FunctionNames, NameScope};

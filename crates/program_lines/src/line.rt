@@ -3,10 +3,10 @@
 ghost use Rattle.std.specs.Prelude.{◌≡◌, ◌∷◌, [], None, MatchResult, codes, cond, option_copied};
 ghost use Rattle.model_accesses.specs.declared.kind.Kind.TheVariants as kind;
 ghost use Rattle.trace_text.specs.Lines as trace;
-ghost use Rattle.text_words.specs.Limits.{max_cells};
+ghost use Rattle.model_accesses.specs.Limits.{most_cells};
 ghost use Rattle.text_words.specs.Causes.{IsLowest};
 ghost use Rattle.program_lines.specs.declared.keyword.Keyword.TheVariants.{Access, Call, Let, ParallelFor, Spawn};
-ghost use Rattle.program_lines.specs.Scopes.{Scope as SpecScope};
+ghost use Rattle.program_lines.specs.Scopes.{NameScope as SpecScope};
 ghost use Rattle.program_lines.specs.Places.{Common, FreshName, OperandWord, LocationWord, AssignedRegister, KnownRegister, FunctionName};
 ghost use Rattle.program_lines.specs.Places.{ParameterName, Sign, Exactly, Plain, OfOperand, OfLocation, OfRegister, OfAssigned, Nothing};
 ghost use Rattle.program_lines.specs.Table.{HasKeyword};
@@ -22,7 +22,7 @@ use crate::place::{
     Assigned, assigned_register, end, equals, fresh_name, function, joined, length, location,
     monoid, operand, parameter, reducer, register,
 };
-use crate::scope::Scope;
+use crate::scope::NameScope;
 use access_table::Kind;
 use model_bodies::{Expression, Location, Operand, Register, Statement};
 use std::alloc::Allocator;
@@ -30,10 +30,10 @@ use text_words::{Cause, Monoid, Words, both};
 
 /// The name and the length of a memory.
 fn memory<'a, A: Allocator + Copy>(
-    scope: &Scope<'_, '_, A>,
+    scope: &NameScope<'_, '_, A>,
     words: &mut Words<'a>,
 ) -> Result<(&'a str, Option<u32>), Cause>
-    ensures { Fits scope.now (FreshName ∷ []) (Common (trace.Number 1 max_cells) ∷ []) words.old result
+    ensures { Fits scope.now (FreshName ∷ []) (Common (trace.Number 1 most_cells) ∷ []) words.old result
         (λ r. Plain (trace.OfName r.0.now) ∷ number_if_there r.1) }
 {
     let name = fresh_name(scope, words);
@@ -43,7 +43,7 @@ fn memory<'a, A: Allocator + Copy>(
 
 /// The name and the monoid of a reducer.
 fn reduction<'a, A: Allocator + Copy>(
-    scope: &Scope<'_, '_, A>,
+    scope: &NameScope<'_, '_, A>,
     words: &mut Words<'a>,
 ) -> Result<(&'a str, (Monoid, ())), Cause>
     ensures { Fits scope.now (FreshName ∷ Common trace.MonoidWord ∷ []) [] words.old result
@@ -57,7 +57,7 @@ fn reduction<'a, A: Allocator + Copy>(
 
 /// The name and the parameter of a function.
 fn head<'a, A: Allocator + Copy>(
-    scope: &Scope<'_, '_, A>,
+    scope: &NameScope<'_, '_, A>,
     words: &mut Words<'a>,
 ) -> Result<(&'a str, (&'a str, ())), Cause>
     ensures { Fits scope.now (FreshName ∷ ParameterName ∷ []) [] words.old result
@@ -71,7 +71,7 @@ fn head<'a, A: Allocator + Copy>(
 
 /// The register of an assignment, and the operands.
 fn assignment<'a, A: Allocator + Copy>(
-    scope: &Scope<'_, '_, A>,
+    scope: &NameScope<'_, '_, A>,
     words: &mut Words<'a>,
 ) -> Result<(Assigned<'a>, ((), (Operand, Option<(Operator, Operand)>))), Cause>
     ensures { Fits scope.now (AssignedRegister ∷ Exactly (codes "=") ∷ OperandWord ∷ []) (Sign ∷ OperandWord ∷ []) words.old result
@@ -86,7 +86,7 @@ fn assignment<'a, A: Allocator + Copy>(
 
 /// The register and the location of a read.
 fn of_read<'a, A: Allocator + Copy>(
-    scope: &Scope<'_, '_, A>,
+    scope: &NameScope<'_, '_, A>,
     words: &mut Words<'a>,
 ) -> Result<(Assigned<'a>, (Location, ())), Cause>
     ensures { Fits scope.now (AssignedRegister ∷ LocationWord ∷ []) [] words.old result
@@ -100,7 +100,7 @@ fn of_read<'a, A: Allocator + Copy>(
 
 /// The location and the value of a write or a bump.
 fn of_write<A: Allocator + Copy>(
-    scope: &Scope<'_, '_, A>,
+    scope: &NameScope<'_, '_, A>,
     words: &mut Words<'_>,
 ) -> Result<(Location, (Operand, ())), Cause>
     ensures { Fits scope.now (LocationWord ∷ OperandWord ∷ []) [] words.old result (λ r. OfLocation r.0 ∷ OfOperand r.1.0 ∷ []) }
@@ -113,7 +113,7 @@ fn of_write<A: Allocator + Copy>(
 
 /// The reducer and the value of an update or a put.
 fn of_update<A: Allocator + Copy>(
-    scope: &Scope<'_, '_, A>,
+    scope: &NameScope<'_, '_, A>,
     words: &mut Words<'_>,
 ) -> Result<(u32, (Operand, ())), Cause>
     ensures { Fits scope.now (Common trace.ReducerName ∷ OperandWord ∷ []) [] words.old result
@@ -127,7 +127,7 @@ fn of_update<A: Allocator + Copy>(
 
 /// The register and the reducer of a get.
 fn of_get<'a, A: Allocator + Copy>(
-    scope: &Scope<'_, '_, A>,
+    scope: &NameScope<'_, '_, A>,
     words: &mut Words<'a>,
 ) -> Result<(Assigned<'a>, (u32, ())), Cause>
     ensures { Fits scope.now (AssignedRegister ∷ Common trace.ReducerName ∷ []) [] words.old result
@@ -141,7 +141,7 @@ fn of_get<'a, A: Allocator + Copy>(
 
 /// The function and the argument of a spawn or a call.
 fn of_call<A: Allocator + Copy>(
-    scope: &Scope<'_, '_, A>,
+    scope: &NameScope<'_, '_, A>,
     words: &mut Words<'_>,
 ) -> Result<(u32, (Operand, ())), Cause>
     ensures { Fits scope.now (FunctionName ∷ OperandWord ∷ []) [] words.old result
@@ -155,7 +155,7 @@ fn of_call<A: Allocator + Copy>(
 
 /// The register, the operand and the function of a parallel loop.
 fn of_parallel_for<'a, A: Allocator + Copy>(
-    scope: &Scope<'_, '_, A>,
+    scope: &NameScope<'_, '_, A>,
     words: &mut Words<'a>,
 ) -> Result<(Assigned<'a>, (Operand, (u32, ()))), Cause>
     ensures { Fits scope.now (AssignedRegister ∷ OperandWord ∷ FunctionName ∷ []) [] words.old result
@@ -170,7 +170,7 @@ fn of_parallel_for<'a, A: Allocator + Copy>(
 
 /// The register that decides.
 fn of_if<A: Allocator + Copy>(
-    scope: &Scope<'_, '_, A>,
+    scope: &NameScope<'_, '_, A>,
     words: &mut Words<'_>,
 ) -> Result<(Register, ()), Cause>
     ensures { Fits scope.now (KnownRegister ∷ []) [] words.old result (λ r. OfRegister r.0 ∷ []) }
@@ -196,7 +196,7 @@ fn expression(left: Operand, joined: Option<(Operator, Operand)>) -> Expression
 /// What the words behind `let` say.
 fn behind_let<'a, A: Allocator + Copy>(
     at: u32,
-    scope: &Scope<'_, '_, A>,
+    scope: &NameScope<'_, '_, A>,
     words: &mut Words<'a>,
 ) -> Result<Item<'a>, Cause>
     ensures { IsRead at scope.now Let words.old result }
@@ -227,7 +227,7 @@ fn does(statement: Statement) -> Item<'static>
 /// What the words behind `read` say.
 fn behind_read<'a, A: Allocator + Copy>(
     at: u32,
-    scope: &Scope<'_, '_, A>,
+    scope: &NameScope<'_, '_, A>,
     words: &mut Words<'a>,
 ) -> Result<Item<'a>, Cause>
     ensures { IsRead at scope.now (Access kind.Read) words.old result }
@@ -248,7 +248,7 @@ fn behind_read<'a, A: Allocator + Copy>(
 /// What the words behind `get` say.
 fn behind_get<'a, A: Allocator + Copy>(
     at: u32,
-    scope: &Scope<'_, '_, A>,
+    scope: &NameScope<'_, '_, A>,
     words: &mut Words<'a>,
 ) -> Result<Item<'a>, Cause>
     ensures { IsRead at scope.now (Access kind.Get) words.old result }
@@ -269,7 +269,7 @@ fn behind_get<'a, A: Allocator + Copy>(
 /// What the words behind `write` or `bump` say.
 fn behind_write<A: Allocator + Copy>(
     at: u32,
-    scope: &Scope<'_, '_, A>,
+    scope: &NameScope<'_, '_, A>,
     bumps: bool,
     words: &mut Words<'_>,
 ) -> Result<Item<'static>, Cause>
@@ -300,7 +300,7 @@ fn behind_write<A: Allocator + Copy>(
 /// What the words behind `update` or `put` say.
 fn behind_update<A: Allocator + Copy>(
     at: u32,
-    scope: &Scope<'_, '_, A>,
+    scope: &NameScope<'_, '_, A>,
     puts: bool,
     words: &mut Words<'_>,
 ) -> Result<Item<'static>, Cause>
@@ -330,7 +330,7 @@ fn behind_update<A: Allocator + Copy>(
 /// What the words behind the keyword of an access say.
 fn access<'a, A: Allocator + Copy>(
     at: u32,
-    scope: &Scope<'_, '_, A>,
+    scope: &NameScope<'_, '_, A>,
     kind: Kind,
     words: &mut Words<'a>,
 ) -> Result<Item<'a>, Cause>
@@ -350,7 +350,7 @@ fn access<'a, A: Allocator + Copy>(
 /// What the words behind `pfor` say.
 fn behind_parallel_for<'a, A: Allocator + Copy>(
     at: u32,
-    scope: &Scope<'_, '_, A>,
+    scope: &NameScope<'_, '_, A>,
     words: &mut Words<'a>,
 ) -> Result<Item<'a>, Cause>
     requires { HasKeyword scope.now.known.version ParallelFor }
@@ -373,7 +373,7 @@ fn behind_parallel_for<'a, A: Allocator + Copy>(
 /// What the words behind `spawn` or `call` say.
 fn behind_call<A: Allocator + Copy>(
     at: u32,
-    scope: &Scope<'_, '_, A>,
+    scope: &NameScope<'_, '_, A>,
     spawns: bool,
     words: &mut Words<'_>,
 ) -> Result<Item<'static>, Cause>
@@ -403,7 +403,7 @@ fn behind_call<A: Allocator + Copy>(
 /// What the words behind a keyword say.
 fn behind_keyword<'a, A: Allocator + Copy>(
     at: u32,
-    scope: &Scope<'_, '_, A>,
+    scope: &NameScope<'_, '_, A>,
     keyword: Keyword,
     words: &mut Words<'a>,
 ) -> Result<Item<'a>, Cause>
@@ -442,7 +442,7 @@ fn behind_keyword<'a, A: Allocator + Copy>(
 /// causes but one: a new register for which there is no room is `TooMany`.
 pub fn read_line<'a, A: Allocator + Copy>(
     at: u32,
-    scope: &Scope<'_, '_, A>,
+    scope: &NameScope<'_, '_, A>,
     words: &mut Words<'a>,
 ) -> Result<Item<'a>, Cause>
     ensures { MatchResult result

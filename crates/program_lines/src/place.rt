@@ -3,8 +3,8 @@
 ghost use Rattle.std.specs.Prelude.{◌↔◌, [], ◌∷◌, IsTrue, codes, option_copied, MatchResult};
 ghost use Rattle.trace_text.specs.Cells.{IsSingleFault};
 ghost use Rattle.trace_text.specs.Lines as trace;
-ghost use Rattle.text_words.specs.Limits.{max_cells};
-ghost use Rattle.program_lines.specs.Scopes.{Scope as SpecScope, IsFresh};
+ghost use Rattle.model_accesses.specs.Limits.{most_cells};
+ghost use Rattle.program_lines.specs.Scopes.{NameScope as SpecScope, IsFresh};
 ghost use Rattle.program_lines.specs.Places.{Common, FreshName, OperandWord, LocationWord, AssignedRegister};
 ghost use Rattle.program_lines.specs.Places.{KnownRegister, FunctionName, ParameterName, Sign, Exactly, Plain, OfOperand};
 ghost use Rattle.program_lines.specs.Places.{OfLocation, OfRegister, OfAssigned, OfSign, Nothing, IsRegisterName};
@@ -14,7 +14,7 @@ ghost use Rattle.program_lines.specs.Items.{joined_values};
 ghost use Rattle.program_lines.specs.Outcome.{TakesWord, Fits, Reads};
 
 use crate::operator::{Operator, operator_of};
-use crate::scope::Scope;
+use crate::scope::NameScope;
 use model_bodies::{Location, Operand, Register};
 use std::alloc::Allocator;
 use text_words::{Cause, Monoid, Named, Words, both, is_name};
@@ -28,7 +28,7 @@ pub struct Assigned<'a> {
 }
 
 /// Whether no memory, no reducer and no function that has begun has that name.
-fn is_fresh<A: Allocator + Copy>(scope: &Scope<'_, '_, A>, name: &str) -> bool
+fn is_fresh<A: Allocator + Copy>(scope: &NameScope<'_, '_, A>, name: &str) -> bool
     ensures { IsTrue result ↔ IsFresh scope.now name.now }
 {
     match scope.names().find(name) {
@@ -41,7 +41,7 @@ fn is_fresh<A: Allocator + Copy>(scope: &Scope<'_, '_, A>, name: &str) -> bool
 }
 
 fn fresh_name_of<'a, A: Allocator + Copy>(
-    scope: &Scope<'_, '_, A>,
+    scope: &NameScope<'_, '_, A>,
     name: &'a str,
 ) -> Result<&'a str, Cause>
     ensures { Reads scope.now FreshName name.now result (λ name. Plain (trace.OfName name.now)) }
@@ -58,7 +58,7 @@ fn fresh_name_of<'a, A: Allocator + Copy>(
 
 /// Takes a name that is neither declared nor that of a function that has begun.
 pub fn fresh_name<'a, A: Allocator + Copy>(
-    scope: &Scope<'_, '_, A>,
+    scope: &NameScope<'_, '_, A>,
     words: &mut Words<'a>,
 ) -> Result<&'a str, Cause>
     ensures { TakesWord scope.now FreshName words.old words.new result (λ name. Plain (trace.OfName name.now)) }
@@ -71,14 +71,14 @@ pub fn fresh_name<'a, A: Allocator + Copy>(
 
 /// Takes what is left behind the name of a memory: nothing, or its length.
 pub fn length(words: &mut Words<'_>) -> Result<Option<u32>, Cause>
-    ensures { (scope : SpecScope) → Fits scope [] (Common (trace.Number 1 max_cells) ∷ []) words.old result number_if_there }
+    ensures { (scope : SpecScope) → Fits scope [] (Common (trace.Number 1 most_cells) ∷ []) words.old result number_if_there }
 {
     trace_text::length(words)
 }
 
 /// Takes a monoid of the version.
 pub fn monoid<A: Allocator + Copy>(
-    scope: &Scope<'_, '_, A>,
+    scope: &NameScope<'_, '_, A>,
     words: &mut Words<'_>,
 ) -> Result<Monoid, Cause>
     ensures { TakesWord scope.now (Common trace.MonoidWord) words.old words.new result (λ monoid. Plain (trace.OfMonoid monoid)) }
@@ -88,7 +88,7 @@ pub fn monoid<A: Allocator + Copy>(
 
 /// Takes the name of a reducer.
 pub fn reducer<A: Allocator + Copy>(
-    scope: &Scope<'_, '_, A>,
+    scope: &NameScope<'_, '_, A>,
     words: &mut Words<'_>,
 ) -> Result<u32, Cause>
     ensures { TakesWord scope.now (Common trace.ReducerName) words.old words.new result (λ number. Plain (trace.OfNumber number)) }
@@ -119,7 +119,10 @@ pub fn parameter<'a>(words: &mut Words<'a>) -> Result<&'a str, Cause>
     }
 }
 
-fn register_of<A: Allocator + Copy>(scope: &Scope<'_, '_, A>, word: &str) -> Result<Register, Cause>
+fn register_of<A: Allocator + Copy>(
+    scope: &NameScope<'_, '_, A>,
+    word: &str,
+) -> Result<Register, Cause>
     ensures { Reads scope.now KnownRegister word.now result OfRegister }
 {
     if !is_name(word) {
@@ -133,7 +136,7 @@ fn register_of<A: Allocator + Copy>(scope: &Scope<'_, '_, A>, word: &str) -> Res
 
 /// Takes the name of a register that is known.
 pub fn register<A: Allocator + Copy>(
-    scope: &Scope<'_, '_, A>,
+    scope: &NameScope<'_, '_, A>,
     words: &mut Words<'_>,
 ) -> Result<Register, Cause>
     ensures { TakesWord scope.now KnownRegister words.old words.new result OfRegister }
@@ -145,7 +148,7 @@ pub fn register<A: Allocator + Copy>(
 }
 
 fn assigned_by<'a, A: Allocator + Copy>(
-    scope: &Scope<'_, '_, A>,
+    scope: &NameScope<'_, '_, A>,
     word: &'a str,
 ) -> Result<Assigned<'a>, Cause>
     ensures { Reads scope.now AssignedRegister word.now result (λ assigned. OfAssigned assigned.register (option_copied assigned.named)) }
@@ -176,7 +179,7 @@ fn assigned_by<'a, A: Allocator + Copy>(
 
 /// Takes the name of a register that is assigned, which may be new.
 pub fn assigned_register<'a, A: Allocator + Copy>(
-    scope: &Scope<'_, '_, A>,
+    scope: &NameScope<'_, '_, A>,
     words: &mut Words<'a>,
 ) -> Result<Assigned<'a>, Cause>
     ensures { TakesWord scope.now AssignedRegister words.old words.new result
@@ -188,7 +191,10 @@ pub fn assigned_register<'a, A: Allocator + Copy>(
     }
 }
 
-fn operand_of<A: Allocator + Copy>(scope: &Scope<'_, '_, A>, word: &str) -> Result<Operand, Cause>
+fn operand_of<A: Allocator + Copy>(
+    scope: &NameScope<'_, '_, A>,
+    word: &str,
+) -> Result<Operand, Cause>
     ensures { Reads scope.now OperandWord word.now result OfOperand }
 {
     if is_name(word) {
@@ -206,7 +212,7 @@ fn operand_of<A: Allocator + Copy>(scope: &Scope<'_, '_, A>, word: &str) -> Resu
 
 /// Takes an operand.
 pub fn operand<A: Allocator + Copy>(
-    scope: &Scope<'_, '_, A>,
+    scope: &NameScope<'_, '_, A>,
     words: &mut Words<'_>,
 ) -> Result<Operand, Cause>
     ensures { TakesWord scope.now OperandWord words.old words.new result OfOperand }
@@ -217,7 +223,7 @@ pub fn operand<A: Allocator + Copy>(
     }
 }
 
-fn function_of<A: Allocator + Copy>(scope: &Scope<'_, '_, A>, word: &str) -> Result<u32, Cause>
+fn function_of<A: Allocator + Copy>(scope: &NameScope<'_, '_, A>, word: &str) -> Result<u32, Cause>
     ensures { Reads scope.now FunctionName word.now result (λ number. Plain (trace.OfNumber number)) }
 {
     if !is_name(word) {
@@ -231,7 +237,7 @@ fn function_of<A: Allocator + Copy>(scope: &Scope<'_, '_, A>, word: &str) -> Res
 
 /// Takes the name of a function.
 pub fn function<A: Allocator + Copy>(
-    scope: &Scope<'_, '_, A>,
+    scope: &NameScope<'_, '_, A>,
     words: &mut Words<'_>,
 ) -> Result<u32, Cause>
     ensures { TakesWord scope.now FunctionName words.old words.new result (λ number. Plain (trace.OfNumber number)) }
@@ -243,7 +249,7 @@ pub fn function<A: Allocator + Copy>(
 }
 
 /// The cell of a memory that is no array.
-fn single<A: Allocator + Copy>(scope: &Scope<'_, '_, A>, name: &str) -> Result<Location, Cause>
+fn single<A: Allocator + Copy>(scope: &NameScope<'_, '_, A>, name: &str) -> Result<Location, Cause>
     ensures { MatchResult result (SingleIs scope.now name.now) (IsSingleFault scope.now.known.mems name.now) }
 {
     if !is_name(name) {
@@ -257,7 +263,7 @@ fn single<A: Allocator + Copy>(scope: &Scope<'_, '_, A>, name: &str) -> Result<L
 
 /// An array and an index.
 fn element<A: Allocator + Copy>(
-    scope: &Scope<'_, '_, A>,
+    scope: &NameScope<'_, '_, A>,
     name: &str,
     index: &str,
 ) -> Result<Location, Cause>
@@ -283,7 +289,10 @@ fn element<A: Allocator + Copy>(
 }
 
 /// The location that a word names.
-fn location_of<A: Allocator + Copy>(scope: &Scope<'_, '_, A>, word: &str) -> Result<Location, Cause>
+fn location_of<A: Allocator + Copy>(
+    scope: &NameScope<'_, '_, A>,
+    word: &str,
+) -> Result<Location, Cause>
     ensures { Reads scope.now LocationWord word.now result OfLocation }
 {
     match word.split_once('[') {
@@ -297,7 +306,7 @@ fn location_of<A: Allocator + Copy>(scope: &Scope<'_, '_, A>, word: &str) -> Res
 
 /// Takes a location.
 pub fn location<A: Allocator + Copy>(
-    scope: &Scope<'_, '_, A>,
+    scope: &NameScope<'_, '_, A>,
     words: &mut Words<'_>,
 ) -> Result<Location, Cause>
     ensures { TakesWord scope.now LocationWord words.old words.new result OfLocation }
@@ -330,7 +339,7 @@ fn sign_of(word: &str) -> Result<Operator, Cause>
 
 /// A sign and an operand, and nothing behind them.
 fn behind_sign<A: Allocator + Copy>(
-    scope: &Scope<'_, '_, A>,
+    scope: &NameScope<'_, '_, A>,
     word: &str,
     words: &mut Words<'_>,
 ) -> Result<(Operator, (Operand, ())), Cause>
@@ -344,7 +353,7 @@ fn behind_sign<A: Allocator + Copy>(
 
 /// Takes what is left behind the first operand: nothing, or a sign and another operand.
 pub fn joined<A: Allocator + Copy>(
-    scope: &Scope<'_, '_, A>,
+    scope: &NameScope<'_, '_, A>,
     words: &mut Words<'_>,
 ) -> Result<Option<(Operator, Operand)>, Cause>
     ensures { Fits scope.now [] (Sign ∷ OperandWord ∷ []) words.old result joined_values }

@@ -86,16 +86,16 @@ fn place_of(registers: &[Name], name: &str) -> Option<usize>
 /// What a line is read behind: the declarations, the functions of the whole text and how many of them have begun on earlier lines, and the
 /// registers of the open function other than `ok`, at most 16 and none outside a function. Contracts see a record.
 #[derive(Drop)]
-pub struct Scope<'s, 'a, A: Allocator> {
+pub struct NameScope<'s, 'a, A: Allocator> {
     names: &'s Names<'a, A>,
     functions: &'s FunctionNames<'a, A>,
     begun: u32,
     registers: &'s [Name],
 }
 
-impl<'s, 'a, A: Allocator> Model for Scope<'s, 'a, A> {
+impl<'s, 'a, A: Allocator> Model for NameScope<'s, 'a, A> {
     ghost use Rattle.std.specs.Prelude.{◌≤◌, length};
-    ghost use Rattle.program_lines.specs.Scopes.{Scope as SpecScope, max_registers};
+    ghost use Rattle.program_lines.specs.Scopes.{NameScope as SpecScope, max_registers};
 
     ghost Value = { SpecScope };
 
@@ -109,18 +109,18 @@ impl<'s, 'a, A: Allocator> Model for Scope<'s, 'a, A> {
     ghost invariant = { λ scope. length scope.registers.now ≤ max_registers };
 }
 
-impl<'s, 'a, A: Allocator + Copy> Scope<'s, 'a, A> {
+impl<'s, 'a, A: Allocator + Copy> NameScope<'s, 'a, A> {
     /// The scope of these parts.
     pub fn new(
         names: &'s Names<'a, A>,
         functions: &'s FunctionNames<'a, A>,
         begun: u32,
         registers: &'s [Name],
-    ) -> Scope<'s, 'a, A>
+    ) -> NameScope<'s, 'a, A>
         requires { length registers.now ≤ max_registers }
         ensures { result ≡ record { known = names.now; functions = functions.now; begun = begun; registers = registers.now } }
     {
-        Scope {
+        NameScope {
             names,
             functions,
             begun,

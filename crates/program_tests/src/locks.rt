@@ -1,7 +1,7 @@
 //! Gates that are asked on seats, and what is gathered of them.
 
 ghost use Rattle.std.specs.Prelude.{◌≡◌, ◌≤◌, [], IfOk, IfSome};
-ghost use Rattle.model_histories.specs.Shapes.{most_cells};
+ghost use Rattle.model_accesses.specs.Limits.{most_cells};
 
 use crate::openings::{gate_for, gate_of_cells};
 use locked_replay::{LockedGate, RunFault, WorkerLog, gather};

@@ -2,7 +2,8 @@
 
 ghost use Rattle.std.specs.Prelude.{◌≡◌, ◌≤◌, [], IfOk};
 ghost use Rattle.program_text.specs.Programs.{contents};
-ghost use Rattle.model_histories.specs.Shapes.{most_cells, most_entries};
+ghost use Rattle.model_accesses.specs.Limits.{most_cells};
+ghost use Rattle.model_histories.specs.Shapes.{most_entries};
 ghost use Rattle.race_report.specs.Conditions.{shape_known};
 
 use program_text::Program;

@@ -10,7 +10,8 @@ use Rattle.std.proofs.lemmas.List.Elements.{All-append, All-from_recursion}
 use Rattle.text_words.specs.declared.value.Mem.{Mem}
 use Rattle.text_words.specs.declared.value.Version.{Version}
 use Rattle.text_words.specs.Text.{words, lines}
-use Rattle.text_words.specs.Limits.{max_cells, max_reducers}
+use Rattle.model_accesses.specs.Limits.{most_cells}
+use Rattle.model_reducers.specs.Limits.{most_reducers}
 use Rattle.text_words.specs.Declarations.{cells_of, memory_at, reducer_at}
 use Rattle.trace_text.specs.Shapes.{is_numbered}
 use Rattle.trace_text.proofs.Kept.{cells_push, numbered_push}
@@ -19,7 +20,7 @@ use Rattle.model_bodies.specs.declared.statement.Location.{Location}
 use Rattle.model_bodies.specs.declared.statement.Location.TheVariants.{Cell, Element}
 use Rattle.model_bodies.specs.declared.statement.Statement.{Statement}
 use Rattle.model_bodies.specs.declared.statement.Statement.TheVariants.{Read, Write, Bump, Update, Put, Get, Spawn, Call, ParallelFor, If, Else, End}
-use Rattle.program_lines.specs.Scopes.{Scope}
+use Rattle.program_lines.specs.Scopes.{NameScope}
 use Rattle.program_lines.specs.Grammar.{Item, Blank, Declared, Reduces, Begins, Does, Decides, Otherwise, Ends, ItemMeans}
 use Rattle.program_text.specs.declared.open_function.Part.{Part}
 use Rattle.model_bodies.specs.Codes.{Code}
@@ -149,8 +150,8 @@ module _ (cells reducers functions : ℕ) where
 pub record IsKept (names : List (List ℕ)) (so_far : Draft) : Type 0 where
   pub numbered : IsTrue (is_numbered 0 so_far.known.mems)
   pub not_empty : All (λ (mem : Mem). 1 ≤ mem.cells) so_far.known.mems
-  pub few_cells : cells_of so_far.known.mems ≤ max_cells
-  pub few_reducers : len so_far.known.reducers ≤ max_reducers
+  pub few_cells : cells_of so_far.known.mems ≤ most_cells
+  pub few_reducers : len so_far.known.reducers ≤ most_reducers
   pub few_functions : begun so_far ≤ max_functions
   pub few_lines : so_far.lines ≤ max_statements + 1
   pub sound : AreSound (cells_of so_far.known.mems) (len so_far.known.reducers) (len names) so_far.functions
@@ -172,7 +173,7 @@ no_codes cells reducers functions codes e =
 no_current : (cells reducers functions lines : ℕ) (current : Option Open) → current ≡ None → CurrentKept cells reducers functions lines current
 no_current cells reducers functions lines current e = subst (λ (c : Option Open). CurrentKept cells reducers functions lines c) (sym e) tt
 
-located : (scope : Scope) (location : Location) → IsLocated scope location → IsTrue (is_located (cells_of scope.known.mems) location)
+located : (scope : NameScope) (location : Location) → IsLocated scope location → IsTrue (is_located (cells_of scope.known.mems) location)
 located scope (Cell cell) h = grind (arith, nat_tests)
 located scope (Element first count index) h = both (nat_lt 0 count) (nat_le (first + count) (cells_of scope.known.mems)) (grind (arith, nat_tests)) (grind (arith, nat_tests))
   where
@@ -183,7 +184,7 @@ located scope (Element first count index) h = both (nat_lt 0 count) (nat_le (fir
 below : (m n : ℕ) → m < n → IsTrue (nat_lt m n)
 below m n h = grind (arith, nat_tests)
 
-within_scope : (scope : Scope) (statement : Statement) → IsWithinScope scope statement
+within_scope : (scope : NameScope) (statement : Statement) → IsWithinScope scope statement
     → IsTrue (is_within (cells_of scope.known.mems) (len scope.known.reducers) (len scope.functions) statement)
 within_scope scope (Read line register location) h = located scope location h
 within_scope scope (Write line location value) h = located scope location h
@@ -196,7 +197,7 @@ within_scope scope (Call line function argument) h = below function (len scope.f
 within_scope scope (ParallelFor line register count function) h = below function (len scope.functions) h
 within_scope scope statement h = refl
 
-plain_shape : (at : ℕ) (scope : Scope) (ws : List (List ℕ)) (statement : Statement) (named : Option (List ℕ)) → ItemMeans at scope ws (Does statement named)
+plain_shape : (at : ℕ) (scope : NameScope) (ws : List (List ℕ)) (statement : Statement) (named : Option (List ℕ)) → ItemMeans at scope ws (Does statement named)
     → (shape statement ≡ PlainShape) × part_none statement
 plain_shape at scope ws (If line register otherwise) named m = absurd m.0
 plain_shape at scope ws (Else line after) named m = absurd m.0

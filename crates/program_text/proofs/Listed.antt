@@ -13,7 +13,7 @@ use Rattle.program_lines.specs.declared.keyword.Keyword.{Keyword}
 use Rattle.program_lines.specs.declared.keyword.Keyword.TheVariants as word
 use Rattle.model_bodies.specs.declared.statement.Statement.{Statement}
 use Rattle.model_bodies.specs.declared.statement.Statement.TheVariants.{Let, Read, Write, Bump, Update, Put, Get, Spawn, Call, Sync, ParallelFor, If, Else, End}
-use Rattle.program_lines.specs.Scopes.{Scope}
+use Rattle.program_lines.specs.Scopes.{NameScope}
 use Rattle.program_lines.specs.Places.{Value}
 use Rattle.program_lines.specs.Table.{spelling, Says}
 use Rattle.program_lines.specs.Grammar.{Item, Blank, Declared, Reduces, Begins, Does, Decides, Otherwise, Ends, keyword_of_statement}
@@ -107,7 +107,7 @@ statement_word (If line register otherwise) = refl
 statement_word (Else line after) = refl
 statement_word (End line) = refl
 
-said_none : (scope : Scope) (ws : List (List ℕ)) (keyword : Keyword) (values : List Value) → bytes_eq (spelling keyword) (codes "func") ≡ false → Says scope ws keyword values → function_in ws ≡ None
+said_none : (scope : NameScope) (ws : List (List ℕ)) (keyword : Keyword) (values : List Value) → bytes_eq (spelling keyword) (codes "func") ≡ false → Says scope ws keyword values → function_in ws ≡ None
 said_none scope ws keyword values e says = ap function_in says.1.1 ∙ other_word (spelling keyword) says.1.0 e
 
 -- ---- words of a line

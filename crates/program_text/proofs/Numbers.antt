@@ -10,7 +10,7 @@ use Rattle.model_bodies.specs.declared.statement.Location.{Location}
 use Rattle.model_bodies.specs.declared.statement.Location.TheVariants.{Cell, Element}
 use Rattle.model_bodies.specs.declared.statement.Statement.{Statement}
 use Rattle.model_bodies.specs.declared.statement.Statement.TheVariants.{Let, Read, Write, Bump, Update, Put, Get, Spawn, Call, Sync, ParallelFor, If, Else, End}
-use Rattle.program_lines.specs.Scopes.{Scope}
+use Rattle.program_lines.specs.Scopes.{NameScope}
 use Rattle.program_lines.specs.Places.{Place, OperandWord, LocationWord, Value, OfOperand, OfLocation, OperandMeans, LocationMeans, WordMeans}
 use Rattle.program_lines.specs.Table.{Placed, WordsMean}
 use Rattle.program_lines.specs.Grammar.{Does, ItemMeans, statement_values, expression_values}
@@ -31,18 +31,18 @@ operand_numbered : (registers : List (List ℕ)) (word : List ℕ) (operand : Op
 operand_numbered registers word (Number number) m = let most = m.2 in grind (arith, nat_tests)
 operand_numbered registers word (Held register) m = refl
 
-location_numbered : (scope : Scope) (word : List ℕ) (location : Location) → LocationMeans scope word location → IsTrue (is_numbered_location location)
+location_numbered : (scope : NameScope) (word : List ℕ) (location : Location) → LocationMeans scope word location → IsTrue (is_numbered_location location)
 location_numbered scope word (Cell cell) m = refl
 location_numbered scope word (Element first count index) m = operand_numbered scope.registers m.1 index m.3.2
 
-word_numbered : (scope : Scope) (place : Place) (word : List ℕ) (value : Value) → WordMeans scope place word value → IsNumberedValue value
+word_numbered : (scope : NameScope) (place : Place) (word : List ℕ) (value : Value) → WordMeans scope place word value → IsNumberedValue value
 word_numbered scope OperandWord word (OfOperand operand) m = operand_numbered scope.registers word operand m
 word_numbered scope LocationWord word (OfLocation location) m = location_numbered scope word location m
 word_numbered scope place word (OfOperand operand) m = absurd m
 word_numbered scope place word (OfLocation location) m = absurd m
 word_numbered scope place word value m = tt
 
-words_numbered : (scope : Scope) (pairs : List Placed) (values : List Value) → WordsMean scope pairs values → AreNumberedValues values
+words_numbered : (scope : NameScope) (pairs : List Placed) (values : List Value) → WordsMean scope pairs values → AreNumberedValues values
 words_numbered scope [] [] m = tt
 words_numbered scope [] (value ∷ values) m = absurd m
 words_numbered scope (pair ∷ pairs) [] m = absurd m
@@ -78,6 +78,6 @@ values_numbered (Else line after) named n = refl
 values_numbered (End line) named n = refl
 
 -- a statement that a line says has numbers of 64 bits
-pub does_numbered : (scope : Scope) (at : ℕ) (ws : List (List ℕ)) (statement : Statement) (named : Option (List ℕ)) → ItemMeans at scope ws (Does statement named)
+pub does_numbered : (scope : NameScope) (at : ℕ) (ws : List (List ℕ)) (statement : Statement) (named : Option (List ℕ)) → ItemMeans at scope ws (Does statement named)
     → IsTrue (has_numbers statement)
 does_numbered scope at ws statement named m = values_numbered statement named (words_numbered scope m.2.0 (statement_values statement named) m.2.2)

@@ -6,7 +6,7 @@ use Rattle.text_words.specs.declared.value.Mem.{Mem}
 use Rattle.text_words.specs.declared.value.Reducer.{Reducer}
 use Rattle.model_reducers.specs.declared.monoid.Monoid.{Monoid}
 use Rattle.text_words.specs.Text.{lines, words, IsTextLine}
-use Rattle.text_words.specs.Limits.{max_lines}
+use Rattle.text_words.specs.Limits.{most_lines}
 use Rattle.text_words.specs.Values.{Known}
 use Rattle.text_words.specs.Declarations.{memory_at, reducer_at}
 use Rattle.trace_text.specs.Printing.{spaced, Entry, OfMemory, OfReducer, declarations}
@@ -15,7 +15,7 @@ use Rattle.trace_text.proofs.PlainLines.{AreLater, later_weaker, memory_first, r
 use Rattle.model_bodies.specs.declared.statement.Register.{Register}
 use Rattle.model_bodies.specs.declared.statement.Statement.{Statement}
 use Rattle.model_bodies.specs.declared.statement.Statement.TheVariants.{If, Else, End}
-use Rattle.program_lines.specs.Scopes.{Scope}
+use Rattle.program_lines.specs.Scopes.{NameScope}
 use Rattle.program_lines.specs.Grammar.{Item, Blank, Declared, Reduces, Begins, Does, Decides, Otherwise, Ends, line_of}
 use Rattle.program_lines.specs.Printing.{item_words, statement_words, registers_behind, scope_behind}
 use Rattle.program_lines.proofs.PlainItems.{item_text}
@@ -94,7 +94,7 @@ module _ (names : List (List ℕ)) (contents : Contents) where
   }
 
   -- a blank line before the next row
-  blank_before : (at : ℕ) (rs : List Row) (so_far : Draft) → at ≤ max_lines → AreLater line_of_row (at + 1) rs
+  blank_before : (at : ℕ) (rs : List Row) (so_far : Draft) → at ≤ most_lines → AreLater line_of_row (at + 1) rs
       → LinesMean names (at + 1) so_far (lines_from (at + 1) rs) contents → LinesMean names at so_far (lines_from at rs) contents
   blank_before at [] so_far l h m = m
   blank_before at (row ∷ rs) so_far l h m =
@@ -113,7 +113,7 @@ module _ (names : List (List ℕ)) (contents : Contents) where
       subst (λ (n : ℕ). LinesMean names at so_far (replicate {A = List ℕ} n [] ++ row.text ∷ lines_from (row.line + 1) rs) contents) (sym none)
       (subst (λ (n : ℕ). LinesMean names at so_far (row.text ∷ lines_from (n + 1) rs) contents) (sym same) (item, m, h))
 
-  left_blank : (at : ℕ) (so_far : Draft) → at ≤ max_lines → IsLeft (at + 1) so_far → IsLeft at so_far
+  left_blank : (at : ℕ) (so_far : Draft) → at ≤ most_lines → IsLeft (at + 1) so_far → IsLeft at so_far
   left_blank at so_far l left = record {
     ms = left.ms;
     rs = left.rs;
@@ -160,7 +160,7 @@ module _ (names : List (List ℕ)) (contents : Contents) where
             (row_here at (declared_row contents.known (OfMemory mem)) (all_rows left.ms left.rs left.left) so_far (Declared name count) refl here left.means);
       }
     where
-      memory_text : (at : ℕ) (mems : List Mem) (name : List ℕ) (count : Option ℕ) (scope : Scope)
+      memory_text : (at : ℕ) (mems : List Mem) (name : List ℕ) (count : Option ℕ) (scope : NameScope)
           → spaced (item_words scope (Declared name count)) ≡ (declared_row contents.known (OfMemory (memory_at at mems name count))).text
       memory_text at mems name None scope = refl
       memory_text at mems name (Some n) scope = refl
@@ -252,7 +252,7 @@ module _ (names : List (List ℕ)) (contents : Contents) where
       → so_far.current ≡ Some c → (extended at so_far item).current ≡ Some d → (extended at so_far item).functions ≡ so_far.functions → (extended at so_far item).known ≡ so_far.known
       → d.name ≡ c.name → d.parameter ≡ c.parameter → d.line ≡ c.line → d.registers ≡ c.registers ++ named → registers_behind (scope_of names so_far) item ≡ c.registers ++ named
       → ((registers : List (List ℕ)) → rows_of registers d.body ≡ rows_of registers c.body ++ statement_row contents.known names registers statement ∷ [])
-      → line_of statement ≡ at → ((scope : Scope) → item_words scope item ≡ statement_words scope statement)
+      → line_of statement ≡ at → ((scope : NameScope) → item_words scope item ≡ statement_words scope statement)
       → IsKept names so_far → LineMeans names at so_far line item → IsLeft (at + 1) (extended at so_far item) → IsLeft at so_far
   left_statement at so_far line item c d statement named e f functions known name parameter begin registers with body own same_words kept m left =
       let some : 1 ≤ begun (extended at so_far item) = one_begun (extended at so_far item).functions (extended at so_far item).current d f in

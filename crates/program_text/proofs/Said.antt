@@ -11,7 +11,7 @@ use Rattle.model_bodies.specs.declared.statement.Statement.TheVariants.{Let, Rea
 use Rattle.text_words.specs.Names.{IsFresh as IsUndeclaredName}
 use Rattle.trace_text.specs.Lines as trace
 use Rattle.model_accesses.specs.declared.kind.Kind.TheVariants as kind
-use Rattle.program_lines.specs.Scopes.{Scope, IsFresh, HasNotBegun}
+use Rattle.program_lines.specs.Scopes.{NameScope, IsFresh, HasNotBegun}
 use Rattle.program_lines.specs.Places.{Place, Common, FreshName, OperandWord, LocationWord, AssignedRegister, FunctionName, ParameterName, Exactly, Value, Plain, OfOperand, OfLocation, OfAssigned, Nothing}
 use Rattle.program_lines.specs.Table.{Placed, placed, wanted, optional, WordsMean, Says}
 use Rattle.program_lines.specs.Grammar.{Item, Blank, Declared, Reduces, Begins, Does, Decides, Otherwise, Ends, ItemMeans, number_if_there, expression_values}
@@ -29,7 +29,7 @@ first_placed p places last (w ∷ arguments) pairs e = by (placed places last ar
     by None f e = cc
     by (Some more) f e = (w, arguments, more, cc, f)
 
-module _ (scope : Scope) (ws : List (List ℕ)) where
+module _ (scope : NameScope) (ws : List (List ℕ)) where
   -- what the first word behind the keyword means
   pub first_said : (keyword : Keyword) (p : Place) (places : List Place) (value : Value) (values : List Value) → wanted keyword ≡ p ∷ places
       → Says scope ws keyword (value ∷ values)
@@ -48,11 +48,11 @@ module _ (scope : Scope) (ws : List (List ℕ)) where
       let small = register.in_range in
       (subst (λ (t : List ℕ). IsName t) (sym first.3.0.0) first.3.0.1.0, omega (arith, first.3.0.3, small))
 
-fresh_said : (scope : Scope) (w name : List ℕ) → (name ≡ w) × IsName w × IsFresh scope w → IsName name × IsUndeclaredName scope.known name
+fresh_said : (scope : NameScope) (w name : List ℕ) → (name ≡ w) × IsName w × IsFresh scope w → IsName name × IsUndeclaredName scope.known name
 fresh_said scope w name h = (subst (λ (t : List ℕ). IsName t) (sym h.0) h.1, subst (λ (t : List ℕ). IsUndeclaredName scope.known t) (sym h.0) h.2.0)
 
 -- the words of a `func`
-pub begins_words : (scope : Scope) (name parameter : List ℕ) (arguments : List (List ℕ)) (pairs : List Placed)
+pub begins_words : (scope : NameScope) (name parameter : List ℕ) (arguments : List (List ℕ)) (pairs : List Placed)
     → placed (FreshName ∷ ParameterName ∷ []) [] arguments ≡ Some pairs → WordsMean scope pairs (Plain (OfName name) ∷ Plain (OfName parameter) ∷ [])
     → (arguments ≡ name ∷ parameter ∷ []) × IsName name × IsName parameter × HasNotBegun scope name
 begins_words scope name parameter [] pairs e m = cc
@@ -70,10 +70,10 @@ begins_words scope name parameter (a ∷ b ∷ []) pairs e m =
     )
 begins_words scope name parameter (a ∷ b ∷ c ∷ rest) pairs e m = cc
 
-begins_said : (scope : Scope) (ws : List (List ℕ)) (name parameter : List ℕ) → Says scope ws word.Func (Plain (OfName name) ∷ Plain (OfName parameter) ∷ []) → IsName name × IsName parameter
+begins_said : (scope : NameScope) (ws : List (List ℕ)) (name parameter : List ℕ) → Says scope ws word.Func (Plain (OfName name) ∷ Plain (OfName parameter) ∷ []) → IsName name × IsName parameter
 begins_said scope ws name parameter says = let b = begins_words scope name parameter says.1.0 says.0 says.1.3 says.2 in (b.1, b.2)
 
-does_said : (scope : Scope) (at : ℕ) (ws : List (List ℕ)) (statement : Statement) (name : List ℕ) → ItemMeans at scope ws (Does statement (Some name))
+does_said : (scope : NameScope) (at : ℕ) (ws : List (List ℕ)) (statement : Statement) (name : List ℕ) → ItemMeans at scope ws (Does statement (Some name))
     → IsName name × (length scope.registers < 16)
 does_said scope at ws (Let line register value) name m =
     new_register scope ws word.Let (Exactly (codes "=") ∷ OperandWord ∷ []) register name (Nothing ∷ expression_values value) refl m.2
@@ -104,7 +104,7 @@ said names at before ws (Decides register) m = tt
 said names at before ws Otherwise m = tt
 said names at before ws Ends m = tt
 
-number_said : (scope : Scope) (low n : ℕ) (rest : List (List ℕ)) (more : List Placed) → placed [] (Common (trace.Number low 1000000) ∷ []) rest ≡ Some more
+number_said : (scope : NameScope) (low n : ℕ) (rest : List (List ℕ)) (more : List Placed) → placed [] (Common (trace.Number low 1000000) ∷ []) rest ≡ Some more
     → WordsMean scope more (Plain (OfNumber n) ∷ []) → low ≤ n
 number_said scope low n [] more e m = let same : more ≡ [] = cc in absurd (subst (λ (t : List Placed). WordsMean scope t (Plain (OfNumber n) ∷ [])) same m)
 number_said scope low n (word ∷ []) more e m =
@@ -114,7 +114,7 @@ number_said scope low n (word ∷ []) more e m =
 number_said scope low n (word ∷ next ∷ rest) more e m = cc
 
 -- a memory has a cell at least
-pub length_said : (scope : Scope) (ws : List (List ℕ)) (name : List ℕ) (length : Option ℕ) → Says scope ws word.Mem (Plain (OfName name) ∷ number_if_there length) → 1 ≤ unwrap_or length 1
+pub length_said : (scope : NameScope) (ws : List (List ℕ)) (name : List ℕ) (length : Option ℕ) → Says scope ws word.Mem (Plain (OfName name) ∷ number_if_there length) → 1 ≤ unwrap_or length 1
 length_said scope ws name None says = omega arith
 length_said scope ws name (Some n) says =
     let first = first_said scope ws word.Mem FreshName [] (Plain (OfName name)) (Plain (OfNumber n) ∷ []) refl says in

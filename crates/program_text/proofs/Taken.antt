@@ -10,7 +10,7 @@ use Rattle.text_words.specs.Text.{words, lines, IsTextLine}
 use Rattle.trace_text.specs.Grammar.{IsHeader}
 use Rattle.text_words.specs.Causes.{IsLowest, cause_number}
 use Rattle.text_words.specs.Values.{Known}
-use Rattle.program_lines.specs.Scopes.{Scope}
+use Rattle.program_lines.specs.Scopes.{NameScope}
 use Rattle.program_text.specs.declared.open_function.Part.{Part}
 use Rattle.program_lines.specs.Grammar.{Item, Blank, Declared, Reduces, Begins, Does, Decides, Otherwise, Ends, ItemMeans}
 use Rattle.program_lines.specs.Faults.{WordsFault}
@@ -26,11 +26,11 @@ use Rattle.program_lines.proofs.LineFaults.{item_clean}
 use Rattle.program_lines.proofs.Crowded.{no_words_fault}
 
 -- the scope that the code makes
-pub scope_is : (scope : Scope) (names : List (List ℕ)) (so_far : Draft) (known : Known) (count : ℕ) (registers : List (List ℕ))
+pub scope_is : (scope : NameScope) (names : List (List ℕ)) (so_far : Draft) (known : Known) (count : ℕ) (registers : List (List ℕ))
     → scope ≡ record { known = known; functions = names; begun = count; registers = registers } → known ≡ so_far.known → count ≡ begun so_far
     → registers ≡ registers_of so_far.current → scope ≡ scope_of names so_far
 scope_is scope names so_far known count registers e f g h =
-    let made : Known → ℕ → List (List ℕ) → Scope = λ k n r. record { known = k; functions = names; begun = n; registers = r } in
+    let made : Known → ℕ → List (List ℕ) → NameScope = λ k n r. record { known = k; functions = names; begun = n; registers = r } in
     e ∙ (ap (λ (k : Known). made k count registers) f ∙ (ap (λ (n : ℕ). made so_far.known n registers) g ∙ ap (made so_far.known (begun so_far)) h))
 
 module _ (names : List (List ℕ)) (at : ℕ) (before : Draft) (line : List ℕ) (text : IsTextLine line) where

@@ -6,7 +6,9 @@ use Rattle.text_words.specs.declared.fault.Cause.{Cause}
 use Rattle.text_words.specs.declared.fault.Cause.TheVariants.{NotText, BadHeader, BadWord, BadNumber, UnknownName, TwiceNamed, BadNesting, NoMain, TooMany}
 use Rattle.text_words.specs.declared.value.Version.{Version}
 use Rattle.text_words.specs.Text.{words, lines, IsTextLine}
-use Rattle.text_words.specs.Limits.{max_cells, max_reducers, max_lines}
+use Rattle.model_accesses.specs.Limits.{most_cells}
+use Rattle.model_reducers.specs.Limits.{most_reducers}
+use Rattle.text_words.specs.Limits.{most_lines}
 use Rattle.text_words.specs.Declarations.{cells_of}
 use Rattle.text_words.specs.Causes.{IsLowest, cause_number}
 use Rattle.text_words.proofs.Decided.{OrNot, both_or_not, number_or_not, most_or_not, below_or_not, text_line_or_not}
@@ -106,8 +108,8 @@ depth_or_not (Some current) = below_or_not (length current.parts) max_nested
 
 room_or_not : (before : Draft) (item : Item) → OrNot (HasRoom before item)
 room_or_not before Blank = inl tt
-room_or_not before (Declared name length) = most_or_not (cells_of before.known.mems + unwrap_or length 1) max_cells
-room_or_not before (Reduces name monoid) = below_or_not (length before.known.reducers) max_reducers
+room_or_not before (Declared name length) = most_or_not (cells_of before.known.mems + unwrap_or length 1) most_cells
+room_or_not before (Reduces name monoid) = below_or_not (length before.known.reducers) most_reducers
 room_or_not before (Begins name parameter) = both_or_not (most_or_not before.lines max_statements) (below_or_not (begun before) max_functions)
 room_or_not before (Does statement named) = most_or_not before.lines max_statements
 room_or_not before (Decides register) = both_or_not (most_or_not before.lines max_statements) (depth_or_not before.current)
@@ -135,19 +137,19 @@ module _ (names : List (List ℕ)) where
   line_told : (at : ℕ) (before : Draft) (line : List ℕ) → IsRoomy before → LineTold at before line
   line_told at before line few = go (text_line_or_not line) (words_told at (scope_of names before) (words line) few)
     where
-      said_so : IsTextLine line → (item : Item) → ItemMeans at (scope_of names before) (words line) item → OrNot (IsInOrder before item) → OrNot (max_lines < at) →
+      said_so : IsTextLine line → (item : Item) → ItemMeans at (scope_of names before) (words line) item → OrNot (IsInOrder before item) → OrNot (most_lines < at) →
           OrNot (HasRoom before item) → LineTold at before line
       said_so text item m (inr fails) late room = inr (BadNesting, lowest_of_room names at before line text item m BadNesting fails)
       said_so text item m (inl order) (inl late) room = inr (TooMany, lowest_of_room names at before line text item m TooMany (order, inl late))
       said_so text item m (inl order) (inr soon) (inr fails) = inr (TooMany, lowest_of_room names at before line text item m TooMany (order, inr fails))
       said_so text item m (inl order) (inr soon) (inl room) = inl (item, (within at soon, text, m, order, room))
         where
-          within : (n : ℕ) → (max_lines < n → ⊥) → n ≤ max_lines
+          within : (n : ℕ) → (most_lines < n → ⊥) → n ≤ most_lines
           within n soon = omega arith
 
       go : OrNot (IsTextLine line) → Told at (scope_of names before) (words line) → LineTold at before line
       go (inr fails) told = inr (NotText, (fails, λ lower l f. none_below_first lower l))
-      go (inl text) (inl (item, m)) = said_so text item m (order_or_not before item) (below_or_not max_lines at) (room_or_not before item)
+      go (inl text) (inl (item, m)) = said_so text item m (order_or_not before item) (below_or_not most_lines at) (room_or_not before item)
       go (inl text) (inr (why, f)) = inr (why, lowest_of_words names at before line text why f)
 
   abbrev LinesTold : ℕ → Draft → List (List ℕ) → Type 0

@@ -5,7 +5,8 @@ use Rattle.text_words.specs.declared.value.Version.{Version}
 use Rattle.text_words.specs.declared.value.Mem.{Mem}
 use Rattle.text_words.specs.declared.value.Reducer.{Reducer}
 use Rattle.text_words.specs.Text.{lines}
-use Rattle.text_words.specs.Limits.{max_cells, max_reducers}
+use Rattle.model_accesses.specs.Limits.{most_cells}
+use Rattle.model_reducers.specs.Limits.{most_reducers}
 use Rattle.text_words.specs.Values.{Known}
 use Rattle.text_words.specs.Declarations.{cells_of}
 use Rattle.trace_text.specs.Shapes.{is_numbered}
@@ -19,8 +20,8 @@ use Rattle.program_text.proofs.Listed.{as_many}
 
 pub record IsWhole (contents : Contents) : Type 0 where
   pub numbered : IsTrue (is_numbered 0 contents.known.mems)
-  pub few_cells : cells_of contents.known.mems ≤ max_cells
-  pub few_reducers : length contents.known.reducers ≤ max_reducers
+  pub few_cells : cells_of contents.known.mems ≤ most_cells
+  pub few_reducers : length contents.known.reducers ≤ most_reducers
   pub few_functions : length contents.functions ≤ max_functions
   pub sound : IsSound (cells_of contents.known.mems) (length contents.known.reducers) contents.functions
 

@@ -4,7 +4,7 @@ use Rattle.text_words.specs.Values.{Known}
 use Rattle.model_bodies.specs.declared.statement.Register.{Register}
 use Rattle.model_bodies.specs.declared.statement.Statement.{Statement}
 use Rattle.model_bodies.specs.declared.statement.Statement.TheVariants.{If, Else, End}
-use Rattle.program_lines.specs.Scopes.{Scope}
+use Rattle.program_lines.specs.Scopes.{NameScope}
 use Rattle.program_text.specs.declared.open_function.Part.{Part}
 use Rattle.model_bodies.specs.Codes.{Code}
 
@@ -48,7 +48,7 @@ registers_of None = []
 registers_of (Some current) = current.registers
 
 -- What a line is read in, where the text has these functions.
-abbrev pub scope_of : List (List ℕ) → Draft → Scope
+abbrev pub scope_of : List (List ℕ) → Draft → NameScope
 scope_of names so_far = record { known = so_far.known; functions = names; begun = begun so_far; registers = registers_of so_far.current }
 
 -- ---- one more line of a function

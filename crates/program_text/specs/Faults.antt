@@ -6,7 +6,7 @@ use Rattle.text_words.specs.declared.fault.TextFault.{TextFault}
 use Rattle.text_words.specs.declared.fault.TextFault.TheVariants.{At, Memory}
 use Rattle.text_words.specs.declared.value.Version.{Version}
 use Rattle.text_words.specs.Text.{lines, words, IsTextLine}
-use Rattle.text_words.specs.Limits.{max_lines}
+use Rattle.text_words.specs.Limits.{most_lines}
 use Rattle.trace_text.specs.Grammar.{IsHeader}
 use Rattle.text_words.specs.Causes.{IsLowest}
 use Rattle.trace_text.specs.Faults.{HeaderFault}
@@ -26,7 +26,7 @@ LineFault names at so_far line NotText = IsTextLine line → ⊥
 LineFault names at so_far line BadNesting =
     (item : Item) × ItemMeans at (scope_of names so_far) (words line) item × (IsInOrder so_far item → ⊥)
 LineFault names at so_far line TooMany =
-    (max_lines < at)
+    (most_lines < at)
     ⊎ ((item : Item) × ItemMeans at (scope_of names so_far) (words line) item × (HasRoom so_far item → ⊥))
     ⊎ WordsFault (scope_of names so_far) (words line) TooMany
 LineFault names at so_far line BadHeader = ⊥
@@ -67,11 +67,11 @@ IsTextFault text Memory = Unit {0}
 
 -- The item fits, and next is what was read with it.
 abbrev pub Extends : ℕ → Draft → Item → Draft → Type 0
-Extends at before item next = (at ≤ max_lines) × IsInOrder before item × HasRoom before item × (next ≡ extended at before item)
+Extends at before item next = (at ≤ most_lines) × IsInOrder before item × HasRoom before item × (next ≡ extended at before item)
 
 abbrev pub IsRoomCause : ℕ → Draft → Item → Cause → Type 0
 IsRoomCause at before item BadNesting = IsInOrder before item → ⊥
-IsRoomCause at before item TooMany = IsInOrder before item × ((max_lines < at) ⊎ (HasRoom before item → ⊥))
+IsRoomCause at before item TooMany = IsInOrder before item × ((most_lines < at) ⊎ (HasRoom before item → ⊥))
 IsRoomCause at before item cause = ⊥
 
 abbrev pub IsRoomFault : ℕ → Draft → Item → TextFault → Type 0

@@ -3,7 +3,9 @@ use Rattle.std.specs.Prelude.{◌≡◌, ◌≢◌, ℕ, ◌+◌, ◌<◌, ◌�
 use Rattle.std.specs.Prelude.{[], ◌∷◌, ◌++◌, length, unwrap_or, option_map, MatchOption}
 use Rattle.text_words.specs.declared.value.Version.{Version}
 use Rattle.text_words.specs.Text.{lines, words, IsTextLine, IsName}
-use Rattle.text_words.specs.Limits.{max_cells, max_reducers, max_lines}
+use Rattle.model_accesses.specs.Limits.{most_cells}
+use Rattle.model_reducers.specs.Limits.{most_reducers}
+use Rattle.text_words.specs.Limits.{most_lines}
 use Rattle.text_words.specs.Names.{IsFresh}
 use Rattle.program_lines.specs.Scopes.{max_registers}
 use Rattle.text_words.specs.Declarations.{cells_of, with_memory, with_reducer}
@@ -44,8 +46,8 @@ HasDepth (Some current) = length current.parts < max_nested
 -- The item passes no limit. The first line that is counted, a `func`, is no statement.
 abbrev pub HasRoom : Draft → Item → Type 0
 HasRoom so_far Blank = Unit {0}
-HasRoom so_far (Declared name length) = cells_of so_far.known.mems + unwrap_or length 1 ≤ max_cells
-HasRoom so_far (Reduces name monoid) = length so_far.known.reducers < max_reducers
+HasRoom so_far (Declared name length) = cells_of so_far.known.mems + unwrap_or length 1 ≤ most_cells
+HasRoom so_far (Reduces name monoid) = length so_far.known.reducers < most_reducers
 HasRoom so_far (Begins name parameter) = (so_far.lines ≤ max_statements) × (begun so_far < max_functions)
 HasRoom so_far (Decides register) = (so_far.lines ≤ max_statements) × HasDepth so_far.current
 HasRoom so_far item = so_far.lines ≤ max_statements
@@ -90,7 +92,7 @@ extended at so_far Ends = ended at so_far so_far.current
 -- The line with the number `at` says this item, behind what was read so far, in a text with these functions.
 abbrev pub LineMeans : List (List ℕ) → ℕ → Draft → List ℕ → Item → Type 0
 LineMeans names at so_far line item =
-    (at ≤ max_lines) × IsTextLine line × ItemMeans at (scope_of names so_far) (words line) item
+    (at ≤ most_lines) × IsTextLine line × ItemMeans at (scope_of names so_far) (words line) item
     × IsInOrder so_far item × HasRoom so_far item
 
 -- ---- texts

@@ -11,7 +11,7 @@ ghost use Rattle.program_text.specs.Faults.{Extends, IsRoomFault, IsLineFault};
 
 use crate::function::Function;
 use crate::open_function::Open;
-use program_lines::{FunctionNames, Item, Register, Scope, Statement, read_line};
+use program_lines::{FunctionNames, Item, NameScope, Register, Statement, read_line};
 use std::alloc::Allocator;
 use std::marker::Model;
 use text_words::{Cause, Mem, Monoid, Name, Names, Reducer, TextFault, Version, Words, as_text};
@@ -289,7 +289,7 @@ impl<'a, A: Allocator + Copy> Draft<'a, A> {
         let Some(text) = as_text(line) else {
             return Err(fault(at, Cause::NotText));
         };
-        let scope = Scope::new(&self.names, names, self.begun(), self.registers());
+        let scope = NameScope::new(&self.names, names, self.begun(), self.registers());
         match read_line(at, &scope, &mut Words::of_line(text)) {
             Ok(item) => self.add(alloc, at, item),
             Err(why) => Err(fault(at, why)),

@@ -2,7 +2,8 @@
 
 ghost use Rattle.std.specs.Prelude.{◌≡◌, ◌<◌, ◌≤◌, ℕ, List, length, IfOk, IsTrue, MatchResult, map};
 ghost use Rattle.trace_text.specs.Shapes.{is_numbered};
-ghost use Rattle.text_words.specs.Limits.{max_cells, max_reducers};
+ghost use Rattle.model_accesses.specs.Limits.{most_cells};
+ghost use Rattle.model_reducers.specs.Limits.{most_reducers};
 ghost use Rattle.text_words.specs.Declarations.{cells_of};
 ghost use Rattle.program_text.specs.Grammar.{TextMeans};
 ghost use Rattle.program_text.specs.Faults.{IsTextFault};
@@ -30,8 +31,8 @@ pub struct Program<A: Allocator> {
     ghost meant: { ∥ ((text : List ℕ)
         × TextMeans text (record { known = record { version = version; mems = mems; reducers = reducers }; functions = functions })) ∥₁ },
     ghost numbered: { IsTrue (is_numbered 0 mems) },
-    ghost few_cells: { cells_of mems ≤ max_cells },
-    ghost few_reducers: { length reducers ≤ max_reducers },
+    ghost few_cells: { cells_of mems ≤ most_cells },
+    ghost few_reducers: { length reducers ≤ most_reducers },
     ghost few_functions: { length functions ≤ max_functions },
     ghost sound: { IsSound (cells_of mems) (length reducers) functions },
     ghost main_is: { IsMain functions main },

@@ -2,7 +2,9 @@
 
 ghost use Rattle.std.specs.Prelude.{◌≡◌, ◌≤◌, ◌+◌, ◌↔◌, true, length, IsTrue, IfOk, IfErr, MatchResult};
 ghost use Rattle.race_gate.specs.Shapes.{shape_of};
-ghost use Rattle.model_histories.specs.Shapes.{most_cells, most_reducers, most_entries};
+ghost use Rattle.model_accesses.specs.Limits.{most_cells};
+ghost use Rattle.model_reducers.specs.Limits.{most_reducers};
+ghost use Rattle.model_histories.specs.Shapes.{most_entries};
 ghost use Rattle.model_races.specs.Memory.{IsMemory};
 ghost use Rattle.model_histories.specs.Extensions.{IsEnd};
 ghost use Rattle.model_histories.specs.States.{State, opening};

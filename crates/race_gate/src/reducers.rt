@@ -22,13 +22,13 @@ use view_read_rule::{ReadPeers, ViewVerdict};
 
 /// The branches of the strands, the first granted read of each reducer, and the strands' views of reducers.
 #[derive(Drop)]
-pub struct Reducers<A: Allocator + Clone> {
+pub struct ReducerTracks<A: Allocator + Clone> {
     branches: Branches<A>,
     reads: ReadPeers<A>,
     views: Views<A>,
 }
 
-impl<A: Allocator + Clone> Model for Reducers<A> {
+impl<A: Allocator + Clone> Model for ReducerTracks<A> {
     ghost use Rattle.race_gate.specs.Books.{Books};
 
     ghost Value = { Books };
@@ -40,24 +40,24 @@ impl<A: Allocator + Clone> Model for Reducers<A> {
 pub fn opening_reducers<A: Allocator + Clone>(
     alloc: &A,
     monoids: &[Monoid],
-) -> Result<Option<Reducers<A>>, AllocError>
+) -> Result<Option<ReducerTracks<A>>, AllocError>
     requires { length monoids.now < 2 ^ 32 }
     ensures { IfOk result (λ reducers. OpensBooks reducers monoids.now) }
 {
     if monoids.is_empty() {
         return Ok(None);
     }
-    Ok(Some(Reducers::new(alloc.clone()?, monoids)?))
+    Ok(Some(ReducerTracks::new(alloc.clone()?, monoids)?))
 }
 
-impl<A: Allocator + Clone> Reducers<A> {
-    /// Reducers that no strand has touched.
-    pub fn new(alloc: A, monoids: &[Monoid]) -> Result<Reducers<A>, AllocError>
+impl<A: Allocator + Clone> ReducerTracks<A> {
+    /// ReducerTracks that no strand has touched.
+    pub fn new(alloc: A, monoids: &[Monoid]) -> Result<ReducerTracks<A>, AllocError>
         requires { length monoids.now < 2 ^ 32 }
         ensures keeps { IfOk result (λ reducers. Keeps reducers [] []) }
         ensures monoids { IfOk result (λ reducers. reducers.views.monoids ≡ monoids.now) }
     {
-        Ok(Reducers {
+        Ok(ReducerTracks {
             branches: Branches::new(alloc.clone()?)?,
             reads: ReadPeers::new(alloc.clone()?, monoids.len() as u32)?,
             views: Views::new(alloc, monoids)?,

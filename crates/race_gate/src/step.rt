@@ -18,7 +18,7 @@ ghost use Rattle.model_races.specs.Memory.{effect};
 ghost use Rattle.model_races.specs.Verdicts.{IfValue};
 ghost use Rattle.race_gate.specs.Steps.{IsControl, FollowsWith, GoesOn, IsJudgedBy, TakesPlace};
 
-use crate::reducers::Reducers;
+use crate::reducers::ReducerTracks;
 use access_table::{access_table, rule};
 use model_histories::{Answer, GateFault};
 use model_races::CellAccess;
@@ -55,7 +55,7 @@ pub fn is_in_range<A: Allocator>(shape: &Shape<A>, act: Act) -> bool
 #[inline(always)]
 pub fn control<A: Allocator + Clone>(
     strands: &mut Strands<A>,
-    reducers: &mut Option<Reducers<A>>,
+    reducers: &mut Option<ReducerTracks<A>>,
     strand: u32,
     act: Act,
 ) -> Result<Answer, GateFault>
@@ -80,7 +80,7 @@ pub fn control<A: Allocator + Clone>(
 /// The same in a program with reducers. Room for their part is made first.
 fn control_with<A: Allocator + Clone>(
     strands: &mut Strands<A>,
-    reducers: &mut Reducers<A>,
+    reducers: &mut ReducerTracks<A>,
     strand: u32,
     act: Act,
 ) -> Result<Answer, GateFault>
@@ -254,7 +254,7 @@ fn perform(memory: &mut [u64], act: Act) -> Answer
 /// refused nothing changes. `number` is that of its entry.
 #[inline(always)]
 pub fn judge_reducer<A: Allocator + Clone>(
-    reducers: &mut Option<Reducers<A>>,
+    reducers: &mut Option<ReducerTracks<A>>,
     number: u32,
     strand: u32,
     act: Act,

@@ -8,7 +8,7 @@ ghost use Rattle.race_gate.specs.Kept.{IsKept, IsReady, OpensTracks, with_entry}
 ghost use Rattle.model_histories.specs.States.{State};
 
 use crate::access::{Sort, sort_of};
-use crate::reducers::{Reducers, opening_reducers};
+use crate::reducers::{ReducerTracks, opening_reducers};
 use crate::step::{control, judge_access, judge_reducer};
 use model_histories::{Answer, GateFault};
 use shadow_history::Shadow;
@@ -24,7 +24,7 @@ pub struct Tracks<A: Allocator + Clone> {
     /// The accesses of each cell that later ones are judged by.
     pub shadow: Shadow<A>,
     /// None where the program has no reducers.
-    pub reducers: Option<Reducers<A>>,
+    pub reducers: Option<ReducerTracks<A>>,
 }
 
 /// The strands before any act of control.

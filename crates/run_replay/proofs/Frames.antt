@@ -16,7 +16,7 @@ use Rattle.race_gate.proofs.Races.{legal-part}
 use Rattle.model_runs.specs.Frames.{IsSplit, HasFrame, frame_of, frame_in, next_frame}
 use Rattle.law_runs.proofs.Strands.{SplitFrames, stays_with, unused_with}
 use Rattle.law_runs.proofs.Histories.{begun_before}
-use Rattle.run_replay.specs.Casts.{begun_by, frames_in, new_seats}
+use Rattle.run_replay.specs.Casts.{begun_by, frames_in, new_places}
 use Rattle.run_replay.proofs.Items.{got_kept, got_behind, got_cases, got_one}
 
 split_begins : (answer : Answer) (frame : ℕ) → IsSplit answer → begun_by answer frame ≡ frame ∷ []
@@ -122,39 +122,39 @@ frame_kept shape entry entries legal strand below =
 -- Where strands stand after a split
 
 pub new_count : (h : History) (s c n j : ℕ) (first : Bool) (child spawner : ℕ) →
-    unused (split s c n j first ∷ h) ≡ unused h + length (new_seats first child spawner)
+    unused (split s c n j first ∷ h) ≡ unused h + length (new_places first child spawner)
 new_count h s c n j true child spawner = omega arith
 new_count h s c n j false child spawner = omega arith
 
 module _ (h : History) (s c n j : ℕ) where
   -- the place is that of the child, whose frame is new, or of the spawner
-  pub new_seat : (first : Bool) → SplitFrames h s c n j first → (child spawner behind place : ℕ) → slice_get (new_seats first child spawner) behind ≡ Some place →
+  pub new_place : (first : Bool) → SplitFrames h s c n j first → (child spawner behind place : ℕ) → slice_get (new_places first child spawner) behind ≡ Some place →
       ((place ≡ child) × (frame_of (stack (split s c n j first ∷ h) (unused h + behind)) ≡ suc (length h))) ⊎
       ((place ≡ spawner) × (frame_of (stack (split s c n j first ∷ h) (unused h + behind)) ≡ frame_of (stack h s)))
-  new_seat true f child spawner zero place e =
+  new_place true f child spawner zero place e =
       let is = f.child_is in
       let at : unused h + 0 ≡ c = omega arith in
       let same : child ≡ place = cc in
       inl (sym same, ap (λ x. frame_of (stack (split s c n j true ∷ h) x)) at ∙ f.child)
-  new_seat true f child spawner (suc zero) place e =
+  new_place true f child spawner (suc zero) place e =
       let is = f.next_is in
       let at : unused h + 1 ≡ n = omega arith in
       let same : spawner ≡ place = cc in
       inr (sym same, ap (λ x. frame_of (stack (split s c n j true ∷ h) x)) at ∙ f.next)
-  new_seat true f child spawner (suc (suc zero)) place e =
+  new_place true f child spawner (suc (suc zero)) place e =
       let is = (f.join refl).0 in
       let at : unused h + 2 ≡ j = omega arith in
       let same : spawner ≡ place = cc in
       inr (sym same, ap (λ x. frame_of (stack (split s c n j true ∷ h) x)) at ∙ (f.join refl).1)
-  new_seat true f child spawner (suc (suc (suc behind))) place e = absurd (cc)
-  new_seat false f child spawner zero place e =
+  new_place true f child spawner (suc (suc (suc behind))) place e = absurd (cc)
+  new_place false f child spawner zero place e =
       let is = f.child_is in
       let at : unused h + 0 ≡ c = omega arith in
       let same : child ≡ place = cc in
       inl (sym same, ap (λ x. frame_of (stack (split s c n j false ∷ h) x)) at ∙ f.child)
-  new_seat false f child spawner (suc zero) place e =
+  new_place false f child spawner (suc zero) place e =
       let is = f.next_is in
       let at : unused h + 1 ≡ n = omega arith in
       let same : spawner ≡ place = cc in
       inr (sym same, ap (λ x. frame_of (stack (split s c n j false ∷ h) x)) at ∙ f.next)
-  new_seat false f child spawner (suc (suc behind)) place e = absurd (cc)
+  new_place false f child spawner (suc (suc behind)) place e = absurd (cc)

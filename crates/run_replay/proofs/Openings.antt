@@ -18,7 +18,7 @@ use Rattle.run_replay.specs.Casts.{Opens, IsCast, Plays, IsMisfit}
 use Rattle.frame_steps.proofs.Histories.{after_part}
 use Rattle.run_replay.proofs.Items.{got_one}
 use Rattle.run_replay.proofs.Determined.{refused_or_not}
-use Rattle.run_replay.proofs.Plays.{misfit_turn, misfit_seat}
+use Rattle.run_replay.proofs.Plays.{misfit_turn, misfit_place}
 
 -- nothing has been said
 module _ (functions : List Code) (shape : Shape) (main : ℕ) where
@@ -37,19 +37,19 @@ module _ (functions : List Code) (shape : Shape) (main : ℕ) where
     counted = refl;
     each = λ place number one at is. subst (λ f. Stands functions f × IsAfter functions main 0 [] f) (got_one frame one place is).1 (stands, begun);
     strands = refl;
-    seated = λ strand place is. ap (slice_get (0 ∷ [])) (sym (got_one 0 place strand is).1);
+    placed = λ strand place is. ap (slice_get (0 ∷ [])) (sym (got_one 0 place strand is).1);
   }
     where
       same : (others : Targets) → IsRunWith functions shape main others [] → (number : ℕ) → HasFrame [] number → others number ≡ record { function = main; argument = 0 }
       same others run number (inl e) = ap others e ∙ run.root
       same others run number (inr none) = elim none [ ]
 
-pub opens_plays : (functions : List Code) (shape : Shape) (gate : GateState) (frames : List State) (seats : List ℕ) → Opens functions shape gate frames seats →
-    Plays functions shape gate frames seats
-opens_plays functions shape gate frames seats o =
-    subst (λ g. Plays functions shape g frames seats) (sym o.gate_is)
-    (subst (λ f. Plays functions shape (opening shape most_entries) f seats) (sym o.frames_are)
-    (subst (λ s. Plays functions shape (opening shape most_entries) (o.frame ∷ []) s) (sym o.seats_are) (record {
+pub opens_plays : (functions : List Code) (shape : Shape) (gate : GateState) (frames : List State) (places : List ℕ) → Opens functions shape gate frames places →
+    Plays functions shape gate frames places
+opens_plays functions shape gate frames places o =
+    subst (λ g. Plays functions shape g frames places) (sym o.gate_is)
+    (subst (λ f. Plays functions shape (opening shape most_entries) f places) (sym o.frames_are)
+    (subst (λ s. Plays functions shape (opening shape most_entries) (o.frame ∷ []) s) (sym o.places_are) (record {
       shape_is = refl;
       limit_is = refl;
       going = refl;
@@ -60,7 +60,7 @@ opens_plays functions shape gate frames seats o =
       cast = first_cast functions shape o.main o.frame o.stands o.begun;
     })))
 
-module _ (functions : List Code) (shape : Shape) (gate : GateState) (frames : List State) (seats : List ℕ) (plays : Plays functions shape gate frames seats) where
+module _ (functions : List Code) (shape : Shape) (gate : GateState) (frames : List State) (places : List ℕ) (plays : Plays functions shape gate frames places) where
   -- the entries so far are a run
   pub plays_run : IsRun functions shape gate.history
   plays_run = record { main = plays.main; is_main = plays.is_main; targets = plays.targets; run = plays.cast.run }
@@ -69,9 +69,9 @@ module _ (functions : List Code) (shape : Shape) (gate : GateState) (frames : Li
     pub judged_so : (after : GateState) → IsEntered entry gate after → IsJudged shape (entry ∷ gate.history)
     judged_so after e = subst (λ s. IsJudged s (entry ∷ gate.history)) (e.shape ∙ plays.shape_is) (subst (IsJudged after.shape) e.history e.judged)
 
-    pub plays_on : (after : GateState) → IsEntered entry gate after → (targets : Targets) (frames2 : List State) (seats2 : List ℕ) →
-        IsCast functions shape plays.main targets (entry ∷ gate.history) frames2 seats2 → Plays functions shape after frames2 seats2
-    plays_on after e targets frames2 seats2 cast = record {
+    pub plays_on : (after : GateState) → IsEntered entry gate after → (targets : Targets) (frames2 : List State) (places2 : List ℕ) →
+        IsCast functions shape plays.main targets (entry ∷ gate.history) frames2 places2 → Plays functions shape after frames2 places2
+    plays_on after e targets frames2 places2 cast = record {
       shape_is = e.shape ∙ plays.shape_is;
       limit_is = e.limit ∙ plays.limit_is;
       going = e.stopped ∙ plays.going;
@@ -79,7 +79,7 @@ module _ (functions : List Code) (shape : Shape) (gate : GateState) (frames : Li
       main = plays.main;
       is_main = plays.is_main;
       targets = targets;
-      cast = subst (λ h. IsCast functions shape plays.main targets h frames2 seats2) (sym e.history) cast;
+      cast = subst (λ h. IsCast functions shape plays.main targets h frames2 places2) (sym e.history) cast;
     }
 
     pub odd_misfit : IsOdd entry gate → IsMisfit functions shape entry gate
@@ -89,13 +89,13 @@ module _ (functions : List Code) (shape : Shape) (gate : GateState) (frames : Li
           | inr refused ↦ inr refused
         ]
 
-    pub turn_misfit : (place : ℕ) (frame : State) → slice_get seats entry.request.strand ≡ Some place → slice_get frames place ≡ Some frame →
+    pub turn_misfit : (place : ℕ) (frame : State) → slice_get places entry.request.strand ≡ Some place → slice_get frames place ≡ Some frame →
         HasNoTurn functions entry frame → IsMisfit functions shape entry gate
-    turn_misfit place frame seat got none run =
-        absurd (misfit_turn functions shape plays.main plays.is_main plays.targets gate.history frames seats plays.cast entry place frame seat got none run)
+    turn_misfit place frame its_place got none run =
+        absurd (misfit_turn functions shape plays.main plays.is_main plays.targets gate.history frames places plays.cast entry place frame its_place got none run)
 
-    pub seat_misfit : slice_get seats entry.request.strand ≡ None → IsMisfit functions shape entry gate
-    seat_misfit none run = absurd (misfit_seat functions shape plays.main plays.is_main plays.targets gate.history frames seats plays.cast entry none run)
+    pub place_misfit : slice_get places entry.request.strand ≡ None → IsMisfit functions shape entry gate
+    place_misfit none run = absurd (misfit_place functions shape plays.main plays.is_main plays.targets gate.history frames places plays.cast entry none run)
 
 -- one of the three causes
 pub told : (functions : List Code) (shape : Shape) (entry : Entry) (entries : Entries) (number : ℕ) → number ≡ suc (length entries) →

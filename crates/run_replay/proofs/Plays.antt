@@ -31,9 +31,9 @@ use Rattle.model_runs.specs.Runs.{IsRun, IsRunWith}
 use Rattle.law_runs.proofs.Strands.{SplitFrames, split_frames}
 use Rattle.law_runs.proofs.Histories.{said_here, said_elsewhere, said_before, said_same, frame_before, begun_before, split_spawns, run_shorter}
 use Rattle.run_replay.specs.Turns.{asks, target_or, IsTurn, HasNoTurn}
-use Rattle.run_replay.specs.Casts.{begun_by, frames_in, new_seats, IsBegun, IsCast}
+use Rattle.run_replay.specs.Casts.{begun_by, frames_in, new_places, IsBegun, IsCast}
 use Rattle.run_replay.proofs.Items.{got_kept, got_behind, got_cases, got_one, got_set, set_length, append_length}
-use Rattle.run_replay.proofs.Frames.{place_of_frame, frame_at_place, one_place, not_split, same_unused, frame_kept, new_count, new_seat}
+use Rattle.run_replay.proofs.Frames.{place_of_frame, frame_at_place, one_place, not_split, same_unused, frame_kept, new_count, new_place}
 
 -- where there is room there is an item
 pub item_below : {A : Type 0} (xs : List A) (place : ℕ) → place < length xs → (x : A) × (slice_get xs place ≡ Some x)
@@ -46,18 +46,18 @@ item_below xs place below =
 same_some : {A : Type 0} (x y : A) → Some x ≡ Some y → x ≡ y
 same_some x y e = cc
 
-module _ (functions : List Code) (shape : Shape) (main : ℕ) (is_main : IsMain functions main) (targets : Targets) (entries : Entries) (frames : List State) (seats : List ℕ)
-    (cast : IsCast functions shape main targets entries frames seats) (entry : Entry) where
+module _ (functions : List Code) (shape : Shape) (main : ℕ) (is_main : IsMain functions main) (targets : Targets) (entries : Entries) (frames : List State) (places : List ℕ)
+    (cast : IsCast functions shape main targets entries frames places) (entry : Entry) where
   here : ℕ
   here = frame_in entries entry.request.strand
 
   -- what a run with the entry says next
-  follow : (place : ℕ) → slice_get seats entry.request.strand ≡ Some place → (others : Targets) → IsRunWith functions shape main others (entry ∷ entries) →
+  follow : (place : ℕ) → slice_get places entry.request.strand ≡ Some place → (others : Targets) → IsRunWith functions shape main others (entry ∷ entries) →
       CanFollow functions (targets (frame_in entries entry.request.strand)).function (targets (frame_in entries entry.request.strand)).argument
       (said_by targets entries (frame_in entries entry.request.strand)) (exchange_of others (next_frame entries) entry)
-  follow place seat others run =
+  follow place its_place others run =
       let n = frame_in entries entry.request.strand in
-      let has : HasFrame entries n = frame_at_place entries place n (cast.seated entry.request.strand place seat) in
+      let has : HasFrame entries n = frame_at_place entries place n (cast.placed entry.request.strand place its_place) in
       let agree = cast.only others (run_shorter functions shape main others entry entries run) in
       let x = exchange_of others (next_frame entries) entry in
       let said : said_by others (entry ∷ entries) n ≡ said_by targets entries n ++ x ∷ [] =
@@ -73,28 +73,28 @@ module _ (functions : List Code) (shape : Shape) (main : ℕ) (is_main : IsMain 
   same_main run = subst (λ m. IsRunWith functions shape m run.targets (entry ∷ entries)) (same_some run.main main (sym run.is_main ∙ is_main)) run.run
 
   -- where the frame has no such turn there is no run
-  pub misfit_turn : (place : ℕ) (frame : State) → slice_get seats entry.request.strand ≡ Some place → slice_get frames place ≡ Some frame →
+  pub misfit_turn : (place : ℕ) (frame : State) → slice_get places entry.request.strand ≡ Some place → slice_get frames place ≡ Some frame →
       HasNoTurn functions entry frame → IsRun functions shape (entry ∷ entries) → ⊥
-  misfit_turn place frame seat got none run =
+  misfit_turn place frame its_place got none run =
       let n = frame_in entries entry.request.strand in
-      none _ _ _ _ (cast.each place n frame (cast.seated entry.request.strand place seat) got).1 (follow place seat run.targets (same_main run))
+      none _ _ _ _ (cast.each place n frame (cast.placed entry.request.strand place its_place) got).1 (follow place its_place run.targets (same_main run))
 
-  -- nor where the strand has no seat
-  pub misfit_seat : slice_get seats entry.request.strand ≡ None → IsRun functions shape (entry ∷ entries) → ⊥
-  misfit_seat none run =
+  -- nor where the strand has no its_place
+  pub misfit_place : slice_get places entry.request.strand ≡ None → IsRun functions shape (entry ∷ entries) → ⊥
+  misfit_place none run =
       let known = strand-known (legal-part shape entries cast.run.judged.legal) entry.request.strand run.run.judged.legal.1.runs in
       let count = cast.strands in
-      let item = item_below seats entry.request.strand (omega arith) in
+      let item = item_below places entry.request.strand (omega arith) in
       let clash : None ≡ Some item.0 = sym none ∙ item.1 in
       cc
 
-  pub seat_there : (place : ℕ) → slice_get seats entry.request.strand ≡ Some place → place < length frames
-  seat_there place seat =
-      let within = slice_get_within (frames_in entries) place _ (cast.seated entry.request.strand place seat) in
+  pub its_place_there : (place : ℕ) → slice_get places entry.request.strand ≡ Some place → place < length frames
+  its_place_there place its_place =
+      let within = slice_get_within (frames_in entries) place _ (cast.placed entry.request.strand place its_place) in
       let count = cast.counted in
       omega arith
 
-  module _ (place : ℕ) (before after : State) (target : Option Target) (judged : IsJudged shape (entry ∷ entries)) (seat : slice_get seats entry.request.strand ≡ Some place)
+  module _ (place : ℕ) (before after : State) (target : Option Target) (judged : IsJudged shape (entry ∷ entries)) (its_place : slice_get places entry.request.strand ≡ Some place)
       (got : slice_get frames place ≡ Some before) (turn : IsTurn functions entry target before after) where
     next : ℕ
     next = next_frame entries
@@ -133,8 +133,8 @@ module _ (functions : List Code) (shape : Shape) (main : ℕ) (is_main : IsMain 
         elim (got_set frames place after k frame is) [
           | inl s ↦ (
               let n = frame_in entries entry.request.strand in
-              let same : number ≡ n = same_some number n (sym at ∙ ap (slice_get (frames_in entries)) s.0 ∙ cast.seated entry.request.strand place seat) in
-              let old = (cast.each place n before (cast.seated entry.request.strand place seat) got).1 in
+              let same : number ≡ n = same_some number n (sym at ∙ ap (slice_get (frames_in entries)) s.0 ∙ cast.placed entry.request.strand place its_place) in
+              let old = (cast.each place n before (cast.placed entry.request.strand place its_place) got).1 in
               let said : said_by grown (entry ∷ entries) number ≡ said_by targets entries number ++ asks entry target ∷ [] =
               said_here grown entry entries number (sym same) ∙ ap (λ l. l ++ exchange_of grown (next_frame entries) entry ∷ []) (said_old number) ∙
               ap (λ x. said_by targets entries number ++ x ∷ []) exchange_is in
@@ -144,7 +144,7 @@ module _ (functions : List Code) (shape : Shape) (main : ℕ) (is_main : IsMain 
               )
           | inr o ↦ (
               let n = frame_in entries entry.request.strand in
-              let other : n ≢ number = λ e. o.0 (one_place shape entries cast.run.judged.legal k place number at (cast.seated entry.request.strand place seat ∙ ap Some e)) in
+              let other : n ≢ number = λ e. o.0 (one_place shape entries cast.run.judged.legal k place number at (cast.placed entry.request.strand place its_place ∙ ap Some e)) in
               let old = cast.each k number frame at o.1 in
               (old.0, moved number frame (said_by targets entries number) (frame_at_place entries k number at) (said_elsewhere grown entry entries number other ∙ said_old number) old.1)
               )
@@ -158,19 +158,19 @@ module _ (functions : List Code) (shape : Shape) (main : ℕ) (is_main : IsMain 
     only_grown others run frame (inl e) = ap others e ∙ run.root ∙ sym root_is ∙ ap grown (sym e)
     only_grown others run frame (inr (inl s)) =
         let n = frame_in entries entry.request.strand in
-        let old = (cast.each place n before (cast.seated entry.request.strand place seat) got).1 in
-        let spawned : target_of entry.request.act (others (next_frame entries)) ≡ target = turn.only _ _ _ (exchange_of others (next_frame entries) entry) old (follow place seat others run) in
+        let old = (cast.each place n before (cast.placed entry.request.strand place its_place) got).1 in
+        let spawned : target_of entry.request.act (others (next_frame entries)) ≡ target = turn.only _ _ _ (exchange_of others (next_frame entries) entry) old (follow place its_place others run) in
         let act = split_spawns entry.request.act entry.answer judged.legal.1.belongs s.1 in
         let some : Some (others (next_frame entries)) ≡ target = ap (λ a. target_of a (others (next_frame entries))) (sym act) ∙ spawned in
         ap others s.0 ∙ ap (λ o. target_or o (targets (next_frame entries))) some ∙ sym at_next ∙ ap grown (sym s.0)
     only_grown others run frame (inr (inr has)) =
         cast.only others (run_shorter functions shape main others entry entries run) frame (inr has) ∙ sym (at_old frame (inr has))
 
-    module _ (frames2 : List State) (seats2 : List ℕ) (counted : length frames2 ≡ length (frames_in (entry ∷ entries)))
+    module _ (frames2 : List State) (places2 : List ℕ) (counted : length frames2 ≡ length (frames_in (entry ∷ entries)))
         (each : (k number : ℕ) (frame : State) → slice_get (frames_in (entry ∷ entries)) k ≡ Some number → slice_get frames2 k ≡ Some frame →
         Stands functions frame × IsAfter functions (grown number).function (grown number).argument (said_by grown (entry ∷ entries) number) frame)
-        (strands : length seats2 ≡ unused (control_part (entry ∷ entries)))
-        (seated : (strand k : ℕ) → slice_get seats2 strand ≡ Some k → slice_get (frames_in (entry ∷ entries)) k ≡ Some (frame_in (entry ∷ entries) strand)) where
+        (strands : length places2 ≡ unused (control_part (entry ∷ entries)))
+        (placed : (strand k : ℕ) → slice_get places2 strand ≡ Some k → slice_get (frames_in (entry ∷ entries)) k ≡ Some (frame_in (entry ∷ entries) strand)) where
       says : (number : ℕ) → HasFrame (entry ∷ entries) number → DialogueOf functions (grown number).function (grown number).argument Part (said_by grown (entry ∷ entries) number)
       says number has =
           let p = place_of_frame (entry ∷ entries) number has in
@@ -178,36 +178,36 @@ module _ (functions : List Code) (shape : Shape) (main : ℕ) (is_main : IsMain 
           let item = item_below frames2 p.0 (omega arith) in
           after_part functions item.0 _ _ _ (each p.0 number item.0 p.1 item.1).1
 
-      built : IsCast functions shape main grown (entry ∷ entries) frames2 seats2
+      built : IsCast functions shape main grown (entry ∷ entries) frames2 places2
       built = record {
         run = record { judged = judged; root = root_is; says = says };
         only = only_grown;
         counted = counted;
         each = each;
         strands = strands;
-        seated = seated;
+        placed = placed;
       }
 
-    -- a strand that had a seat keeps it
-    seat_kept : (strand k : ℕ) → slice_get seats strand ≡ Some k → slice_get (frames_in (entry ∷ entries)) k ≡ Some (frame_in (entry ∷ entries) strand)
-    seat_kept strand k is =
-        let within = slice_get_within seats strand k is in
+    -- a strand that had a its_place keeps it
+    place_kept : (strand k : ℕ) → slice_get places strand ≡ Some k → slice_get (frames_in (entry ∷ entries)) k ≡ Some (frame_in (entry ∷ entries) strand)
+    place_kept strand k is =
+        let within = slice_get_within places strand k is in
         let count = cast.strands in
         got_kept (frames_in entries) (begun_by entry.answer (next_frame entries)) k (frame_in (entry ∷ entries) strand)
-        (cast.seated strand k is ∙ ap Some (sym (frame_kept shape entry entries judged.legal strand (omega arith))))
+        (cast.placed strand k is ∙ ap Some (sym (frame_kept shape entry entries judged.legal strand (omega arith))))
 
     -- the entry is no split
-    pub went_on : (IsSplit entry.answer → ⊥) → IsCast functions shape main grown (entry ∷ entries) (set frames place after) seats
+    pub went_on : (IsSplit entry.answer → ⊥) → IsCast functions shape main grown (entry ∷ entries) (set frames place after) places
     went_on calm =
         let same : frames_in (entry ∷ entries) ≡ frames_in entries =
         ap (λ l. frames_in entries ++ l) (not_split entry.answer calm (next_frame entries)) ∙ append-nil (frames_in entries) in
-        built (set frames place after) seats (set_length frames place after ∙ cast.counted ∙ ap length (sym same))
-        (λ k number frame at is. each_old k number frame (ap (λ l. slice_get l k) (sym same) ∙ at) is) (cast.strands ∙ sym (same_unused entry entries calm)) seat_kept
+        built (set frames place after) places (set_length frames place after ∙ cast.counted ∙ ap length (sym same))
+        (λ k number frame at is. each_old k number frame (ap (λ l. slice_get l k) (sym same) ∙ at) is) (cast.strands ∙ sym (same_unused entry entries calm)) place_kept
 
     -- the entry is a split
     module _ (strands : Spawned) (is : entry.answer ≡ Split strands) (one : Target) (some : target ≡ Some one) (frames2 : List State)
-        (begun : IsBegun functions one (set frames place after) frames2) (seats2 : List ℕ)
-        (sat : seats2 ≡ seats ++ new_seats strands.first (length (set frames place after)) place) where
+        (begun : IsBegun functions one (set frames place after) frames2) (places2 : List ℕ)
+        (sat : places2 ≡ places ++ new_places strands.first (length (set frames place after)) place) where
       abbrev event : Event
       event = split entry.request.strand strands.child strands.next strands.join strands.first
 
@@ -215,7 +215,7 @@ module _ (functions : List Code) (shape : Shape) (main : ℕ) (is_main : IsMain 
       kept = set frames place after
 
       abbrev news : List ℕ
-      news = new_seats strands.first (length (set frames place after)) place
+      news = new_places strands.first (length (set frames place after)) place
 
       act_is : entry.request.act ≡ Act.Spawn
       act_is = split_spawns entry.request.act entry.answer judged.legal.1.belongs (subst IsSplit (sym is) tt)
@@ -285,31 +285,31 @@ module _ (functions : List Code) (shape : Shape) (main : ℕ) (is_main : IsMain 
           by (inr p) (inr q) =
               subst (λ n. Fits n frame) (got_one (next_frame entries) number p.0 p.2).1 (subst (Fits (next_frame entries)) (got_one begun.frame frame q.0 q.2).1 fresh)
 
-      strands2 : length seats2 ≡ unused (control_part (entry ∷ entries))
+      strands2 : length places2 ≡ unused (control_part (entry ∷ entries))
       strands2 =
           let count = new_count (control_part entries) entry.request.strand strands.child strands.next strands.join strands.first (length (set frames place after)) place in
-          ap length sat ∙ append_length seats news ∙ ap (λ n. n + length news) cast.strands ∙ sym count ∙ ap unused (sym part_is)
+          ap length sat ∙ append_length places news ∙ ap (λ n. n + length news) cast.strands ∙ sym count ∙ ap unused (sym part_is)
 
-      stands_at : (strand behind frame : ℕ) → strand ≡ length seats + behind →
+      stands_at : (strand behind frame : ℕ) → strand ≡ length places + behind →
           frame_of (stack (event ∷ control_part entries) (unused (control_part entries) + behind)) ≡ frame → frame_in (entry ∷ entries) strand ≡ frame
       stands_at strand behind frame e f =
           ap (λ l. frame_of (stack l strand)) part_is ∙ ap (λ x. frame_of (stack (event ∷ control_part entries) x)) (e ∙ ap (λ n. n + behind) cast.strands) ∙ f
 
-      seated2 : (strand k : ℕ) → slice_get seats2 strand ≡ Some k → slice_get (frames_in (entry ∷ entries)) k ≡ Some (frame_in (entry ∷ entries) strand)
-      seated2 strand k got2 =
-          elim (got_cases seats news strand k (ap (λ l. slice_get l strand) (sym sat) ∙ got2)) [
-            | inl old ↦ seat_kept strand k old
-            | inr new ↦ elim (new_seat (control_part entries) entry.request.strand strands.child strands.next strands.join strands.first facts (length (set frames place after)) place new.0 k new.2) [
+      placed2 : (strand k : ℕ) → slice_get places2 strand ≡ Some k → slice_get (frames_in (entry ∷ entries)) k ≡ Some (frame_in (entry ∷ entries) strand)
+      placed2 strand k got2 =
+          elim (got_cases places news strand k (ap (λ l. slice_get l strand) (sym sat) ∙ got2)) [
+            | inl old ↦ place_kept strand k old
+            | inr new ↦ elim (new_place (control_part entries) entry.request.strand strands.child strands.next strands.join strands.first facts (length (set frames place after)) place new.0 k new.2) [
               | inl child ↦ ap (slice_get (frames_in (entry ∷ entries))) (child.0 ∙ as_many) ∙ ap (λ l. slice_get l (length (frames_in entries))) frames_are ∙
                   got_behind (frames_in entries) (next_frame entries) [] ∙ ap Some (sym (stands_at strand new.0 (next_frame entries) new.1 child.1))
               | inr spawner ↦ ap (slice_get (frames_in (entry ∷ entries))) spawner.0 ∙
-                  got_kept (frames_in entries) (begun_by entry.answer (next_frame entries)) place (frame_in entries entry.request.strand) (cast.seated entry.request.strand place seat) ∙
+                  got_kept (frames_in entries) (begun_by entry.answer (next_frame entries)) place (frame_in entries entry.request.strand) (cast.placed entry.request.strand place its_place) ∙
                   ap Some (sym (stands_at strand new.0 (frame_in entries entry.request.strand) new.1 spawner.1))
             ]
           ]
 
-      pub split_on : IsCast functions shape main grown (entry ∷ entries) frames2 seats2
-      split_on = built frames2 seats2 counted2 each2 strands2 seated2
+      pub split_on : IsCast functions shape main grown (entry ∷ entries) frames2 places2
+      split_on = built frames2 places2 counted2 each2 strands2 placed2
 
     -- a split has a target
     pub split_target : (strands : Spawned) → entry.answer ≡ Split strands → target ≡ None → ⊥

@@ -37,7 +37,7 @@ more_played entries index other old new below played before =
     played ∙ ap (λ l. get_or entries index other ∷ l) before ∙
     sym (ap reverse (take_more entries index other below) ∙ reverse-append (take index entries) (get_or entries index other ∷ []))
 
-module _ (functions : List Code) (shape : Shape) (gate : GateState) (frames : List State) (seats : List ℕ) (plays : Plays functions shape gate frames seats)
+module _ (functions : List Code) (shape : Shape) (gate : GateState) (frames : List State) (places : List ℕ) (plays : Plays functions shape gate frames places)
     (entries : List Entry) (index : ℕ) (history : gate.history ≡ reverse (take index entries)) where
   strange_there : (entry : Entry) (number : ℕ) → index < length entries → entry ≡ get_or entries index entry → number ≡ suc (length gate.history) →
       IsMisfit functions shape entry gate → IsStrange functions shape entries number
@@ -47,7 +47,7 @@ module _ (functions : List Code) (shape : Shape) (gate : GateState) (frames : Li
     later = drop (index + 1) entries;
     all = parted entries index entry below is;
     place = place ∙ ap suc (ap length history ∙ length-reverse (take index entries));
-    before = subst (IsRun functions shape) history (plays_run functions shape gate frames seats plays);
+    before = subst (IsRun functions shape) history (plays_run functions shape gate frames places plays);
     strange = told functions shape entry (reverse (take index entries)) number (place ∙ ap (λ l. suc (length l)) history)
         (subst (λ (l : Entries). IsRun functions shape (entry ∷ l) → (length l ≡ most_entries) ⊎ IsRefused entry.answer) history misfit);
   }
@@ -60,7 +60,7 @@ module _ (functions : List Code) (shape : Shape) (gate : GateState) (frames : Li
   all_played e = history ∙ ap (λ n. reverse (take n entries)) e ∙ ap reverse (take-length entries)
 
   run_of_all : index ≡ length entries → IsRun functions shape (reverse entries)
-  run_of_all e = subst (IsRun functions shape) (all_played e) (plays_run functions shape gate frames seats plays)
+  run_of_all e = subst (IsRun functions shape) (all_played e) (plays_run functions shape gate frames places plays)
 
   pub finished_all : index ≡ length entries → IsFinished gate.history → IsFinishedRun functions shape (reverse entries)
   finished_all e f = (run_of_all e, subst IsFinished (all_played e) f)

@@ -27,9 +27,9 @@ frames_in [] = 0 ∷ []
 frames_in (entry ∷ entries) = frames_in entries ++ begun_by entry.answer (next_frame entries)
 
 -- where the strands of a split stand: the child in its own frame, the others in the spawner's
-abbrev pub new_seats : (first : Bool) → (child spawner : ℕ) → List ℕ
-new_seats true child spawner = child ∷ spawner ∷ spawner ∷ []
-new_seats false child spawner = child ∷ spawner ∷ []
+abbrev pub new_places : (first : Bool) → (child spawner : ℕ) → List ℕ
+new_places true child spawner = child ∷ spawner ∷ spawner ∷ []
+new_places false child spawner = child ∷ spawner ∷ []
 
 -- one more frame, of a function that begins
 pub record IsBegun (functions : List Code) (target : Target) (before after : List State) : Type 0 where
@@ -39,7 +39,7 @@ pub record IsBegun (functions : List Code) (target : Target) (before after : Lis
   pub pushed : after ≡ before ++ frame ∷ []
 
 -- the function of `main` alone has begun, before a gate without entries
-pub record Opens (functions : List Code) (shape : Shape) (gate : GateState) (frames : List State) (seats : List ℕ) : Type 0 where
+pub record Opens (functions : List Code) (shape : Shape) (gate : GateState) (frames : List State) (places : List ℕ) : Type 0 where
   pub main : ℕ
   pub is_main : IsMain functions main
   pub gate_is : gate ≡ opening shape most_entries
@@ -47,23 +47,23 @@ pub record Opens (functions : List Code) (shape : Shape) (gate : GateState) (fra
   pub stands : Stands functions frame
   pub begun : IsAfter functions main 0 [] frame
   pub frames_are : frames ≡ frame ∷ []
-  pub seats_are : seats ≡ 0 ∷ []
+  pub places_are : places ≡ 0 ∷ []
 
 -- The frames are those of the entries, each after what it said with these targets, and no run of these entries has other targets.
 pub record IsCast (functions : List Code) (shape : Shape) (main : ℕ) (targets : Targets)
-    (entries : Entries) (frames : List State) (seats : List ℕ) : Type 0 where
+    (entries : Entries) (frames : List State) (places : List ℕ) : Type 0 where
   pub run : IsRunWith functions shape main targets entries
   pub only : (others : Targets) → IsRunWith functions shape main others entries → (frame : ℕ) → HasFrame entries frame →
       others frame ≡ targets frame
   pub counted : length frames ≡ length (frames_in entries)
   pub each : (place number : ℕ) (frame : State) → slice_get (frames_in entries) place ≡ Some number → slice_get frames place ≡ Some frame →
       Stands functions frame × IsAfter functions (targets number).function (targets number).argument (said_by targets entries number) frame
-  pub strands : length seats ≡ unused (control_part entries)
-  pub seated : (strand place : ℕ) → slice_get seats strand ≡ Some place →
+  pub strands : length places ≡ unused (control_part entries)
+  pub placed : (strand place : ℕ) → slice_get places strand ≡ Some place →
       slice_get (frames_in entries) place ≡ Some (frame_in entries strand)
 
 -- So it is for some targets, and the gate has these entries.
-pub record Plays (functions : List Code) (shape : Shape) (gate : GateState) (frames : List State) (seats : List ℕ) : Type 0 where
+pub record Plays (functions : List Code) (shape : Shape) (gate : GateState) (frames : List State) (places : List ℕ) : Type 0 where
   pub shape_is : gate.shape ≡ shape
   pub limit_is : gate.limit ≡ most_entries
   pub going : gate.stopped ≡ false
@@ -71,7 +71,7 @@ pub record Plays (functions : List Code) (shape : Shape) (gate : GateState) (fra
   pub main : ℕ
   pub is_main : IsMain functions main
   pub targets : Targets
-  pub cast : IsCast functions shape main targets gate.history frames seats
+  pub cast : IsCast functions shape main targets gate.history frames places
 
 -- the gate has one more entry
 abbrev pub IsPlayed : Entry → GateState → GateState → Type 0

@@ -22,11 +22,11 @@ pub record AreHeld {A : Type 0} (slots : List (Slot A)) (homes : List ℕ) (fram
       slice_get homes number ≡ Some home → slice_get frames number ≡ Some frame → IsHome slots home number frame
 
 -- Frames with these homes open.
-abbrev pub OpensIn : {A : Type 0} → List Code → Shape → GateState → List (Slot A) → (homes seats : List ℕ) → Type 0
-OpensIn functions shape gate slots homes seats =
-    (frames : List State) × AreHeld slots homes frames × Opens functions shape gate frames seats
+abbrev pub OpensIn : {A : Type 0} → List Code → Shape → GateState → List (Slot A) → (homes places : List ℕ) → Type 0
+OpensIn functions shape gate slots homes places =
+    (frames : List State) × AreHeld slots homes frames × Opens functions shape gate frames places
 
 -- Frames with these homes play.
-abbrev pub PlaysIn : {A : Type 0} → List Code → Shape → GateState → List (Slot A) → (homes seats : List ℕ) → Type 0
-PlaysIn functions shape gate slots homes seats =
-    (frames : List State) × AreHeld slots homes frames × Plays functions shape gate frames seats
+abbrev pub PlaysIn : {A : Type 0} → List Code → Shape → GateState → List (Slot A) → (homes places : List ℕ) → Type 0
+PlaysIn functions shape gate slots homes places =
+    (frames : List State) × AreHeld slots homes frames × Plays functions shape gate frames places

@@ -9,7 +9,7 @@ ghost use Rattle.frame_steps.specs.Frames.{Stands};
 ghost use Rattle.frame_steps.specs.declared.phase.Phase.{Phase};
 ghost use Rattle.run_replay.specs.declared.cast.Slot.{Slot};
 ghost use Rattle.program_text.specs.Shapes.{shape_in};
-ghost use Rattle.run_replay.specs.Casts.{new_seats, IsBegun, Opens, IsPlayed, IsMisfit};
+ghost use Rattle.run_replay.specs.Casts.{new_places, IsBegun, Opens, IsPlayed, IsMisfit};
 ghost use Rattle.run_replay.specs.Slots.{AreHeld, OpensIn, PlaysIn};
 ghost use Rattle.run_replay.specs.Turns.{IsTurn, HasNoTurn};
 ghost use Rattle.run_replay.specs.declared.turn.Misfit.{Misfit};
@@ -37,7 +37,7 @@ pub struct Cast<A: Allocator + Copy> {
     pub core: Core<A>,
     slots: Vec<Slot<A>, A>,
     homes: Vec<usize, A>,
-    seats: Vec<usize, A>,
+    places: Vec<usize, A>,
     free: Vec<usize, A>,
 }
 
@@ -62,18 +62,18 @@ fn alone<T: Drop, A: Allocator>(alloc: A, item: T) -> Result<Vec<T, A>, AllocErr
 }
 
 /// Seats the strands of a split.
-fn seat<A: Allocator>(
-    seats: &mut Vec<usize, A>,
+fn add_places<A: Allocator>(
+    places: &mut Vec<usize, A>,
     child: usize,
     spawner: usize,
     first: bool,
 ) -> Result<(), AllocError>
-    ensures { OnOk result (seats.new.items ≡ seats.old.items ++ new_seats first child spawner) }
+    ensures { OnOk result (places.new.items ≡ places.old.items ++ new_places first child spawner) }
 {
-    seats.push(child)?;
-    seats.push(spawner)?;
+    places.push(child)?;
+    places.push(spawner)?;
     if first {
-        seats.push(spawner)?;
+        places.push(spawner)?;
     }
     Ok(())
 }
@@ -104,18 +104,18 @@ impl<A: Allocator + Copy> Cast<A> {
         ensures core { IfOk result (λ cast. IsCoreOf cast.core (opening (shape_in program.now) most_entries)) }
         ensures opens { IfOk result (λ cast.
             OpensIn program.now.functions (shape_in program.now) (opening (shape_in program.now) most_entries)
-            cast.slots.items cast.homes.items cast.seats.items) }
+            cast.slots.items cast.homes.items cast.places.items) }
     {
         let frame = Frame::new(alloc, program, program.main(), 0);
         let slots = alone(alloc, Slot { number: 0, frame })?;
         let homes = alone(alloc, 0)?;
-        let seats = alone(alloc, 0)?;
+        let places = alone(alloc, 0)?;
         Ok(Cast {
             alloc,
             core: core_of(alloc, program)?,
             slots,
             homes,
-            seats,
+            places,
             free: Vec::new(alloc),
         })
     }
@@ -125,7 +125,7 @@ impl<A: Allocator + Copy> Cast<A> {
         ensures ended { IfSome result (λ home.
             (slot : Slot A) × (slice_get self.old.slots.items home ≡ Some slot) × (slot.frame.phase ≡ Phase.Over)) }
         ensures rest { (self.new.slots ≡ self.old.slots) × (self.new.homes ≡ self.old.homes)
-            × (self.new.seats ≡ self.old.seats) × (self.new.core ≡ self.old.core) }
+            × (self.new.places ≡ self.old.places) × (self.new.core ≡ self.old.core) }
     {
         let home = self.free.pop()?;
         match self.slots.get(home) {
@@ -153,7 +153,7 @@ impl<A: Allocator + Copy> Cast<A> {
             (next : List State) × AreHeld self.new.slots.items (self.old.homes.items ++ home ∷ []) next
             × IsBegun program.now.functions target frames next) }
         ensures rest { OnOk result ((self.new.homes ≡ self.old.homes)
-            × (self.new.seats ≡ self.old.seats) × (self.new.core ≡ self.old.core)) }
+            × (self.new.places ≡ self.old.places) × (self.new.core ≡ self.old.core)) }
     {
         match self.freed() {
             Some(home) => {
@@ -184,19 +184,20 @@ impl<A: Allocator + Copy> Cast<A> {
         ensures frames { OnOk result ((frames : List State) → AreHeld self.old.slots.items self.old.homes.items frames →
             (next : List State) × AreHeld self.new.slots.items self.new.homes.items next
             × IsBegun program.now.functions target frames next) }
-        ensures seats { OnOk result (self.new.seats.items ≡ self.old.seats.items ++ new_seats first (length self.old.homes.items) place) }
+        ensures places { OnOk result
+            (self.new.places.items ≡ self.old.places.items ++ new_places first (length self.old.homes.items) place) }
         ensures core { OnOk result (self.new.core ≡ self.old.core) }
     {
         let child = self.homes.len();
         let home = self.house(program, child, target)?;
         self.homes.push(home)?;
-        seat(&mut self.seats, child, place, first)
+        add_places(&mut self.places, child, place, first)
     }
 
     /// Keeps a slot for another frame where its frame has ended by this answer.
     fn vacate(&mut self, home: usize, answer: Answer) -> Result<(), Misfit>
         ensures rest { (self.new.slots ≡ self.old.slots) × (self.new.homes ≡ self.old.homes)
-            × (self.new.seats ≡ self.old.seats) × (self.new.core ≡ self.old.core) }
+            × (self.new.places ≡ self.old.places) × (self.new.core ≡ self.old.core) }
         ensures err { IfErr result (λ fault. fault ≡ Misfit.Memory) }
     {
         match answer {
@@ -211,17 +212,17 @@ impl<A: Allocator + Copy> Cast<A> {
     /// Plays an entry: its frame asks, and the core answers.
     pub fn play<B: Allocator>(&mut self, program: &Program<B>, entry: Entry) -> Result<(), Misfit>
         requires plays { (state : GateState) × IsCoreOf self.old.core state ×
-            PlaysIn program.now.functions (shape_in program.now) state self.old.slots.items self.old.homes.items self.old.seats.items }
+            PlaysIn program.now.functions (shape_in program.now) state self.old.slots.items self.old.homes.items self.old.places.items }
         ensures ok { (state : GateState) → IsCoreOf self.old.core state →
-            PlaysIn program.now.functions (shape_in program.now) state self.old.slots.items self.old.homes.items self.old.seats.items →
+            PlaysIn program.now.functions (shape_in program.now) state self.old.slots.items self.old.homes.items self.old.places.items →
             OnOk result ((next : GateState) × IsCoreOf self.new.core next ×
-            PlaysIn program.now.functions (shape_in program.now) next self.new.slots.items self.new.homes.items self.new.seats.items ×
+            PlaysIn program.now.functions (shape_in program.now) next self.new.slots.items self.new.homes.items self.new.places.items ×
             IsPlayed entry state next) }
         ensures strange { (state : GateState) → IsCoreOf self.old.core state →
-            PlaysIn program.now.functions (shape_in program.now) state self.old.slots.items self.old.homes.items self.old.seats.items →
+            PlaysIn program.now.functions (shape_in program.now) state self.old.slots.items self.old.homes.items self.old.places.items →
             result ≡ Err Misfit.Strange → IsMisfit program.now.functions (shape_in program.now) entry state }
     {
-        let place = match self.seats.get(entry.request.strand as usize) {
+        let place = match self.places.get(entry.request.strand as usize) {
             Some(place) => *place,
             None => return Err(Misfit::Strange),
         };

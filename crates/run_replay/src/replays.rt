@@ -59,7 +59,7 @@ fn play_all<A: Allocator + Copy, B: Allocator>(
 ) -> Result<(), ReplayFault>
     requires core { IsCoreOf cast.old.core (opening (shape_in program.now) most_entries) }
     requires opens { OpensIn program.now.functions (shape_in program.now)
-        (opening (shape_in program.now) most_entries) cast.old.slots.items cast.old.homes.items cast.old.seats.items }
+        (opening (shape_in program.now) most_entries) cast.old.slots.items cast.old.homes.items cast.old.places.items }
     ensures finished { OnOk result (IsFinishedRun program.now.functions (shape_in program.now) (reverse entries.now)) }
     ensures unfinished { result ≡ Err ReplayFault.Unfinished →
         IsUnfinishedRun program.now.functions (shape_in program.now) (reverse entries.now) }

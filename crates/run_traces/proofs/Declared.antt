@@ -10,7 +10,8 @@ use Rattle.model_reducers.specs.declared.monoid.Monoid.{Monoid}
 use Rattle.text_words.specs.declared.value.Mem.{Mem}
 use Rattle.text_words.specs.declared.value.Reducer.{Reducer}
 use Rattle.text_words.specs.Text.{lines, words, IsName}
-use Rattle.text_words.specs.Limits.{max_cells, max_reducers}
+use Rattle.model_accesses.specs.Limits.{most_cells}
+use Rattle.model_reducers.specs.Limits.{most_reducers}
 use Rattle.text_words.specs.Values.{Known}
 use Rattle.text_words.specs.Names.{memory_named, reducer_named, HasMonoid}
 use Rattle.text_words.specs.Declarations.{cells_of, memory_at, reducer_at}
@@ -18,7 +19,7 @@ use Rattle.trace_text.specs.Lines as trace
 use Rattle.trace_text.specs.Lines.{OfName, OfMonoid}
 use Rattle.trace_text.proofs.Kept.{cells_cons}
 use Rattle.program_lines.specs.declared.keyword.Keyword.TheVariants as word
-use Rattle.program_lines.specs.Scopes.{Scope}
+use Rattle.program_lines.specs.Scopes.{NameScope}
 use Rattle.program_lines.specs.Places.{Common, FreshName, Plain}
 use Rattle.program_lines.specs.Table.{Placed, placed, WordsMean}
 use Rattle.program_lines.specs.Grammar.{Item, Blank, Declared, Reduces, Begins, Does, Decides, Otherwise, Ends}
@@ -93,7 +94,7 @@ turned a b e = by (bytes_eq b a) refl
 -- a memory as a line declares it, behind these names and cells
 abbrev pub IsMemory : List (List ℕ) → ℕ → Mem → Type 0
 IsMemory names first mem =
-    IsName mem.name × IsNew names mem.name × (mem.first ≡ first) × (1 ≤ mem.cells) × (first + mem.cells ≤ max_cells) × (mem.array ≡ false → mem.cells ≡ 1)
+    IsName mem.name × IsNew names mem.name × (mem.first ≡ first) × (1 ≤ mem.cells) × (first + mem.cells ≤ most_cells) × (mem.array ≡ false → mem.cells ≡ 1)
 
 abbrev pub AreMemories : List (List ℕ) → ℕ → List Mem → Type 0
 AreMemories names first [] = Unit {0}
@@ -135,14 +136,14 @@ pub record AreDeclared (known : Known) : Type 0 where
   pub memories : AreMemories [] 0 known.mems
   pub reducers : AreReducers known.version [] known.reducers
   pub apart : AreApart (map name_of known.mems) known.reducers
-  pub few : length known.reducers ≤ max_reducers
+  pub few : length known.reducers ≤ most_reducers
 
 apart_more : (names : List (List ℕ)) (name : List ℕ) (reducers : List Reducer) → AreApart names reducers → IsNew (map reducer_name reducers) name → AreApart (names ++ name ∷ []) reducers
 apart_more names name [] h k = tt
 apart_more names name (r ∷ reducers) h k =
     (new_append names (name ∷ []) r.name h.0 (turned name r.name k.0, tt), apart_more names name reducers h.1 k.1)
 
-monoid_said : (scope : Scope) (rest : List (List ℕ)) (more : List Placed) (monoid : Monoid) → placed (Common trace.MonoidWord ∷ []) [] rest ≡ Some more
+monoid_said : (scope : NameScope) (rest : List (List ℕ)) (more : List Placed) (monoid : Monoid) → placed (Common trace.MonoidWord ∷ []) [] rest ≡ Some more
     → WordsMean scope more (Plain (OfMonoid monoid) ∷ []) → HasMonoid scope.known.version monoid
 monoid_said scope [] more monoid e m = cc
 monoid_said scope (w ∷ []) more monoid e m =
@@ -156,7 +157,7 @@ single None e = refl
 single (Some n) e = cc
 
 memory_declared : (known : Known) (at : ℕ) (name : List ℕ) (count : Option ℕ) → AreDeclared known → IsName name → memory_named known.mems name ≡ None → reducer_named known.reducers name ≡ None
-    → 1 ≤ unwrap_or count 1 → cells_of known.mems + unwrap_or count 1 ≤ max_cells → AreDeclared (record known { mems = known.mems ++ memory_at at known.mems name count ∷ [] })
+    → 1 ≤ unwrap_or count 1 → cells_of known.mems + unwrap_or count 1 ≤ most_cells → AreDeclared (record known { mems = known.mems ++ memory_at at known.mems name count ∷ [] })
 memory_declared known at name count h is free other some room =
     let mem : Mem = memory_at at known.mems name count in
     record {
@@ -169,7 +170,7 @@ memory_declared known at name count h is free other some room =
     }
 
 reducer_declared : (known : Known) (at : ℕ) (name : List ℕ) (monoid : Monoid) → AreDeclared known → IsName name → memory_named known.mems name ≡ None → reducer_named known.reducers name ≡ None
-    → HasMonoid known.version monoid → length known.reducers < max_reducers → AreDeclared (record known { reducers = known.reducers ++ reducer_at at name monoid ∷ [] })
+    → HasMonoid known.version monoid → length known.reducers < most_reducers → AreDeclared (record known { reducers = known.reducers ++ reducer_at at name monoid ∷ [] })
 reducer_declared known at name monoid h is free other has room =
     let reducer : Reducer = reducer_at at name monoid in
     record {

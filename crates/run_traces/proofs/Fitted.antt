@@ -7,7 +7,7 @@ use Rattle.std.proofs.lemmas.List.Elements.{All-head, All-tail, All-from_recursi
 use Rattle.model_accesses.specs.declared.request.Act.{Act}
 use Rattle.text_words.specs.declared.value.Reducer.{Reducer}
 use Rattle.text_words.specs.Declarations.{cells_of}
-use Rattle.text_words.specs.Limits.{max_lines}
+use Rattle.text_words.specs.Limits.{most_lines}
 use Rattle.text_words.specs.Values.{Known}
 use Rattle.model_strands.specs.History.{Event, split, same, joined, waits, call, resumed, ended, ended_joined, finished, History}
 use Rattle.model_strands.specs.Strands.{unused}
@@ -101,7 +101,7 @@ module _ (known : Known) (functions : List Code) (marked : AllByRecursion (IsMar
       let follows = run.judged.legal.1 in
       let known_strand = begun_below (control_part entries) (ranges (legal-part (shape_known known) entries run.judged.legal.0)) entry.request.strand (inl follows.runs) in
       let line : 1 ≤ entry.request.line = asked.0.0 in
-      let mark : entry.request.line ≤ max_lines = asked.0.1 in (
+      let mark : entry.request.line ≤ most_lines = asked.0.1 in (
         record {
           strand = omega (arith, known_strand, unused_entries entries, few);
           marked = line;

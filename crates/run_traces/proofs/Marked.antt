@@ -4,7 +4,7 @@ use Rattle.std.specs.Prelude.{slice_get, option_map}
 use Rattle.std.specs.List.{AllByRecursion}
 use Rattle.text_words.specs.declared.value.Version.{Version}
 use Rattle.text_words.specs.Text.{lines, words}
-use Rattle.text_words.specs.Limits.{max_lines}
+use Rattle.text_words.specs.Limits.{most_lines}
 use Rattle.text_words.specs.Names.{IsSecond}
 use Rattle.model_bodies.specs.declared.statement.Statement.{Statement}
 use Rattle.model_bodies.specs.declared.statement.Statement.TheVariants.{Bump, If, Else, End}
@@ -16,7 +16,7 @@ use Rattle.program_text.specs.Grammar.{LineMeans, LinesMean, LinesOfProgram, Tex
 use Rattle.run_traces.proofs.Elements.{get_all, set_all, append_all}
 
 abbrev pub IsLine : ℕ → Type 0
-IsLine line = (1 ≤ line) × (line ≤ max_lines)
+IsLine line = (1 ≤ line) × (line ≤ most_lines)
 
 abbrev pub HasBump : Version → Statement → Type 0
 HasBump version (Bump line location value) = IsSecond version

@@ -12,7 +12,8 @@ use Rattle.text_words.specs.declared.value.Mem.{Mem}
 use Rattle.text_words.specs.declared.value.Reducer.{Reducer}
 use Rattle.model_reducers.specs.declared.monoid.Monoid.{Monoid}
 use Rattle.text_words.specs.Text.{IsName, IsNumberIn}
-use Rattle.text_words.specs.Limits.{max_strand, max_value, max_cells}
+use Rattle.model_accesses.specs.Limits.{most_cells}
+use Rattle.text_words.specs.Limits.{max_strand, max_value}
 use Rattle.text_words.specs.Values.{Known, monoid_spelling}
 use Rattle.text_words.specs.Names.{memory_named, reducer_named, element_word, CellMeans, IsFresh, HasMonoid}
 use Rattle.text_words.specs.Declarations.{cells_of}
@@ -29,17 +30,17 @@ use Rattle.run_traces.proofs.Declared.{IsNew, new_before, new_behind, AreMemorie
 same_bytes : (word : List ℕ) → bytes_eq word word ≡ true
 same_bytes word = (bytes_decides word word).1 refl
 
-pub says_memory : (known : Known) (name : List ℕ) (count : Option ℕ) → IsName name → IsFresh known name → ((n : ℕ) → count ≡ Some n → (1 ≤ n) × (n ≤ max_cells))
+pub says_memory : (known : Known) (name : List ℕ) (count : Option ℕ) → IsName name → IsFresh known name → ((n : ℕ) → count ≡ Some n → (1 ≤ n) × (n ≤ most_cells))
     → (ws : List (List ℕ)) × Says known ws MemWord (OfName name ∷ if_there count)
 says_memory known name None is fresh h =
     (codes "mem" ∷ name ∷ [], ((FreshName, name) ∷ [], (name ∷ [], refl, tt, refl), ((refl, is, fresh), tt)))
 says_memory known name (Some n) is fresh h =
     let some = h n refl in
     let low : 1 ≤ n = some.0 in
-    let high : n ≤ max_cells = some.1 in (
+    let high : n ≤ most_cells = some.1 in (
       codes "mem" ∷ name ∷ decimal n ∷ [],
       (
-        (FreshName, name) ∷ (Number 1 max_cells, decimal n) ∷ [],
+        (FreshName, name) ∷ (Number 1 most_cells, decimal n) ∷ [],
         (name ∷ decimal n ∷ [], refl, tt, refl),
         ((refl, is, fresh), ((decimal_number n (omega (arith, high)), low, high), tt)),
       ),
@@ -62,7 +63,7 @@ record IsFound (names : List (List ℕ)) (test : Mem → Bool) (mems : List Mem)
   pub is_name : IsName mem.name
   pub is_new : IsNew names mem.name
   pub passes : test mem ≡ true
-  pub few : mem.cells ≤ max_cells
+  pub few : mem.cells ≤ most_cells
   pub single : mem.array ≡ false → mem.cells ≡ 1
   pub named : memory_named mems mem.name ≡ Some mem
 
@@ -114,7 +115,7 @@ cell_named mems cell numbered h l =
         let one : mem.cells ≡ 1 = is.single a in
         (mem.name, inl (is.is_name, mem, (is.named, a), omega (arith, e, lt, one)))
     by mem is i e lt true a =
-        let few : mem.cells ≤ max_cells = is.few in
+        let few : mem.cells ≤ most_cells = is.few in
         let small : i ≤ max_value = omega (arith, lt, few) in
         (element_word mem.name (decimal i), inr (mem.name, decimal i, refl, (is.is_name, mem, i, (is.named, a), (decimal_number i small, omega arith, small), lt, e)))
 

@@ -10,7 +10,9 @@ use Rattle.text_words.specs.declared.value.Mem.{Mem}
 use Rattle.text_words.specs.declared.value.Reducer.{Reducer}
 use Rattle.text_words.specs.declared.value.TraceLine.{TraceLine}
 use Rattle.text_words.specs.Text.{lines}
-use Rattle.text_words.specs.Limits.{max_cells, max_reducers, max_requests, max_lines}
+use Rattle.model_accesses.specs.Limits.{most_cells}
+use Rattle.model_reducers.specs.Limits.{most_reducers}
+use Rattle.text_words.specs.Limits.{most_requests, most_lines}
 use Rattle.text_words.specs.Values.{Known, Contents}
 use Rattle.text_words.specs.Declarations.{cells_of, memory_at}
 use Rattle.trace_text.specs.declared.keyword.Keyword.TheVariants.{Mem as MemWord, Reducer as ReducerWord}
@@ -61,12 +63,12 @@ module _ (version : Version) where
   abbrev with_mems : List Mem → Contents
   with_mems mems = with_reducers mems []
 
-  memory_line : (printed : Known) (at : ℕ) (done : List Mem) (mem : Mem) → at ≤ max_lines → IsKept (with_mems done) → IsMemory (map name_of done) (cells_of done) mem
+  memory_line : (printed : Known) (at : ℕ) (done : List Mem) (mem : Mem) → at ≤ most_lines → IsKept (with_mems done) → IsMemory (map name_of done) (cells_of done) mem
       → LineMeans at (with_mems done) (entry_text printed (OfMemory (record mem { line = at }))) (Declared mem.name (length_of mem))
   memory_line printed at done mem l kept h =
       let known : Known = (with_mems done).known in
       let low : 1 ≤ mem.cells = h.3 in
-      let few : cells_of done + mem.cells ≤ max_cells = h.4 in
+      let few : cells_of done + mem.cells ≤ most_cells = h.4 in
       let count : unwrap_or (length_of mem) 1 ≡ mem.cells = count_is mem.array mem.cells h.5 in
       let says = says_memory known mem.name (length_of mem) h.0 (no_memory done mem.name h.1, refl)
       (λ n e. let same : mem.cells ≡ n = count_in mem.array mem.cells n e in (omega (arith, low, same), omega (arith, few, same))) in
@@ -80,7 +82,7 @@ module _ (version : Version) where
       ap (λ (n : ℕ). made n (is_some (length_of mem)) (cells_of done)) (count_is mem.array mem.cells h.5)
       ∙ (ap (λ (b : Bool). made mem.cells b (cells_of done)) (array_is mem.array mem.cells) ∙ ap (made mem.cells mem.array) (sym h.2))
 
-  mems_mean : (printed : Known) (contents : Contents) (more : List Line) (at after : ℕ) (done rest all : List Mem) → after ≡ at + length rest → all ≡ done ++ mems_from at rest → after ≤ max_lines + 1
+  mems_mean : (printed : Known) (contents : Contents) (more : List Line) (at after : ℕ) (done rest all : List Mem) → after ≡ at + length rest → all ≡ done ++ mems_from at rest → after ≤ most_lines + 1
       → IsKept (with_mems done) → AreMemories (map name_of done) (cells_of done) rest
       → (IsKept (with_mems all) → LinesMean after (with_mems all) (map (entry_text printed) more) contents)
       → LinesMean at (with_mems done) (map (entry_text printed) (map OfMemory (mems_from at rest) ++ more)) contents
@@ -108,8 +110,8 @@ module _ (version : Version) where
   -- ---- the line of a reducer
 
   module _ (mems : List Mem) where
-    reducer_line : (printed : Known) (at : ℕ) (done : List Reducer) (reducer : Reducer) → at ≤ max_lines → IsKept (with_reducers mems done) → IsReducer version (map reducer_name done) reducer
-        → IsNew (map name_of mems) reducer.name → length done < max_reducers
+    reducer_line : (printed : Known) (at : ℕ) (done : List Reducer) (reducer : Reducer) → at ≤ most_lines → IsKept (with_reducers mems done) → IsReducer version (map reducer_name done) reducer
+        → IsNew (map name_of mems) reducer.name → length done < most_reducers
         → LineMeans at (with_reducers mems done) (entry_text printed (OfReducer (record reducer { line = at }))) (Reduces reducer.name reducer.monoid)
     reducer_line printed at done reducer l kept h free room =
         let known : Known = (with_reducers mems done).known in
@@ -117,8 +119,8 @@ module _ (version : Version) where
         let plain = says_plain known kept.numbered kept.not_empty says.0 ReducerWord (OfName reducer.name ∷ OfMonoid reducer.monoid ∷ []) says.1 in
         (l, plain.0, plain.1, refl, room)
 
-    reducers_mean : (printed : Known) (contents : Contents) (more : List Line) (at after : ℕ) (done rest all : List Reducer) → after ≡ at + length rest → all ≡ done ++ reducers_from at rest → after ≤ max_lines + 1
-        → IsKept (with_reducers mems done) → AreReducers version (map reducer_name done) rest → AreApart (map name_of mems) rest → length done + length rest ≤ max_reducers
+    reducers_mean : (printed : Known) (contents : Contents) (more : List Line) (at after : ℕ) (done rest all : List Reducer) → after ≡ at + length rest → all ≡ done ++ reducers_from at rest → after ≤ most_lines + 1
+        → IsKept (with_reducers mems done) → AreReducers version (map reducer_name done) rest → AreApart (map name_of mems) rest → length done + length rest ≤ most_reducers
         → (IsKept (with_reducers mems all) → LinesMean after (with_reducers mems all) (map (entry_text printed) more) contents)
         → LinesMean at (with_reducers mems done) (map (entry_text printed) (map OfReducer (reducers_from at rest) ++ more)) contents
     reducers_mean printed contents more at after done [] all e f l kept h apart few then =
@@ -142,7 +144,7 @@ module _ (version : Version) where
 -- ---- the line of a request
 
 module _ (known : Known) (memories : AreMemories [] 0 known.mems) (reducers : AreReducers known.version [] known.reducers) where
-  request_line : (at : ℕ) (done : List TraceLine) (entry : Entry) → at ≤ max_lines → IsKept (asked known done) → FitEntry known entry → length done < max_requests
+  request_line : (at : ℕ) (done : List TraceLine) (entry : Entry) → at ≤ most_lines → IsKept (asked known done) → FitEntry known entry → length done < most_requests
       → LineMeans at (asked known done) (entry_text known (OfRequest (record { at = at; request = entry.request; marked = true }))) (Asked (record { at = at; request = entry.request; marked = true }))
   request_line at done entry l kept fit room =
       let request = entry.request in
@@ -150,7 +152,7 @@ module _ (known : Known) (memories : AreMemories [] 0 known.mems) (reducers : Ar
       let plain = says_plain known kept.numbered kept.not_empty says.0 (asks request.act) (OfNumber request.strand ∷ (operands request.act ++ if_there (Some request.line))) says.1 in
       (l, plain.0, (Some request.line, plain.1, refl, refl, refl), tt, room)
 
-  requests_mean : (at : ℕ) (done all : List TraceLine) (rest : List Entry) → all ≡ done ++ requests_from at rest → at + length rest ≤ max_lines + 1 → length done + length rest ≤ max_requests
+  requests_mean : (at : ℕ) (done all : List TraceLine) (rest : List Entry) → all ≡ done ++ requests_from at rest → at + length rest ≤ most_lines + 1 → length done + length rest ≤ most_requests
       → IsKept (asked known done) → AllByRecursion (FitEntry known) rest → LinesMean at (asked known done) (map (entry_text known) (map OfRequest (requests_from at rest))) (asked known all)
   requests_mean at done all [] f l few kept fit = ap (asked known) (f ∙ append-nil done)
   requests_mean at done all (entry ∷ rest) f l few kept fit =
@@ -186,7 +188,7 @@ count_from : (at : ℕ) (reducers : List Reducer) → length (reducers_from at r
 count_from at [] = refl
 count_from at (reducer ∷ reducers) = omega (arith, count_from (at + 1) reducers)
 
-few_memories : (names : List (List ℕ)) (first : ℕ) (mems : List Mem) → AreMemories names first mems → first ≤ max_cells → first + length mems ≤ max_cells
+few_memories : (names : List (List ℕ)) (first : ℕ) (mems : List Mem) → AreMemories names first mems → first ≤ most_cells → first + length mems ≤ most_cells
 few_memories names first [] h l = omega (arith, l)
 few_memories names first (mem ∷ mems) h l =
     let rest = few_memories (names ++ mem.name ∷ []) (first + mem.cells) mems h.1 h.0.4 in

@@ -16,7 +16,7 @@ use Rattle.model_bodies.specs.Codes.{Code}
 use Rattle.model_bodies.specs.Bodies.{EndsAt}
 use Rattle.model_bodies.specs.Trees.{and_then, left_of}
 use Rattle.serial_elision.specs.declared.activation.Turns.{Turns}
-use Rattle.serial_elision.specs.declared.activation.Activation.{Activation}
+use Rattle.serial_elision.specs.declared.activation.ElidedCall.{ElidedCall}
 use Rattle.model_programs.specs.Values.{Registers, first_registers}
 use Rattle.model_programs.specs.Scripts.{closing, script, numbers}
 use Rattle.model_programs.specs.Evaluation.{Effect, effect, Store, Evaluates}
@@ -77,18 +77,18 @@ main_stack main = record { end_line = main.end_line; rest = script main; registe
 module _ (functions : List Code) (monoids : List Monoid) where
   -- ---- stacks
 
-  quiet_standing : (activation : Activation) (code : Code) → slice_get functions activation.function ≡ Some code → activation.turns ≡ None → standing functions activation ≡ record { end_line = code.end_line; rest = left_at code.end_line (drop activation.place code.body); registers = activation.registers }
+  quiet_standing : (activation : ElidedCall) (code : Code) → slice_get functions activation.function ≡ Some code → activation.turns ≡ None → standing functions activation ≡ record { end_line = code.end_line; rest = left_at code.end_line (drop activation.place code.body); registers = activation.registers }
   quiet_standing activation code here quiet =
       ap (λ o. standing_in o activation) here ∙ ap (λ t. record { end_line = code.end_line; rest = left_in code.end_line t (drop activation.place code.body); registers = activation.registers }) quiet
 
-  turning_standing : (activation : Activation) (code : Code) (turns : Turns) → slice_get functions activation.function ≡ Some code → activation.turns ≡ Some turns → standing functions activation ≡ record { end_line = code.end_line; rest = left_in code.end_line (Some turns) (drop activation.place code.body); registers = activation.registers }
+  turning_standing : (activation : ElidedCall) (code : Code) (turns : Turns) → slice_get functions activation.function ≡ Some code → activation.turns ≡ Some turns → standing functions activation ≡ record { end_line = code.end_line; rest = left_in code.end_line (Some turns) (drop activation.place code.body); registers = activation.registers }
   turning_standing activation code turns here on =
       ap (λ o. standing_in o activation) here ∙ ap (λ t. record { end_line = code.end_line; rest = left_in code.end_line t (drop activation.place code.body); registers = activation.registers }) on
 
   going_stack : (state : State) → state.over ≡ false → stack_of functions state ≡ standing functions state.top ∷ callers_of functions state.callers
   going_stack state going = ap (λ b. stack_in functions b state.top state.callers) going
 
-  callers_pushed : (callers : List Activation) (caller : Activation) → callers_of functions (callers ++ caller ∷ []) ≡ standing functions caller ∷ callers_of functions callers
+  callers_pushed : (callers : List ElidedCall) (caller : ElidedCall) → callers_of functions (callers ++ caller ∷ []) ≡ standing functions caller ∷ callers_of functions callers
   callers_pushed callers caller = ap (λ l. map (standing functions) l) (reverse-append callers (caller ∷ []))
 
   leads_between : (done : List Effect) (first first' second second' : List Standing) (one two : Store) → first ≡ first' → second ≡ second' → Leads functions monoids done first' one second' two → Leads functions monoids done first one second two
@@ -191,7 +191,7 @@ module _ (functions : List Code) (monoids : List Monoid) where
           })
 
     -- a function that is begun
-    pub begun_stands : (caller : Activation) (function argument : ℕ) (after : State) → Stands functions monoids cells before → IsInPlace functions caller → function < length functions → after ≡ with_begun before caller function argument → Stands functions monoids cells after
+    pub begun_stands : (caller : ElidedCall) (function argument : ℕ) (after : State) → Stands functions monoids cells before → IsInPlace functions caller → function < length functions → after ≡ with_begun before caller function argument → Stands functions monoids cells after
     begun_stands caller function argument after s placed known e =
         subst (λ t. Stands functions monoids cells t) (sym e) (record {
           top = record { known = known; within = omega arith; turning = tt };
@@ -217,7 +217,7 @@ module _ (functions : List Code) (monoids : List Monoid) where
   begun_standing : (function argument : ℕ) (callee : Code) → slice_get functions function ≡ Some callee → standing functions (begun function argument) ≡ record { end_line = callee.end_line; rest = script callee; registers = first_registers argument }
   begun_standing function argument callee h = ap (λ o. standing_in o (begun function argument)) h
 
-  begun_stack : (before : State) (caller : Activation) (function argument : ℕ) (callee : Code) → slice_get functions function ≡ Some callee → before.over ≡ false → stack_of functions (with_begun before caller function argument) ≡ record { end_line = callee.end_line; rest = script callee; registers = first_registers argument } ∷ standing functions caller ∷ callers_of functions before.callers
+  begun_stack : (before : State) (caller : ElidedCall) (function argument : ℕ) (callee : Code) → slice_get functions function ≡ Some callee → before.over ≡ false → stack_of functions (with_begun before caller function argument) ≡ record { end_line = callee.end_line; rest = script callee; registers = first_registers argument } ∷ standing functions caller ∷ callers_of functions before.callers
   begun_stack before caller function argument callee h going =
       going_stack (with_begun before caller function argument) going ∙ ap (λ t. t ∷ callers_of functions (before.callers ++ caller ∷ [])) (begun_standing function argument callee h) ∙ ap (λ l. record { end_line = callee.end_line; rest = script callee; registers = first_registers argument } ∷ l) (callers_pushed before.callers caller)
 
@@ -252,10 +252,10 @@ module _ (functions : List Code) (monoids : List Monoid) where
         })
 
     -- the function as it waits for a turn's function, its number in this register
-    abbrev pub turned_in : ℕ → Activation
+    abbrev pub turned_in : ℕ → ElidedCall
     turned_in index = turning (moved before.top before.top.place (slice_set before.top.registers index turns.number)) (Some (record { line = turns.line; register = turns.register; function = turns.function; number = turns.number + 1; left = turns.left - 1 }))
 
-    abbrev turned : Activation
+    abbrev turned : ElidedCall
     turned = turned_in turns.register.index
 
     pub turned_stands : (cells index : ℕ) (after : State) → index ≡ turns.register.index → Stands functions monoids cells before → 0 < turns.left → after ≡ with_begun before (turned_in index) turns.function turns.number → Stands functions monoids cells after
@@ -288,7 +288,7 @@ module _ (functions : List Code) (monoids : List Monoid) where
   left_stack before after true e l = ap (λ b. stack_in functions b after.top after.callers) e ∙ ap (λ c. callers_of functions c) (sym l.0)
   left_stack before after false e l = going_stack after e ∙ sym (callers_pushed after.callers after.top) ∙ ap (λ c. callers_of functions c) (sym l)
 
-  left_places : (before after : State) (over : Bool) → IsInPlace functions before.top → ((index : ℕ) (caller : Activation) → slice_get before.callers index ≡ Some caller → IsInPlace functions caller) → is_left over before after → IsInPlace functions after.top × ((index : ℕ) (caller : Activation) → slice_get after.callers index ≡ Some caller → IsInPlace functions caller)
+  left_places : (before after : State) (over : Bool) → IsInPlace functions before.top → ((index : ℕ) (caller : ElidedCall) → slice_get before.callers index ≡ Some caller → IsInPlace functions caller) → is_left over before after → IsInPlace functions after.top × ((index : ℕ) (caller : ElidedCall) → slice_get after.callers index ≡ Some caller → IsInPlace functions caller)
   left_places before after true top callers l = (subst (λ a. IsInPlace functions a) (sym l.2) (record { known = let k = top.known in omega (arith, k); within = omega arith; turning = tt }), λ k caller h. absurd (no_item k caller (ap (λ xs. slice_get xs k) (sym l.1) ∙ h)))
   left_places before after false top callers l =
       (callers (length after.callers) after.top (ap (λ xs. slice_get xs (length after.callers)) l ∙ item_pushed after.callers after.top), λ k caller h. callers k caller (ap (λ xs. slice_get xs k) l ∙ item_kept after.callers after.top k caller h))

@@ -8,7 +8,7 @@ use Rattle.model_reducers.specs.declared.view.View.TheVariants.{Nothing}
 use Rattle.reducer_views.specs.Products.{FitsMonoid}
 use Rattle.model_reducers.specs.Products.{monoid_of}
 use Rattle.program_text.specs.declared.program.Program.{Program}
-use Rattle.serial_elision.specs.declared.activation.Activation.{Activation}
+use Rattle.serial_elision.specs.declared.activation.ElidedCall.{ElidedCall}
 use Rattle.serial_elision.specs.States.{State, Stands, IsInPlace, length_in, monoids_in}
 use Rattle.function_steps.proofs.Places.{found}
 use Rattle.std.proofs.lemmas.Option.{slice_get_within, get_or_from_slice_get}
@@ -52,7 +52,7 @@ reducer_fits program state s reducer h =
     subst (λ monoids. FitsMonoid (monoid_of monoids reducer) (slice_index_or state.views reducer Nothing)) (sym s.same_monoids) (s.fits reducer (omega (arith, a, b)))
 
 -- a function stands at one of few places
-pub few_places : (cells reducers : ℕ) (functions : List Code) → IsSound cells reducers functions → (activation : Activation) → IsInPlace functions activation → activation.place < 100000
+pub few_places : (cells reducers : ℕ) (functions : List Code) → IsSound cells reducers functions → (activation : ElidedCall) → IsInPlace functions activation → activation.place < 100000
 few_places cells reducers functions sound activation p =
     let f = found functions activation.function p.known in
     let few = (body_sound cells reducers functions sound activation.function f.0 f.1).few in

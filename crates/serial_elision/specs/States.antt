@@ -12,7 +12,7 @@ use Rattle.model_bodies.specs.Codes.{Code}
 use Rattle.model_bodies.specs.Sound.{IsMain}
 use Rattle.model_bodies.specs.Trees.{Tree, Done, and_then, left_of}
 use Rattle.serial_elision.specs.declared.activation.Turns.{Turns}
-use Rattle.serial_elision.specs.declared.activation.Activation.{Activation}
+use Rattle.serial_elision.specs.declared.activation.ElidedCall.{ElidedCall}
 use Rattle.serial_elision.specs.declared.elision.Elision.{Elision}
 use Rattle.model_programs.specs.Values.{Registers, first_registers}
 use Rattle.model_programs.specs.Scripts.{closing, numbers}
@@ -21,39 +21,39 @@ use Rattle.serial_elision.specs.Evaluation.{Standing, Leads}
 
 -- what an evaluator holds
 pub record State : Type 0 where
-  pub top : Activation
-  pub callers : List Activation
+  pub top : ElidedCall
+  pub callers : List ElidedCall
   pub memory : List ℕ
   pub views : List View
   pub monoids : List Monoid
   pub over : Bool
 
 -- a function at its begin
-abbrev pub begun : ℕ → ℕ → Activation
+abbrev pub begun : ℕ → ℕ → ElidedCall
 begun function argument = record { function = function; place = 0; registers = first_registers argument; turns = None }
 
 -- the last of the functions that are begun, which is the topmost one, and those below it
-abbrev pub topmost : List Activation → Activation
+abbrev pub topmost : List ElidedCall → ElidedCall
 topmost [] = begun 0 0
 topmost (first ∷ more) = slice_index_or (first ∷ more) (length more) (begun 0 0)
 
-abbrev pub waiting : List Activation → List Activation
+abbrev pub waiting : List ElidedCall → List ElidedCall
 waiting [] = []
 waiting (first ∷ more) = take (length more) (first ∷ more)
 
 -- no function is begun
-abbrev pub is_idle : List Activation → Bool
+abbrev pub is_idle : List ElidedCall → Bool
 is_idle [] = true
 is_idle (first ∷ more) = false
 
-abbrev pub state_in : List Activation → List ℕ → List View → List Monoid → State
+abbrev pub state_in : List ElidedCall → List ℕ → List View → List Monoid → State
 state_in stack memory views monoids =
     record { top = topmost stack; callers = waiting stack; memory = memory; views = views; monoids = monoids; over = is_idle stack }
 
 abbrev pub state_of : {A : Type 0} → Elision A → State
 state_of elision = state_in elision.stack.items elision.memory.items elision.views.items elision.monoids
 
-abbrev pub top_of : {A : Type 0} → Elision A → Activation
+abbrev pub top_of : {A : Type 0} → Elision A → ElidedCall
 top_of elision = topmost elision.stack.items
 
 abbrev pub store_of : State → Store
@@ -71,7 +71,7 @@ with_store state store = record {
 }
 
 -- the same with this topmost function
-abbrev pub with_top : State → Activation → State
+abbrev pub with_top : State → ElidedCall → State
 with_top state top = record {
   top = top;
   callers = state.callers;
@@ -82,15 +82,15 @@ with_top state top = record {
 }
 
 -- a function at this place with these registers
-abbrev pub moved : Activation → ℕ → Registers → Activation
+abbrev pub moved : ElidedCall → ℕ → Registers → ElidedCall
 moved top place registers = record { function = top.function; place = place; registers = registers; turns = top.turns }
 
 -- a function with these turns
-abbrev pub turning : Activation → Option Turns → Activation
+abbrev pub turning : ElidedCall → Option Turns → ElidedCall
 turning top turns = record { function = top.function; place = top.place; registers = top.registers; turns = turns }
 
 -- a function that waits for this turn's function, its number in the register
-abbrev pub counted : Turns → Activation → Activation
+abbrev pub counted : Turns → ElidedCall → ElidedCall
 counted turns top = record {
   function = top.function;
   place = top.place;
@@ -106,7 +106,7 @@ counted turns top = record {
 }
 
 -- the same with a function begun above the topmost one
-abbrev pub with_begun : State → Activation → ℕ → ℕ → State
+abbrev pub with_begun : State → ElidedCall → ℕ → ℕ → State
 with_begun state caller function argument =
     record {
       top = begun function argument;
@@ -127,7 +127,7 @@ left_in end_line None statements = left_at end_line statements
 left_in end_line (Some turns) statements =
     numbers turns.line turns.register turns.function turns.number turns.left (left_at end_line statements)
 
-abbrev pub standing_in : Option Code → Activation → Standing
+abbrev pub standing_in : Option Code → ElidedCall → Standing
 standing_in None activation = record { end_line = 0; rest = Done; registers = activation.registers }
 standing_in (Some code) activation = record {
   end_line = code.end_line;
@@ -136,13 +136,13 @@ standing_in (Some code) activation = record {
 }
 
 -- where a function stands
-abbrev pub standing : List Code → Activation → Standing
+abbrev pub standing : List Code → ElidedCall → Standing
 standing functions activation = standing_in (slice_get functions activation.function) activation
 
-abbrev pub callers_of : List Code → List Activation → List Standing
+abbrev pub callers_of : List Code → List ElidedCall → List Standing
 callers_of functions callers = map (standing functions) (reverse callers)
 
-abbrev pub stack_in : List Code → Bool → Activation → List Activation → List Standing
+abbrev pub stack_in : List Code → Bool → ElidedCall → List ElidedCall → List Standing
 stack_in functions true top callers = []
 stack_in functions false top callers = standing functions top ∷ callers_of functions callers
 
@@ -159,7 +159,7 @@ length_in None = 0
 length_in (Some code) = length code.body
 
 -- the function is there, it stands in its body or at its end, and its turns begin a function that is there
-pub record IsInPlace (functions : List Code) (activation : Activation) : Type 0 where
+pub record IsInPlace (functions : List Code) (activation : ElidedCall) : Type 0 where
   pub known : activation.function < length functions
   pub within : activation.place ≤ length_in (slice_get functions activation.function)
   pub turning : are_turns functions activation.turns
@@ -167,7 +167,7 @@ pub record IsInPlace (functions : List Code) (activation : Activation) : Type 0 
 -- the evaluator is in functions of this program, and its store has this size and fits the monoids
 pub record Stands (functions : List Code) (monoids : List Monoid) (cells : ℕ) (state : State) : Type 0 where
   pub top : IsInPlace functions state.top
-  pub callers : (index : ℕ) (caller : Activation) → slice_get state.callers index ≡ Some caller → IsInPlace functions caller
+  pub callers : (index : ℕ) (caller : ElidedCall) → slice_get state.callers index ≡ Some caller → IsInPlace functions caller
   pub memory : length state.memory ≡ cells
   pub views : length state.views ≡ length monoids
   pub same_monoids : state.monoids ≡ monoids

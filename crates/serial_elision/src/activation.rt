@@ -24,7 +24,7 @@ pub struct Turns {
 
 /// A function that has begun, and how far it has come.
 #[derive(Clone, Copy)]
-pub struct Activation {
+pub struct ElidedCall {
     /// Its number.
     pub function: u32,
     /// The place in its body at which it goes on, behind the turns.
@@ -35,15 +35,15 @@ pub struct Activation {
     pub turns: Option<Turns>,
 }
 
-impl Activation {
+impl ElidedCall {
     /// A function at its first statement.
-    pub fn begin(function: u32, argument: u64) -> Activation
+    pub fn begin(function: u32, argument: u64) -> ElidedCall
         ensures { result ≡ begun function argument }
     {
         let mut registers = [0; REGISTERS];
         registers[0] = 1;
         registers[1] = argument;
-        Activation {
+        ElidedCall {
             function,
             place: 0,
             registers,

@@ -3,7 +3,7 @@
 ghost use Rattle.std.specs.Prelude.{◌≡◌, ◌≢◌, ◌+◌, ◌-◌, ◌%◌, ◌^◌, ◌<◌, ◌≤◌, IsTrue, false, true, Some};
 ghost use Rattle.std.specs.Prelude.{None, Err, map, length, replicate, slice_index, slice_get, OnOk, IfOk};
 ghost use Rattle.text_words.specs.Declarations.{cells_of};
-ghost use Rattle.text_words.specs.Limits.{max_cells};
+ghost use Rattle.model_accesses.specs.Limits.{most_cells};
 ghost use Rattle.reducer_views.specs.Products.{FitsMonoid};
 ghost use Rattle.model_reducers.specs.Products.{identity_of, product_of, put_view, update_view, monoid_of};
 ghost use Rattle.model_bodies.specs.Sound.{is_located};
@@ -14,7 +14,7 @@ ghost use Rattle.serial_elision.specs.States.{state_of, store_of, top_of, turnin
 ghost use Rattle.serial_elision.specs.Statements.{is_access, is_invocation, is_reduction, is_silent};
 ghost use Rattle.model_programs.specs.Elisions.{Elides, NeedsMore};
 
-use crate::activation::{Activation, Turns};
+use crate::activation::{ElidedCall, Turns};
 use function_steps::{cell_of, result_of, value_of};
 use model_bodies::{Expression, Location, Operand, Register, Statement};
 use program_text::{Function, Program};
@@ -26,7 +26,7 @@ use thiserror::Error;
 /// The functions that are begun, the topmost last, with the cells' values and the reducers' views.
 #[derive(Drop)]
 struct Elision<A: Allocator> {
-    stack: Vec<Activation, A>,
+    stack: Vec<ElidedCall, A>,
     memory: Vec<u64, A>,
     views: Vec<View, A>,
     monoids: Monoids<A>,
@@ -156,7 +156,7 @@ impl<A: Allocator + Clone> Elision<A> {
     {
         let (memory, views) = first_store(&alloc, &shape)?;
         let mut stack = Vec::new(alloc);
-        stack.push(Activation::begin(main, 0))?;
+        stack.push(ElidedCall::begin(main, 0))?;
         Ok(Elision {
             stack,
             memory,
@@ -183,7 +183,7 @@ impl<A: Allocator> Elision<A> {
     }
 
     /// The topmost function.
-    fn top(&self) -> &Activation
+    fn top(&self) -> &ElidedCall
         requires { (state_of self.now).over ≡ false }
         ensures { result.now ≡ top_of self.now }
     {
@@ -278,7 +278,7 @@ impl<A: Allocator> Elision<A> {
     fn read(&mut self, register: Register, location: Location)
         requires begun { (state_of self.old).over ≡ false }
         requires place { (top_of self.old).place + 1 < 2 ^ 32 }
-        requires located { IsTrue (is_located max_cells location) }
+        requires located { IsTrue (is_located most_cells location) }
         requires known { cell_of location (top_of self.old).registers < length self.old.memory.items }
         ensures { state_of self.new ≡ with_top (state_of self.old) (moved (top_of self.old) ((top_of self.old).place + 1)
             (with_register (with_ok 1 (top_of self.old).registers) register
@@ -293,7 +293,7 @@ impl<A: Allocator> Elision<A> {
     fn write(&mut self, location: Location, operand: Operand)
         requires begun { (state_of self.old).over ≡ false }
         requires place { (top_of self.old).place + 1 < 2 ^ 32 }
-        requires located { IsTrue (is_located max_cells location) }
+        requires located { IsTrue (is_located most_cells location) }
         requires known { cell_of location (top_of self.old).registers < length self.old.memory.items }
         ensures { state_of self.new ≡ with_store
             (with_top (state_of self.old) (moved (top_of self.old) ((top_of self.old).place + 1) (with_ok 1 (top_of self.old).registers)))
@@ -310,7 +310,7 @@ impl<A: Allocator> Elision<A> {
     fn bump(&mut self, location: Location, operand: Operand)
         requires begun { (state_of self.old).over ≡ false }
         requires place { (top_of self.old).place + 1 < 2 ^ 32 }
-        requires located { IsTrue (is_located max_cells location) }
+        requires located { IsTrue (is_located most_cells location) }
         requires known { cell_of location (top_of self.old).registers < length self.old.memory.items }
         ensures { state_of self.new ≡ with_store
             (with_top (state_of self.old) (moved (top_of self.old) ((top_of self.old).place + 1) (with_ok 1 (top_of self.old).registers)))
@@ -420,7 +420,7 @@ impl<A: Allocator> Elision<A> {
         requires { (state_of self.old).over ≡ false }
         ensures { OnOk result (state_of self.new ≡ with_begun (state_of self.old) (top_of self.old) function argument) }
     {
-        self.stack.push(Activation::begin(function, argument))?;
+        self.stack.push(ElidedCall::begin(function, argument))?;
         Ok(())
     }
 

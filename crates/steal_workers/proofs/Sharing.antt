@@ -16,7 +16,7 @@ use Rattle.locked_replay.below.shadow_history.proofs.shadow.Shadow.TheSendSync a
 use Rattle.locked_replay.below.reducer_views.proofs.touched.Slot.TheLaws.TheKnot as slot
 use Rattle.locked_replay.below.reducer_views.specs.contracts.pieces.Piece as Piece
 use Rattle.locked_replay.below.reducer_views.specs.contracts.views.Views as Views
-use Rattle.race_gate.specs.contracts.reducers.Reducers as Reducers
+use Rattle.race_gate.specs.contracts.reducers.ReducerTracks as ReducerTracks
 use Rattle.race_gate.specs.contracts.gate.Gate as Gate
 use Rattle.locked_replay.specs.contracts.locked.Round as Round
 use Rattle.locked_replay.specs.contracts.locked.LockedGate as LockedGate
@@ -28,7 +28,7 @@ module _ (c : clone.Ghosts (Heap.the_row).Denot) where
   views_send : IsSend (Views.the_row Heap.the_row ghosts c)
   views_send = search (sendable, crosses, piece_send, slot.crosses, send) depth 40 fits 20000
 
-  reducers_send : IsSend (Reducers.the_row Heap.the_row ghosts c)
+  reducers_send : IsSend (ReducerTracks.the_row Heap.the_row ghosts c)
   reducers_send = let a = views_send in search (sendable, crosses, branches.the_send, peers.the_send, send) depth 40 fits 20000
 
   pub gate_send : IsSend (Gate.the_row Heap.the_row ghosts c)

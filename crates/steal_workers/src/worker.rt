@@ -336,7 +336,8 @@ impl<'p, L: Ledger> Worker<'p, L> {
 
     /// What the worker brings back, and its ends of the deques.
     pub(crate) fn ended(self) -> (WorkerLog<L>, Ends<'p>)
-        ensures log { (result.0.seat.asked ≡ self.entry.before + length result.0.receipts.items) × (result.0.receipts ≡ self.entry.receipts) }
+        ensures log { (result.0.seat.asked ≡ self.entry.before + length result.0.receipts.items)
+            × (result.0.receipts ≡ self.entry.receipts) }
         ensures ends { result.1 ≡ self.entry.ends }
     {
         let Worker {

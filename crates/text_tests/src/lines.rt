@@ -3,7 +3,7 @@
 use crate::checks::equal;
 use crate::registers::at;
 use program_lines::{
-    Expression, FUNCTION_NAMES, FunctionNames, Item, Operand, Register, Scope, Statement,
+    Expression, FUNCTION_NAMES, FunctionNames, Item, NameScope, Operand, Register, Statement,
     meaning_or_fault, one_meaning, plain_meaning, put_statement, read_line, room_for_registers,
 };
 use std::alloc::Global;
@@ -23,7 +23,10 @@ fn functions(alloc: Global) -> Result<FunctionNames<'static, Global>, Fail> {
 }
 
 /// The statement that a line says, the cause why it says nothing, or neither where it says something else.
-fn statement_of(scope: &Scope<'_, '_, Global>, line: &[u8]) -> Option<Result<Statement, Cause>> {
+fn statement_of(
+    scope: &NameScope<'_, '_, Global>,
+    line: &[u8],
+) -> Option<Result<Statement, Cause>> {
     let text = as_text(line)?;
     match read_line(7, scope, &mut Words::of_line(text)) {
         Ok(
@@ -40,7 +43,7 @@ fn statement_of(scope: &Scope<'_, '_, Global>, line: &[u8]) -> Option<Result<Sta
 /// Each line says what stands beside it in this scope.
 fn check_lines(
     rt: &impl Abort,
-    scope: &Scope<'_, '_, Global>,
+    scope: &NameScope<'_, '_, Global>,
     cases: &[(&[u8], Result<Statement, Cause>)],
 ) {
     for (line, wanted) in cases {
@@ -56,7 +59,7 @@ fn reads_with(
     cases: &[(&[u8], Result<Statement, Cause>)],
 ) {
     let registers = [Name::new("n"), Name::new("t")];
-    let scope = Scope::new(names, functions, 1, registers.as_slice());
+    let scope = NameScope::new(names, functions, 1, registers.as_slice());
     check_lines(rt, &scope, cases);
 }
 
@@ -169,7 +172,7 @@ fn is_wanted(item: Item<'_>, line: &str) -> bool {
 }
 
 /// Whether a line says what it is to say in this scope.
-fn says(scope: &Scope<'_, '_, Global>, line: &str) -> bool {
+fn says(scope: &NameScope<'_, '_, Global>, line: &str) -> bool {
     let Some(text) = as_text(line.as_bytes()) else {
         return false;
     };
@@ -180,7 +183,7 @@ fn says(scope: &Scope<'_, '_, Global>, line: &str) -> bool {
 }
 
 /// Each line says what it is to say in this scope.
-fn check_items(rt: &impl Abort, scope: &Scope<'_, '_, Global>, lines: &[&str]) {
+fn check_items(rt: &impl Abort, scope: &NameScope<'_, '_, Global>, lines: &[&str]) {
     for line in lines {
         assert!(rt; says(scope, line), "{line}");
     }
@@ -190,7 +193,7 @@ fn check_items(rt: &impl Abort, scope: &Scope<'_, '_, Global>, lines: &[&str]) {
 fn items(rt: HostRuntime) {
     let names = Names::new(rt.alloc(), Version::One);
     let functions = FunctionNames::new(rt.alloc());
-    let scope = Scope::new(&names, &functions, 0, &[]);
+    let scope = NameScope::new(&names, &functions, 0, &[]);
     check_items(
         &rt,
         &scope,

@@ -20,7 +20,8 @@ use Rattle.text_words.specs.declared.names.Named.TheVariants.{Reducer}
 use Rattle.text_words.specs.declared.value.Mem.{Mem}
 use Rattle.text_words.specs.declared.value.Reducer.{Reducer as Reduction}
 use Rattle.model_reducers.specs.declared.monoid.Monoid.{Monoid}
-use Rattle.text_words.specs.Limits.{max_cells, max_reducers}
+use Rattle.model_accesses.specs.Limits.{most_cells}
+use Rattle.model_reducers.specs.Limits.{most_reducers}
 use Rattle.text_words.specs.Text.{is_name_byte, IsName}
 use Rattle.text_words.specs.Values.{Known}
 use Rattle.text_words.specs.Names.{memory_named, reducer_named, IsFresh}
@@ -102,7 +103,7 @@ module _ (known : Known) (cells : ℕ) (entries : List (Bor (List ℕ) × Named)
     names_memory is false name found e f =
         indexed.names name found (sym (ap (λ (mem : Option Mem). named_by mem (reducer_named known.reducers name)) (find_old (λ (mem : Mem). bytes_eq name mem.name) the_memory known.mems e)) ∙ f)
 
-    pub indexed_memory : IsName key.now → cells_of known.mems + unwrap_or length 1 ≤ max_cells
+    pub indexed_memory : IsName key.now → cells_of known.mems + unwrap_or length 1 ≤ most_cells
         → IsIndexed (with_memory at known key.now length) (cells + unwrap_or length 1) (extended_by (name_of_memory the_memory))
     indexed_memory is room =
         let one : AllByRecursion IsInRange (the_memory ∷ []) = (room, tt) in
@@ -142,7 +143,7 @@ module _ (known : Known) (cells : ℕ) (entries : List (Bor (List ℕ) × Named)
     names_reducer is false name found e f =
         indexed.names name found (sym (ap (λ (r : Option ℕ). named_by (memory_named known.mems name) r) (position_old (λ (r : Reduction). bytes_eq name r.name) the_reducer 0 known.reducers e)) ∙ f)
 
-    pub indexed_reducer : IsName key.now → len known.reducers < max_reducers → IsIndexed (with_reducer at known key.now monoid) cells (extended_by (Reducer (len known.reducers)))
+    pub indexed_reducer : IsName key.now → len known.reducers < most_reducers → IsIndexed (with_reducer at known key.now monoid) cells (extended_by (Reducer (len known.reducers)))
     indexed_reducer is room = record {
       finds = λ name. finds_reducer (bytes_eq name key.now) name refl;
       apart = λ name. apart_reducer (bytes_eq name key.now) name refl;
@@ -195,7 +196,7 @@ module _ (known : Known) (cells : ℕ) {S : Type 0} (index : IndexMap (Bor (List
   pub memory_added : (at : ℕ) (length : Option ℕ) (mems : List Mem) (entries : List (Bor (List ℕ) × Named)) (mem : Mem) (thing : Named)
       → mems ≡ known.mems ++ mem ∷ [] → mem ≡ memory_from at cells key.now length → thing ≡ name_of_memory mem
       → entries ≡ insert_entry (λ (x y : Bor (List ℕ)). bytes_eq x.now y.now) index.entries key thing
-      → cells_of known.mems + unwrap_or length 1 ≤ max_cells → IsIndexed (record known { mems = mems }) (cells + mem.cells) entries
+      → cells_of known.mems + unwrap_or length 1 ≤ most_cells → IsIndexed (record known { mems = mems }) (cells + mem.cells) entries
   memory_added at length mems entries mem thing grown is named_so inserted room =
       let same : mem ≡ memory_at at known.mems key.now length = is ∙ ap (λ (n : ℕ). memory_from at n key.now length) indexed.counted in
       let all_mems : mems ≡ known.mems ++ memory_at at known.mems key.now length ∷ [] = grown ∙ ap (λ (m : Mem). known.mems ++ m ∷ []) same in
@@ -210,7 +211,7 @@ module _ (known : Known) (cells : ℕ) {S : Type 0} (index : IndexMap (Bor (List
   pub reducer_added : (at : ℕ) (monoid : Monoid) (reducers : List Reduction) (entries : List (Bor (List ℕ) × Named)) (number : ℕ)
       → reducers ≡ known.reducers ++ reducer_at at key.now monoid ∷ [] → number ≡ len known.reducers
       → entries ≡ insert_entry (λ (x y : Bor (List ℕ)). bytes_eq x.now y.now) index.entries key (Reducer number)
-      → len known.reducers < max_reducers → IsIndexed (record known { reducers = reducers }) cells entries
+      → len known.reducers < most_reducers → IsIndexed (record known { reducers = reducers }) cells entries
   reducer_added at monoid reducers entries number grown is inserted room =
       let all_entries : entries ≡ index.entries ++ (key, Reducer (len known.reducers)) ∷ [] =
       inserted ∙ (entries_after (Reducer number) ∙ ap (λ (n : ℕ). index.entries ++ (key, Reducer n) ∷ []) is) in

@@ -8,14 +8,15 @@ use Rattle.text_words.specs.declared.names.Named.{Named}
 use Rattle.text_words.specs.declared.names.Named.TheVariants.{Single, Array, Reducer}
 use Rattle.text_words.specs.declared.value.Mem.{Mem}
 use Rattle.text_words.specs.Text.{IsName}
-use Rattle.text_words.specs.Limits.{max_cells, max_reducers}
+use Rattle.model_accesses.specs.Limits.{most_cells}
+use Rattle.model_reducers.specs.Limits.{most_reducers}
 use Rattle.text_words.specs.Values.{Known}
 use Rattle.text_words.specs.Names.{memory_named, reducer_named}
 use Rattle.text_words.specs.Declarations.{cells_of}
 
 -- its cells are among the most that a text has
 abbrev pub IsInRange : Mem → Type 0
-IsInRange mem = mem.first + mem.cells ≤ max_cells
+IsInRange mem = mem.first + mem.cells ≤ most_cells
 
 abbrev pub name_of_memory : Mem → Named
 name_of_memory mem = cond mem.array (Array mem.first mem.cells) (Single mem.first)
@@ -38,6 +39,6 @@ pub record IsIndexed (known : Known) (cells : ℕ) (entries : List (Bor (List �
   pub apart : (name : List ℕ) → IsApart known name
   pub names : (name : List ℕ) (found : Named) → named known name ≡ Some found → IsName name
   pub counted : cells ≡ cells_of known.mems
-  pub few_cells : cells ≤ max_cells
-  pub few_reducers : length known.reducers ≤ max_reducers
+  pub few_cells : cells ≤ most_cells
+  pub few_reducers : length known.reducers ≤ most_reducers
   pub in_range : All IsInRange known.mems

@@ -3,7 +3,8 @@
 ghost use Rattle.std.specs.Prelude.{◌≡◌, ◌+◌, ◌<◌, ◌≤◌, [], OnOk, OnErr, OnSome, unwrap_or, length};
 ghost use Rattle.std.specs.List.{All};
 ghost use Rattle.text_words.specs.Text.{IsName};
-ghost use Rattle.text_words.specs.Limits.{max_cells, max_reducers};
+ghost use Rattle.model_accesses.specs.Limits.{most_cells};
+ghost use Rattle.model_reducers.specs.Limits.{most_reducers};
 ghost use Rattle.text_words.specs.Names.{IsFresh};
 ghost use Rattle.text_words.specs.Declarations.{cells_of, memory_from, with_memory, with_reducer};
 ghost use Rattle.text_words.specs.Index.{named, name_of_memory, IsApart, IsInRange};
@@ -157,7 +158,7 @@ impl<'a, A: Allocator + Copy> Names<'a, A> {
     /// How many cells the memories have.
     pub fn cells(&self) -> u32
         ensures cells { result ≡ cells_of self.now.mems }
-        ensures few { result ≤ max_cells }
+        ensures few { result ≤ most_cells }
     {
         self.cells
     }
@@ -165,7 +166,7 @@ impl<'a, A: Allocator + Copy> Names<'a, A> {
     /// How many reducers there are.
     pub fn reducer_count(&self) -> usize
         ensures count { result ≡ length self.now.reducers }
-        ensures few { result ≤ max_reducers }
+        ensures few { result ≤ most_reducers }
     {
         self.reducers.len()
     }
@@ -179,7 +180,7 @@ impl<'a, A: Allocator + Copy> Names<'a, A> {
     ) -> Result<(), AllocError>
         requires is_name { IsName name.now }
         requires fresh { IsFresh self.old name.now }
-        requires room { cells_of self.old.mems + unwrap_or length 1 ≤ max_cells }
+        requires room { cells_of self.old.mems + unwrap_or length 1 ≤ most_cells }
         ensures ok { OnOk result (self.new ≡ with_memory at self.old name.now length) }
         ensures err { OnErr result (self.new ≡ self.old) }
     {
@@ -205,7 +206,7 @@ impl<'a, A: Allocator + Copy> Names<'a, A> {
     pub fn add_reducer(&mut self, at: u32, name: &'a str, monoid: Monoid) -> Result<(), AllocError>
         requires is_name { IsName name.now }
         requires fresh { IsFresh self.old name.now }
-        requires room { length self.old.reducers < max_reducers }
+        requires room { length self.old.reducers < most_reducers }
         ensures ok { OnOk result (self.new ≡ with_reducer at self.old name.now monoid) }
         ensures err { OnErr result (self.new ≡ self.old) }
     {

@@ -4,9 +4,11 @@ ghost use Rattle.std.specs.Prelude.{◌≡◌, ◌↔◌, ◌≤◌, ◌≢◌, 
 ghost use Rattle.std.specs.Prelude.{map, IfOk, IfErr, OnOk, OnErr, IsErrOf, IsTrue, MatchResult};
 ghost use Rattle.std.specs.Io.KnownBytes.{Appends};
 ghost use Rattle.trace_text.specs.Grammar.{TextMeans};
-ghost use Rattle.text_words.specs.Limits.{max_requests};
+ghost use Rattle.text_words.specs.Limits.{most_requests};
 ghost use Rattle.trace_text.specs.Traces.{contents};
-ghost use Rattle.model_histories.specs.Shapes.{most_entries, most_cells, most_reducers};
+ghost use Rattle.model_accesses.specs.Limits.{most_cells};
+ghost use Rattle.model_reducers.specs.Limits.{most_reducers};
+ghost use Rattle.model_histories.specs.Shapes.{most_entries};
 ghost use Rattle.race_gate.specs.Shapes.{shape_of};
 ghost use Rattle.race_gate.specs.Cores.{IsCore};
 ghost use Rattle.model_histories.specs.States.{State};

@@ -19,7 +19,7 @@ use std::alloc::Allocator;
 use std::io::{Read, Write};
 use trace_text::Trace;
 
-/// The most entries of a history.
+/// The most entries that a history may have, and the limit where none is given.
 pub const MOST_ENTRIES: u32 = 1_000_000;
 
 /// The fault of a command for an illegal request of this number.

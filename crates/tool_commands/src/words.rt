@@ -7,14 +7,12 @@ ghost use Rattle.tool_commands.specs.Faults.{IsUsageFault, TellsUsage};
 
 use crate::fault::CliFault;
 use crate::help;
+use crate::replay::MOST_ENTRIES;
 use clap::error::ErrorKind;
 use clap::{Arg, ArgMatches, Command};
 use std::alloc::{AllocError, Global};
 use std::env::{self, Env};
 use std::io;
-
-/// The most entries that a history may have, and the limit where none is given.
-const MOST_ENTRIES: u32 = 1_000_000;
 
 /// The most workers, and how many there are where no number is given.
 const MOST_WORKERS: usize = 64;

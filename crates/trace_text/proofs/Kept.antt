@@ -13,7 +13,9 @@ use Rattle.text_words.specs.declared.value.Reducer.{Reducer}
 use Rattle.text_words.specs.declared.value.TraceLine.{TraceLine}
 use Rattle.text_words.specs.declared.value.Version.{Version}
 use Rattle.text_words.specs.Text.{words, lines}
-use Rattle.text_words.specs.Limits.{max_cells, max_reducers, max_requests}
+use Rattle.model_accesses.specs.Limits.{most_cells}
+use Rattle.model_reducers.specs.Limits.{most_reducers}
+use Rattle.text_words.specs.Limits.{most_requests}
 use Rattle.text_words.specs.Values.{Known, Contents}
 use Rattle.text_words.specs.Names.{CellMeans}
 use Rattle.trace_text.specs.Lines.{Place, FreshName, Number, Placed, placed, Value, OfName, OfNumber, WordsMean, Cell, ReducerName, a_strand, a_value, Mark, wanted, optional, asks, operands, if_there}
@@ -25,9 +27,9 @@ use Rattle.trace_text.proofs.CellWords.{found_of_all}
 pub record IsKept (contents : Contents) : Type 0 where
   pub numbered : IsTrue (is_numbered 0 contents.known.mems)
   pub not_empty : All (λ (mem : Mem). 1 ≤ mem.cells) contents.known.mems
-  pub few_cells : cells_of contents.known.mems ≤ max_cells
-  pub few_reducers : length contents.known.reducers ≤ max_reducers
-  pub few_lines : length contents.lines ≤ max_requests
+  pub few_cells : cells_of contents.known.mems ≤ most_cells
+  pub few_reducers : length contents.known.reducers ≤ most_reducers
+  pub few_lines : length contents.lines ≤ most_requests
   pub within : All (IsWithin (cells_of contents.known.mems) (length contents.known.reducers)) contents.lines
 
 -- ---- numbers of cells
@@ -148,18 +150,18 @@ first_placed p last (w ∷ arguments) pairs e = by (placed [] last arguments) re
     by None f e = cc
     by (Some more) f e = (w, arguments, more, cc, f)
 
-length_placed : (known : Known) (rest : List (List ℕ)) (more : List Placed) (n : ℕ) → placed [] (Some (Number 1 max_cells)) rest ≡ Some more → WordsMean known more (OfNumber n ∷ []) → 1 ≤ n
+length_placed : (known : Known) (rest : List (List ℕ)) (more : List Placed) (n : ℕ) → placed [] (Some (Number 1 most_cells)) rest ≡ Some more → WordsMean known more (OfNumber n ∷ []) → 1 ≤ n
 length_placed known [] more n e m = let same : more ≡ [] = cc in absurd (subst (λ (ps : List Placed). WordsMean known ps (OfNumber n ∷ [])) same m)
 length_placed known (word ∷ []) more n e m =
-    let same : more ≡ (Number 1 max_cells, word) ∷ [] = cc in
-    let k : WordsMean known ((Number 1 max_cells, word) ∷ []) (OfNumber n ∷ []) = subst (λ (ps : List Placed). WordsMean known ps (OfNumber n ∷ [])) same m in
+    let same : more ≡ (Number 1 most_cells, word) ∷ [] = cc in
+    let k : WordsMean known ((Number 1 most_cells, word) ∷ []) (OfNumber n ∷ []) = subst (λ (ps : List Placed). WordsMean known ps (OfNumber n ∷ [])) same m in
     k.0.1
 length_placed known (word ∷ next ∷ rest) more n e m = cc
 
 length_given : (at : ℕ) (known : Known) (ws : List (List ℕ)) (name : List ℕ) (length : Option ℕ) → ItemMeans at known ws (Declared name length) → 1 ≤ unwrap_or length 1
 length_given at known ws name None m = omega arith
 length_given at known ws name (Some n) m =
-    let first = first_placed FreshName (Some (Number 1 max_cells)) m.1.0 m.0 m.1.3 in
+    let first = first_placed FreshName (Some (Number 1 most_cells)) m.1.0 m.0 m.1.3 in
     let k : WordsMean known ((FreshName, first.0) ∷ first.2) (OfName name ∷ OfNumber n ∷ []) =
     subst (λ (ps : List Placed). WordsMean known ps (OfName name ∷ OfNumber n ∷ [])) first.3 m.2 in
     length_placed known first.1 first.2 n first.4 k.1

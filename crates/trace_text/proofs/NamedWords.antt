@@ -8,7 +8,8 @@ use Rattle.text_words.specs.declared.names.Named.{Named}
 use Rattle.text_words.specs.declared.names.Named.TheVariants.{Single, Array, Reducer}
 use Rattle.text_words.specs.declared.value.Mem.{Mem}
 use Rattle.text_words.specs.Text.{IsName, IsNumberIn, BeginsWithDigit}
-use Rattle.text_words.specs.Limits.{max_cells, max_value}
+use Rattle.model_accesses.specs.Limits.{most_cells}
+use Rattle.text_words.specs.Limits.{max_value}
 use Rattle.text_words.specs.Values.{Known}
 use Rattle.text_words.specs.Names.{memory_named, reducer_named, IsDeclared, ElementMeans}
 use Rattle.trace_text.specs.Lines.{ReducerName, Number}
@@ -130,7 +131,7 @@ no_array known name index i o n e none m b =
     let undeclared = undeclared_array known name o e none in
     (n, b, λ bad. elim bad [ inl f ↦ f i m | inr f ↦ undeclared f.0 f.1 ], undeclared)
 
-pub array_end : (known : Known) (name : List ℕ) (first cells : ℕ) → All IsInRange known.mems → Some (Array first cells) ≡ named known name → first + cells ≤ max_cells
+pub array_end : (known : Known) (name : List ℕ) (first cells : ℕ) → All IsInRange known.mems → Some (Array first cells) ≡ named known name → first + cells ≤ most_cells
 array_end known name first cells all e =
     let found = array_named known name first cells e in
     let in_range : IsInRange found.0 = found_of_all IsInRange _ known.mems found.0 all found.1.0 in

@@ -12,7 +12,7 @@ use Rattle.text_words.specs.declared.value.Reducer.{Reducer}
 use Rattle.model_reducers.specs.declared.monoid.Monoid.{Monoid}
 use Rattle.text_words.specs.declared.value.TraceLine.{TraceLine}
 use Rattle.text_words.specs.Text.{lines, words, IsTextLine}
-use Rattle.text_words.specs.Limits.{max_lines}
+use Rattle.text_words.specs.Limits.{most_lines}
 use Rattle.text_words.specs.Values.{Known, Contents, version_spelling}
 use Rattle.trace_text.specs.Lines.{OfName, OfNumber, OfMonoid, asks, operands, if_there}
 use Rattle.text_words.specs.Declarations.{memory_at, reducer_at}
@@ -83,7 +83,7 @@ left_nothing at so_far contents e = record {
 }
 
 -- a blank line before the next entry
-blank_before : (known : Known) (at : ℕ) (es : List Entry) (so_far contents : Contents) → at ≤ max_lines → AreLater line_of (at + 1) es
+blank_before : (known : Known) (at : ℕ) (es : List Entry) (so_far contents : Contents) → at ≤ most_lines → AreLater line_of (at + 1) es
     → LinesMean (at + 1) so_far (lines_from known (at + 1) es) contents → LinesMean at so_far (lines_from known at es) contents
 blank_before known at [] so_far contents l h m = m
 blank_before known at (e ∷ es) so_far contents l h m =
@@ -102,7 +102,7 @@ entry_here known at e es so_far contents item same m h =
     subst (λ (n : ℕ). LinesMean at so_far (replicate {A = List ℕ} n [] ++ entry_text known e ∷ lines_from known (line_of e + 1) es) contents) (sym none)
     (subst (λ (n : ℕ). LinesMean at so_far (entry_text known e ∷ lines_from known (n + 1) es) contents) (sym same) (item, m, h))
 
-pub left_blank : (at : ℕ) (so_far contents : Contents) → at ≤ max_lines → IsLeft (at + 1) so_far contents → IsLeft at so_far contents
+pub left_blank : (at : ℕ) (so_far contents : Contents) → at ≤ most_lines → IsLeft (at + 1) so_far contents → IsLeft at so_far contents
 left_blank at so_far contents l left = record {
   ms = left.ms;
   rs = left.rs;

@@ -8,7 +8,8 @@ use Rattle.model_accesses.specs.declared.request.Act.TheVariants as act
 use Rattle.text_words.specs.declared.value.Mem.{Mem}
 use Rattle.text_words.specs.declared.names.Named.TheVariants.{Single, Array, Reducer}
 use Rattle.text_words.specs.Text.{words, IsTextLine, IsName}
-use Rattle.text_words.specs.Limits.{max_strand, max_value, max_cells}
+use Rattle.model_accesses.specs.Limits.{most_cells}
+use Rattle.text_words.specs.Limits.{max_strand, max_value}
 use Rattle.text_words.specs.Values.{Known}
 use Rattle.text_words.specs.Names.{memory_named, reducer_named, SingleMeans, ElementMeans, element_word}
 use Rattle.text_words.specs.Index.{IsInRange, named, named_by}
@@ -158,7 +159,7 @@ module _ (known : Known) (bytes name rest : List ℕ) (next : IsNextName bytes n
   next_element first cells cell behind e all has =
       let digits = has.0 in
       let i = has.1 in
-      let end : first + cells ≤ max_cells = array_end known name first cells all e in
+      let end : first + cells ≤ most_cells = array_end known name first cells all e in
       let small : i ≤ max_value = omega (arith, has.4) in
       let means = element_means known name digits first cells i next.is_name e (has.3, omega arith, small) has.4 in
       let whole : name ++ rest ≡ element_word name digits ++ behind =

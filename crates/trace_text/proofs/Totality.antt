@@ -10,7 +10,9 @@ use Rattle.model_accesses.specs.declared.request.Act.{Act}
 use Rattle.model_reducers.specs.declared.monoid.Monoid.{Monoid}
 use Rattle.model_accesses.specs.declared.request.Act.TheVariants as act
 use Rattle.text_words.specs.Text.{words, lines, IsTextLine}
-use Rattle.text_words.specs.Limits.{max_cells, max_reducers, max_requests, max_lines}
+use Rattle.model_accesses.specs.Limits.{most_cells}
+use Rattle.model_reducers.specs.Limits.{most_reducers}
+use Rattle.text_words.specs.Limits.{most_requests, most_lines}
 use Rattle.text_words.specs.Values.{Known, Contents, version_spelling}
 use Rattle.text_words.specs.Declarations.{cells_of}
 use Rattle.text_words.specs.Causes.{IsLowest, cause_number}
@@ -184,7 +186,7 @@ module _ (at : ℕ) (known : Known) (ws : List (List ℕ)) where
   -- what a keyword and values of its places say
   item_said : (keyword : Keyword) (values : List Value) → AreOf (wanted keyword) (optional keyword) values → Says known ws keyword values → SomeItem
   item_said MemWord (OfName name ∷ rest) fit says =
-      let length = last_number (Number 1 max_cells) tt rest fit.1 in (Declared name length.0, subst (λ (vs : List Value). Says known ws MemWord (OfName name ∷ vs)) length.1 says)
+      let length = last_number (Number 1 most_cells) tt rest fit.1 in (Declared name length.0, subst (λ (vs : List Value). Says known ws MemWord (OfName name ∷ vs)) length.1 says)
   item_said MemWord (OfNumber number ∷ rest) fit says = absurd fit.0
   item_said MemWord (OfMonoid monoid ∷ rest) fit says = absurd fit.0
   item_said MemWord [] fit says = absurd fit
@@ -255,14 +257,14 @@ order_or_not before (Asked line) = inl tt
 
 room_or_not : (before : Contents) (item : Item) → OrNot (HasRoom before item)
 room_or_not before Blank = inl tt
-room_or_not before (Declared name length) = most_or_not (cells_of before.known.mems + unwrap_or length 1) max_cells
-room_or_not before (Reduces name monoid) = below_or_not (length before.known.reducers) max_reducers
-room_or_not before (Asked line) = below_or_not (length before.lines) max_requests
+room_or_not before (Declared name length) = most_or_not (cells_of before.known.mems + unwrap_or length 1) most_cells
+room_or_not before (Reduces name monoid) = below_or_not (length before.known.reducers) most_reducers
+room_or_not before (Asked line) = below_or_not (length before.lines) most_requests
 
 line_told : (at : ℕ) (before : Contents) (line : List ℕ) → ((item : Item) × LineMeans at before line item) ⊎ ((cause : Cause) × IsLowest (LineFault at before line) cause)
 line_told at before line = go (text_line_or_not line) (words_told at before.known (words line))
   where
-    said : IsTextLine line → (item : Item) → ItemMeans at before.known (words line) item → OrNot (IsInOrder before item) → OrNot (max_lines < at) → OrNot (HasRoom before item) →
+    said : IsTextLine line → (item : Item) → ItemMeans at before.known (words line) item → OrNot (IsInOrder before item) → OrNot (most_lines < at) → OrNot (HasRoom before item) →
         ((item : Item) × LineMeans at before line item) ⊎ ((cause : Cause) × IsLowest (LineFault at before line) cause)
     said text item m (inr fails) few room =
         inr (BadNesting, lowest_of_room at before line item text m (item_clean before.known at (words line) item m) BadNesting fails)
@@ -272,13 +274,13 @@ line_told at before line = go (text_line_or_not line) (words_told at before.know
         inr (TooMany, lowest_of_room at before line item text m (item_clean before.known at (words line) item m) TooMany (order, inr fails))
     said text item m (inl order) (inr few) (inl room) = inl (item, (within at few, text, m, order, room))
       where
-        within : (n : ℕ) → (max_lines < n → ⊥) → n ≤ max_lines
+        within : (n : ℕ) → (most_lines < n → ⊥) → n ≤ most_lines
         within n few = omega arith
 
     go : OrNot (IsTextLine line) → ((item : Item) × ItemMeans at before.known (words line) item) ⊎ ((cause : Cause) × IsLowest (WordsFault before.known (words line)) cause) →
         ((item : Item) × LineMeans at before line item) ⊎ ((cause : Cause) × IsLowest (LineFault at before line) cause)
     go (inr fails) told = inr (NotText, (fails, λ lower l f. none_below_first lower l))
-    go (inl text) (inl (item, m)) = said text item m (order_or_not before item) (below_or_not max_lines at) (room_or_not before item)
+    go (inl text) (inl (item, m)) = said text item m (order_or_not before item) (below_or_not most_lines at) (room_or_not before item)
     go (inl text) (inr (cause, f)) = inr (cause, lowest_of_words at before line text cause f)
 
 lines_told : (at : ℕ) (before : Contents) (ls : List (List ℕ)) →

@@ -7,7 +7,7 @@ use Rattle.text_words.specs.declared.fault.TextFault.TheVariants.{At, Memory}
 use Rattle.text_words.specs.declared.value.Version.{Version}
 use Rattle.text_words.specs.declared.value.TraceLine.{TraceLine}
 use Rattle.text_words.specs.Text.{lines}
-use Rattle.text_words.specs.Limits.{max_lines}
+use Rattle.text_words.specs.Limits.{most_lines}
 use Rattle.text_words.specs.Values.{Known, Contents}
 use Rattle.trace_text.specs.Grammar.{Item, ItemMeans, IsInOrder, HasRoom, LineMeans, extended, nothing}
 use Rattle.text_words.specs.Causes.{IsLowest}
@@ -22,11 +22,11 @@ SaysSo at known item = (words : List (List ℕ)) × ItemMeans at known words ite
 
 -- The item fits, and next is what was read with it.
 abbrev pub Extends : ℕ → Contents → Item → Contents → Type 0
-Extends at before item next = (at ≤ max_lines) × IsInOrder before item × HasRoom before item × (next ≡ extended at before item)
+Extends at before item next = (at ≤ most_lines) × IsInOrder before item × HasRoom before item × (next ≡ extended at before item)
 
 abbrev pub IsRoomCause : ℕ → Contents → Item → Cause → Type 0
 IsRoomCause at before item BadNesting = IsInOrder before item → ⊥
-IsRoomCause at before item TooMany = IsInOrder before item × ((max_lines < at) ⊎ (HasRoom before item → ⊥))
+IsRoomCause at before item TooMany = IsInOrder before item × ((most_lines < at) ⊎ (HasRoom before item → ⊥))
 IsRoomCause at before item cause = ⊥
 
 -- The fault is of the line with the number `at`, and its cause is so; or memory ran out.

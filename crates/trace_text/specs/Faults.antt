@@ -8,7 +8,7 @@ use Rattle.model_reducers.specs.declared.monoid.Monoid.{Monoid}
 use Rattle.text_words.specs.declared.value.Mem.{Mem}
 use Rattle.trace_text.specs.declared.keyword.Keyword.{Keyword}
 use Rattle.text_words.specs.Text.{lines, words, IsTextLine, IsName, IsNumber, IsNumberIn, BeginsWithDigit}
-use Rattle.text_words.specs.Limits.{max_strand, max_value, max_lines}
+use Rattle.text_words.specs.Limits.{max_strand, max_value, most_lines}
 use Rattle.text_words.specs.Values.{Known, Contents}
 use Rattle.text_words.specs.Causes.{IsLowest}
 use Rattle.text_words.specs.Names.{IsDeclared, IsFresh, element_word, reducer_named, MonoidMeans}
@@ -84,7 +84,7 @@ LineFault at so_far line BadNesting =
     (keyword : Keyword) × (pairs : List Placed) × IsArranged so_far.known.version (words line) keyword pairs
     × (declares keyword ≡ true) × (so_far.lines ≢ [])
 LineFault at so_far line TooMany =
-    (max_lines < at) ⊎ ((item : Item) × ItemMeans at so_far.known (words line) item × (HasRoom so_far item → ⊥))
+    (most_lines < at) ⊎ ((item : Item) × ItemMeans at so_far.known (words line) item × (HasRoom so_far item → ⊥))
 LineFault at so_far line cause = WordsFault so_far.known (words line) cause
 
 abbrev pub HeaderFault : List ℕ → Cause → Type 0

@@ -5,7 +5,9 @@ use Rattle.model_reducers.specs.declared.monoid.Monoid.{Monoid}
 use Rattle.text_words.specs.declared.value.TraceLine.{TraceLine}
 use Rattle.trace_text.specs.declared.keyword.Keyword.TheVariants.{Mem as MemWord, Reducer as ReducerWord}
 use Rattle.text_words.specs.Text.{lines, words, IsTextLine}
-use Rattle.text_words.specs.Limits.{max_cells, max_reducers, max_requests, max_lines}
+use Rattle.model_accesses.specs.Limits.{most_cells}
+use Rattle.model_reducers.specs.Limits.{most_reducers}
+use Rattle.text_words.specs.Limits.{most_requests, most_lines}
 use Rattle.text_words.specs.Values.{Known, Contents, version_spelling}
 use Rattle.text_words.specs.Declarations.{cells_of, with_memory, with_reducer}
 use Rattle.trace_text.specs.Lines.{OfName, OfNumber, OfMonoid, Says, asks, operands, if_there}
@@ -34,9 +36,9 @@ ItemMeans at known ws (Asked line) =
 -- The item fits behind what was read so far.
 abbrev pub HasRoom : Contents → Item → Type 0
 HasRoom so_far Blank = Unit {0}
-HasRoom so_far (Declared name length) = cells_of so_far.known.mems + unwrap_or length 1 ≤ max_cells
-HasRoom so_far (Reduces name monoid) = length so_far.known.reducers < max_reducers
-HasRoom so_far (Asked line) = length so_far.lines < max_requests
+HasRoom so_far (Declared name length) = cells_of so_far.known.mems + unwrap_or length 1 ≤ most_cells
+HasRoom so_far (Reduces name monoid) = length so_far.known.reducers < most_reducers
+HasRoom so_far (Asked line) = length so_far.lines < most_requests
 
 -- Declarations stand before all requests.
 abbrev pub IsInOrder : Contents → Item → Type 0
@@ -54,7 +56,7 @@ extended at so_far (Asked line) = record so_far { lines = so_far.lines ++ line �
 -- The line with the number `at` says this item, behind what was read so far.
 abbrev pub LineMeans : ℕ → Contents → List ℕ → Item → Type 0
 LineMeans at so_far line item =
-    (at ≤ max_lines) × IsTextLine line × ItemMeans at so_far.known (words line) item × IsInOrder so_far item × HasRoom so_far item
+    (at ≤ most_lines) × IsTextLine line × ItemMeans at so_far.known (words line) item × IsInOrder so_far item × HasRoom so_far item
 
 -- The lines from the number `at` on lead from what was read so far to the contents.
 abbrev pub LinesMean : ℕ → Contents → List (List ℕ) → Contents → Type 0

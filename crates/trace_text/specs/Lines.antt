@@ -9,7 +9,8 @@ use Rattle.model_accesses.specs.declared.request.Act.TheVariants as act
 use Rattle.trace_text.specs.declared.keyword.Keyword.{Keyword}
 use Rattle.trace_text.specs.declared.keyword.Keyword.TheVariants.{Mem as MemWord, Reducer as ReducerWord, Spawn, Call, Sync, Return, Access}
 use Rattle.text_words.specs.Text.{IsName, IsNumberIn}
-use Rattle.text_words.specs.Limits.{max_strand, max_value, max_cells}
+use Rattle.model_accesses.specs.Limits.{most_cells}
+use Rattle.text_words.specs.Limits.{max_strand, max_value}
 use Rattle.text_words.specs.Values.{Known}
 use Rattle.text_words.specs.Names.{IsSecond, CellMeans, reducer_named, IsFresh, MonoidMeans}
 
@@ -86,7 +87,7 @@ wanted keyword = a_strand ∷ []
 
 -- What may stand at its end.
 abbrev pub optional : Keyword → Option Place
-optional MemWord = Some (Number 1 max_cells)
+optional MemWord = Some (Number 1 most_cells)
 optional ReducerWord = None
 optional keyword = Some Mark
 

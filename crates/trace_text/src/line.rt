@@ -6,7 +6,7 @@ ghost use Rattle.trace_text.specs.declared.keyword.Keyword.TheVariants.{Access};
 ghost use Rattle.text_words.specs.Values.{Known};
 ghost use Rattle.trace_text.specs.Lines.{Cell, ReducerName, FreshName, MonoidWord, Number, Mark, a_strand, a_value};
 ghost use Rattle.trace_text.specs.Lines.{OfName, OfNumber, OfMonoid, if_there, asks, IsControl, HasKeyword};
-ghost use Rattle.text_words.specs.Limits.{max_cells};
+ghost use Rattle.model_accesses.specs.Limits.{most_cells};
 ghost use Rattle.trace_text.specs.Grammar.{Asked as AskedLine, ItemMeans};
 ghost use Rattle.text_words.specs.Causes.{IsLowest};
 ghost use Rattle.trace_text.specs.Faults.{WordsFault};
@@ -59,7 +59,7 @@ fn memory<'a, A: Allocator + Copy>(
     names: &Names<'_, A>,
     words: &mut Words<'a>,
 ) -> Result<(&'a str, Option<u32>), Cause>
-    ensures { Fits names.now (FreshName ∷ []) (Some (Number 1 max_cells)) words.old result (λ r. OfName r.0.now ∷ if_there r.1) }
+    ensures { Fits names.now (FreshName ∷ []) (Some (Number 1 most_cells)) words.old result (λ r. OfName r.0.now ∷ if_there r.1) }
 {
     let name = fresh_name(names, words);
     let cells = length(words);

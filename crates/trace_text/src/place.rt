@@ -2,7 +2,7 @@
 
 ghost use Rattle.std.specs.Prelude.{◌≡◌, ◌+◌, ◌<◌, ◌≤◌, ◌^◌, ℕ, List, [], Some, MatchResult};
 ghost use Rattle.text_words.specs.Values.{Known};
-ghost use Rattle.text_words.specs.Limits.{max_cells};
+ghost use Rattle.model_accesses.specs.Limits.{most_cells};
 ghost use Rattle.text_words.specs.Names.{SingleMeans, ElementMeans};
 ghost use Rattle.trace_text.specs.Lines.{FreshName, Number, Cell, ReducerName, MonoidWord, Mark};
 ghost use Rattle.trace_text.specs.Lines.{a_strand, a_value, OfName, OfNumber, OfMonoid, if_there};
@@ -198,7 +198,7 @@ pub fn mark(words: &mut Words<'_>) -> Result<Option<u32>, Cause>
 
 /// Takes what is left behind the name of a memory: nothing, or its length.
 pub fn length(words: &mut Words<'_>) -> Result<Option<u32>, Cause>
-    ensures { (known : Known) → Fits known [] (Some (Number 1 max_cells)) words.old result if_there }
+    ensures { (known : Known) → Fits known [] (Some (Number 1 most_cells)) words.old result if_there }
 {
     let Some(word) = words.take() else {
         return Ok(None);

@@ -4,7 +4,7 @@
 
 ghost use Rattle.std.specs.Prelude.{◌≡◌, ◌++◌, ◌+◌, ◌≤◌, [], Some};
 ghost use Rattle.std.specs.Option.{IfSome};
-ghost use Rattle.text_words.specs.Limits.{max_cells};
+ghost use Rattle.model_accesses.specs.Limits.{most_cells};
 ghost use Rattle.text_words.specs.Values.{Known};
 ghost use Rattle.trace_text.specs.declared.keyword.Keyword.TheVariants.{Access};
 ghost use Rattle.trace_text.specs.Lines.{Cell, ReducerName, Mark, a_strand, a_value, OfNumber, if_there, spelling, HasKeyword};
@@ -123,7 +123,7 @@ fn head_word(bytes: &[u8]) -> (&[u8], &[u8])
 /// The cell of an array whose index stands in brackets at the head of the bytes.
 #[inline(always)]
 fn element(first: u32, cells: u32, bytes: &[u8]) -> Option<(u32, &[u8])>
-    requires { first + cells ≤ max_cells }
+    requires { first + cells ≤ most_cells }
     ensures { IfSome result (λ r. HasIndex bytes.now first cells r.0 r.1.now) }
 {
     let [b'[', digits @ ..] = bytes else {

@@ -2,7 +2,9 @@
 
 ghost use Rattle.std.specs.Prelude.{◌≡◌, ◌<◌, ◌≤◌, ℕ, List, length, IsTrue, IfOk, map, MatchResult};
 ghost use Rattle.std.specs.List.{All};
-ghost use Rattle.text_words.specs.Limits.{max_cells, max_reducers, max_requests};
+ghost use Rattle.model_accesses.specs.Limits.{most_cells};
+ghost use Rattle.model_reducers.specs.Limits.{most_reducers};
+ghost use Rattle.text_words.specs.Limits.{most_requests};
 ghost use Rattle.trace_text.specs.Shapes.{is_numbered, IsWithin};
 ghost use Rattle.text_words.specs.Text.{lines};
 ghost use Rattle.text_words.specs.Declarations.{cells_of};
@@ -221,9 +223,9 @@ pub struct Trace<A: Allocator> {
     ghost meant: { ∥ ((text : List ℕ)
         × TextMeans text (record { known = record { version = version; mems = mems; reducers = reducers }; lines = lines })) ∥₁ },
     ghost numbered: { IsTrue (is_numbered 0 mems) },
-    ghost few_cells: { cells_of mems ≤ max_cells },
-    ghost few_reducers: { length reducers ≤ max_reducers },
-    ghost few_lines: { length lines ≤ max_requests },
+    ghost few_cells: { cells_of mems ≤ most_cells },
+    ghost few_reducers: { length reducers ≤ most_reducers },
+    ghost few_lines: { length lines ≤ most_requests },
     ghost within: { All (IsWithin (cells_of mems) (length reducers)) lines },
 }
 

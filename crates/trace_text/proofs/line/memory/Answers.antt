@@ -1,6 +1,6 @@
 use Rattle.std.proofs.Common.{[]}
 use Rattle.std.specs.Prelude.{Some}
-use Rattle.text_words.specs.Limits.{max_cells}
+use Rattle.model_accesses.specs.Limits.{most_cells}
 use Rattle.trace_text.specs.Lines.{FreshName, Number, OfName, if_there}
 use Rattle.trace_text.proofs.Outcomes.{takes}
 use Rattle.trace_text.proofs.line.memory.Goals as goal
@@ -9,6 +9,6 @@ pub returns : goal.returns
 returns g c =
     let known = c.args.names.now in
     rw c.both.ensures
-    (takes known FreshName [] (Some (Number 1 max_cells)) c.args.words.now c.fresh_name-name.new.words c.fresh_name-name.result c.length-cells.result (λ name. OfName name.now) if_there
+    (takes known FreshName [] (Some (Number 1 most_cells)) c.args.words.now c.fresh_name-name.new.words c.fresh_name-name.result c.length-cells.result (λ name. OfName name.now) if_there
     c.fresh_name-name.ensures
     (c.length-cells.ensures known))

@@ -17,6 +17,6 @@ returns-clause-opens g c =
         stands = c.new-frame.ensures.stands;
         begun = c.new-frame.ensures.begun;
         frames_are = refl;
-        seats_are = c.in_ok-seats.ensures;
+        places_are = c.in_ok-places.ensures;
       },
     )

@@ -5,7 +5,7 @@ use Rattle.std.proofs.lemmas.Option.{slice_get_past, slice_get_read}
 use Rattle.race_gate.specs.Cores.{IsCoreOf}
 use Rattle.program_text.specs.Shapes.{shape_in}
 use Rattle.run_replay.proofs.Frames.{no_split}
-use Rattle.run_replay.proofs.Openings.{odd_misfit, seat_misfit}
+use Rattle.run_replay.proofs.Openings.{odd_misfit, place_misfit}
 use Rattle.run_replay.proofs.Played.{housed, slot_there, slot_stands, slot_misfit, calm_in, split_in, targeted_in, plays_same}
 use Rattle.run_replay.proofs.cast.Cast.play.Goals as goal
 use Rattle.run_replay.proofs.cast.Cast.play.Goals.{in_default-via-in-Some+in_default, in_default-via-in_default}
@@ -16,9 +16,9 @@ told (Err e) P p = tt
 
 pub returns-in-None-clause-strange : goal.returns-in-None-clause-strange
 returns-in-None-clause-strange g c =
-    let seats = c.args.self.now.seats.items in
+    let places = c.args.self.now.places.items in
     let none : slice_get c.deref.result.now c.args.entry.request.strand ≡ None = slice_get_past c.deref.result.now c.args.entry.request.strand c.in-None.ensures.lookup.3 in
-    λ state fits plays e. seat_misfit c.args.program.now.functions (shape_in c.args.program.now) state plays.0 seats plays.2 c.args.entry
+    λ state fits plays e. place_misfit c.args.program.now.functions (shape_in c.args.program.now) state plays.0 places plays.2 c.args.entry
     (ap (λ l. slice_get l c.args.entry.request.strand) (sym c.deref.ensures.value) ∙ none)
 
 pub index-home-requires : goal.index-home-requires
@@ -26,9 +26,9 @@ index-home-requires g c =
     let place = c.in-Some.place.now in
     let some : slice_get c.deref.result.now c.args.entry.request.strand ≡ Some place =
     slice_get_read c.deref.result.now (length c.deref.result.now) c.args.entry.request.strand place refl c.in-Some.ensures.lookup.3.0 c.in-Some.ensures.lookup.1 in
-    let seat = ap (λ l. slice_get l c.args.entry.request.strand) (sym c.deref.ensures.value) ∙ some in
-    let there = housed c.args.program.now.functions (shape_in c.args.program.now) c.requires.plays.0 c.args.self.now.slots.items c.args.self.now.homes.items c.args.self.now.seats.items
-    c.requires.plays.2 c.args.entry place seat in
+    let its_place = ap (λ l. slice_get l c.args.entry.request.strand) (sym c.deref.ensures.value) ∙ some in
+    let there = housed c.args.program.now.functions (shape_in c.args.program.now) c.requires.plays.0 c.args.self.now.slots.items c.args.self.now.homes.items c.args.self.now.places.items
+    c.requires.plays.2 c.args.entry place its_place in
     omega (arith, there, c.args.self.now.homes.ok)
 
 pub index_mut-requires : goal.index_mut-requires
@@ -36,16 +36,16 @@ index_mut-requires g c =
     let place = c.in-Some.place.now in
     let some : slice_get c.deref.result.now c.args.entry.request.strand ≡ Some place =
     slice_get_read c.deref.result.now (length c.deref.result.now) c.args.entry.request.strand place refl c.in-Some.ensures.lookup.3.0 c.in-Some.ensures.lookup.1 in
-    let seat = ap (λ l. slice_get l c.args.entry.request.strand) (sym c.deref.ensures.value) ∙ some in
+    let its_place = ap (λ l. slice_get l c.args.entry.request.strand) (sym c.deref.ensures.value) ∙ some in
     let functions = c.args.program.now.functions in
     let shape = shape_in c.args.program.now in
     let slots = c.args.self.now.slots.items in
     let homes = c.args.self.now.homes.items in
-    let seats = c.args.self.now.seats.items in
+    let places = c.args.self.now.places.items in
     let home = c.index-home.result.now in
-    let below = housed functions shape c.requires.plays.0 slots homes seats c.requires.plays.2 c.args.entry place seat in
+    let below = housed functions shape c.requires.plays.0 slots homes places c.requires.plays.2 c.args.entry place its_place in
     let home_is : slice_get homes place ≡ Some home = slice_get_read homes (length homes) place home refl below c.index-home.ensures in
-    let within = slot_there functions shape c.requires.plays.0 slots homes seats c.requires.plays.2 c.args.entry place seat home home_is in
+    let within = slot_there functions shape c.requires.plays.0 slots homes places c.requires.plays.2 c.args.entry place its_place home home_is in
     omega (arith, within, c.args.self.now.slots.ok)
 
 pub turn_of-requires : goal.turn_of-requires
@@ -53,41 +53,41 @@ turn_of-requires g c =
     let place = c.in-Some.place.now in
     let some : slice_get c.deref.result.now c.args.entry.request.strand ≡ Some place =
     slice_get_read c.deref.result.now (length c.deref.result.now) c.args.entry.request.strand place refl c.in-Some.ensures.lookup.3.0 c.in-Some.ensures.lookup.1 in
-    let seat = ap (λ l. slice_get l c.args.entry.request.strand) (sym c.deref.ensures.value) ∙ some in
+    let its_place = ap (λ l. slice_get l c.args.entry.request.strand) (sym c.deref.ensures.value) ∙ some in
     let functions = c.args.program.now.functions in
     let shape = shape_in c.args.program.now in
     let slots = c.args.self.now.slots.items in
     let homes = c.args.self.now.homes.items in
-    let seats = c.args.self.now.seats.items in
+    let places = c.args.self.now.places.items in
     let home = c.index-home.result.now in
-    let below = housed functions shape c.requires.plays.0 slots homes seats c.requires.plays.2 c.args.entry place seat in
+    let below = housed functions shape c.requires.plays.0 slots homes places c.requires.plays.2 c.args.entry place its_place in
     let home_is : slice_get homes place ≡ Some home = slice_get_read homes (length homes) place home refl below c.index-home.ensures in
-    let within = slot_there functions shape c.requires.plays.0 slots homes seats c.requires.plays.2 c.args.entry place seat home home_is in
+    let within = slot_there functions shape c.requires.plays.0 slots homes places c.requires.plays.2 c.args.entry place its_place home home_is in
     let slot_is : slice_get slots home ≡ Some c.index_mut.result.now = slice_get_read slots (length slots) home c.index_mut.result.now refl within c.index_mut.ensures.value in
-    record { stands = slot_stands functions shape c.requires.plays.0 slots homes seats c.requires.plays.2 c.args.entry place seat home home_is c.index_mut.result.now slot_is }
+    record { stands = slot_stands functions shape c.requires.plays.0 slots homes places c.requires.plays.2 c.args.entry place its_place home home_is c.index_mut.result.now slot_is }
 
 pub returns-in_err-target-clause-strange : goal.returns-in_err-target-clause-strange
 returns-in_err-target-clause-strange g c =
     let place = c.in-Some.place.now in
     let some : slice_get c.deref.result.now c.args.entry.request.strand ≡ Some place =
     slice_get_read c.deref.result.now (length c.deref.result.now) c.args.entry.request.strand place refl c.in-Some.ensures.lookup.3.0 c.in-Some.ensures.lookup.1 in
-    let seat = ap (λ l. slice_get l c.args.entry.request.strand) (sym c.deref.ensures.value) ∙ some in
+    let its_place = ap (λ l. slice_get l c.args.entry.request.strand) (sym c.deref.ensures.value) ∙ some in
     let functions = c.args.program.now.functions in
     let shape = shape_in c.args.program.now in
     let slots = c.args.self.now.slots.items in
     let homes = c.args.self.now.homes.items in
-    let seats = c.args.self.now.seats.items in
+    let places = c.args.self.now.places.items in
     let home = c.index-home.result.now in
-    let below = housed functions shape c.requires.plays.0 slots homes seats c.requires.plays.2 c.args.entry place seat in
+    let below = housed functions shape c.requires.plays.0 slots homes places c.requires.plays.2 c.args.entry place its_place in
     let home_is : slice_get homes place ≡ Some home = slice_get_read homes (length homes) place home refl below c.index-home.ensures in
-    let within = slot_there functions shape c.requires.plays.0 slots homes seats c.requires.plays.2 c.args.entry place seat home home_is in
+    let within = slot_there functions shape c.requires.plays.0 slots homes places c.requires.plays.2 c.args.entry place its_place home home_is in
     let slot_is : slice_get slots home ≡ Some c.index_mut.result.now = slice_get_read slots (length slots) home c.index_mut.result.now refl within c.index_mut.ensures.value in
-    λ state fits plays e. slot_misfit functions shape state slots homes seats plays c.args.entry place seat home home_is c.index_mut.result.now slot_is
+    λ state fits plays e. slot_misfit functions shape state slots homes places plays c.args.entry place its_place home home_is c.index_mut.result.now slot_is
     (c.turn_of.ensures.strange (search (rules, c.in_err-target.was, c.in_err-target.is, c.from_residual.ensures, e)))
 
 pub returns-in_err-confirm-clause-strange : goal.returns-in_err-confirm-clause-strange
 returns-in_err-confirm-clause-strange g c =
-    λ state fits plays e. odd_misfit c.args.program.now.functions (shape_in c.args.program.now) state plays.0 c.args.self.now.seats.items
+    λ state fits plays e. odd_misfit c.args.program.now.functions (shape_in c.args.program.now) state plays.0 c.args.self.now.places.items
     plays.2 c.args.entry
     (search (rules, c.confirm.ensures.strange state fits, c.in_err-confirm.ensures.strange state fits, c.in_err-confirm.was, c.in_err-confirm.is, c.from_residual-in_err-confirm.ensures, e))
 
@@ -96,24 +96,24 @@ returns-in-Ok-clause-ok g c =
     let place = c.in-Some.place.now in
     let some : slice_get c.deref.result.now c.args.entry.request.strand ≡ Some place =
     slice_get_read c.deref.result.now (length c.deref.result.now) c.args.entry.request.strand place refl c.in-Some.ensures.lookup.3.0 c.in-Some.ensures.lookup.1 in
-    let seat = ap (λ l. slice_get l c.args.entry.request.strand) (sym c.deref.ensures.value) ∙ some in
+    let its_place = ap (λ l. slice_get l c.args.entry.request.strand) (sym c.deref.ensures.value) ∙ some in
     let functions = c.args.program.now.functions in
     let shape = shape_in c.args.program.now in
     let slots = c.args.self.now.slots.items in
     let homes = c.args.self.now.homes.items in
-    let seats = c.args.self.now.seats.items in
+    let places = c.args.self.now.places.items in
     let home = c.index-home.result.now in
-    let below = housed functions shape c.requires.plays.0 slots homes seats c.requires.plays.2 c.args.entry place seat in
+    let below = housed functions shape c.requires.plays.0 slots homes places c.requires.plays.2 c.args.entry place its_place in
     let home_is : slice_get homes place ≡ Some home = slice_get_read homes (length homes) place home refl below c.index-home.ensures in
-    let within = slot_there functions shape c.requires.plays.0 slots homes seats c.requires.plays.2 c.args.entry place seat home home_is in
+    let within = slot_there functions shape c.requires.plays.0 slots homes places c.requires.plays.2 c.args.entry place its_place home home_is in
     let slot_is : slice_get slots home ≡ Some c.index_mut.result.now = slice_get_read slots (length slots) home c.index_mut.result.now refl within c.index_mut.ensures.value in
     λ state fits plays.
     let next = c.in_ok-confirm.ensures.ok state fits in (
       next.0,
       subst (λ core. IsCoreOf core next.0) (sym c.in-Ok.ensures.core) next.1,
-      split_in functions shape state slots homes seats plays c.args.entry place seat home home_is c.index_mut.result.now slot_is c.turn_of.new.slot c.in_ok-target.target next.0 c.in_ok-target.ensures.ok next.2
+      split_in functions shape state slots homes places plays c.args.entry place its_place home home_is c.index_mut.result.now slot_is c.turn_of.new.slot c.in_ok-target.target next.0 c.in_ok-target.ensures.ok next.2
           c.in-Some-Split.strands c.in-Some-Split.is-1 c.in-Some-Split.target c.in-Some-Split.is-0 c.begin.new.self.slots.items c.begin.new.self.homes.items c.in-Ok.ensures.frames
-          c.begin.new.self.seats.items c.in-Ok.ensures.seats,
+          c.begin.new.self.places.items c.in-Ok.ensures.places,
       next.2.history,
     )
 
@@ -122,29 +122,29 @@ returns-in_default-clause-ok g c =
     let place = c.in-Some.place.now in
     let some : slice_get c.deref.result.now c.args.entry.request.strand ≡ Some place =
     slice_get_read c.deref.result.now (length c.deref.result.now) c.args.entry.request.strand place refl c.in-Some.ensures.lookup.3.0 c.in-Some.ensures.lookup.1 in
-    let seat = ap (λ l. slice_get l c.args.entry.request.strand) (sym c.deref.ensures.value) ∙ some in
+    let its_place = ap (λ l. slice_get l c.args.entry.request.strand) (sym c.deref.ensures.value) ∙ some in
     let functions = c.args.program.now.functions in
     let shape = shape_in c.args.program.now in
     let slots = c.args.self.now.slots.items in
     let homes = c.args.self.now.homes.items in
-    let seats = c.args.self.now.seats.items in
+    let places = c.args.self.now.places.items in
     let home = c.index-home.result.now in
-    let below = housed functions shape c.requires.plays.0 slots homes seats c.requires.plays.2 c.args.entry place seat in
+    let below = housed functions shape c.requires.plays.0 slots homes places c.requires.plays.2 c.args.entry place its_place in
     let home_is : slice_get homes place ≡ Some home = slice_get_read homes (length homes) place home refl below c.index-home.ensures in
-    let within = slot_there functions shape c.requires.plays.0 slots homes seats c.requires.plays.2 c.args.entry place seat home home_is in
+    let within = slot_there functions shape c.requires.plays.0 slots homes places c.requires.plays.2 c.args.entry place its_place home home_is in
     let slot_is : slice_get slots home ≡ Some c.index_mut.result.now = slice_get_read slots (length slots) home c.index_mut.result.now refl within c.index_mut.ensures.value in
     λ state fits plays.
     let next = c.in_ok-confirm.ensures.ok state fits in
-    let calm = calm_in functions shape state slots homes seats plays c.args.entry place seat home home_is c.index_mut.result.now slot_is c.turn_of.new.slot c.in_ok-target.target next.0 c.in_ok-target.ensures.ok next.2
+    let calm = calm_in functions shape state slots homes places plays c.args.entry place its_place home home_is c.index_mut.result.now slot_is c.turn_of.new.slot c.in_ok-target.target next.0 c.in_ok-target.ensures.ok next.2
     (elim c.in_default.branch [
       | in_default-via-in-Some+in_default w ↦ no_split c.args.entry.answer w.in_default.not-Split-1
-      | in_default-via-in_default w ↦ no_split c.args.entry.answer (λ strands split. targeted_in functions shape state slots homes seats plays c.args.entry place seat home home_is c.index_mut.result.now slot_is c.turn_of.new.slot c.in_ok-target.target next.0
+      | in_default-via-in_default w ↦ no_split c.args.entry.answer (λ strands split. targeted_in functions shape state slots homes places plays c.args.entry place its_place home home_is c.index_mut.result.now slot_is c.turn_of.new.slot c.in_ok-target.target next.0
           c.in_ok-target.ensures.ok next.2 strands split w.in_default.is-0)
     ]) in
     told c.vacate.result _ (
       next.0,
       subst (λ core. IsCoreOf core next.0) (sym c.vacate.ensures.rest.3) next.1,
-      plays_same functions shape next.0 _ c.vacate.new.self.slots.items _ c.vacate.new.self.homes.items _ c.vacate.new.self.seats.items (ap (λ v. v.items) c.vacate.ensures.rest.0)
+      plays_same functions shape next.0 _ c.vacate.new.self.slots.items _ c.vacate.new.self.homes.items _ c.vacate.new.self.places.items (ap (λ v. v.items) c.vacate.ensures.rest.0)
           (ap (λ v. v.items) c.vacate.ensures.rest.1) (ap (λ v. v.items) c.vacate.ensures.rest.2) calm,
       next.2.history,
     )

@@ -5,7 +5,7 @@ use Rattle.view_read_rule.specs.Reads.{StandsOn}
 use Rattle.race_gate.specs.Books.{Books, Keeps}
 use Rattle.race_gate.proofs.Answering.{reads-named}
 use Rattle.race_gate.proofs.Reading.{unset-read, refused-read, found-read}
-use Rattle.race_gate.proofs.reducers.Reducers.refusal.Goals as goal
+use Rattle.race_gate.proofs.reducers.ReducerTracks.refusal.Goals as goal
 
 pub judge-requires-clause-stands : goal.judge-requires-clause-stands
 judge-requires-clause-stands g c =

@@ -1,4 +1,4 @@
-use Rattle.race_gate.proofs.reducers.Reducers.answer.Goals as goal
+use Rattle.race_gate.proofs.reducers.ReducerTracks.answer.Goals as goal
 
 pub update-requires-clause-in_range : goal.update-requires-clause-in_range
 update-requires-clause-in_range g c = rw c.in-Update.is at c.requires.in_range

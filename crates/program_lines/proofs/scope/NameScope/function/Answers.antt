@@ -1,4 +1,4 @@
-use Rattle.program_lines.proofs.scope.Scope.function.Goals as goal
+use Rattle.program_lines.proofs.scope.NameScope.function.Goals as goal
 
 pub returns : goal.returns
 returns g c = rw (← c.self.view_is) c.find.ensures

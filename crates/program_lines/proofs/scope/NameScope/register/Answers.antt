@@ -3,7 +3,7 @@ use Rattle.std.specs.Prelude.{Some, None}
 use Rattle.std.specs.Str.{bytes_eq}
 use Rattle.program_lines.specs.Scopes.{ok_word}
 use Rattle.program_lines.proofs.NameLists.{register_found}
-use Rattle.program_lines.proofs.scope.Scope.register.Goals as goal
+use Rattle.program_lines.proofs.scope.NameScope.register.Goals as goal
 
 pub returns-then-eq : goal.returns-then-eq
 returns-then-eq g c =

@@ -5,7 +5,7 @@ use Rattle.reducer_views.specs.Held.{split_of}
 use Rattle.race_gate.specs.Books.{Books}
 use Rattle.race_gate.proofs.Answered.{split-event, joined-event, ended_joined-event, calm-event}
 use Rattle.race_gate.proofs.Answering.{split-next, next-takes, split-there, join-takes, join-there, keeps_on-calm, keeps_on-event}
-use Rattle.race_gate.proofs.reducers.Reducers.follow.Goals as goal
+use Rattle.race_gate.proofs.reducers.ReducerTracks.follow.Goals as goal
 
 pub spawned-requires-clause-takes : goal.spawned-requires-clause-takes
 spawned-requires-clause-takes g c =

@@ -1,7 +1,7 @@
 use Rattle.std.proofs.Common.{◌<◌, length, sym, subst, arith}
 use Rattle.race_gate.specs.Books.{Books}
 use Rattle.race_gate.proofs.Answering.{running-there, answers-update}
-use Rattle.race_gate.proofs.reducers.Reducers.update.Goals as goal
+use Rattle.race_gate.proofs.reducers.ReducerTracks.update.Goals as goal
 
 pub update-requires-clause-there : goal.update-requires-clause-there
 update-requires-clause-there g c =

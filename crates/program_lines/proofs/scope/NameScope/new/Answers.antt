@@ -1,5 +1,5 @@
 use Rattle.std.proofs.Common.{refl}
-use Rattle.program_lines.proofs.scope.Scope.new.Goals as goal
+use Rattle.program_lines.proofs.scope.NameScope.new.Goals as goal
 
 pub returns : goal.returns
 returns g c = refl

@@ -2,7 +2,7 @@ use Rattle.std.proofs.Common.{◌<◌, length, refl, sym, subst, inl}
 use Rattle.model_accesses.specs.declared.kind.Kind.TheVariants as kind
 use Rattle.race_gate.specs.Books.{Books}
 use Rattle.race_gate.proofs.Answering.{running-there, answers-get, gets-some, answers-refused_get}
-use Rattle.race_gate.proofs.reducers.Reducers.get.Goals as goal
+use Rattle.race_gate.proofs.reducers.ReducerTracks.get.Goals as goal
 
 pub returns-in-Some : goal.returns-in-Some
 returns-in-Some g c =
