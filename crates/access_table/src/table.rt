@@ -1,3 +1,5 @@
+//! The table of kinds, as code: which rule two kinds come under, and the words of kinds and rules.
+
 ghost use Rattle.std.specs.Prelude.{◌≡◌, ◌↔◌, option_map, map};
 ghost use Rattle.model_accesses.specs.declared.kind.Kind.{Kind};
 ghost use Rattle.model_accesses.specs.Table.{kinds, HasRule, rule_between, is_conflict, spelling, rule_spelling, is_memory_kind};

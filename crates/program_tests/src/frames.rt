@@ -1,3 +1,5 @@
+//! Frames that are asked and answered, one request after another.
+
 ghost use Rattle.frame_steps.specs.Frames.{Stands};
 
 use frame_steps::{Frame, FrameFault};

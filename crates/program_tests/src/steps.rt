@@ -1,3 +1,5 @@
+//! Single steps of functions: what statements compute, ask and make of an answer.
+
 use function_steps::{Activation, act_of, answered, cell_of, line_of, result_of};
 use program_text::{Expression, Location, Operand, REGISTERS, Statement};
 use race_gate::Answer;

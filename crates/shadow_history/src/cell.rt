@@ -1,3 +1,5 @@
+//! What is kept of one cell: of each kind of access the last one in either order of the strands.
+
 ghost use Rattle.std.specs.Prelude.{◌≡◌, ◌≢◌, ◌↔◌, ◌++◌, ◌∷◌, [], List, ℕ, IsTrue, Some, None, MatchOption};
 ghost use Rattle.model_accesses.specs.declared.kind.Kind.{Kind};
 ghost use Rattle.model_accesses.specs.Table.{is_memory_kind};

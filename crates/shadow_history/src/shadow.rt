@@ -1,3 +1,5 @@
+//! What is kept of all cells, and whether an access races with an earlier one.
+
 ghost use Rattle.std.specs.Prelude.{◌≡◌, ◌<◌, ◌↔◌, ◌++◌, ◌∷◌, [], List, ℕ, length, IsTrue, IsSome, IfSome, IfOk};
 ghost use Rattle.model_accesses.specs.Table.{is_memory_kind};
 ghost use Rattle.model_strands.specs.History.{History};

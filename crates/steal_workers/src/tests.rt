@@ -1,3 +1,5 @@
+//! Tests of the lot, of single workers and of whole runs.
+
 ghost use Rattle.std.specs.Prelude.{◌≡◌, ◌<◌, ◌≤◌, [], IfOk};
 
 use super::*;
