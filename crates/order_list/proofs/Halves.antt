@@ -58,7 +58,7 @@ module _ {order firsts : List ℕ} {places : List Place} {items : List ℕ} (gro
       let end = place_of (get_or firsts group 0) items + count in
       let from = rw same at (grouped.first_first item inside) in
       let far = AllPairs-from_increasing (labels_along (keys_of order places) items) grouped.rising.rises in
-      let behind = (between-same grouped group count 18446744073709551615 known row (omega arith)).behind in
+      let behind = (between-same grouped group count 4294967295 known row (omega arith)).behind in
       let here = grouped.chain.listing item inside in
       let key = rw (item_at grouped.chain item inside, same) at (key_is grouped place here) in (
         from,
@@ -74,13 +74,13 @@ module _ {order firsts : List ℕ} {places : List Place} {items : List ℕ} (gro
       )
 
   -- so there is room behind it
-  pub evened-behind : (new : List Place) (count gap : ℕ) → IsGroupRow places items (get_or firsts group 0) count → IsEvened places new items (place_of (get_or firsts group 0) items) count group gap 18446744073709551615 → (item : ℕ) → item < length items → get_or (groups_of places) item 0 ≡ group → (get_or (locals_of new) item 0 + gap < group_width) × (get_or (keys_of order new) item 0 + gap ≤ get_or (labels_along (keys_of order new) items) (place_of item items + 1) 0)
+  pub evened-behind : (new : List Place) (count gap : ℕ) → IsGroupRow places items (get_or firsts group 0) count → IsEvened places new items (place_of (get_or firsts group 0) items) count group gap 4294967295 → (item : ℕ) → item < length items → get_or (groups_of places) item 0 ≡ group → (get_or (locals_of new) item 0 + gap < group_width) × (get_or (keys_of order new) item 0 + gap ≤ get_or (labels_along (keys_of order new) items) (place_of item items + 1) 0)
   evened-behind new count gap row e item inside same =
       let start = place_of (get_or firsts group 0) items in
       let here = in_row count row item inside same in
-      let between = between-same grouped group count 18446744073709551615 known row (omega arith) in
+      let between = between-same grouped group count 4294967295 known row (omega arith) in
       let below = rw (item_at grouped.chain item inside) at (e.below (place_of item items) here.0 here.1) in
-      let room = evened-room order places new items start count group gap 18446744073709551615 e grouped.len grouped.chain.numbered between (place_of item items) here.0 here.1 row.row.within in
+      let room = evened-room order places new items start count group gap 4294967295 e grouped.len grouped.chain.numbered between (place_of item items) here.0 here.1 row.row.within in
       let key = label_of (keys_of order new) items item (grouped.chain.listing item inside) in
       (omega (arith, below), omega (arith, room, key))
 

@@ -67,7 +67,7 @@ module _ {order firsts : List ℕ} {places : List Place} {items : List ℕ} (gro
       (le, omega (arith, le, here, there, key_of item known))
 
   -- and before the end of the group
-  pub room-last : (item : ℕ) → item < length items → (0 < get_or (nexts_of places) item 0 → get_or (groups_of places) (get_or (nexts_of places) item 0) 0 ≢ get_or (groups_of places) item 0) → get_or (keys_of order places) item 0 + (18446744073709551615 - get_or (locals_of places) item 0) ≤ get_or (labels_along (keys_of order places) items) (place_of item items + 1) 0
+  pub room-last : (item : ℕ) → item < length items → (0 < get_or (nexts_of places) item 0 → get_or (groups_of places) (get_or (nexts_of places) item 0) 0 ≢ get_or (groups_of places) item 0) → get_or (keys_of order places) item 0 + (4294967295 - get_or (locals_of places) item 0) ≤ get_or (labels_along (keys_of order places) items) (place_of item items + 1) 0
   room-last item known differ =
       let place = place_of item items in
       let inside = grouped.chain.listing item known in

@@ -9,7 +9,7 @@ use Rattle.order_list.specs.declared.relabel.Room.{Room}
 abbrev pub top_label : ℕ
 top_label = 18446744073709551615
 
--- above all labels, and above the keys of items in groups, which have 86 bits
+-- above all labels, and above the keys of items in groups, which have 54 bits
 abbrev pub last_label : ℕ
 last_label = 79228162514264337593543950336
 

@@ -7,7 +7,7 @@ use Rattle.order_list.specs.declared.place.Place.{Place}
 
 -- how many places a group has
 abbrev pub group_width : ℕ
-group_width = 18446744073709551616
+group_width = 4294967296
 
 -- the groups of all items, by their numbers
 unfoldable pub groups_of : List Place → List ℕ

@@ -116,7 +116,7 @@ impl<A: Allocator> Grouping<A> {
     }
 
     /// How much room there is behind an item, before the next one of its group or the group's end.
-    fn gap_behind(&self, item: u32) -> u64
+    fn gap_behind(&self, item: u32) -> u32
         requires { item < length (items_along self.now.places.items) }
         ensures { HasRoom self.now.groups.items self.now.places.items item result }
     {
@@ -127,7 +127,7 @@ impl<A: Allocator> Grouping<A> {
                 return following.local - here.local;
             }
         }
-        u64::MAX - here.local
+        u32::MAX - here.local
     }
 
     /// Moves the second half of an item's group to a new group behind it, where there are many.
@@ -150,7 +150,7 @@ impl<A: Allocator> Grouping<A> {
     }
 
     /// Gives the items of an item's group places at equal distances, and gives the distance.
-    fn even_out(&mut self, item: u32) -> u64
+    fn even_out(&mut self, item: u32) -> u32
         requires { item < length (items_along self.old.places.items) }
         ensures items { items_along self.new.places.items ≡ items_along self.old.places.items }
         ensures reserved { self.new.reserved ≡ self.old.reserved }
@@ -166,7 +166,7 @@ impl<A: Allocator> Grouping<A> {
     /// Makes room behind an item where there is none, and says how much there is.
     #[cold]
     #[inline(never)]
-    fn make_room(&mut self, item: u32) -> u64
+    fn make_room(&mut self, item: u32) -> u32
         requires { item < length (items_along self.old.places.items) }
         ensures items { items_along self.new.places.items ≡ items_along self.old.places.items }
         ensures reserved { self.new.reserved ≡ self.old.reserved }
@@ -183,7 +183,7 @@ impl<A: Allocator> Grouping<A> {
 
     /// How much room there is behind an item, after room was made where there was too little for three items.
     #[inline]
-    fn room_behind(&mut self, item: u32) -> u64
+    fn room_behind(&mut self, item: u32) -> u32
         requires { item < length (items_along self.old.places.items) }
         ensures items { items_along self.new.places.items ≡ items_along self.old.places.items }
         ensures reserved { self.new.reserved ≡ self.old.reserved }
@@ -199,7 +199,7 @@ impl<A: Allocator> Grouping<A> {
 
     /// Ties in a new item directly behind `after`, in its group and `ahead` places behind it, and gives its number.
     #[inline]
-    fn place_behind(&mut self, after: u32, ahead: u64) -> u32
+    fn place_behind(&mut self, after: u32, ahead: u32) -> u32
         requires reserved { 0 < self.old.reserved }
         requires known { after < length (items_along self.old.places.items) }
         requires some { 0 < ahead }

@@ -4,7 +4,7 @@
 //! and moves no other, and `is_before` is the order of positions, whatever was relabelled in between: each contract says
 //! so. `reserve` answers `Full` only where there would be more than `MOST_ITEMS` items.
 //!
-//! Items lie in groups, and each has a place of 64 bits in its group. The groups have labels of 64 bits, which rise along
+//! Items lie in groups, and each has a place of 32 bits in its group. The groups have labels of 64 bits, which rise along
 //! their order (Dietz and Sleator 1987). Where an insertion finds no place between two items, those of the group are given
 //! new ones at equal distances, and half of many go to a new group. Where there is no label for it, the smallest sparse
 //! enough stretch of groups around is given new ones (Bender, Cole, Demaine, Farach-Colton and Zito 2002). All of this is

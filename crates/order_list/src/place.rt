@@ -9,7 +9,7 @@ use std::alloc::Allocator;
 /// Where an item stands: its group, its place in the group, and the item that follows it among all.
 #[derive(Debug, Clone, Copy)]
 pub struct Place {
-    pub local: u64,
+    pub local: u32,
     pub group: u32,
     pub next: u32,
 }
@@ -25,7 +25,7 @@ pub fn place_at(places: &[Place], item: u32) -> Place
 }
 
 /// Moves an item to a place of a group.
-fn put(places: &mut [Place], item: u32, group: u32, local: u64)
+fn put(places: &mut [Place], item: u32, group: u32, local: u32)
     requires { item < length places.old }
     ensures len { length places.new ≡ length places.old }
     ensures locals { locals_of places.new ≡ set (locals_of places.old) item local }
@@ -37,7 +37,7 @@ fn put(places: &mut [Place], item: u32, group: u32, local: u64)
 }
 
 /// Ties in a new item directly behind `after`, in its group and `ahead` places behind it, and gives its number.
-pub fn tie<A: Allocator>(places: &mut Vec<Place, A>, after: u32, ahead: u64) -> u32
+pub fn tie<A: Allocator>(places: &mut Vec<Place, A>, after: u32, ahead: u32) -> u32
     requires room { vec_len places.old < vec_capacity places.old }
     requires few { vec_len places.old < most_items }
     requires known { after < length places.old.items }
@@ -103,17 +103,17 @@ pub fn item_ahead(places: &[Place], first: u32, count: u32) -> u32
 }
 
 /// Moves `count` items from `first` on to a group, at equal distances, and gives the distance.
-pub fn spread(places: &mut [Place], first: u32, count: u32, group: u32) -> u64
+pub fn spread(places: &mut [Place], first: u32, count: u32, group: u32) -> u32
     requires chain { IsChain (nexts_of places.old) (items_along places.old) }
     requires few { length places.old ≤ most_items }
     requires row { IsRow (items_along places.old) first count }
     ensures evened { let items = items_along places.old in
-        IsEvened places.old places.new items (place_of first items) count group result 18446744073709551615 }
+        IsEvened places.old places.new items (place_of first items) count group result 4294967295 }
     ensures some { 4 ≤ result }
 {
-    let distance = u64::MAX / count as u64;
+    let distance = u32::MAX / count;
     let mut item = first;
-    let mut local: u64 = 0;
+    let mut local: u32 = 0;
     for placed in 0..count {
         put(places, item, group, local);
         local += distance;

@@ -1,5 +1,6 @@
-use Rattle.std.proofs.Common.{◌≡◌, ◌<◌, ◌+◌, ◌-◌, ◌*◌, ◌/◌, suc, length, get_or, ap, sym, ◌∙◌, arith}
+use Rattle.std.proofs.Common.{◌≡◌, ◌<◌, ◌≤◌, ◌+◌, ◌-◌, ◌*◌, ◌/◌, suc, length, get_or, ap, sym, ◌∙◌, arith}
 use Rattle.std.proofs.Math.Nat.{mul-div-le}
+use Rattle.std.proofs.lemmas.Nat.{le-div}
 use Rattle.order_list.specs.Order.{place_of}
 use Rattle.order_list.specs.Places.{nexts_of, items_along}
 use Rattle.order_list.proofs.Rings.{item_at}
@@ -14,9 +15,9 @@ loop-placed-init c =
     let none : start + 0 ≡ start = omega arith in
     let all : c.args.count - 0 ≡ c.args.count = omega arith in
     record {
-      evened = evened-none c.args.places.now items start c.args.group (18446744073709551615 / c.args.count);
+      evened = evened-none c.args.places.now items start c.args.group (4294967295 / c.args.count);
       item = rw none (sym (item_at chain c.args.first c.requires.row.known));
-      fits = rw all (omega (arith, mul-div-le 18446744073709551615 c.args.count));
+      fits = rw all (omega (arith, mul-div-le 4294967295 c.args.count));
     }
 
 pub put-requires : goal.put-requires
@@ -38,7 +39,7 @@ loop-placed-preserved c =
     let items = items_along old in
     let start = place_of c.args.first items in
     let placed = c.loop-placed.placed in
-    let distance = 18446744073709551615 / c.args.count in
+    let distance = 4294967295 / c.args.count in
     let left = c.args.count - (placed + 1) in
     let some : c.args.count - placed ≡ suc left = omega arith in
     let product : (c.args.count - placed) * distance ≡ suc left * distance = ap (λ n. n * distance) some in
@@ -50,3 +51,8 @@ loop-placed-preserved c =
       item = next ∙ (ap (λ x. get_or (nexts_of old) x 0) c.loop-placed.invariant.item ∙ (chain.forward (start + placed) inside ∙ ap (λ x. get_or items x 0) (omega arith)));
       fits = omega (arith, product, c.loop-placed.invariant.fits);
     }
+
+pub returns-clause-some : goal.returns-clause-some
+returns-clause-some c =
+    let few : c.args.count ≤ 3000001 = omega (arith, c.requires.row.within, c.requires.few, chain_len c.args.places.now c.requires.chain) in
+    le-div 4 4294967295 c.args.count c.requires.row.some (omega (arith, few))

@@ -7,5 +7,5 @@ abbrev pub invariant-loop-placed : goal.invariant-loop-placed
 invariant-loop-placed l = record {
   evened : IsEvened l.initial.places l.places (items_along l.initial.places) (place_of l.first (items_along l.initial.places)) l.placed l.group l.distance l.local;
   item : l.item ≡ slice_index (items_along l.initial.places) (place_of l.first (items_along l.initial.places) + l.placed);
-  fits : l.local + (l.count - l.placed) * l.distance ≤ 18446744073709551615;
+  fits : l.local + (l.count - l.placed) * l.distance ≤ 4294967295;
 }
