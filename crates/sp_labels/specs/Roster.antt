@@ -106,7 +106,12 @@ event_of_return strand Ended = ended strand
 event_of_return strand (EndedJoined join) = ended_joined strand join
 event_of_return strand Finished = finished strand
 
+-- so many callers have keys of 32 bits
+abbrev pub most_callers : ℕ
+most_callers = 4294967296
+
 -- with room, an event finds all that it needs
 abbrev pub IsReady : Bool → (records records_fit callers callers_fit english hebrew : ℕ) → Type 0
 IsReady has_room records records_fit callers callers_fit english hebrew =
-    has_room ≡ true → (records + 3 ≤ records_fit) × (callers + 1 ≤ callers_fit) × (3 ≤ english) × (3 ≤ hebrew)
+    has_room ≡ true →
+    (records + 3 ≤ records_fit) × (callers + 1 ≤ callers_fit) × (callers_fit ≤ most_callers) × (3 ≤ english) × (3 ≤ hebrew)

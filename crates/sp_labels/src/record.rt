@@ -24,7 +24,7 @@ pub enum Scope {
     /// A spawned function, child of the block with this join.
     Child { block: u32 },
     /// A called function, and the key of its caller's scope.
-    Call { caller: usize },
+    Call { caller: u32 },
     /// The open block with this join. What lies below it is the scope of the join.
     Block { join: u32 },
 }

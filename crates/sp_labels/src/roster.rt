@@ -1,14 +1,15 @@
 //! The strands of one spawn-sync program.
 
 ghost use Rattle.std.specs.Prelude.{◌≡◌, ◌≢◌, ◌⊎◌, ◌↔◌, ◌+◌, ◌<◌, ◌≤◌, ℕ, [], ◌∷◌, true, false, length};
-ghost use Rattle.std.specs.Prelude.{IsTrue, IfOk, IfErr, OnOk, OnErr, IsErrOf};
+ghost use Rattle.std.specs.Prelude.{IsTrue, IfOk, IfErr, OnOk, OnErr, IsErrOf, IsOk};
+ghost use Rattle.slab.specs.Slab.{HasRoomFor};
 ghost use Rattle.model_strands.specs.History.{History, call};
 ghost use Rattle.model_strands.specs.Strands.{Running, Begun};
 ghost use Rattle.model_strands.specs.Blocks.{IsSynced, Stack, spawned, block, stack};
 ghost use Rattle.model_strands.specs.Dag.{Reaches, IsParallel};
 ghost use Rattle.law_strands.specs.Addresses.{IsEnglishBefore, IsHebrewBefore};
 ghost use Rattle.order_list.specs.Order.{most_items};
-ghost use Rattle.sp_labels.specs.Roster.{Follows, HasBegun, HasFewLeft, event_of_spawn, event_of_sync, event_of_return};
+ghost use Rattle.sp_labels.specs.Roster.{most_callers, Follows, HasBegun, HasFewLeft, event_of_spawn, event_of_sync, event_of_return};
 
 use crate::answer::{Returned, SpFault, Synced};
 use crate::record::{Record, Scope, Standing, put, record_of, set_standing};
@@ -20,6 +21,9 @@ use std::marker::Model;
 
 /// The spawns after which there may be no number left for a strand, where each makes three.
 const MOST_SPAWNS: usize = 1_000_000;
+
+/// How many calls may be open at once, so that 32 bits tell one from another. No memory holds as many.
+const MOST_CALLERS: usize = 4_294_967_296;
 
 /// How many places of an order are reserved at once, so that most events find theirs.
 const AHEAD: u32 = 96;
@@ -40,6 +44,20 @@ fn reserve_three<A: Allocator>(order: &mut OrderList<A>) -> Result<(), OrderFaul
         }
     }
     order.reserve(3)
+}
+
+/// Makes room for one more caller, whose key has 32 bits.
+fn reserve_caller<A: Allocator>(callers: &mut Slab<Scope, A>) -> Result<(), AllocError>
+    ensures room { OnOk result (HasRoomFor callers.new 1) }
+    ensures few { OnOk result (callers.new.capacity ≤ most_callers) }
+    ensures had_room { HasRoomFor callers.old 1 → callers.old.capacity ≤ most_callers → IsOk result × (callers.new ≡ callers.old) }
+    ensures kept { callers.new ≡ record callers.old { capacity = callers.new.capacity } }
+{
+    callers.reserve(1)?;
+    if callers.capacity() > MOST_CALLERS {
+        return Err(AllocError);
+    }
+    Ok(())
 }
 
 /// The strands of one spawn-sync program.
@@ -137,7 +155,7 @@ impl<A: Allocator> Strands<A> {
             Err(OrderFault::Memory) => return Err(SpFault::Memory),
         }
         self.records.reserve(3)?;
-        self.callers.reserve(1)?;
+        reserve_caller(&mut self.callers)?;
         self.has_room = true;
         Ok(())
     }
@@ -328,10 +346,10 @@ impl<A: Allocator> Strands<A> {
         if !self.is_running(strand) {
             return Err(SpFault::NotRunning);
         }
-        self.callers.reserve(1)?;
+        reserve_caller(&mut self.callers)?;
         self.has_room = false;
         let kept = record_of(&self.records, strand);
-        let caller = self.callers.insert_reserved(kept.scope);
+        let caller = self.callers.insert_reserved(kept.scope) as u32;
         put(
             &mut self.records,
             strand,
@@ -364,7 +382,7 @@ impl<A: Allocator> Strands<A> {
             Scope::Block { join: _ } => Err(SpFault::Unsynced),
             Scope::Call { caller } => {
                 self.has_room = false;
-                let scope = self.callers.remove(caller);
+                let scope = self.callers.remove(caller as usize);
                 put(&mut self.records, strand, Record { scope, ..kept });
                 Ok(Returned::Resumed)
             }

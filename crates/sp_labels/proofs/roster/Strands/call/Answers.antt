@@ -20,9 +20,9 @@ returns-clause-ok g c history now =
     let run : Running history c.args.strand = (c.is_running.ensures.running history now).0 c.if-not-is_running.false in
     follows-call _ history c.args.strand c.insert_reserved-caller.result c.insert_reserved-caller.new.self.slots c.record_of-kept.result c.put.new.records.items f run c.record_of-kept.ensures
     c.put.ensures.put
-    (ap (λ (s : Slab Scope). get_or s.slots c.insert_reserved-caller.result None) (sym c.reserve.ensures.rest_kept) ∙ c.insert_reserved-caller.ensures.was_vacant)
+    (ap (λ (s : Slab Scope). get_or s.slots c.insert_reserved-caller.result None) (sym c.reserve_caller.ensures.kept) ∙ c.insert_reserved-caller.ensures.was_vacant)
     c.insert_reserved-caller.ensures.updates.changed
-    (λ other ne. c.insert_reserved-caller.ensures.updates.others other ne ∙ ap (λ (s : Slab Scope). get_or s.slots other None) c.reserve.ensures.rest_kept)
+    (λ other ne. c.insert_reserved-caller.ensures.updates.others other ne ∙ ap (λ (s : Slab Scope). get_or s.slots other None) c.reserve_caller.ensures.kept)
 
 pub invariant_of-self-2 : goal.invariant_of-self-2
 invariant_of-self-2 g c =
