@@ -2,7 +2,7 @@
 //!
 //! None says nothing here: the line may still be a request, and is read in the general way.
 
-ghost use Rattle.std.specs.Prelude.{◌≡◌, ◌++◌, ◌+◌, ◌≤◌, [], Some};
+ghost use Rattle.std.specs.Prelude.{◌≡◌, ◌++◌, ◌+◌, ◌≤◌, [], Some, length};
 ghost use Rattle.std.specs.Option.{IfSome};
 ghost use Rattle.model_accesses.specs.Limits.{most_cells};
 ghost use Rattle.text_words.specs.Values.{Known};
@@ -40,12 +40,13 @@ fn digit_of(byte: u8) -> u8
 /// So many digits are a number of 64 bits, whichever they are.
 const DIGITS: usize = 19;
 
-/// The number of at most 19 digits at the head of the bytes, and what stands behind it.
+/// The number that digits among the first `most` bytes stand for, and what stands behind these digits.
 #[inline(always)]
-fn head_number(bytes: &[u8]) -> Option<(u64, &[u8])>
+fn number_within(bytes: &[u8], most: usize) -> Option<(u64, &[u8])>
+    requires within { most ≤ length bytes.now }
+    requires few { most ≤ 19 }
     ensures { IfSome result (λ r. HasNumber bytes.now r.0 r.1.now) }
 {
-    let most = bytes.len().min(DIGITS);
     let mut value: u64 = 0;
     let mut length = 0;
     while length < most {
@@ -61,6 +62,19 @@ fn head_number(bytes: &[u8]) -> Option<(u64, &[u8])>
     }
     let (_, rest) = bytes.split_at(length);
     Some((value, rest))
+}
+
+/// The number of at most 19 digits at the head of the bytes, and what stands behind it.
+#[inline(always)]
+fn head_number(bytes: &[u8]) -> Option<(u64, &[u8])>
+    ensures { IfSome result (λ r. HasNumber bytes.now r.0 r.1.now) }
+{
+    // Of so many bytes no length is asked digit by digit, which makes the loop a straight line.
+    if bytes.len() >= DIGITS {
+        number_within(bytes, DIGITS)
+    } else {
+        number_within(bytes, bytes.len())
+    }
 }
 
 /// The strand behind a space.

@@ -1,6 +1,6 @@
 //! A trace from its text.
 
-ghost use Rattle.std.specs.Prelude.{◌≡◌, ◌<◌, ◌≤◌, ℕ, List, length, IsTrue, IfOk, map, MatchResult};
+ghost use Rattle.std.specs.Prelude.{◌≡◌, ◌<◌, ◌≤◌, ℕ, List, length, IsTrue, IfOk, map, MatchOption, MatchResult};
 ghost use Rattle.std.specs.List.{All};
 ghost use Rattle.model_accesses.specs.Limits.{most_cells};
 ghost use Rattle.model_reducers.specs.Limits.{most_reducers};
@@ -130,25 +130,25 @@ impl<'a, A: Allocator + Copy> Draft<'a, A> {
         }
     }
 
-    /// Reads the first line of the text, which has the number `at`, and gives what stands behind it.
+    /// Reads the first line of the text, which has the number `at`, and gives what stands behind it, or the fault of the line.
     #[inline(always)]
-    fn take_first(&mut self, at: u32, text: &'a [u8]) -> Result<&'a [u8], TextFault>
+    fn take_first(&mut self, at: u32, text: &'a [u8]) -> (&'a [u8], Option<TextFault>)
         requires { 0 < length text.now }
-        ensures { MatchResult result
-            (λ rest. IsTaken at (so_far self.old.names self.old.lines) text.now rest.now (so_far self.new.names self.new.lines))
+        ensures { MatchOption result.1
+            (IsTaken at (so_far self.old.names self.old.lines) text.now result.0.now (so_far self.new.names self.new.lines))
             (IsStopped at (so_far self.old.names self.old.lines) text.now) }
     {
         if let Some(plain) = plain_request(&self.names, text) {
             let line = request_on(at, plain.strand, plain.act, plain.mark);
             return match self.ask(at, line) {
-                Ok(()) => Ok(plain.rest),
-                Err(fault) => Err(fault),
+                Ok(()) => (plain.rest, None),
+                Err(fault) => (plain.rest, Some(fault)),
             };
         }
         let (line, rest) = split_line(text);
         match self.take(at, without_return(line)) {
-            Ok(()) => Ok(rest),
-            Err(fault) => Err(fault),
+            Ok(()) => (rest, None),
+            Err(fault) => (rest, Some(fault)),
         }
     }
 }
@@ -186,10 +186,11 @@ fn body<'a, A: Allocator + Copy>(
     let mut at = 1;
     while !rest.is_empty() {
         at += 1;
-        match draft.take_first(at, rest) {
-            Ok(after) => rest = after,
-            Err(fault) => return Err(fault),
+        let (after, fault) = draft.take_first(at, rest);
+        if let Some(fault) = fault {
+            return Err(fault);
         }
+        rest = after;
     }
     Ok(draft)
 }

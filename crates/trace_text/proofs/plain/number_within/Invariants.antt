@@ -1,8 +1,8 @@
-use Rattle.std.proofs.Common.{◌≡◌, ◌<◌, ◌≤◌, ◌-◌, ◌^◌, length, take}
+use Rattle.std.proofs.Common.{◌≡◌, ◌<◌, ◌≤◌, ◌-◌, ◌^◌, take}
 use Rattle.std.specs.Prelude.{IsTrue}
 use Rattle.std.specs.Str.{all_ascii_digits}
 use Rattle.std.specs.Str.Parse.{digits_value}
-use Rattle.trace_text.proofs.plain.head_number.Given as goal
+use Rattle.trace_text.proofs.plain.number_within.Given as goal
 
 -- What was read are digits, and they stand for the value, which so many digits can have.
 abbrev pub invariant-loop-length : goal.invariant-loop-length

@@ -1,6 +1,6 @@
-use Rattle.std.proofs.Common.{◌<◌, ◌≤◌, ◌+◌, arith}
+use Rattle.std.proofs.Common.{◌≤◌, ◌+◌, arith}
 use Rattle.trace_text.proofs.HeadDigits.{one_more_digit, room_for_digit}
-use Rattle.trace_text.proofs.plain.head_number.Goals as goal
+use Rattle.trace_text.proofs.plain.number_within.Goals as goal
 
 pub overflow_mul-value : goal.overflow_mul-value
 overflow_mul-value c =
@@ -18,5 +18,5 @@ loop-length-preserved c =
     let read = c.digit_of-digit.ensures c.if-digit-gt9.false in
     let step = one_more_digit c.args.bytes.now c.loop-length.length c.loop-length.value c.from.result (omega arith) was.1 was.2 was.3
     (omega (arith, read)) (omega (arith, read)) (omega (arith, read, c.from.ensures)) in
-    let more : c.loop-length.length + 1 ≤ c.min-most.result = omega arith in
+    let more : c.loop-length.length + 1 ≤ c.args.most = omega arith in
     (more, step.0, step.1, step.2)
