@@ -88,6 +88,14 @@ impl<A: Allocator> Branches<A> {
         Ok(())
     }
 
+    /// Asks for room for the names of so many more strands, so that they need not grow by and by. It is a hint: it changes nothing that
+    /// is seen, and where there is no memory they grow as they are made.
+    pub fn make_room(&mut self, strands: usize)
+        ensures { self.new ≡ self.old }
+    {
+        let _ = self.names.reserve(strands);
+    }
+
     /// A spawn by `strand` began a child and a next strand, and where it is the first of its block, it set a number aside for
     /// the join. Takes no memory.
     pub fn spawned(&mut self, strand: u32, spawned: &Spawned)

@@ -128,6 +128,10 @@ impl<A: Allocator + Clone> Core<A> {
         ensures { self.new ≡ self.old }
     {
         self.tracks.strands.make_room(spawns);
+        if let Some(reducers) = &mut self.tracks.reducers {
+            // A spawn makes three strands at most.
+            reducers.make_room(spawns.min(self.limit as usize) * 3);
+        }
     }
 
     /// How many cells there are, and the monoids of the reducers, as handed to `new`.

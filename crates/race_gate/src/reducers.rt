@@ -74,6 +74,14 @@ impl<A: Allocator + Clone> ReducerTracks<A> {
         self.views.reserve_event()
     }
 
+    /// Asks for room for so many more strands. It is a hint, which changes nothing that is seen.
+    pub fn make_room(&mut self, strands: usize)
+        ensures { self.new ≡ self.old }
+    {
+        self.branches.make_room(strands);
+        self.views.make_room(strands);
+    }
+
     /// Makes room for an update or a put; a get needs none. A refusal changes nothing.
     #[inline(always)]
     pub fn reserve_for(&mut self, act: Act) -> Result<(), AllocError>

@@ -87,6 +87,14 @@ impl<A: Allocator + Clone> Views<A> {
         Ok(())
     }
 
+    /// Asks for room for so many more strands, so that their pieces need not grow by and by. It is a hint: it changes nothing that is
+    /// seen, and where there is no memory they grow as they are made.
+    pub fn make_room(&mut self, strands: usize)
+        ensures { self.new ≡ self.old }
+    {
+        let _ = self.pieces.reserve(strands);
+    }
+
     /// Whether there is room for the next event.
     pub fn has_room(&self) -> bool
         ensures { result ≡ self.now.has_room }

@@ -2,7 +2,7 @@
 
 ghost use Rattle.std.specs.Prelude.{◌≡◌, ◌≢◌, ◌↔◌, ◌<◌, ◌+◌, ◌*◌, ◌%◌, ◌^◌, IsTrue, false};
 ghost use Rattle.std.specs.Option.{IfSome};
-ghost use Rattle.trace_lines.specs.Heads.{tag_of, place_of as place_spec, value_of as value_spec, act_of as act_spec};
+ghost use Rattle.trace_lines.specs.Heads.{tag_of as tag_spec, place_of as place_spec, value_of as value_spec, act_of as act_spec};
 ghost use Rattle.trace_lines.specs.Heads.{strands, acts, places, marker, strand_in, tag_in, rest_in};
 ghost use Rattle.trace_lines.specs.Heads.{line_of_head as line_of_head_spec, line_of_numbers as line_of_numbers_spec};
 
@@ -21,24 +21,52 @@ const MARKER: u64 = STRANDS - 1;
 /// How many numbers there are of 32 bits.
 const HALF: u64 = 1 << 32;
 
-/// The number of an act's kind, its cell or reducer, and its value.
+// The parts of an act are taken one by one, which asks its kind by comparisons alone: to take all at once is a jump by the kind.
+
+/// The number of an act's kind.
 #[inline(always)]
-fn parts_of(act: Act) -> (u64, u32, u64)
-    ensures tag { result.0 ≡ tag_of act }
-    ensures place { result.1 ≡ place_spec act }
-    ensures value { result.2 ≡ value_spec act }
+fn tag_of(act: Act) -> u64
+    ensures { result ≡ tag_spec act }
 {
     match act {
-        Act::Spawn => (0, 0, 0),
-        Act::Sync => (1, 0, 0),
-        Act::Call => (2, 0, 0),
-        Act::Return => (3, 0, 0),
-        Act::Read(cell) => (4, cell, 0),
-        Act::Write(cell, value) => (5, cell, value),
-        Act::Bump(cell, value) => (6, cell, value),
-        Act::Update(reducer, value) => (7, reducer, value),
-        Act::Put(reducer, value) => (8, reducer, value),
-        Act::Get(reducer) => (9, reducer, 0),
+        Act::Spawn => 0,
+        Act::Sync => 1,
+        Act::Call => 2,
+        Act::Return => 3,
+        Act::Read(_) => 4,
+        Act::Write(_, _) => 5,
+        Act::Bump(_, _) => 6,
+        Act::Update(_, _) => 7,
+        Act::Put(_, _) => 8,
+        Act::Get(_) => 9,
+    }
+}
+
+/// Its cell or its reducer, and 0 where it has none.
+#[inline(always)]
+fn place_of(act: Act) -> u32
+    ensures { result ≡ place_spec act }
+{
+    match act {
+        Act::Spawn | Act::Sync | Act::Call | Act::Return => 0,
+        Act::Read(place)
+        | Act::Write(place, _)
+        | Act::Bump(place, _)
+        | Act::Update(place, _)
+        | Act::Put(place, _)
+        | Act::Get(place) => place,
+    }
+}
+
+/// Its value, and 0 where it has none.
+#[inline(always)]
+fn value_of(act: Act) -> u64
+    ensures { result ≡ value_spec act }
+{
+    match act {
+        Act::Write(_, value) | Act::Bump(_, value) | Act::Update(_, value) | Act::Put(_, value) =>
+            value,
+        _ => 0,
     }
 }
 
@@ -66,8 +94,9 @@ fn act_of(tag: u64, place: u32, value: u64) -> Act
 pub fn head_of(last: u32, line: TraceLine) -> Option<u64>
     ensures { IfSome result (λ head. (strand_in head ≢ marker) × (line_of_head_spec last head ≡ line)) }
 {
-    let (tag, place, value) = parts_of(line.request.act);
-    let (strand, place) = (u64::from(line.request.strand), u64::from(place));
+    let act = line.request.act;
+    let (tag, place, value) = (tag_of(act), u64::from(place_of(act)), value_of(act));
+    let strand = u64::from(line.request.strand);
     if line.marked || line.request.line != line.at || u64::from(line.at) != u64::from(last) + 1 {
         return None;
     }
@@ -83,8 +112,9 @@ pub fn numbers_of(line: TraceLine) -> (u64, u64, u64, u64)
     ensures head { strand_in result.0 ≡ marker }
     ensures line { line_of_numbers_spec result.0 result.1 result.2 result.3 ≡ line }
 {
-    let (tag, place, value) = parts_of(line.request.act);
-    let head = (u64::from(place) * ACTS + tag) * STRANDS + MARKER;
+    let act = line.request.act;
+    let (tag, value) = (tag_of(act), value_of(act));
+    let head = (u64::from(place_of(act)) * ACTS + tag) * STRANDS + MARKER;
     let who = u64::from(line.request.strand) * HALF + u64::from(line.request.line);
     let spot = u64::from(line.at) * 2 + u64::from(line.marked);
     (head, value, who, spot)
