@@ -16,6 +16,7 @@ use Rattle.trace_text.proofs.CellWords.{found_of_all}
 use Rattle.trace_text.proofs.PlainPlaces.{IsSmall, same_memory, found_name, single_plain, brackets, word_plain as common_plain}
 use Rattle.trace_text.specs.Plain.{IsPlain, ArePlain}
 use Rattle.trace_text.proofs.PlainWords.{decimal_number, decimal_plain, name_plain, words_spaced, text_spaced}
+use Rattle.line_grammar.proofs.Outcomes.{split_option}
 use Rattle.program_lines.specs.declared.keyword.Keyword.{Keyword}
 use Rattle.program_lines.specs.declared.keyword.Keyword.TheVariants as begin
 use Rattle.program_lines.specs.declared.operator.Operator.{Operator}
@@ -242,11 +243,6 @@ module _ (scope : NameScope) (rest : List (List ℕ)) (numbered : IsTrue (is_num
   ArePrinted places last values =
       (more : List Placed) × (placed places last (plain_words printed places last values) ≡ Some more) × WordsMean scope more values
       × ArePlain (plain_words printed places last values)
-
-  split_option : (place : Place) (word : List ℕ) (o : Option (List Placed)) (pairs : List Placed) → option_map (λ ps. (place, word) ∷ ps) o ≡ Some pairs
-      → (others : List Placed) × (o ≡ Some others) × (pairs ≡ (place, word) ∷ others)
-  split_option place word None pairs e = cc
-  split_option place word (Some others) pairs e = (others, refl, cc)
 
   none_printed : (last : List Place) (values : List Value) → WordsMean scope [] values → ArePrinted [] last values
   none_printed last [] m = ([], refl, tt, tt)

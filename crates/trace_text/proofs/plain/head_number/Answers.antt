@@ -1,4 +1,4 @@
-use Rattle.std.proofs.Common.{◌<◌, ◌≤◌, ◌+◌, arith}
+use Rattle.std.proofs.Common.{◌≤◌, ◌+◌, arith}
 use Rattle.trace_text.proofs.HeadDigits.{one_more_digit, room_for_digit}
 use Rattle.trace_text.proofs.plain.head_number.Goals as goal
 

@@ -1,4 +1,4 @@
-use Rattle.std.proofs.Common.{◌≡◌, ◌<◌, ◌≤◌, ◌-◌, ◌^◌, length, take}
+use Rattle.std.proofs.Common.{◌≡◌, ◌<◌, ◌≤◌, ◌-◌, ◌^◌, take}
 use Rattle.std.specs.Prelude.{IsTrue}
 use Rattle.std.specs.Str.{all_ascii_digits}
 use Rattle.std.specs.Str.Parse.{digits_value}
