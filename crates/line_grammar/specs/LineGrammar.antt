@@ -88,3 +88,11 @@ module _ {Place Value : Type 0} (Means : Place → List ℕ → Value → Type 0
       MatchResult answer
       (λ x. (pairs : List (Placed Place)) × (placed places last words ≡ Some pairs) × WordsMean Means pairs (values x))
       (λ cause. IsPlacedFault Fault (placed places last words) cause)
+
+-- ---- the words for values, where `plain` says it of a value in its place
+
+abbrev pub plain_words : {Place Value : Type 0} → (Place → Value → List ℕ) → (places last : List Place) → List Value → List (List ℕ)
+plain_words plain places last [] = []
+plain_words plain [] [] (value ∷ values) = []
+plain_words plain [] (place ∷ last) (value ∷ values) = plain place value ∷ plain_words plain last [] values
+plain_words plain (place ∷ places) last (value ∷ values) = plain place value ∷ plain_words plain places last values
