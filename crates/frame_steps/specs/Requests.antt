@@ -9,7 +9,8 @@ use Rattle.model_programs.specs.declared.target.Target.{Target}
 use Rattle.model_programs.specs.Values.{Registers}
 use Rattle.model_programs.specs.Answers.{Origin, IsReturned}
 use Rattle.model_programs.specs.Exchanges.{Exchange}
-use Rattle.function_steps.specs.Requests.{line_of, spawned_by}
+use Rattle.model_bodies.specs.Lines.{line_of}
+use Rattle.function_steps.specs.Requests.{spawned_by}
 use Rattle.function_steps.specs.Activations.{asked_act}
 
 abbrev pub IsSplit : Answer → Type 0

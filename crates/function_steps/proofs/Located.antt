@@ -13,7 +13,8 @@ use Rattle.function_steps.specs.declared.activation.Turn.{Turn}
 use Rattle.function_steps.specs.declared.activation.Turn.TheVariants.{Plainly, Numbering, Spawning, Returning}
 use Rattle.model_programs.specs.Values.{Registers, cell_of}
 use Rattle.function_steps.specs.Scripts.{PassesAll}
-use Rattle.function_steps.specs.Requests.{act_of, line_of, next_act, next_line, Asks, is_placed, IsNamed}
+use Rattle.model_bodies.specs.Lines.{line_of}
+use Rattle.function_steps.specs.Requests.{act_of, next_act, next_line, Asks, is_placed, IsNamed}
 use Rattle.function_steps.proofs.Places.{lt_or_le}
 use Rattle.function_steps.proofs.Turns.{body_statement, end_statement, none_left, asking_left}
 use Rattle.std.proofs.Common.{◌≡◌, ℕ, ◌+◌, ◌<◌, ◌≤◌, inl, inr, List, Some, None, Bool, true, false, refl, sym, ap, ◌∙◌, subst, arith, length}

@@ -4,6 +4,7 @@ use Rattle.model_accesses.specs.Limits.{most_cells}
 use Rattle.model_bodies.specs.declared.statement.Statement.{Statement}
 use Rattle.model_bodies.specs.declared.statement.Statement.TheVariants.{Let, Read, Write, Bump, Update, Put, Get}
 use Rattle.model_bodies.specs.declared.statement.Statement.TheVariants.{Spawn, Call, Sync, ParallelFor, If, Else, End}
+use Rattle.model_bodies.specs.Lines.{line_of}
 use Rattle.model_bodies.specs.Sound.{is_located}
 use Rattle.model_bodies.specs.Trees.{Tree, Done, Step, Choice}
 use Rattle.model_accesses.specs.declared.request.Act.{Act}
@@ -25,23 +26,6 @@ act_of (Spawn line function argument) registers = Some Act.Spawn
 act_of (Call line function argument) registers = Some Act.Call
 act_of (Sync line) registers = Some Act.Sync
 act_of _ registers = None
-
--- The line of a statement.
-abbrev pub line_of : Statement → ℕ
-line_of (Let line register value) = line
-line_of (Read line register location) = line
-line_of (Write line location value) = line
-line_of (Bump line location value) = line
-line_of (Update line reducer value) = line
-line_of (Put line reducer value) = line
-line_of (Get line register reducer) = line
-line_of (Spawn line function argument) = line
-line_of (Call line function argument) = line
-line_of (Sync line) = line
-line_of (ParallelFor line register count function) = line
-line_of (If line register otherwise) = line
-line_of (Else line after) = line
-line_of (End line) = line
 
 -- The function that a statement spawns, and its argument.
 abbrev pub spawned_by : Statement → Registers → Option Target

@@ -1,7 +1,8 @@
 //! What statements ask.
 
 ghost use Rattle.std.specs.Prelude.{◌≡◌, IsTrue};
-ghost use Rattle.function_steps.specs.Requests.{act_of, line_of, is_placed};
+ghost use Rattle.model_bodies.specs.Lines.{line_of};
+ghost use Rattle.function_steps.specs.Requests.{act_of, is_placed};
 
 use crate::value::{cell_of, value_of};
 use program_text::{REGISTERS, Statement};

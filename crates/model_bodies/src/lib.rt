@@ -7,6 +7,7 @@
 //! - `Trees`: the flat list of statements read as nested parts of `if`s, and what is left of it from a place on.
 //! - `Bodies`: where the parts of an `if` end.
 //! - `Sound`: what holds of the program of every text: what statements name is there, numbers are of 64 bits, and parts are linked.
+//! - `Lines`: the line of a statement.
 #![tactic(auto)]
 
 mod statement;

@@ -1,16 +1,18 @@
 -- A line that names a register for which there is no room.
 use Rattle.std.proofs.Common.{◌≡◌, ℕ, ◌≤◌, ◌∷◌, [], List, length, Bool, true, false, refl, sym, subst, inl, inr}
-use Rattle.std.specs.Prelude.{Option, Some, None, option_map, ◌⊎◌}
+use Rattle.std.specs.Prelude.{Some, ◌⊎◌}
 use Rattle.model_accesses.specs.declared.kind.Kind.TheVariants as kind
 use Rattle.text_words.specs.declared.fault.Cause.{Cause}
 use Rattle.text_words.specs.declared.fault.Cause.TheVariants.{NotText, BadHeader, BadNesting, NoMain, TooMany}
+use Rattle.line_grammar.specs.LineGrammar.{IsArranged, SomeFault}
+use Rattle.line_grammar.proofs.Outcomes.{split_option, nowhere}
 use Rattle.program_lines.specs.declared.keyword.Keyword.{Keyword}
 use Rattle.program_lines.specs.declared.keyword.Keyword.TheVariants.{Mem, Reducer, Func, Let, Access, Spawn, Call, Sync, ParallelFor, If, Else, End}
 use Rattle.trace_text.specs.Lines as trace
 use Rattle.program_lines.specs.Scopes.{NameScope, max_registers}
 use Rattle.program_lines.specs.Places.{Place, Common, FreshName, OperandWord, LocationWord, AssignedRegister, FunctionName, ParameterName}
-use Rattle.program_lines.specs.Table.{wanted, optional, Placed, placed, IsArranged}
-use Rattle.program_lines.specs.Faults.{WordFault, SomeFault, WordsFault}
+use Rattle.program_lines.specs.Table.{table, wanted, optional, Placed, placed}
+use Rattle.program_lines.specs.Faults.{WordFault, WordsFault}
 
 -- the lines that assign a register
 abbrev pub assigns : Keyword → Bool
@@ -34,25 +36,20 @@ module _ (scope : NameScope) where
   no_room AssignedRegister word f = (refl, f.1)
   no_room place word f = absurd f
 
-  pub split_option : (place : Place) (word : List ℕ) (o : Option (List Placed)) (pairs : List Placed) → option_map (λ ps. (place, word) ∷ ps) o ≡ Some pairs
-      → (rest : List Placed) × (o ≡ Some rest) × (pairs ≡ (place, word) ∷ rest)
-  split_option place word None pairs e = cc
-  split_option place word (Some rest) pairs e = (rest, refl, cc)
-
-  in_places : (places last : List Place) (words : List (List ℕ)) (pairs : List Placed) → placed places last words ≡ Some pairs → SomeFault scope pairs TooMany
+  in_places : (places last : List Place) (words : List (List ℕ)) (pairs : List Placed) → placed places last words ≡ Some pairs → SomeFault (WordFault scope) pairs TooMany
       → (HasAssigned places ⊎ HasAssigned last) × (max_registers ≤ length scope.registers)
-  in_places [] last [] pairs e f = let same : [] ≡ pairs = cc in absurd (subst (λ (ps : List Placed). SomeFault scope ps TooMany) (sym same) f)
+  in_places [] last [] pairs e f = let same : [] ≡ pairs = cc in absurd (subst (λ (ps : List Placed). SomeFault (WordFault scope) ps TooMany) (sym same) f)
   in_places [] [] (word ∷ words) pairs e f = cc
   in_places [] (place ∷ last) (word ∷ words) pairs e f =
       let parts = split_option place word (placed last [] words) pairs e in
-      elim (subst (λ (ps : List Placed). SomeFault scope ps TooMany) parts.2 f) [
+      elim (subst (λ (ps : List Placed). SomeFault (WordFault scope) ps TooMany) parts.2 f) [
         | inl here ↦ (let found = no_room place word here in (inr (inl found.0), found.1))
         | inr there ↦ (let found = in_places last [] words parts.0 parts.1 there in (elim found.0 [ inl a ↦ inr (inr a) | inr b ↦ absurd b ], found.1))
       ]
   in_places (place ∷ places) last [] pairs e f = cc
   in_places (place ∷ places) last (word ∷ words) pairs e f =
       let parts = split_option place word (placed places last words) pairs e in
-      elim (subst (λ (ps : List Placed). SomeFault scope ps TooMany) parts.2 f) [
+      elim (subst (λ (ps : List Placed). SomeFault (WordFault scope) ps TooMany) parts.2 f) [
         | inl here ↦ (let found = no_room place word here in (inl (inl found.0), found.1))
         | inr there ↦ (let found = in_places places last words parts.0 parts.1 there in (elim found.0 [ inl a ↦ inl (inr a) | inr b ↦ inr b ], found.1))
       ]
@@ -93,7 +90,7 @@ module _ (scope : NameScope) where
 
   -- where it holds, the line assigns a register and all registers are known
   pub crowded : (ws : List (List ℕ)) → WordsFault scope ws TooMany
-      → (keyword : Keyword) × (pairs : List Placed) × IsArranged scope.known.version ws keyword pairs × (assigns keyword ≡ true) × (max_registers ≤ length scope.registers)
+      → (keyword : Keyword) × (pairs : List Placed) × IsArranged table scope.known.version ws keyword pairs × (assigns keyword ≡ true) × (max_registers ≤ length scope.registers)
   crowded ws f =
       let found = in_places (wanted f.0) (optional f.0) f.2.0 f.1 f.2.3 f.3 in
       (f.0, f.1, f.2, assigning f.0 found.0, found.1)
@@ -119,14 +116,9 @@ module _ (scope : NameScope) where
   no_word_fault place word NoMain h f = f
   no_word_fault place word cause h f = absurd (h tt)
 
-  no_pair_fault : (pairs : List Placed) (cause : Cause) → (IsOfWords cause → ⊥) → SomeFault scope pairs cause → ⊥
-  no_pair_fault [] cause h f = f
-  no_pair_fault (pair ∷ pairs) cause h (inl f) = no_word_fault pair.0 pair.1 cause h f
-  no_pair_fault (pair ∷ pairs) cause h (inr f) = no_pair_fault pairs cause h f
-
   pub no_words_fault : (ws : List (List ℕ)) (cause : Cause) → (IsOfWords cause → ⊥) → WordsFault scope ws cause → ⊥
-  no_words_fault ws NotText h f = no_pair_fault f.1 NotText h f.3
-  no_words_fault ws BadHeader h f = no_pair_fault f.1 BadHeader h f.3
-  no_words_fault ws BadNesting h f = no_pair_fault f.1 BadNesting h f.3
-  no_words_fault ws NoMain h f = no_pair_fault f.1 NoMain h f.3
+  no_words_fault ws NotText h f = nowhere (WordFault scope) f.1 NotText (λ place word g. no_word_fault place word NotText h g) f.3
+  no_words_fault ws BadHeader h f = nowhere (WordFault scope) f.1 BadHeader (λ place word g. no_word_fault place word BadHeader h g) f.3
+  no_words_fault ws BadNesting h f = nowhere (WordFault scope) f.1 BadNesting (λ place word g. no_word_fault place word BadNesting h g) f.3
+  no_words_fault ws NoMain h f = nowhere (WordFault scope) f.1 NoMain (λ place word g. no_word_fault place word NoMain h g) f.3
   no_words_fault ws cause h f = absurd (h tt)

@@ -40,9 +40,6 @@ keyword_of_spelling If = refl
 keyword_of_spelling Else = refl
 keyword_of_spelling End = refl
 
-pub keyword_once : (keyword other : Keyword) → spelling keyword ≡ spelling other → keyword ≡ other
-keyword_once keyword other same = sym (keyword_of_spelling keyword) ∙ (ap keyword_of_word same ∙ keyword_of_spelling other)
-
 abbrev pub sign_of_word : List ℕ → Operator
 sign_of_word word = cond (get_or word 0 0 == 43) Plus (cond (get_or word 0 0 == 45) Minus (cond (get_or word 0 0 == 42) Times Below))
 

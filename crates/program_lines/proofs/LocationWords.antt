@@ -1,5 +1,5 @@
 -- Words that are operands, and words that name a location: a name, or a name with an operand in brackets.
-use Rattle.std.proofs.Common.{◌≡◌, ◌≢◌, ℕ, ◌<◌, ◌∷◌, ◌++◌, [], List, true, false, Bool, arith, refl, sym, ◌∙◌, inl, inr, subst}
+use Rattle.std.proofs.Common.{◌≡◌, ◌≢◌, ℕ, ◌<◌, ◌∷◌, ◌++◌, [], List, true, arith, sym, ◌∙◌, inl, inr, subst}
 use Rattle.std.specs.Prelude.{Option, Some, None, Result, Ok, Err, MatchResult, IsTrue, ◌⊎◌}
 use Rattle.std.specs.Char.{is_ascii_digit, is_ascii_lowercase}
 use Rattle.std.proofs.lemmas.Bool.Decides.{nat_tests}
@@ -13,6 +13,7 @@ use Rattle.trace_text.specs.Cells.{IsSingleFault}
 use Rattle.text_words.specs.Causes.{IsLowest, cause_number}
 use Rattle.trace_text.specs.Faults.{IsUndeclared, WordFault as CommonFault}
 use Rattle.trace_text.specs.Lines as trace
+use Rattle.trace_text.proofs.NamedWords.{stable_digit}
 use Rattle.trace_text.proofs.CellWords.{IsSplit, name_no_bracket, same_split, flat, no_element, digits_begin, below_word as common_below, no_closing as cell_no_closing}
 use Rattle.model_bodies.specs.declared.statement.Operand.{Operand}
 use Rattle.model_bodies.specs.declared.statement.Operand.TheVariants.{Number, Held}
@@ -32,14 +33,6 @@ no_digit byte h k = grind (arith, nat_tests)
 pub name_no_digit : (word : List ℕ) → IsName word → BeginsWithDigit word → ⊥
 name_no_digit [] n d = n
 name_no_digit (byte ∷ word) n d = no_digit byte n.0 d
-
-pub stable_digit : (word : List ℕ) → ((BeginsWithDigit word → ⊥) → ⊥) → BeginsWithDigit word
-stable_digit [] f = absurd (f (λ b. b))
-stable_digit (byte ∷ word) f = by _ f
-  where
-    by : (b : Bool) → ((b ≡ true → ⊥) → ⊥) → b ≡ true
-    by true g = refl
-    by false g = absurd (g (λ e. cc))
 
 pub unnamed : (o : Option ℕ) (n : ℕ) → o ≡ Some n → o ≡ None → ⊥
 unnamed o n h k = cc

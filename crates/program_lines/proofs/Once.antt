@@ -1,18 +1,15 @@
 -- Words mean one thing at most, and so do lines.
-use Rattle.std.proofs.Common.{◌≡◌, ℕ, ◌<◌, ◌∷◌, ◌++◌, [], List, refl, sym, ◌∙◌, ap, subst, lit<, inl, inr}
+use Rattle.std.proofs.Common.{◌≡◌, ℕ, ◌<◌, ◌∷◌, [], List, refl, sym, ◌∙◌, ap, subst, lit<, inl, inr}
 use Rattle.std.specs.Prelude.{Option, Some, None, ◌⊎◌}
-use Rattle.std.proofs.lemmas.List.{append_cancel_right}
 use denote.Struct.Props.{props}
 use Rattle.model_accesses.specs.declared.kind.Kind.TheVariants as kind
 use Rattle.text_words.specs.declared.value.Mem.{Mem}
 use Rattle.model_reducers.specs.declared.monoid.Monoid.{Monoid}
 use Rattle.model_reducers.specs.declared.monoid.Monoid.TheVariants.{Sum as SumMonoid}
-use Rattle.text_words.specs.Text.{IsName}
 use Rattle.text_words.specs.Limits.{max_value}
-use Rattle.text_words.specs.Names.{element_word}
 use Rattle.trace_text.specs.Lines as trace
-use Rattle.trace_text.proofs.CellWords.{same_some, same_split, name_no_bracket, no_element, flat, digits_begin}
-use Rattle.trace_text.proofs.Once.{number_once, word_once as common_once}
+use Rattle.trace_text.proofs.CellWords.{same_some, name_no_bracket, no_element, digits_begin}
+use Rattle.trace_text.proofs.Once.{number_once, same_element, word_once as common_once}
 use Rattle.program_lines.specs.declared.keyword.Keyword.{Keyword}
 use Rattle.program_lines.specs.declared.keyword.Keyword.TheVariants as begin
 use Rattle.program_lines.specs.declared.operator.Operator.TheVariants.{Plus, Minus, Times, Below}
@@ -27,10 +24,11 @@ use Rattle.model_bodies.specs.declared.statement.Statement.{Statement}
 use Rattle.model_bodies.specs.declared.statement.Statement.TheVariants.{Let, Read, Write, Bump, Update, Put, Get, Spawn, Call, Sync, ParallelFor, If, Else, End}
 use Rattle.program_lines.specs.Scopes.{NameScope, register_named}
 use Rattle.program_lines.specs.Places.{Place, Common, FreshName, OperandWord, LocationWord, AssignedRegister, KnownRegister, FunctionName, ParameterName, Sign, Exactly, Value, Plain, OfOperand, OfLocation, OfRegister, OfAssigned, OfSign, Nothing, WordMeans, OperandMeans, ElementMeans, LocationMeans, AssignedMeans}
-use Rattle.program_lines.specs.Table.{spelling, Placed, WordsMean, Says}
+use Rattle.program_lines.specs.Table.{spelling, Says}
 use Rattle.program_lines.specs.Grammar.{Item, Blank, Declared, Reduces, Begins, Does, Decides, Otherwise, Ends, ItemMeans, number_if_there, keyword_of_statement, statement_values}
 use Rattle.program_lines.proofs.Keywords.{sign_once}
-use Rattle.program_lines.proofs.LineFaults.{arranged_once}
+use Rattle.line_grammar.proofs.LineFaults.{says_once as words_say_once}
+use Rattle.program_lines.proofs.Outcomes.{clear}
 use Rattle.program_lines.proofs.LocationWords.{name_no_digit, unnamed}
 
 -- ---- registers
@@ -56,12 +54,6 @@ operand_once registers word (Number a) (Number b) m n = ap Number (number_once 0
 operand_once registers word (Number a) (Held b) m n = absurd (name_no_digit word n.0 (digits_begin word m.0.0 m.0.1))
 operand_once registers word (Held a) (Number b) m n = absurd (name_no_digit word m.0 (digits_begin word n.0.0 n.0.1))
 operand_once registers word (Held a) (Held b) m n = ap Held (register_once registers word a b m.1 n.1)
-
-same_element : (name other index place : List ℕ) → IsName name → IsName other → element_word name index ≡ element_word other place → (name ≡ other) × (index ≡ place)
-same_element name other index place n o e =
-    let same = same_split name other (index ++ 93 ∷ []) (place ++ 93 ∷ []) (name_no_bracket name n) (name_no_bracket other o)
-    (sym (flat name index) ∙ (e ∙ flat other place)) in
-    (same.0, append_cancel_right index place (93 ∷ []) same.1)
 
 same_location : (a b x y : ℕ) (i j : Operand) → a ≡ b → x ≡ y → i ≡ j → Element a x i ≡ Element b y j
 same_location a b x y i j e f g =
@@ -120,22 +112,9 @@ module _ (scope : NameScope) where
   word_once (Exactly other) word Nothing w m n = absurd n
   word_once place word v w m n = absurd m
 
-  same_values : (v w : Value) (vs ws : List Value) → v ≡ w → vs ≡ ws → v ∷ vs ≡ w ∷ ws
-  same_values v w vs ws e f = ap (λ (x : Value). x ∷ vs) e ∙ ap (λ (xs : List Value). w ∷ xs) f
-
-  values_once : (pairs : List Placed) (vs ws : List Value) → WordsMean scope pairs vs → WordsMean scope pairs ws → vs ≡ ws
-  values_once [] [] [] m n = refl
-  values_once [] [] (w ∷ ws) m n = absurd n
-  values_once [] (v ∷ vs) ws m n = absurd m
-  values_once (pair ∷ pairs) [] ws m n = absurd m
-  values_once (pair ∷ pairs) (v ∷ vs) [] m n = absurd n
-  values_once (pair ∷ pairs) (v ∷ vs) (w ∷ ws) m n = same_values v w vs ws (word_once pair.0 pair.1 v w m.0 n.0) (values_once pairs vs ws m.1 n.1)
-
   pub says_once : (ws : List (List ℕ)) (keyword other : Keyword) (values more : List Value) → Says scope ws keyword values → Says scope ws other more
       → (keyword ≡ other) × (values ≡ more)
-  says_once ws keyword other values more m n =
-      let same = arranged_once scope.known.version ws keyword other m.0 n.0 m.1 n.1 in
-      (same.0, values_once n.0 values more (subst (λ (t : List Placed). WordsMean scope t values) same.1 m.2) n.2)
+  says_once ws keyword other values more m n = words_say_once (clear scope) scope.known.version word_once ws keyword other values more m n
 
 -- ---- items, from their keyword and values
 

@@ -1,12 +1,13 @@
 -- Words in their places: what means something has no fault, and the lowest cause of more words is the lower one.
 -- A, B: the types of values; a, b, r: results, each a value or a cause
-use Rattle.std.proofs.Common.{◌≡◌, ℕ, ◌<◌, ◌≤◌, ◌+◌, ◌∷◌, [], List, length, true, false, Bool, cond, arith, refl, sym, ap, subst, inl, inr}
-use Rattle.std.specs.Prelude.{Option, Some, None, Result, Ok, Err, MatchResult, option_map, nat_lt}
+use Rattle.std.proofs.Common.{◌≡◌, ℕ, ◌<◌, ◌≤◌, ◌+◌, ◌∷◌, [], List, length, arith, refl, sym, subst}
+use Rattle.std.specs.Prelude.{Option, Some, None, Result, Ok, Err, MatchResult}
 use Rattle.std.specs.Result.{result_and}
-use Rattle.std.proofs.lemmas.Bool.Decides.{nat_tests}
 use Rattle.text_words.specs.declared.fault.Cause.{Cause}
 use Rattle.text_words.specs.declared.fault.Cause.TheVariants.{NotText, BadHeader, BadWord, BadNumber, UnknownName, TwiceNamed, BadNesting, NoMain, TooMany}
 use Rattle.text_words.specs.Causes.{IsLowest, cause_number, both_of}
+use Rattle.line_grammar.specs.LineGrammar.{IsPlacedFault}
+use Rattle.line_grammar.proofs.Outcomes.{IsClear, takes as word_and_rest}
 use Rattle.trace_text.specs.Lines as trace
 use Rattle.trace_text.specs.Outcome.{TakesWord as TakesCommon, Fits as FitsCommon}
 use Rattle.text_words.specs.Text.{IsName}
@@ -16,10 +17,11 @@ use Rattle.model_bodies.specs.declared.statement.Operand.{Operand}
 use Rattle.model_bodies.specs.declared.statement.Register.{Register}
 use Rattle.program_lines.specs.Scopes.{NameScope, register_named, function_named, max_registers, IsFresh}
 use Rattle.program_lines.specs.Places.{Place, Common, FreshName, OperandWord, LocationWord, AssignedRegister, KnownRegister, FunctionName, ParameterName, Sign, Exactly, Value, Plain, OfOperand, OfLocation, OfRegister, OfAssigned, OfSign, Nothing, WordMeans, OperandMeans, RegisterMeans, AssignedMeans, IsRegisterName}
-use Rattle.program_lines.specs.Table.{Placed, placed, WordsMean}
+use Rattle.program_lines.specs.Table.{table, Placed, placed, WordsMean}
 use Rattle.program_lines.specs.Grammar.{number_if_there}
-use Rattle.program_lines.specs.Faults.{WordFault, SomeFault}
-use Rattle.program_lines.specs.Outcome.{Reads, TakesWord, IsPlacedFault, Fits}
+use Rattle.program_lines.specs.Faults.{WordFault}
+use Rattle.program_lines.specs.Outcome.{TakesWord, Fits}
+use Rattle.program_lines.proofs.Keywords.{keyword_of_word, keyword_of_spelling}
 use Rattle.program_lines.proofs.LocationWords.{below_word, unnamed, operand_shape, operand_number, operand_known, location_no_fault}
 
 module _ (scope : NameScope) where
@@ -81,88 +83,21 @@ module _ (scope : NameScope) where
   word_clean (Exactly other) word Nothing m cause f = exact_no_fault other word m cause f
   word_clean place word value m cause f = m
 
-  pub words_clean : (pairs : List Placed) (values : List Value) → WordsMean scope pairs values → (cause : Cause) → SomeFault scope pairs cause → ⊥
-  words_clean [] [] m cause f = f
-  words_clean [] (value ∷ values) m cause f = m
-  words_clean (pair ∷ pairs) [] m cause f = m
-  words_clean (pair ∷ pairs) (value ∷ values) m cause (inl f) = word_clean pair.0 pair.1 value m.0 cause f
-  words_clean (pair ∷ pairs) (value ∷ values) m cause (inr f) = words_clean pairs values m.1 cause f
+  -- so the grammar is clear
+  pub clear : IsClear table (WordMeans scope) (WordFault scope)
+  clear = record { keyword_of = keyword_of_word; of_spelling = keyword_of_spelling; word_clean = word_clean; below_word = below_word scope }
 
   -- ---- a word and the rest
 
-  module _ (place : Place) (word : List ℕ) where
-    after_clean : (rest : Option (List Placed)) (value : Value) (cause : Cause) → WordMeans scope place word value → IsPlacedFault scope rest cause
-        → IsPlacedFault scope (option_map (λ pairs. (place, word) ∷ pairs) rest) cause
-    after_clean None value cause m f = f
-    after_clean (Some pairs) value cause m f =
-        (inr f.0, λ lower l g. elim g [ inl w ↦ word_clean place word value m lower w | inr n ↦ f.1 lower l n ])
-
-    before_clean : (pairs : List Placed) (values : List Value) (cause : Cause) → IsLowest (WordFault scope place word) cause → WordsMean scope pairs values
-        → IsLowest (SomeFault scope ((place, word) ∷ pairs)) cause
-    before_clean pairs values cause f m =
-        (inl f.0, λ lower l g. elim g [ inl w ↦ f.1 lower l w | inr n ↦ words_clean pairs values m lower n ])
-
-    first_lower : (rest : Option (List Placed)) (first second : Cause) → cause_number first < cause_number second
-        → IsLowest (WordFault scope place word) first → IsPlacedFault scope rest second
-        → IsPlacedFault scope (option_map (λ pairs. (place, word) ∷ pairs) rest) first
-    first_lower None first second l f g =
-        absurd (below_word scope place word first (let three : cause_number second ≡ 3 = ap cause_number g in omega arith) f.0)
-    first_lower (Some pairs) first second l f g =
-        (inl f.0, λ lower k h. elim h [ inl w ↦ f.1 lower k w | inr n ↦ g.1 lower (omega arith) n ])
-
-    second_lower : (rest : Option (List Placed)) (first second : Cause) → cause_number second ≤ cause_number first
-        → IsLowest (WordFault scope place word) first → IsPlacedFault scope rest second
-        → IsPlacedFault scope (option_map (λ pairs. (place, word) ∷ pairs) rest) second
-    second_lower None first second l f g = g
-    second_lower (Some pairs) first second l f g =
-        (inr g.0, λ lower k h. elim h [ inl w ↦ f.1 lower (omega arith) w | inr n ↦ g.1 lower k n ])
-
-    module _ (places last : List Place) (words : List (List ℕ)) {A B : Type 0} (value : A → Value) (values : B → List Value) where
-      lower_fits : (t : Bool) (first second : Cause) → (t ≡ true → cause_number first < cause_number second) → (t ≡ false → cause_number second ≤ cause_number first)
-          → IsLowest (WordFault scope place word) first → IsPlacedFault scope (placed places last words) second
-          → Fits {A = A × B} scope (place ∷ places) last (word ∷ words) (cond t (Err first) (Err second)) (λ r. value r.0 ∷ values r.1)
-      lower_fits true first second h k f g = first_lower (placed places last words) first second (h refl) f g
-      lower_fits false first second h k f g = second_lower (placed places last words) first second (k refl) f g
-
-      takes_some : (a : Result A Cause) (b : Result B Cause) → Reads scope place word a value → Fits scope places last words b values
-          → Fits scope (place ∷ places) last (word ∷ words) (both_of a b) (λ r. value r.0 ∷ values r.1)
-      takes_some (Ok x) (Ok y) m f = ((place, word) ∷ f.0, ap (option_map (λ pairs. (place, word) ∷ pairs)) f.1, (m, f.2))
-      takes_some (Ok x) (Err second) m f = after_clean (placed places last words) (value x) second m f
-      takes_some (Err first) (Ok y) m f = rw f.1 (before_clean f.0 (values y) first m f.2)
-      takes_some (Err first) (Err second) m f =
-          lower_fits (nat_lt (cause_number first) (cause_number second)) first second (λ e. grind (arith, nat_tests)) (λ e. grind (arith, nat_tests)) m f
-
-  -- ---- no word is left
-
-  no_words : (places last : List Place) (cause : Cause) → IsPlacedFault scope (placed places last []) cause → cause ≡ BadWord
-  no_words [] last cause f = absurd f.0
-  no_words (place ∷ places) last cause f = f
-
-  takes_none : (place : Place) (places last : List Place) {A B : Type 0} (value : A → Value) (values : B → List Value) (b : Result B Cause)
-      → Fits scope places last [] b values → Fits {A = A × B} scope (place ∷ places) last [] (both_of (Err BadWord) b) (λ r. value r.0 ∷ values r.1)
-  takes_none place places last value values (Ok y) f = refl
-  takes_none place places last value values (Err second) f = let e : second ≡ BadWord = no_words places last second f in rw e refl
-
-  -- a word in its place, and the rest
   pub takes : (place : Place) (places last : List Place) (old mid : List (List ℕ)) {A B : Type 0} (a : Result A Cause) (b : Result B Cause)
       (value : A → Value) (values : B → List Value) → TakesWord scope place old mid a value → Fits scope places last mid b values
       → Fits scope (place ∷ places) last old (both_of a b) (λ r. value r.0 ∷ values r.1)
-  takes place places last [] mid {A} {B} a b value values t f =
-      subst (λ (r : Result A Cause). Fits scope (place ∷ places) last [] (both_of r b) (λ r. value r.0 ∷ values r.1)) (sym t.1)
-      (takes_none place places last value values b (subst (λ (ws : List (List ℕ)). Fits scope places last ws b values) t.0 f))
-  takes place places last (word ∷ words) mid a b value values t f =
-      takes_some place word places last words value values a b t.1 (subst (λ (ws : List (List ℕ)). Fits scope places last ws b values) t.0 f)
-
-  -- a word that is taken already, and the rest
-  pub reads : (place : Place) (places last : List Place) (word : List ℕ) (words : List (List ℕ)) {A B : Type 0} (a : Result A Cause) (b : Result B Cause)
-      (value : A → Value) (values : B → List Value) → Reads scope place word a value → Fits scope places last words b values
-      → Fits scope (place ∷ places) last (word ∷ words) (both_of a b) (λ r. value r.0 ∷ values r.1)
-  reads place places last word words a b value values m f = takes_some place word places last words value values a b m f
+  takes place places last old mid a b value values t f = word_and_rest clear place places last old mid a b value values t f
 
   -- a keyword behind which no word stands
   pub stands_alone : {A : Type 0} (words : List (List ℕ)) (Holds : A → Type 0) (item : A) (r : Result (Unit {0}) Cause) → Fits scope [] [] words r (λ _. [])
       → ((pairs : List Placed) × (placed [] [] words ≡ Some pairs) × WordsMean scope pairs [] → Holds item)
-      → MatchResult (result_and r (Ok item)) Holds (λ cause. IsPlacedFault scope (placed [] [] words) cause)
+      → MatchResult (result_and r (Ok item)) Holds (λ cause. IsPlacedFault (WordFault scope) (placed [] [] words) cause)
   stands_alone words Holds item (Ok done) f h = h f
   stands_alone words Holds item (Err cause) f h = f
 

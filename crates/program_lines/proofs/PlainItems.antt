@@ -1,7 +1,7 @@
 -- Values in their places, printed and read again.
 use Rattle.std.proofs.Common.{◌≡◌, ℕ, suc, ◌+◌, ◌-◌, ◌≤◌, ◌∷◌, ◌++◌, [], List, length, true, false, Bool, cond, arith, refl, sym, ap, subst, ◌∙◌, get_or, inl, inr, append_assoc}
-use Rattle.std.specs.Prelude.{Option, Some, None, IsTrue, option_map, ◌⊎◌}
-use Rattle.std.specs.List.{All, position_from}
+use Rattle.std.specs.Prelude.{Option, Some, None, IsTrue}
+use Rattle.std.specs.List.{All, AllByRecursion, position_from}
 use Rattle.std.specs.Str.{bytes_eq}
 use Rattle.std.specs.Cmp.Lexicographic.{bytes_decides}
 use Rattle.model_accesses.specs.declared.kind.Kind.TheVariants as kind
@@ -13,9 +13,10 @@ use Rattle.trace_text.specs.Lines as trace
 use Rattle.trace_text.specs.Shapes.{is_numbered}
 use Rattle.trace_text.specs.Printing.{spaced}
 use Rattle.trace_text.proofs.CellWords.{found_of_all}
-use Rattle.trace_text.proofs.PlainPlaces.{IsSmall, same_memory, found_name, single_plain, brackets, word_plain as common_plain}
+use Rattle.trace_text.proofs.PlainPlaces.{IsSmall, first_or_later, position_above, same_memory, found_name, single_plain, brackets, word_plain as common_plain}
 use Rattle.trace_text.specs.Plain.{IsPlain, ArePlain}
 use Rattle.trace_text.proofs.PlainWords.{decimal_number, decimal_plain, name_plain, words_spaced, text_spaced}
+use Rattle.line_grammar.proofs.PlainWords.{says_plain as words_say_plain}
 use Rattle.program_lines.specs.declared.keyword.Keyword.{Keyword}
 use Rattle.program_lines.specs.declared.keyword.Keyword.TheVariants as begin
 use Rattle.program_lines.specs.declared.operator.Operator.{Operator}
@@ -31,9 +32,9 @@ use Rattle.model_bodies.specs.declared.statement.Statement.{Statement}
 use Rattle.model_bodies.specs.declared.statement.Statement.TheVariants.{Let, Read, Write, Bump, Update, Put, Get, Spawn, Call, Sync, ParallelFor, If, Else, End}
 use Rattle.program_lines.specs.Scopes.{NameScope, ok_word, register_named, function_named, IsFresh}
 use Rattle.program_lines.specs.Places.{Place, Common, FreshName, OperandWord, LocationWord, AssignedRegister, KnownRegister, FunctionName, ParameterName, Sign, Exactly, Value, Plain, OfOperand, OfLocation, OfRegister, OfAssigned, OfSign, Nothing, WordMeans, OperandMeans, RegisterMeans, ElementMeans, LocationMeans, IsRegisterName, sign_spelling}
-use Rattle.program_lines.specs.Table.{spelling, wanted, optional, Placed, placed, WordsMean, Says}
+use Rattle.program_lines.specs.Table.{table, spelling, wanted, optional, Says}
 use Rattle.program_lines.specs.Grammar.{Item, Blank, Declared, Reduces, Begins, Does, Decides, Otherwise, Ends, ItemMeans, number_if_there, keyword_of_statement, expression_values, statement_values}
-use Rattle.program_lines.specs.Printing.{name_of_register, name_of_function, operand_word, memory_name, name_of_array, location_word, plain_word, plain_words, words_for, statement_words, item_words, scope_behind}
+use Rattle.program_lines.specs.Printing.{name_of_register, name_of_function, operand_word, memory_name, name_of_array, location_word, plain_word, words_for, statement_words, item_words, scope_behind}
 
 -- ---- places
 
@@ -42,14 +43,10 @@ IsPrintable (Common place) = IsSmall place
 IsPrintable (Exactly word) = IsPlain word
 IsPrintable place = Unit {0}
 
-abbrev ArePrintable : List Place → Type 0
-ArePrintable [] = Unit {0}
-ArePrintable (place ∷ places) = IsPrintable place × ArePrintable places
-
 equals_plain : IsPlain (61 ∷ [])
 equals_plain = (omega arith, (refl, tt))
 
-printable_wanted : (keyword : Keyword) → ArePrintable (wanted keyword)
+printable_wanted : (keyword : Keyword) → AllByRecursion IsPrintable (wanted keyword)
 printable_wanted begin.Mem = (tt, tt)
 printable_wanted begin.Reducer = (tt, (tt, tt))
 printable_wanted begin.Func = (tt, (tt, tt))
@@ -68,7 +65,7 @@ printable_wanted begin.If = (tt, tt)
 printable_wanted begin.Else = tt
 printable_wanted begin.End = tt
 
-printable_optional : (keyword : Keyword) → ArePrintable (optional keyword)
+printable_optional : (keyword : Keyword) → AllByRecursion IsPrintable (optional keyword)
 printable_optional begin.Mem = (omega arith, tt)
 printable_optional begin.Let = (tt, (tt, tt))
 printable_optional keyword = tt
@@ -100,26 +97,14 @@ sign_plain Below = (omega arith, (refl, tt))
 
 -- ---- names in lists
 
-found_by : (here : Bool) (from number : ℕ) (rest : Option ℕ) → cond here (Some from) rest ≡ Some number → ((here ≡ true) × (from ≡ number)) ⊎ ((here ≡ false) × (rest ≡ Some number))
-found_by true from number rest e = inl (refl, cc)
-found_by false from number rest e = inr (refl, e)
-
-from_le : (names : List (List ℕ)) (word : List ℕ) (from number : ℕ) → position_from (bytes_eq word) from names ≡ Some number → from ≤ number
-from_le [] word from number e = cc
-from_le (name ∷ names) word from number e =
-    elim (found_by (bytes_eq word name) from number (position_from (bytes_eq word) (from + 1) names) e) [
-      | inl f ↦ omega (arith, f.1)
-      | inr f ↦ (let later = from_le names word (from + 1) number f.1 in omega arith)
-    ]
-
 -- the name with this number is the one that was found
 name_at : (names more : List (List ℕ)) (word : List ℕ) (from number : ℕ) → position_from (bytes_eq word) from names ≡ Some number → get_or (names ++ more) (number - from) [] ≡ word
 name_at [] more word from number e = cc
 name_at (name ∷ names) more word from number e =
-    elim (found_by (bytes_eq word name) from number (position_from (bytes_eq word) (from + 1) names) e) [
+    elim (first_or_later (bytes_eq word name) from number (position_from (bytes_eq word) (from + 1) names) e) [
       | inl f ↦ (let d : number - from ≡ 0 = omega (arith, f.1) in
           ap (λ (n : ℕ). get_or (name ∷ (names ++ more)) n []) d ∙ sym ((bytes_decides word name).0 f.0))
-      | inr f ↦ (let later = from_le names word (from + 1) number f.1 in
+      | inr f ↦ (let later = position_above (bytes_eq word) names (from + 1) number f.1 in
           let d : number - from ≡ suc (number - (from + 1)) = omega arith in
           ap (λ (n : ℕ). get_or (name ∷ (names ++ more)) n []) d ∙ name_at names more word (from + 1) number f.1)
     ]
@@ -134,7 +119,7 @@ register_by true registers more word index b e =
     let zero_is : 0 ≡ index = cc in
     ap (name_of_register (registers ++ more)) (sym zero_is) ∙ sym ((bytes_decides word ok_word).0 b)
 register_by false registers more word index b e =
-    let past = from_le registers word 1 index e in
+    let past = position_above (bytes_eq word) registers 1 index e in
     let next : index ≡ suc (index - 1) = omega arith in
     ap (name_of_register (registers ++ more)) next ∙ name_at registers more word 1 index e
 
@@ -154,10 +139,6 @@ function_plain functions word number e =
 abbrev Leads : List (List ℕ) → Value → Type 0
 Leads rest (OfAssigned register (Some name)) = (more : List (List ℕ)) × (rest ≡ name ∷ more)
 Leads rest value = Unit {0}
-
-abbrev AllLead : List (List ℕ) → List Value → Type 0
-AllLead rest [] = Unit {0}
-AllLead rest (value ∷ values) = Leads rest value × AllLead rest values
 
 module _ (scope : NameScope) (rest : List (List ℕ)) (numbered : IsTrue (is_numbered 0 scope.known.mems)) (some : All (λ (mem : Mem). 1 ≤ mem.cells) scope.known.mems) where
   abbrev all_registers : List (List ℕ)
@@ -236,65 +217,16 @@ module _ (scope : NameScope) (rest : List (List ℕ)) (numbered : IsTrue (is_num
   word_plain (Exactly other) word Nothing s l m = (refl, s)
   word_plain place word value s l m = absurd m
 
-  -- ---- words in their places
-
-  abbrev ArePrinted : List Place → List Place → List Value → Type 0
-  ArePrinted places last values =
-      (more : List Placed) × (placed places last (plain_words printed places last values) ≡ Some more) × WordsMean scope more values
-      × ArePlain (plain_words printed places last values)
-
-  split_option : (place : Place) (word : List ℕ) (o : Option (List Placed)) (pairs : List Placed) → option_map (λ ps. (place, word) ∷ ps) o ≡ Some pairs
-      → (others : List Placed) × (o ≡ Some others) × (pairs ≡ (place, word) ∷ others)
-  split_option place word None pairs e = cc
-  split_option place word (Some others) pairs e = (others, refl, cc)
-
-  none_printed : (last : List Place) (values : List Value) → WordsMean scope [] values → ArePrinted [] last values
-  none_printed last [] m = ([], refl, tt, tt)
-  none_printed last (value ∷ values) m = absurd m
-
-  next_printed : (place : Place) (places last : List Place) (word : List ℕ) (others : List Placed) (values : List Value) → IsPrintable place → AllLead rest values
-      → ((vs : List Value) → AllLead rest vs → WordsMean scope others vs → ArePrinted places last vs) → WordsMean scope ((place, word) ∷ others) values → ArePrinted (place ∷ places) last values
-  next_printed place places last word others [] s l f m = absurd m
-  next_printed place places last word others (value ∷ values) s l f m =
-      let p = word_plain place word value s l.0 m.0 in
-      let behind = f values l.1 m.1 in
-      ((place, plain_word printed place value) ∷ behind.0, ap (option_map (λ ps. (place, plain_word printed place value) ∷ ps)) behind.1, (p.0, behind.2), (p.1, behind.3))
-
-  -- what is wanted at the end is printed as what is wanted first
-  last_printed : (place : Place) (last : List Place) (value : Value) (values : List Value) → ArePrinted (place ∷ last) [] (value ∷ values) → ArePrinted [] (place ∷ last) (value ∷ values)
-  last_printed place last value values p = p
-
-  no_values : (place : Place) (last : List Place) (word : List ℕ) (others : List Placed) (values : List Value) → WordsMean scope ((place, word) ∷ others) values
-      → ArePrinted (place ∷ last) [] values → ArePrinted [] (place ∷ last) values
-  no_values place last word others [] m p = absurd m
-  no_values place last word others (value ∷ values) m p = p
-
-  all_printed : (places last : List Place) (arguments : List (List ℕ)) (pairs : List Placed) (values : List Value) → ArePrintable places → ArePrintable last → AllLead rest values
-      → placed places last arguments ≡ Some pairs → WordsMean scope pairs values → ArePrinted places last values
-  all_printed [] last [] pairs values s t l e m = none_printed last values (subst (λ (ps : List Placed). WordsMean scope ps values) (let same : pairs ≡ [] = cc in same) m)
-  all_printed [] [] (word ∷ arguments) pairs values s t l e m = cc
-  all_printed [] (place ∷ last) (word ∷ arguments) pairs values s t l e m =
-      let parts = split_option place word (placed last [] arguments) pairs e in
-      let means = subst (λ (ps : List Placed). WordsMean scope ps values) parts.2 m in
-      no_values place last word parts.0 values means
-      (next_printed place last [] word parts.0 values t.0 l (λ vs k n. all_printed last [] arguments parts.0 vs t.1 tt k parts.1 n) means)
-  all_printed (place ∷ places) last [] pairs values s t l e m = cc
-  all_printed (place ∷ places) last (word ∷ arguments) pairs values s t l e m =
-      let parts = split_option place word (placed places last arguments) pairs e in
-      next_printed place places last word parts.0 values s.0 l (λ vs k n. all_printed places last arguments parts.0 vs s.1 t k parts.1 n)
-      (subst (λ (ps : List Placed). WordsMean scope ps values) parts.2 m)
-
   -- ---- lines
 
   abbrev PlainSays : Keyword → List Value → Type 0
   PlainSays keyword values = Says scope (words_for printed keyword values) keyword values × ArePlain (words_for printed keyword values)
 
   -- what words say, their plain words say
-  says_plain : (ws : List (List ℕ)) (keyword : Keyword) (values : List Value) → AllLead rest values → Says scope ws keyword values → PlainSays keyword values
+  says_plain : (ws : List (List ℕ)) (keyword : Keyword) (values : List Value) → AllByRecursion (Leads rest) values → Says scope ws keyword values → PlainSays keyword values
   says_plain ws keyword values l says =
-      let p = all_printed (wanted keyword) (optional keyword) says.1.0 says.0 values (printable_wanted keyword) (printable_optional keyword) l says.1.3 says.2 in
-      let arguments = plain_words printed (wanted keyword) (optional keyword) values in
-      ((p.0, (arguments, refl, says.1.2, p.1), p.2), (spelling_plain keyword, p.3))
+      words_say_plain (WordMeans scope) (plain_word printed) IsPlain IsPrintable (Leads rest) word_plain table printable_wanted printable_optional spelling_plain
+      scope.known.version ws keyword values l says
 
   same_words : (statement : Statement) (named : Option (List ℕ))
       → words_for printed (keyword_of_statement statement) (statement_values statement named) ≡ statement_words printed statement
@@ -313,7 +245,7 @@ module _ (scope : NameScope) (rest : List (List ℕ)) (numbered : IsTrue (is_num
   same_words (Else line after) named = refl
   same_words (End line) named = refl
 
-  lead_numbers : (count : Option ℕ) → AllLead rest (number_if_there count)
+  lead_numbers : (count : Option ℕ) → AllByRecursion (Leads rest) (number_if_there count)
   lead_numbers None = tt
   lead_numbers (Some number) = (tt, tt)
 
@@ -324,7 +256,7 @@ abbrev behind : Item → List (List ℕ) → List (List ℕ)
 behind (Does statement (Some name)) more = name ∷ more
 behind item more = more
 
-lead_expression : (rest : List (List ℕ)) (value : Expression) → AllLead rest (expression_values value)
+lead_expression : (rest : List (List ℕ)) (value : Expression) → AllByRecursion (Leads rest) (expression_values value)
 lead_expression rest (PlainOperand operand) = (tt, tt)
 lead_expression rest (Sum left right) = (tt, (tt, (tt, tt)))
 lead_expression rest (Difference left right) = (tt, (tt, (tt, tt)))
@@ -335,7 +267,7 @@ lead_assigned : (statement : Statement) (register : Register) (named : Option (L
 lead_assigned statement register None more = tt
 lead_assigned statement register (Some name) more = (more, refl)
 
-lead_statement : (statement : Statement) (named : Option (List ℕ)) (more : List (List ℕ)) → AllLead (behind (Does statement named) more) (statement_values statement named)
+lead_statement : (statement : Statement) (named : Option (List ℕ)) (more : List (List ℕ)) → AllByRecursion (Leads (behind (Does statement named) more)) (statement_values statement named)
 lead_statement (Let line register value) named more = (lead_assigned (Let line register value) register named more, (tt, lead_expression (behind (Does (Let line register value) named) more) value))
 lead_statement (Read line register location) named more = (lead_assigned (Read line register location) register named more, (tt, tt))
 lead_statement (Write line location value) named more = (tt, (tt, tt))

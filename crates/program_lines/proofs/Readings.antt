@@ -1,4 +1,4 @@
--- A word in its place means something or has a lowest cause why not, and so have the words behind a keyword.
+-- A word in its place means something or has a lowest cause why not.
 use Rattle.std.proofs.Common.{◌≡◌, ◌≢◌, ◌⊎◌, inl, inr, ℕ, ◌+◌, ◌<◌, ◌≤◌, true, false, List, [], ◌∷◌, ◌++◌, length, refl, sym, ◌∙◌, ap, subst, arith}
 use Rattle.std.specs.Prelude.{Option, Some, None, Result, Ok, Err, MatchResult}
 use Rattle.std.specs.Str.{bytes_eq}
@@ -9,6 +9,7 @@ use Rattle.text_words.specs.Limits.{max_value}
 use Rattle.text_words.specs.Names.{memory_named, reducer_named, IsDeclared, IsFresh as IsUndeclaredName}
 use Rattle.text_words.proofs.Decided.{OrNot, both_or_not, below_or_not, most_or_not, word_or_not, name_or_not}
 use Rattle.text_words.specs.Text.{IsName}
+use Rattle.line_grammar.proofs.Readings.{Reading as ReadingBy}
 use Rattle.trace_text.specs.Lines as trace
 use Rattle.trace_text.specs.Cells.{IsSingleFault}
 use Rattle.trace_text.specs.Faults.{IsUndeclared}
@@ -20,17 +21,17 @@ use Rattle.model_bodies.specs.declared.statement.Operand.TheVariants.{Number, He
 use Rattle.model_bodies.specs.declared.statement.Location.{Location}
 use Rattle.model_bodies.specs.declared.statement.Location.TheVariants.{Cell, Element}
 use Rattle.program_lines.specs.Scopes.{NameScope, max_registers, ok_word, register_named, function_named, HasNotBegun, IsFresh}
-use Rattle.program_lines.specs.Places.{Place, Common, FreshName, OperandWord, LocationWord, AssignedRegister, KnownRegister, FunctionName, ParameterName, Sign, Exactly, Value, Plain, OfOperand, OfLocation, OfRegister, OfAssigned, OfSign, Nothing, IsRegisterName, OperandMeans, sign_spelling}
+use Rattle.program_lines.specs.Places.{Place, Common, FreshName, OperandWord, LocationWord, AssignedRegister, KnownRegister, FunctionName, ParameterName, Sign, Exactly, Plain, OfOperand, OfLocation, OfRegister, OfAssigned, OfSign, Nothing, WordMeans, IsRegisterName, OperandMeans, sign_spelling}
 use Rattle.program_lines.specs.Locations.{SingleIs, ElementIs, IsElementFault}
-use Rattle.program_lines.specs.Outcome.{Reads, Fits}
+use Rattle.program_lines.specs.Faults.{WordFault}
+use Rattle.program_lines.specs.Outcome.{Reads}
 use Rattle.program_lines.proofs.Keywords.{sign_of_word, sign_of_spelling}
 use Rattle.program_lines.proofs.LocationWords.{lowest_bad_word, number_operand, unknown_operand, single_reads, no_closing, element_reads, index_fault, no_array}
-use Rattle.program_lines.proofs.Outcomes.{reads, lowest_twice, lowest_no_register, lowest_no_function, lowest_no_room}
+use Rattle.program_lines.proofs.Outcomes.{lowest_twice, lowest_no_register, lowest_no_function, lowest_no_room}
 use Rattle.program_lines.proofs.Within.{below_by, position_below}
 
--- what is read of a word in its place: its value, or the lowest cause
 abbrev pub Reading : NameScope → Place → List ℕ → Type 0
-Reading scope place word = (answer : Result Value Cause) × Reads scope place word answer (λ value. value)
+Reading scope = ReadingBy (WordMeans scope) (WordFault scope)
 
 -- the number of a register that is known, where there are no more than a function can have
 register_below : (registers : List (List ℕ)) (word : List ℕ) (index : ℕ) → length registers ≤ max_registers → register_named registers word ≡ Some index → index < 17
@@ -199,7 +200,7 @@ module _ (scope : NameScope) (few : length scope.registers ≤ max_registers) wh
 
   -- ---- a word in its place
 
-  word_reading : (place : Place) (word : List ℕ) → Reading scope place word
+  pub word_reading : (place : Place) (word : List ℕ) → Reading scope place word
   word_reading (Common place) word = shared_reading place word
   word_reading FreshName word = fresh_reading word
   word_reading OperandWord word = go (operand_reading word)
@@ -214,25 +215,3 @@ module _ (scope : NameScope) (few : length scope.registers ≤ max_registers) wh
   word_reading ParameterName word = parameter_reading word
   word_reading Sign word = sign_reading word
   word_reading (Exactly other) word = exact_reading other word
-
-  -- ---- words in their places
-
-  as_values : (places last : List Place) (words : List (List ℕ)) {A : Type 0} (answer : Result A Cause) (values : A → List Value) →
-      Fits scope places last words answer values → (read : Result (List Value) Cause) × Fits scope places last words read (λ v. v)
-  as_values places last words (Ok x) values f = (Ok (values x), f)
-  as_values places last words (Err cause) values f = (Err cause, f)
-
-  pub words_reading : (places last : List Place) (words : List (List ℕ)) → (read : Result (List Value) Cause) × Fits scope places last words read (λ v. v)
-  words_reading [] last [] = (Ok [], ([], refl, tt))
-  words_reading [] [] (word ∷ words) = (Err BadWord, refl)
-  words_reading [] (place ∷ last) (word ∷ words) =
-      let first = word_reading place word in
-      let rest = words_reading last [] words in
-      as_values [] (place ∷ last) (word ∷ words) _ (λ r. r.0 ∷ r.1)
-      (reads scope place last [] word words first.0 rest.0 (λ value. value) (λ values. values) first.1 rest.1)
-  words_reading (place ∷ places) last [] = (Err BadWord, refl)
-  words_reading (place ∷ places) last (word ∷ words) =
-      let first = word_reading place word in
-      let rest = words_reading places last words in
-      as_values (place ∷ places) last (word ∷ words) _ (λ r. r.0 ∷ r.1)
-      (reads scope place places last word words first.0 rest.0 (λ value. value) (λ values. values) first.1 rest.1)

@@ -1,31 +1,29 @@
 -- The words of a line say something in their scope, or have a lowest cause why not.
-use Rattle.std.proofs.Common.{◌≡◌, ◌⊎◌, inl, inr, ℕ, ◌≤◌, List, [], ◌∷◌, length, refl, sym, ◌∙◌, ap, subst}
-use Rattle.std.specs.Prelude.{Some, Result, Ok, Err}
+use Rattle.std.proofs.Common.{◌≡◌, ◌⊎◌, inl, inr, ℕ, List, [], ◌∷◌, refl, sym, ◌∙◌, ap, subst}
+use Rattle.std.specs.Prelude.{Some}
 use Rattle.model_accesses.specs.declared.kind.Kind.TheVariants as kind
 use Rattle.text_words.specs.declared.fault.Cause.{Cause}
-use Rattle.text_words.specs.declared.fault.Cause.TheVariants.{BadWord}
 use Rattle.text_words.specs.declared.value.Version.{Version}
 use Rattle.text_words.specs.declared.value.Version.TheVariants.{One, Two}
 use Rattle.text_words.specs.Causes.{IsLowest}
 use Rattle.model_accesses.specs.Limits.{most_cells}
-use Rattle.text_words.proofs.Decided.{OrNot, word_or_not}
+use Rattle.text_words.proofs.Decided.{OrNot}
+use Rattle.line_grammar.proofs.Outcomes.{split_option}
+use Rattle.line_grammar.proofs.Readings.{Told as ToldBy, line_told as line_told_by}
 use Rattle.trace_text.specs.Lines as trace
 use Rattle.program_lines.specs.declared.keyword.Keyword.{Keyword}
 use Rattle.program_lines.specs.declared.keyword.Keyword.TheVariants as begin
 use Rattle.program_lines.specs.declared.operator.Operator.{Operator}
 use Rattle.program_lines.specs.declared.operator.Operator.TheVariants.{Plus, Minus, Times, Below}
-use Rattle.program_lines.specs.Scopes.{NameScope, max_registers}
+use Rattle.program_lines.specs.Scopes.{NameScope}
 use Rattle.program_lines.specs.Places.{Place, Common, FreshName, OperandWord, LocationWord, AssignedRegister, KnownRegister, FunctionName, ParameterName, Sign, Exactly, Value, Plain, OfOperand, OfLocation, OfRegister, OfAssigned, OfSign, Nothing, WordMeans}
-use Rattle.program_lines.specs.Table.{spelling, HasKeyword, wanted, optional, Placed, placed, WordsMean, Says}
+use Rattle.program_lines.specs.Table.{HasKeyword, wanted, optional, Placed, placed, WordsMean, Says}
 use Rattle.program_lines.specs.Grammar.{Item, Blank, ItemMeans, number_if_there, expression_values}
 use Rattle.program_lines.specs.Faults.{WordsFault}
-use Rattle.program_lines.specs.Outcome.{Fits}
 use Rattle.program_lines.specs.Laws.{MeaningOrFault}
-use Rattle.program_lines.proofs.Keywords.{keyword_of_word, keyword_of_spelling}
-use Rattle.program_lines.proofs.Crowded.{split_option}
-use Rattle.program_lines.proofs.LineFaults.{lowest_by, lowest_unknown}
+use Rattle.program_lines.proofs.Outcomes.{clear}
 use Rattle.program_lines.proofs.Once.{register_in, named_in, operand_in, location_in, number_in, name_in, monoid_in, count_in, expression_in, first_of_values, behind_first, item_by}
-use Rattle.program_lines.proofs.Readings.{words_reading}
+use Rattle.program_lines.proofs.Readings.{word_reading}
 
 -- ---- keywords
 
@@ -36,21 +34,6 @@ keyword_known_or_not One begin.ParallelFor = inr (λ t. t)
 keyword_known_or_not Two begin.ParallelFor = inl tt
 keyword_known_or_not version (begin.Access kind) = inl tt
 keyword_known_or_not version keyword = inl tt
-
-abbrev KeywordOrNot : Version → List ℕ → Type 0
-KeywordOrNot version word =
-    ((keyword : Keyword) × HasKeyword version keyword × (word ≡ spelling keyword)) ⊎ ((keyword : Keyword) → HasKeyword version keyword → word ≡ spelling keyword → ⊥)
-
-keyword_or_not : (version : Version) (word : List ℕ) → KeywordOrNot version word
-keyword_or_not version word = go (keyword_known_or_not version (keyword_of_word word)) (word_or_not word (spelling (keyword_of_word word)))
-  where
-    same : (keyword : Keyword) → word ≡ spelling keyword → keyword_of_word word ≡ keyword
-    same keyword e = ap keyword_of_word e ∙ keyword_of_spelling keyword
-
-    go : OrNot (HasKeyword version (keyword_of_word word)) → OrNot (word ≡ spelling (keyword_of_word word)) → KeywordOrNot version word
-    go (inl has) (inl e) = inl (keyword_of_word word, has, e)
-    go (inr fails) e = inr (λ keyword has is. fails (subst (λ (k : Keyword). HasKeyword version k) (sym (same keyword is)) has))
-    go (inl has) (inr fails) = inr (λ keyword has is. fails (subst (λ (k : Keyword). word ≡ spelling k) (sym (same keyword is)) is))
 
 -- ---- the form of values in their places
 
@@ -138,7 +121,7 @@ module _ (scope : NameScope) where
       none ∙ (none_formed last ∙ ap (all_formed [] last) (sym none))
   words_formed [] [] (word ∷ words) pairs values e m = absurd (cc)
   words_formed [] (place ∷ last) (word ∷ words) pairs values e m =
-      let parts = split_option scope place word (placed last [] words) pairs e in
+      let parts = split_option place word (placed last [] words) pairs e in
       by parts.0 values (subst (λ (ps : List Placed). WordsMean scope ps values) parts.2 m) (λ rest k. words_formed last [] words parts.0 rest parts.1 k)
     where
       by : (more : List Placed) (values : List Value) → WordsMean scope ((place, word) ∷ more) values →
@@ -147,7 +130,7 @@ module _ (scope : NameScope) where
       by more (value ∷ rest) m behind = one_more place word value rest (each_formed last rest) m.0 (behind rest m.1 ∙ each_same last rest)
   words_formed (place ∷ places) last [] pairs values e m = absurd (cc)
   words_formed (place ∷ places) last (word ∷ words) pairs values e m =
-      let parts = split_option scope place word (placed places last words) pairs e in
+      let parts = split_option place word (placed places last words) pairs e in
       by parts.0 values (subst (λ (ps : List Placed). WordsMean scope ps values) parts.2 m) (λ rest k. words_formed places last words parts.0 rest parts.1 k)
     where
       by : (more : List Placed) (values : List Value) → WordsMean scope ((place, word) ∷ more) values →
@@ -225,20 +208,10 @@ module _ (scope : NameScope) where
 abbrev pub Told : ℕ → NameScope → List (List ℕ) → Type 0
 Told at scope ws = ((item : Item) × ItemMeans at scope ws item) ⊎ ((why : Cause) × IsLowest (WordsFault scope ws) why)
 
-words_told : (at : ℕ) (scope : NameScope) (ws : List (List ℕ)) → length scope.registers ≤ max_registers → Told at scope ws
-words_told at scope [] few = inl (Blank, refl)
-words_told at scope (word ∷ arguments) few = go (keyword_or_not scope.known.version word)
-  where
-    read : (keyword : Keyword) → HasKeyword scope.known.version keyword → word ≡ spelling keyword →
-        (answer : Result (List Value) Cause) × Fits scope (wanted keyword) (optional keyword) arguments answer (λ values. values) → Told at scope (word ∷ arguments)
-    read keyword has e (Ok values, (pairs, fits, m)) =
-        inl (item_by at keyword values, item_said scope at (word ∷ arguments) keyword values (pairs, (arguments, ap (λ w. w ∷ arguments) e, has, fits), m))
-    read keyword has e (Err cause, f) =
-        inr (cause, lowest_by scope (word ∷ arguments) arguments keyword (placed (wanted keyword) (optional keyword) arguments) cause (ap (λ w. w ∷ arguments) e) has refl f)
-
-    go : KeywordOrNot scope.known.version word → Told at scope (word ∷ arguments)
-    go (inl (keyword, has, e)) = read keyword has e (words_reading scope few (wanted keyword) (optional keyword) arguments)
-    go (inr none) = inr (BadWord, lowest_unknown scope word arguments (λ other. (λ e. absurd (cc), λ is. absurd (none other is.0 is.1))))
-
 pub line_told : MeaningOrFault
-line_told at scope ws few = words_told at scope ws few
+line_told at scope [] few = inl (Blank, refl)
+line_told at scope (word ∷ arguments) few = go (line_told_by (clear scope) (word_reading scope few) scope.known.version (keyword_known_or_not scope.known.version) word arguments)
+  where
+    go : ToldBy (clear scope) (word_reading scope few) scope.known.version (keyword_known_or_not scope.known.version) (word ∷ arguments) → Told at scope (word ∷ arguments)
+    go (inl (keyword, values, says)) = inl (item_by at keyword values, item_said scope at (word ∷ arguments) keyword values says)
+    go (inr (cause, f)) = inr (cause, f)

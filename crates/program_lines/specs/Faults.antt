@@ -1,17 +1,17 @@
 -- What is wrong with the words of a line that says nothing.
-use Rattle.std.specs.Prelude.{◌≡◌, ℕ, ◌<◌, ◌≤◌, true, false, ◌⊎◌, None, List, [], ◌∷◌, length}
+use Rattle.std.specs.Prelude.{◌≡◌, ℕ, ◌≤◌, true, false, ◌⊎◌, None, List, length}
 use Rattle.text_words.specs.declared.fault.Cause.{Cause}
 use Rattle.text_words.specs.declared.fault.Cause.TheVariants.{BadWord, BadNumber, UnknownName, TwiceNamed, TooMany}
 use Rattle.text_words.specs.Text.{IsName, IsNumberIn, BeginsWithDigit}
 use Rattle.text_words.specs.Limits.{max_value}
 use Rattle.text_words.specs.Names.{element_word}
 use Rattle.trace_text.specs.Faults.{IsUndeclared, WordFault as CommonFault}
-use Rattle.program_lines.specs.declared.keyword.Keyword.{Keyword}
+use Rattle.line_grammar.specs.LineGrammar as line
 use Rattle.program_lines.specs.declared.operator.Operator.{Operator}
 use Rattle.program_lines.specs.Scopes.{NameScope, max_registers, register_named, function_named, IsFresh}
 use Rattle.program_lines.specs.Places.{Place, Common, FreshName, OperandWord, LocationWord, AssignedRegister, KnownRegister}
 use Rattle.program_lines.specs.Places.{FunctionName, ParameterName, Sign, Exactly, IsRegisterName, sign_spelling}
-use Rattle.program_lines.specs.Table.{Placed, IsArranged}
+use Rattle.program_lines.specs.Table.{table}
 
 -- ---- words in their places
 
@@ -76,15 +76,6 @@ WordFault scope place word TwiceNamed = IsTwiceNamed scope place word
 WordFault scope place word TooMany = HasNoRoom scope place word
 WordFault scope place word cause = ⊥
 
-abbrev pub SomeFault : NameScope → List Placed → Cause → Type 0
-SomeFault scope [] cause = ⊥
-SomeFault scope (pair ∷ pairs) cause = WordFault scope pair.0 pair.1 cause ⊎ SomeFault scope pairs cause
-
--- What is wrong with the words of a line. They are of another shape where no keyword arranges them, or where in each
--- arrangement some word is.
+-- What is wrong with the words of a line.
 abbrev pub WordsFault : NameScope → List (List ℕ) → Cause → Type 0
-WordsFault scope ws BadWord =
-    (0 < length ws)
-    × ((keyword : Keyword) (pairs : List Placed) → IsArranged scope.known.version ws keyword pairs → SomeFault scope pairs BadWord)
-WordsFault scope ws cause =
-    (keyword : Keyword) × (pairs : List Placed) × IsArranged scope.known.version ws keyword pairs × SomeFault scope pairs cause
+WordsFault scope = line.WordsFault (WordFault scope) table scope.known.version

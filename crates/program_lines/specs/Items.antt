@@ -1,6 +1,7 @@
 -- The items that the code makes of lines.
 use Rattle.std.specs.Prelude.{ℕ, Option, Some, None, List, [], ◌∷◌, Result, MatchResult, option_copied}
 use Rattle.text_words.specs.declared.fault.Cause.{Cause}
+use Rattle.line_grammar.specs.LineGrammar.{IsPlacedFault}
 use Rattle.program_lines.specs.declared.keyword.Keyword.{Keyword}
 use Rattle.program_lines.specs.declared.item.Item as code
 use Rattle.program_lines.specs.declared.item.Item.TheVariants as code_item
@@ -10,7 +11,7 @@ use Rattle.program_lines.specs.Scopes.{NameScope}
 use Rattle.program_lines.specs.Places.{Value, OfOperand, OfSign}
 use Rattle.program_lines.specs.Table.{spelling, placed, wanted, optional}
 use Rattle.program_lines.specs.Grammar.{Item, Blank, Declared, Reduces, Begins, Does, Decides, Otherwise, Ends, ItemMeans}
-use Rattle.program_lines.specs.Outcome.{IsPlacedFault}
+use Rattle.program_lines.specs.Faults.{WordFault}
 
 -- What the code's item says.
 abbrev pub item_of : code.Item → Item
@@ -27,7 +28,7 @@ item_of code_item.Ends = Ends
 abbrev pub IsRead : ℕ → NameScope → Keyword → List (List ℕ) → Result code.Item Cause → Type 0
 IsRead at scope keyword words answer =
     MatchResult answer (λ item. ItemMeans at scope (spelling keyword ∷ words) (item_of item))
-    (λ cause. IsPlacedFault scope (placed (wanted keyword) (optional keyword) words) cause)
+    (λ cause. IsPlacedFault (WordFault scope) (placed (wanted keyword) (optional keyword) words) cause)
 
 -- A second operand behind a sign, where it is there.
 abbrev pub joined_values : Option (Operator × Operand) → List Value

@@ -6,6 +6,7 @@ use Rattle.text_words.specs.declared.value.Version.{Version}
 use Rattle.text_words.specs.declared.value.Mem.{Mem}
 use Rattle.text_words.specs.declared.value.Reducer.{Reducer}
 use Rattle.text_words.specs.Names.{element_word}
+use Rattle.line_grammar.specs.LineGrammar as line
 use Rattle.trace_text.specs.Shapes.{has_cell, name_of_cell}
 use Rattle.trace_text.specs.Lines.{OfName, OfNumber, OfMonoid}
 use Rattle.trace_text.specs.Printing.{plain_word as common_word, known_of}
@@ -66,11 +67,8 @@ plain_word scope (Exactly other) value = other
 plain_word scope place value = []
 
 -- The words for values in the places of a line.
-abbrev pub plain_words : NameScope → List Place → List Place → List Value → List (List ℕ)
-plain_words scope places last [] = []
-plain_words scope [] [] (value ∷ values) = []
-plain_words scope [] (place ∷ last) (value ∷ values) = plain_word scope place value ∷ plain_words scope last [] values
-plain_words scope (place ∷ places) last (value ∷ values) = plain_word scope place value ∷ plain_words scope places last values
+abbrev pub plain_words : NameScope → (places last : List Place) → List Value → List (List ℕ)
+plain_words scope = line.plain_words (plain_word scope)
 
 abbrev pub words_for : NameScope → Keyword → List Value → List (List ℕ)
 words_for scope keyword values = spelling keyword ∷ plain_words scope (wanted keyword) (optional keyword) values

@@ -1,12 +1,13 @@
--- The table of lines: what each keyword wants behind it, and how words stand in those places.
-use Rattle.std.specs.Prelude.{◌≡◌, Option, Some, None, List, [], ◌∷◌, codes, option_map}
+-- The table of lines: how each keyword is written, and what it wants behind it.
+use Rattle.std.specs.Prelude.{ℕ, Option, List, [], ◌∷◌, codes}
 use Rattle.model_accesses.specs.declared.kind.Kind.TheVariants as kind
 use Rattle.model_accesses.specs.Table.{spelling as kind_spelling}
-use Rattle.std.specs.Prelude.{ℕ}
 use Rattle.text_words.specs.declared.value.Version.{Version}
 use Rattle.text_words.specs.Names.{IsSecond}
 use Rattle.model_accesses.specs.Limits.{most_cells}
 use Rattle.trace_text.specs.Lines as trace
+use Rattle.line_grammar.specs.LineGrammar as line
+use Rattle.line_grammar.specs.LineGrammar.{Table}
 use Rattle.program_lines.specs.declared.keyword.Keyword.{Keyword}
 use Rattle.program_lines.specs.declared.keyword.Keyword.TheVariants.{Mem, Reducer, Func, Let, Access, Spawn}
 use Rattle.program_lines.specs.declared.keyword.Keyword.TheVariants.{Call, Sync, ParallelFor, If, Else, End}
@@ -60,30 +61,18 @@ optional Mem = Common (trace.Number 1 most_cells) ∷ []
 optional Let = Sign ∷ OperandWord ∷ []
 optional keyword = []
 
--- A word in its place.
+-- The table of keywords, and words in the places of a line.
+abbrev pub table : Table Keyword Place
+table = record { spelling = spelling; HasKeyword = HasKeyword; wanted = wanted; optional = optional }
+
 abbrev pub Placed : Type 0
-Placed = Place × List ℕ
+Placed = line.Placed Place
 
--- Each word in its place, where there are as many as wanted, or the optional ones too.
-abbrev pub placed : List Place → List Place → List (List ℕ) → Option (List Placed)
-placed [] last [] = Some []
-placed [] [] (word ∷ words) = None
-placed [] (place ∷ last) (word ∷ words) = option_map (λ pairs. (place, word) ∷ pairs) (placed last [] words)
-placed (place ∷ places) last [] = None
-placed (place ∷ places) last (word ∷ words) = option_map (λ pairs. (place, word) ∷ pairs) (placed places last words)
+abbrev pub placed : (places last : List Place) → List (List ℕ) → Option (List Placed)
+placed = line.placed
 
--- The words are a keyword of the version and others in the places that it wants.
-abbrev pub IsArranged : Version → List (List ℕ) → Keyword → List Placed → Type 0
-IsArranged version ws keyword pairs =
-    (arguments : List (List ℕ)) × (ws ≡ spelling keyword ∷ arguments) × HasKeyword version keyword
-    × (placed (wanted keyword) (optional keyword) arguments ≡ Some pairs)
-
--- Each word means its value.
 abbrev pub WordsMean : NameScope → List Placed → List Value → Type 0
-WordsMean scope [] [] = Unit {0}
-WordsMean scope (pair ∷ pairs) (value ∷ values) = WordMeans scope pair.0 pair.1 value × WordsMean scope pairs values
-WordsMean scope pairs values = ⊥
+WordsMean scope = line.WordsMean (WordMeans scope)
 
--- The words are this keyword and words that mean these values.
 abbrev pub Says : NameScope → List (List ℕ) → Keyword → List Value → Type 0
-Says scope ws keyword values = (pairs : List Placed) × IsArranged scope.known.version ws keyword pairs × WordsMean scope pairs values
+Says scope = line.Says (WordMeans scope) table scope.known.version

@@ -1,5 +1,5 @@
 -- Words that make a function known.
-use Rattle.std.proofs.Common.{◌≡◌, ℕ, zero, suc, ◌+◌, ◌-◌, ◌<◌, ◌≤◌, ◌∷◌, [], List, Bool, true, false, not, cond, length, take, arith, refl, sym, ap, ◌∙◌, subst}
+use Rattle.std.proofs.Common.{◌≡◌, ℕ, zero, suc, ◌+◌, ◌<◌, ◌≤◌, ◌∷◌, [], List, Bool, true, false, not, cond, length, take, arith, refl, sym, ap, ◌∙◌, subst}
 use Rattle.std.specs.Prelude.{◌↔◌, ◌&&◌, IsTrue, nat_lt, Option, Some, None, position}
 use Rattle.std.specs.List.{All, list_all, position_or_len, before_first}
 use Rattle.std.specs.Char.{is_ascii_lowercase}

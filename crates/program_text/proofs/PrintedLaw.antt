@@ -16,7 +16,8 @@ use Rattle.model_bodies.specs.declared.statement.Register.{Register}
 use Rattle.model_bodies.specs.declared.statement.Statement.{Statement}
 use Rattle.model_bodies.specs.declared.statement.Statement.TheVariants.{If, Else, End}
 use Rattle.program_lines.specs.Scopes.{NameScope}
-use Rattle.program_lines.specs.Grammar.{Item, Blank, Declared, Reduces, Begins, Does, Decides, Otherwise, Ends, line_of}
+use Rattle.program_lines.specs.Grammar.{Item, Blank, Declared, Reduces, Begins, Does, Decides, Otherwise, Ends}
+use Rattle.model_bodies.specs.Lines.{line_of}
 use Rattle.program_lines.specs.Printing.{item_words, statement_words, registers_behind, scope_behind}
 use Rattle.program_lines.proofs.PlainItems.{item_text}
 use Rattle.program_text.specs.declared.open_function.Part.{Part}

@@ -1,9 +1,9 @@
 -- The plain text of a program: each item on its own line, words separated by one space, numbers without leading zeros.
 use Rattle.std.specs.Prelude.{◌≡◌, ℕ, ◌+◌, ◌-◌, List, [], ◌∷◌, ◌++◌, codes, map, flat_map, replicate}
 use Rattle.text_words.specs.Values.{Known, version_spelling}
-use Rattle.trace_text.specs.Printing.{Entry, declarations, entry_text, spaced, line_of as line_of_entry}
+use Rattle.trace_text.specs.Printing.{Entry, declarations, entry_text, spaced, entry_line}
 use Rattle.model_bodies.specs.declared.statement.Statement.{Statement}
-use Rattle.program_lines.specs.Grammar.{line_of}
+use Rattle.model_bodies.specs.Lines.{line_of}
 use Rattle.program_lines.specs.Printing.{printed_scope, statement_words}
 use Rattle.model_bodies.specs.Codes.{Code}
 use Rattle.program_text.specs.Drafts.{Contents}
@@ -20,7 +20,7 @@ names_of functions = map (λ code. code.name) functions
 -- ---- lines with words
 
 abbrev pub declared_row : Known → Entry → Row
-declared_row known entry = record { line = line_of_entry entry; text = entry_text known entry }
+declared_row known entry = record { line = entry_line entry; text = entry_text known entry }
 
 abbrev pub begin_row : Code → Row
 begin_row code = record { line = code.line; text = spaced (codes "func" ∷ code.name ∷ code.parameter ∷ []) }

@@ -5,7 +5,7 @@ ghost use Rattle.text_words.specs.declared.value.Version.{Version};
 ghost use Rattle.trace_text.specs.Shapes.{is_numbered};
 ghost use Rattle.trace_text.specs.Printing.{declarations, known_of};
 ghost use Rattle.std.specs.Prelude.{map};
-ghost use Rattle.program_lines.specs.Grammar.{line_of};
+ghost use Rattle.model_bodies.specs.Lines.{line_of};
 ghost use Rattle.program_lines.specs.Printing.{IsNamedFunction, name_of_function};
 ghost use Rattle.program_text.specs.Printing.{PrintsRows, Row, begin_row, body_rows, declared_row, end_row};
 ghost use Rattle.program_text.specs.Printing.{function_rows, names_of, rows_of_functions, statement_row, text_from};

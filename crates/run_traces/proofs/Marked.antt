@@ -8,7 +8,8 @@ use Rattle.text_words.specs.Limits.{most_lines}
 use Rattle.text_words.specs.Names.{IsSecond}
 use Rattle.model_bodies.specs.declared.statement.Statement.{Statement}
 use Rattle.model_bodies.specs.declared.statement.Statement.TheVariants.{Bump, If, Else, End}
-use Rattle.program_lines.specs.Grammar.{Item, Blank, Declared, Reduces, Begins, Does, Decides, Otherwise, Ends, ItemMeans, line_of}
+use Rattle.program_lines.specs.Grammar.{Item, Blank, Declared, Reduces, Begins, Does, Decides, Otherwise, Ends, ItemMeans}
+use Rattle.model_bodies.specs.Lines.{line_of}
 use Rattle.program_text.specs.declared.open_function.Part.{Part}
 use Rattle.model_bodies.specs.Codes.{Code}
 use Rattle.program_text.specs.Drafts.{Open, Draft, Contents, scope_of, with_register, with_statement, with_choice, with_else, divided_by, with_end, ended_at, ending, code_of}

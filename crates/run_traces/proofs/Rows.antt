@@ -4,14 +4,14 @@ use Rattle.text_words.specs.declared.value.Mem.{Mem}
 use Rattle.text_words.specs.declared.value.Reducer.{Reducer}
 use Rattle.text_words.specs.Values.{Known}
 use Rattle.model_histories.specs.declared.answer.Entry.{Entry}
-use Rattle.trace_text.specs.Printing.{Entry as Line, OfMemory, OfReducer, OfRequest, line_of, entry_text, declarations, entries as lines_in, lines_from}
+use Rattle.trace_text.specs.Printing.{Entry as Line, OfMemory, OfReducer, OfRequest, entry_line, entry_text, declarations, entries as lines_in, lines_from}
 use Rattle.trace_text.proofs.PlainLines.{AreLater, memory_first}
 use Rattle.program_text.specs.Drafts.{Contents}
 use Rattle.run_traces.specs.Traces.{mems_from, reducers_from, requests_from, behind_declarations, trace_contents}
 
 abbrev AreInRow : ℕ → List Line → Type 0
 AreInRow at [] = Unit {0}
-AreInRow at (line ∷ lines) = (line_of line ≡ at) × AreInRow (at + 1) lines
+AreInRow at (line ∷ lines) = (entry_line line ≡ at) × AreInRow (at + 1) lines
 
 in_row : (known : Known) (at : ℕ) (lines : List Line) → AreInRow at lines → lines_from known at lines ≡ map (entry_text known) lines
 in_row known at [] h = refl

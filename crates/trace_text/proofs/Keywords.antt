@@ -34,9 +34,6 @@ keyword_of_spelling (Access kind.Update) = refl
 keyword_of_spelling (Access kind.Put) = refl
 keyword_of_spelling (Access kind.Get) = refl
 
-pub keyword_once : (keyword other : Keyword) → spelling keyword ≡ spelling other → keyword ≡ other
-keyword_once keyword other same = sym (keyword_of_spelling keyword) ∙ (ap keyword_of_word same ∙ keyword_of_spelling other)
-
 -- the monoid whose second letter is this
 abbrev pub monoid_of_word : List ℕ → Monoid
 monoid_of_word word =

@@ -93,7 +93,7 @@ lowest_no_reducer known name o n e none apart = ((n, no_reducer known name o e n
 
 -- ---- elements of arrays
 
-stable_digit : (word : List ℕ) → ((BeginsWithDigit word → ⊥) → ⊥) → BeginsWithDigit word
+pub stable_digit : (word : List ℕ) → ((BeginsWithDigit word → ⊥) → ⊥) → BeginsWithDigit word
 stable_digit [] f = absurd (f (λ b. b))
 stable_digit (byte ∷ word) f = by _ f
   where

@@ -15,18 +15,19 @@ use Rattle.text_words.specs.Text.{words, IsName, IsNumberIn}
 use Rattle.text_words.specs.Limits.{max_strand, max_value}
 use Rattle.text_words.specs.Values.{Known, Contents}
 use Rattle.text_words.specs.Names.{CellMeans, ElementMeans, element_word}
-use Rattle.trace_text.specs.Lines.{Place, FreshName, Number, Cell, ReducerName, MonoidWord, Mark, Placed, Value, OfName, OfNumber, OfMonoid, WordMeans, WordsMean, Says, asks, operands, if_there}
+use Rattle.trace_text.specs.Lines.{Place, FreshName, Number, Cell, ReducerName, MonoidWord, Mark, Value, OfName, OfNumber, OfMonoid, WordMeans, Says, asks, operands, if_there}
 use Rattle.trace_text.specs.Grammar.{Item, Blank, Declared, Reduces, Asked, ItemMeans, LineMeans}
 use Rattle.trace_text.proofs.CellWords.{same_some, same_split, name_no_bracket, no_element, flat}
 use Rattle.trace_text.proofs.Keywords.{monoid_once}
-use Rattle.trace_text.proofs.LineFaults.{arranged_once, same_head}
+use Rattle.line_grammar.proofs.LineFaults.{same_head, says_once as words_say_once}
+use Rattle.trace_text.proofs.Outcomes.{clear}
 
 pub number_once : (low high : ℕ) (word : List ℕ) (m n : ℕ) → IsNumberIn low high word m → IsNumberIn low high word n → m ≡ n
 number_once low high word m n h k = h.0.2 ∙ sym k.0.2
 
 -- ---- cells
 
-same_element : (name other index place : List ℕ) → IsName name → IsName other → element_word name index ≡ element_word other place → (name ≡ other) × (index ≡ place)
+pub same_element : (name other index place : List ℕ) → IsName name → IsName other → element_word name index ≡ element_word other place → (name ≡ other) × (index ≡ place)
 same_element name other index place n o e =
     let same = same_split name other (index ++ 93 ∷ []) (place ++ 93 ∷ []) (name_no_bracket name n) (name_no_bracket other o)
     (sym (flat name index) ∙ (e ∙ flat other place)) in
@@ -73,22 +74,9 @@ module _ (known : Known) where
   word_once Mark word (OfNumber a) w m n = absurd n
   word_once place word v w m n = absurd m
 
-  same_values : (v w : Value) (vs ws : List Value) → v ≡ w → vs ≡ ws → v ∷ vs ≡ w ∷ ws
-  same_values v w vs ws e f = ap (λ (x : Value). x ∷ vs) e ∙ ap (λ (xs : List Value). w ∷ xs) f
-
-  values_once : (pairs : List Placed) (vs ws : List Value) → WordsMean known pairs vs → WordsMean known pairs ws → vs ≡ ws
-  values_once [] [] [] m n = refl
-  values_once [] [] (w ∷ ws) m n = absurd n
-  values_once [] (v ∷ vs) ws m n = absurd m
-  values_once (pair ∷ pairs) [] ws m n = absurd m
-  values_once (pair ∷ pairs) (v ∷ vs) [] m n = absurd n
-  values_once (pair ∷ pairs) (v ∷ vs) (w ∷ ws) m n = same_values v w vs ws (word_once pair.0 pair.1 v w m.0 n.0) (values_once pairs vs ws m.1 n.1)
-
   pub says_once : (ws : List (List ℕ)) (keyword other : Keyword) (values more : List Value) → Says known ws keyword values → Says known ws other more
       → (keyword ≡ other) × (values ≡ more)
-  says_once ws keyword other values more m n =
-      let same = arranged_once known.version ws keyword other m.0 n.0 m.1 n.1 in
-      (same.0, values_once n.0 values more (subst (λ (t : List Placed). WordsMean known t values) same.1 m.2) n.2)
+  says_once ws keyword other values more m n = words_say_once (clear known) known.version word_once ws keyword other values more m n
 
 -- ---- acts, from their keyword and operands
 

@@ -17,7 +17,7 @@ use Rattle.text_words.specs.Values.{Known, Contents, version_spelling}
 use Rattle.trace_text.specs.Lines.{OfName, OfNumber, OfMonoid, asks, operands, if_there}
 use Rattle.text_words.specs.Declarations.{memory_at, reducer_at}
 use Rattle.trace_text.specs.Grammar.{Item, Blank, Declared, Reduces, Asked, LineMeans, LinesMean, LinesOfTrace, TextMeans, IsHeader, extended, nothing}
-use Rattle.trace_text.specs.Printing.{spaced, plain_line, Entry, OfMemory, OfReducer, OfRequest, line_of, mark_of, entry_text, merged_into, declarations, entries, lines_from, plain_lines, plain_text}
+use Rattle.trace_text.specs.Printing.{spaced, plain_line, Entry, OfMemory, OfReducer, OfRequest, entry_line, mark_of, entry_text, merged_into, declarations, entries, lines_from, plain_lines, plain_text}
 use Rattle.trace_text.proofs.Kept.{IsKept, kept_extended, kept_nothing}
 use Rattle.trace_text.specs.Plain.{ArePlain}
 use Rattle.trace_text.proofs.PlainWords.{words_spaced, text_spaced, AreText, lines_ended}
@@ -62,7 +62,7 @@ pub record IsLeft (at : ℕ) (so_far contents : Contents) : Type 0 where
   pub lines_are : contents.lines ≡ so_far.lines ++ qs
   pub later_mems : AreLater (λ (m : Mem). m.line) at ms
   pub later_reducers : AreLater (λ (r : Reducer). r.line) at rs
-  pub later : AreLater line_of at (declarations ms rs ++ map OfRequest qs)
+  pub later : AreLater entry_line at (declarations ms rs ++ map OfRequest qs)
   pub closed : so_far.lines ≢ [] → (ms ≡ []) × (rs ≡ [])
   pub means : LinesMean at so_far (lines_from contents.known at (declarations ms rs ++ map OfRequest qs)) contents
 
@@ -83,23 +83,23 @@ left_nothing at so_far contents e = record {
 }
 
 -- a blank line before the next entry
-blank_before : (known : Known) (at : ℕ) (es : List Entry) (so_far contents : Contents) → at ≤ most_lines → AreLater line_of (at + 1) es
+blank_before : (known : Known) (at : ℕ) (es : List Entry) (so_far contents : Contents) → at ≤ most_lines → AreLater entry_line (at + 1) es
     → LinesMean (at + 1) so_far (lines_from known (at + 1) es) contents → LinesMean at so_far (lines_from known at es) contents
 blank_before known at [] so_far contents l h m = m
 blank_before known at (e ∷ es) so_far contents l h m =
-    let more : line_of e - at ≡ suc (line_of e - (at + 1)) = omega (arith, h.0) in
-    subst (λ (n : ℕ). LinesMean at so_far (replicate {A = List ℕ} n [] ++ entry_text known e ∷ lines_from known (line_of e + 1) es) contents) (sym more)
+    let more : entry_line e - at ≡ suc (entry_line e - (at + 1)) = omega (arith, h.0) in
+    subst (λ (n : ℕ). LinesMean at so_far (replicate {A = List ℕ} n [] ++ entry_text known e ∷ lines_from known (entry_line e + 1) es) contents) (sym more)
     (Blank, (l, none_is_text, refl, tt, tt), m)
   where
     none_is_text : IsTextLine []
     none_is_text = λ i d k. absurd (omega arith)
 
 -- an entry on its own line
-entry_here : (known : Known) (at : ℕ) (e : Entry) (es : List Entry) (so_far contents : Contents) (item : Item) → line_of e ≡ at → LineMeans at so_far (entry_text known e) item
+entry_here : (known : Known) (at : ℕ) (e : Entry) (es : List Entry) (so_far contents : Contents) (item : Item) → entry_line e ≡ at → LineMeans at so_far (entry_text known e) item
     → LinesMean (at + 1) (extended at so_far item) (lines_from known (at + 1) es) contents → LinesMean at so_far (lines_from known at (e ∷ es)) contents
 entry_here known at e es so_far contents item same m h =
-    let none : line_of e - at ≡ 0 = omega (arith, same) in
-    subst (λ (n : ℕ). LinesMean at so_far (replicate {A = List ℕ} n [] ++ entry_text known e ∷ lines_from known (line_of e + 1) es) contents) (sym none)
+    let none : entry_line e - at ≡ 0 = omega (arith, same) in
+    subst (λ (n : ℕ). LinesMean at so_far (replicate {A = List ℕ} n [] ++ entry_text known e ∷ lines_from known (entry_line e + 1) es) contents) (sym none)
     (subst (λ (n : ℕ). LinesMean at so_far (entry_text known e ∷ lines_from known (n + 1) es) contents) (sym same) (item, m, h))
 
 pub left_blank : (at : ℕ) (so_far contents : Contents) → at ≤ most_lines → IsLeft (at + 1) so_far contents → IsLeft at so_far contents
@@ -113,7 +113,7 @@ left_blank at so_far contents l left = record {
   lines_are = left.lines_are;
   later_mems = later_weaker _ at left.ms left.later_mems;
   later_reducers = later_weaker _ at left.rs left.later_reducers;
-  later = later_weaker line_of at _ left.later;
+  later = later_weaker entry_line at _ left.later;
   closed = left.closed;
   means = blank_before contents.known at (declarations left.ms left.rs ++ map OfRequest left.qs) so_far contents l left.later left.means;
 }
@@ -138,7 +138,7 @@ left_memory at so_far contents line name length kept m left =
       lines_are = left.lines_are;
       later_mems = (omega arith, later_weaker _ at left.ms left.later_mems);
       later_reducers = later_weaker _ at left.rs left.later_reducers;
-      later = subst (λ (es : List Entry). AreLater line_of at es) (sym first) (omega arith, later_weaker line_of at _ left.later);
+      later = subst (λ (es : List Entry). AreLater entry_line at es) (sym first) (omega arith, later_weaker entry_line at _ left.later);
       closed = λ some. absurd (some m.3);
       means = subst (λ (es : List Entry). LinesMean at so_far (lines_from contents.known at es) contents) (sym first)
           (entry_here contents.known at (OfMemory mem) (declarations left.ms left.rs ++ map OfRequest left.qs) so_far contents (Declared name length) refl here left.means);
@@ -167,7 +167,7 @@ left_reducer at so_far contents line name monoid kept m left =
       lines_are = left.lines_are;
       later_mems = later_weaker _ at left.ms left.later_mems;
       later_reducers = (omega arith, later_weaker _ at left.rs left.later_reducers);
-      later = subst (λ (es : List Entry). AreLater line_of at es) (sym first) (omega arith, later_weaker line_of at _ left.later);
+      later = subst (λ (es : List Entry). AreLater entry_line at es) (sym first) (omega arith, later_weaker entry_line at _ left.later);
       closed = λ some. absurd (some m.3);
       means = subst (λ (es : List Entry). LinesMean at so_far (lines_from contents.known at es) contents) (sym first)
           (entry_here contents.known at (OfReducer reducer) (declarations left.ms left.rs ++ map OfRequest left.qs) so_far contents (Reduces name monoid) refl here left.means);
@@ -211,7 +211,7 @@ left_request at so_far contents line asked kept m left =
       lines_are = left.lines_are ∙ append_assoc so_far.lines (asked ∷ []) left.qs;
       later_mems = tt;
       later_reducers = tt;
-      later = (omega (arith, a.2), subst (λ (es : List Entry). AreLater line_of at es) rest (later_weaker line_of at _ left.later));
+      later = (omega (arith, a.2), subst (λ (es : List Entry). AreLater entry_line at es) rest (later_weaker entry_line at _ left.later));
       closed = λ _. (refl, refl);
       means = entry_here contents.known at (OfRequest asked) (map OfRequest left.qs) so_far contents (Asked asked) a.2 here
           (subst (λ (es : List Entry). LinesMean (at + 1) (extended at so_far (Asked asked)) (lines_from contents.known (at + 1) es) contents) rest left.means);

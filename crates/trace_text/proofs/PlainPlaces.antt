@@ -1,7 +1,8 @@
 -- Values in their places, printed and read again.
 use Rattle.std.proofs.Common.{◌≡◌, ℕ, suc, ◌+◌, ◌-◌, ◌<◌, ◌≤◌, ◌∷◌, ◌++◌, [], List, map, true, false, Bool, cond, arith, refl, sym, ap, subst, ◌∙◌, get_or, inl, inr}
-use Rattle.std.specs.Prelude.{Option, Some, None, ◌==◌, ◌⊎◌, IsTrue, codes, option_map}
+use Rattle.std.specs.Prelude.{Option, Some, ◌==◌, ◌⊎◌, IsTrue, codes}
 use Rattle.std.specs.List.{All, AllByRecursion, find, position_from}
+use Rattle.std.specs.Option.{option_to_list}
 use Rattle.std.specs.Str.{bytes_eq}
 use Rattle.std.specs.Cmp.Lexicographic.{bytes_decides}
 use Rattle.std.specs.Fmt.{decimal}
@@ -17,14 +18,15 @@ use Rattle.text_words.specs.Text.{words, IsTextLine, IsName}
 use Rattle.text_words.specs.Limits.{max_strand, max_value}
 use Rattle.text_words.specs.Values.{Known, monoid_spelling}
 use Rattle.text_words.specs.Names.{CellMeans, SingleMeans, ElementMeans, memory_named, reducer_named, element_word, IsFresh}
-use Rattle.trace_text.specs.Lines.{Place, FreshName, Number, Cell, ReducerName, MonoidWord, Mark, Placed, placed, Value, OfName, OfNumber, OfMonoid, WordMeans, WordsMean, Says, spelling, wanted, optional}
+use Rattle.line_grammar.proofs.PlainWords.{says_plain as words_say_plain}
+use Rattle.trace_text.specs.Lines.{Place, FreshName, Number, Cell, ReducerName, MonoidWord, Mark, Value, OfName, OfNumber, OfMonoid, WordMeans, Says, table, spelling, wanted, optional}
 use Rattle.trace_text.specs.Shapes.{is_numbered, has_cell, name_in, name_found, name_of_cell}
 use Rattle.trace_text.specs.Printing.{plain_word, plain_words, plain_line, name_of_reducer}
 use Rattle.trace_text.proofs.Kept.{both_true, first_is}
 use Rattle.std.proofs.lemmas.List.{append-nil}
 use Rattle.std.proofs.Common.{length-append}
 use Rattle.trace_text.proofs.CellWords.{found_of_all, flat}
-use Rattle.trace_text.specs.Plain.{is_word_byte, IsPlain, ArePlain}
+use Rattle.trace_text.specs.Plain.{is_word_byte, IsPlain}
 use Rattle.trace_text.proofs.PlainWords.{rec_append, decimal_number, decimal_plain, name_plain, words_spaced, text_spaced}
 
 -- ---- places
@@ -33,21 +35,13 @@ abbrev pub IsSmall : Place → Type 0
 IsSmall (Number low high) = high ≤ max_value
 IsSmall place = Unit {0}
 
-abbrev AreSmall : List Place → Type 0
-AreSmall [] = Unit {0}
-AreSmall (place ∷ places) = IsSmall place × AreSmall places
-
-abbrev IsSmallLast : Option Place → Type 0
-IsSmallLast None = Unit {0}
-IsSmallLast (Some place) = IsSmall place
-
 strand_small : 4294967295 ≤ max_value
 strand_small = omega arith
 
 value_small : max_value ≤ max_value
 value_small = omega arith
 
-small_wanted : (keyword : Keyword) → AreSmall (wanted keyword)
+small_wanted : (keyword : Keyword) → AllByRecursion IsSmall (wanted keyword)
 small_wanted MemWord = (tt, tt)
 small_wanted ReducerWord = (tt, (tt, tt))
 small_wanted (Access kind.Write) = (strand_small, (tt, (value_small, tt)))
@@ -58,9 +52,10 @@ small_wanted (Access kind.Put) = (strand_small, (tt, (value_small, tt)))
 small_wanted (Access kind.Get) = (strand_small, (tt, tt))
 small_wanted keyword = (strand_small, tt)
 
-small_optional : (keyword : Keyword) → IsSmallLast (optional keyword)
-small_optional MemWord = omega arith
-small_optional keyword = tt
+small_optional : (keyword : Keyword) → AllByRecursion IsSmall (option_to_list (optional keyword))
+small_optional MemWord = (omega arith, tt)
+small_optional ReducerWord = tt
+small_optional keyword = (tt, tt)
 
 pub spelling_plain : (keyword : Keyword) → IsPlain (spelling keyword)
 spelling_plain MemWord = (omega arith, (refl, (refl, (refl, tt))))
@@ -78,15 +73,16 @@ spelling_plain (Access kind.Get) = (omega arith, (refl, (refl, (refl, tt))))
 
 -- ---- the memory of a cell
 
-named_found : (here : Bool) (x mem : Mem) (rest : Option Mem) → cond here (Some x) rest ≡ Some mem → ((here ≡ true) × (x ≡ mem)) ⊎ ((here ≡ false) × (rest ≡ Some mem))
-named_found true x mem rest e = inl (refl, cc)
-named_found false x mem rest e = inr (refl, e)
+-- what is found is the first one or a later one
+pub first_or_later : {X : Type 0} (here : Bool) (x y : X) (rest : Option X) → cond here (Some x) rest ≡ Some y → ((here ≡ true) × (x ≡ y)) ⊎ ((here ≡ false) × (rest ≡ Some y))
+first_or_later true x y rest e = inl (refl, cc)
+first_or_later false x y rest e = inr (refl, e)
 
 starts_past : (from : ℕ) (mems : List Mem) (test : Mem → Bool) (mem : Mem) → IsTrue (is_numbered from mems) → find test mems ≡ Some mem → from ≤ mem.first
 starts_past from [] test mem h e = cc
 starts_past from (x ∷ mems) test mem h e =
     let parts = both_true (x.first == from) (is_numbered (from + x.cells) mems) h in
-    elim (named_found (test x) x mem (find test mems) e) [
+    elim (first_or_later (test x) x mem (find test mems) e) [
       | inl f ↦ (let same : x.first ≡ mem.first = ap (λ (m : Mem). m.first) f.1 in let start = first_is x from parts.0 in omega arith)
       | inr f ↦ (let later = starts_past (from + x.cells) mems test mem parts.1 f.1 in omega arith)
     ]
@@ -103,7 +99,7 @@ pub same_memory : (from : ℕ) (mems : List Mem) (test : Mem → Bool) (mem : Me
 same_memory from [] test mem i h e l = cc
 same_memory from (x ∷ mems) test mem i h e l =
     let parts = both_true (x.first == from) (is_numbered (from + x.cells) mems) h in
-    elim (named_found (test x) x mem (find test mems) e) [
+    elim (first_or_later (test x) x mem (find test mems) e) [
       | inl f ↦ (let here : has_cell (mem.first + i) x ≡ true = ap (has_cell (mem.first + i)) f.1 ∙ has_its_cell mem i l in
           ap (λ (b : Bool). cond b (Some x) (find (has_cell (mem.first + i)) mems)) here ∙ ap Some f.1)
       | inr f ↦ (let later = starts_past (from + x.cells) mems test mem parts.1 f.1 in
@@ -114,7 +110,7 @@ same_memory from (x ∷ mems) test mem i h e l =
 pub found_name : (mems : List Mem) (name : List ℕ) (mem : Mem) → memory_named mems name ≡ Some mem → name ≡ mem.name
 found_name [] name mem e = cc
 found_name (x ∷ mems) name mem e =
-    elim (named_found (bytes_eq name x.name) x mem (memory_named mems name) e) [
+    elim (first_or_later (bytes_eq name x.name) x mem (memory_named mems name) e) [
       | inl f ↦ (bytes_decides name x.name).0 f.0 ∙ ap (λ (m : Mem). m.name) f.1
       | inr f ↦ found_name mems name mem f.1
     ]
@@ -166,27 +162,23 @@ monoid_plain Max = (omega arith, (refl, (refl, (refl, tt))))
 monoid_plain Last = (omega arith, (refl, (refl, (refl, (refl, tt)))))
 monoid_plain Digits = (omega arith, (refl, (refl, (refl, (refl, (refl, (refl, tt)))))))
 
--- the number of a reducer names it
-reducer_by : (here : Bool) (from number : ℕ) (rest : Option ℕ) → cond here (Some from) rest ≡ Some number → ((here ≡ true) × (from ≡ number)) ⊎ ((here ≡ false) × (rest ≡ Some number))
-reducer_by true from number rest e = inl (refl, cc)
-reducer_by false from number rest e = inr (refl, e)
-
-position_from_le : (reducers : List Reducer) (word : List ℕ) (from number : ℕ) → position_from (λ (r : Reducer). bytes_eq word r.name) from reducers ≡ Some number → from ≤ number
-position_from_le [] word from number e = cc
-position_from_le (r ∷ reducers) word from number e =
-    elim (reducer_by (bytes_eq word r.name) from number (position_from (λ (x : Reducer). bytes_eq word x.name) (from + 1) reducers) e) [
+pub position_above : {X : Type 0} (test : X → Bool) (xs : List X) (from number : ℕ) → position_from test from xs ≡ Some number → from ≤ number
+position_above test [] from number e = cc
+position_above test (x ∷ xs) from number e =
+    elim (first_or_later (test x) from number (position_from test (from + 1) xs) e) [
       | inl f ↦ omega (arith, f.1)
-      | inr f ↦ (let later = position_from_le reducers word (from + 1) number f.1 in omega arith)
+      | inr f ↦ (let later = position_above test xs (from + 1) number f.1 in omega arith)
     ]
 
+-- the number of a reducer names it
 reducer_at_by : (reducers : List Reducer) (word : List ℕ) (from number : ℕ) → position_from (λ (r : Reducer). bytes_eq word r.name) from reducers ≡ Some number
     → get_or (map (λ (r : Reducer). r.name) reducers) (number - from) [] ≡ word
 reducer_at_by [] word from number e = cc
 reducer_at_by (r ∷ reducers) word from number e =
-    elim (reducer_by (bytes_eq word r.name) from number (position_from (λ (x : Reducer). bytes_eq word x.name) (from + 1) reducers) e) [
+    elim (first_or_later (bytes_eq word r.name) from number (position_from (λ (x : Reducer). bytes_eq word x.name) (from + 1) reducers) e) [
       | inl f ↦ (let d : number - from ≡ 0 = omega (arith, f.1) in
           ap (λ (n : ℕ). get_or (r.name ∷ map (λ (x : Reducer). x.name) reducers) n []) d ∙ sym ((bytes_decides word r.name).0 f.0))
-      | inr f ↦ (let later = position_from_le reducers word (from + 1) number f.1 in
+      | inr f ↦ (let later = position_above _ reducers (from + 1) number f.1 in
           let d : number - from ≡ suc (number - (from + 1)) = omega arith in
           ap (λ (n : ℕ). get_or (r.name ∷ map (λ (x : Reducer). x.name) reducers) n []) d ∙ reducer_at_by reducers word (from + 1) number f.1)
     ]
@@ -225,49 +217,6 @@ module _ (known : Known) (numbered : IsTrue (is_numbered 0 known.mems)) (some : 
       ((decimal n, refl, (decimal_number n small, m.2.1, m.2.2)), (omega (arith, plain.0), (refl, plain.1)))
   word_plain place word value s m = absurd m
 
-  -- ---- words in their places
-
-  abbrev ArePrinted : List Place → Option Place → List Value → Type 0
-  ArePrinted places last values =
-      (more : List Placed) × (placed places last (plain_words known places last values) ≡ Some more) × WordsMean known more values × ArePlain (plain_words known places last values)
-
-  one_printed : (place : Place) (word : List ℕ) (values : List Value) → IsSmall place → WordsMean known ((place, word) ∷ []) values → ArePrinted [] (Some place) values
-  one_printed place word [] s m = absurd m
-  one_printed place word (value ∷ []) s m =
-      let p = word_plain place word value s m.0 in
-      ((place, plain_word known place value) ∷ [], refl, (p.0, tt), (p.1, tt))
-  one_printed place word (value ∷ more ∷ values) s m = absurd m.1
-
-  none_printed : (last : Option Place) (values : List Value) → WordsMean known [] values → ArePrinted [] last values
-  none_printed last [] m = ([], refl, tt, tt)
-  none_printed last (value ∷ values) m = absurd m
-
-  next_printed : (place : Place) (places : List Place) (last : Option Place) (word : List ℕ) (rest : List Placed) (values : List Value) → IsSmall place
-      → ((vs : List Value) → WordsMean known rest vs → ArePrinted places last vs) → WordsMean known ((place, word) ∷ rest) values → ArePrinted (place ∷ places) last values
-  next_printed place places last word rest [] s f m = absurd m
-  next_printed place places last word rest (value ∷ values) s f m =
-      let p = word_plain place word value s m.0 in
-      let others = f values m.1 in
-      ((place, plain_word known place value) ∷ others.0, ap (option_map (λ ps. (place, plain_word known place value) ∷ ps)) others.1, (p.0, others.2), (p.1, others.3))
-
-  split_option : (place : Place) (word : List ℕ) (o : Option (List Placed)) (pairs : List Placed) → option_map (λ ps. (place, word) ∷ ps) o ≡ Some pairs
-      → (rest : List Placed) × (o ≡ Some rest) × (pairs ≡ (place, word) ∷ rest)
-  split_option place word None pairs e = cc
-  split_option place word (Some rest) pairs e = (rest, refl, cc)
-
-  printed : (places : List Place) (last : Option Place) (arguments : List (List ℕ)) (pairs : List Placed) (values : List Value) → AreSmall places → IsSmallLast last
-      → placed places last arguments ≡ Some pairs → WordsMean known pairs values → ArePrinted places last values
-  printed [] last [] pairs values s t e m = none_printed last values (subst (λ (ps : List Placed). WordsMean known ps values) (let same : pairs ≡ [] = cc in same) m)
-  printed [] None (word ∷ arguments) pairs values s t e m = cc
-  printed [] (Some place) (word ∷ []) pairs values s t e m =
-      one_printed place word values t (subst (λ (ps : List Placed). WordsMean known ps values) (let same : pairs ≡ (place, word) ∷ [] = cc in same) m)
-  printed [] (Some place) (word ∷ next ∷ arguments) pairs values s t e m = cc
-  printed (place ∷ places) last [] pairs values s t e m = cc
-  printed (place ∷ places) last (word ∷ arguments) pairs values s t e m =
-      let parts = split_option place word (placed places last arguments) pairs e in
-      next_printed place places last word parts.0 values s.0 (λ vs n. printed places last arguments parts.0 vs s.1 t parts.1 n)
-      (subst (λ (ps : List Placed). WordsMean known ps values) parts.2 m)
-
   -- ---- lines
 
   abbrev pub PlainSays : Keyword → List Value → Type 0
@@ -276,12 +225,14 @@ module _ (known : Known) (numbered : IsTrue (is_numbered 0 known.mems)) (some : 
   -- what words say, their plain line says
   pub says_plain : (ws : List (List ℕ)) (keyword : Keyword) (values : List Value) → Says known ws keyword values → PlainSays keyword values
   says_plain ws keyword values says =
-      let p = printed (wanted keyword) (optional keyword) says.1.0 says.0 values (small_wanted keyword) (small_optional keyword) says.1.3 says.2 in
-      let plain : ArePlain (spelling keyword ∷ plain_words known (wanted keyword) (optional keyword) values) = (spelling_plain keyword, p.3) in (
-        text_spaced (spelling keyword ∷ plain_words known (wanted keyword) (optional keyword) values) plain,
-        (
-          p.0,
-          (plain_words known (wanted keyword) (optional keyword) values, words_spaced (spelling keyword) (plain_words known (wanted keyword) (optional keyword) values) plain, says.1.2, p.1),
-          p.2,
-        ),
+      let p =
+      words_say_plain (WordMeans known) (plain_word known) IsPlain IsSmall (λ value. Unit {0}) (λ place word value s l m. word_plain place word value s m)
+      table small_wanted small_optional spelling_plain known.version ws keyword values (none_lead values) says in (
+        text_spaced (spelling keyword ∷ plain_words known (wanted keyword) (optional keyword) values) p.1,
+        subst (λ (line : List (List ℕ)). Says known line keyword values)
+            (sym (words_spaced (spelling keyword) (plain_words known (wanted keyword) (optional keyword) values) p.1)) p.0,
       )
+    where
+      none_lead : (values : List Value) → AllByRecursion (λ (value : Value). Unit {0}) values
+      none_lead [] = tt
+      none_lead (value ∷ values) = (tt, none_lead values)

@@ -12,7 +12,7 @@ use Rattle.text_words.specs.declared.value.Reducer.{Reducer}
 use Rattle.text_words.specs.declared.value.TraceLine.{TraceLine}
 use Rattle.text_words.specs.Values.{Known}
 use Rattle.trace_text.specs.Lines.{spelling, asks, operands, if_there, OfNumber}
-use Rattle.trace_text.specs.Printing.{Entry, OfRequest, OfMemory, OfReducer, merged_into, declarations, StartsPast, TakesReducers, line_of, entry_text, operand_text, plain_line, text_from, PrintsEntry, lines_from}
+use Rattle.trace_text.specs.Printing.{Entry, OfRequest, OfMemory, OfReducer, merged_into, declarations, StartsPast, TakesReducers, entry_line, entry_text, operand_text, plain_line, text_from, PrintsEntry, lines_from}
 
 pub one_more_feed : (from at : ℕ) → from ≤ at → replicate {A = ℕ} (at + 1 - from) 10 ≡ replicate {A = ℕ} (at - from) 10 ++ 10 ∷ []
 one_more_feed from at l =
@@ -59,18 +59,18 @@ feeds_are zero rest = refl
 feeds_are (suc n) rest = ap (λ (t : List ℕ). 10 ∷ t) (feeds_are n rest)
 
 -- the feeds before an entry, the entry and the feed behind it are its line
-pub entry_printed : (known : Known) (old : List ℕ) (at : ℕ) (entry : Entry) → PrintsEntry known old at entry (old ++ replicate {A = ℕ} (line_of entry - at) 10 ++ entry_text known entry ++ 10 ∷ []) (line_of entry + 1)
+pub entry_printed : (known : Known) (old : List ℕ) (at : ℕ) (entry : Entry) → PrintsEntry known old at entry (old ++ replicate {A = ℕ} (entry_line entry - at) 10 ++ entry_text known entry ++ 10 ∷ []) (entry_line entry + 1)
 entry_printed known old at entry entries =
     simp append_assoc (ap (λ (t : List ℕ). old ++ t)
-    (sym (feeds_are (line_of entry - at) (entry_text known entry ∷ lines_from known (line_of entry + 1) entries) ∙ simp append_assoc)))
+    (sym (feeds_are (entry_line entry - at) (entry_text known entry ∷ lines_from known (entry_line entry + 1) entries) ∙ simp append_assoc)))
 
-pub entry_steps : (known : Known) (entry : Entry) (at line next : ℕ) (old fed put new : List ℕ) → line ≡ line_of entry → next ≡ line_of entry + 1
+pub entry_steps : (known : Known) (entry : Entry) (at line next : ℕ) (old fed put new : List ℕ) → line ≡ entry_line entry → next ≡ entry_line entry + 1
     → fed ≡ old ++ replicate {A = ℕ} (line - at) 10 → put ≡ fed ++ entry_text known entry → new ≡ put ++ 10 ∷ [] → PrintsEntry known old at entry new next
 entry_steps known entry at line next old fed put new e f g h k entries =
-    let text : new ≡ old ++ replicate {A = ℕ} (line_of entry - at) 10 ++ entry_text known entry ++ 10 ∷ [] =
+    let text : new ≡ old ++ replicate {A = ℕ} (entry_line entry - at) 10 ++ entry_text known entry ++ 10 ∷ [] =
     k ∙ ap (λ (t : List ℕ). t ++ 10 ∷ []) (h ∙ ap (λ (t : List ℕ). t ++ entry_text known entry) (g ∙ ap (λ (n : ℕ). old ++ replicate {A = ℕ} (n - at) 10) e)) in
     ap (λ (t : List ℕ). t ++ text_from known next entries) text
-    ∙ (ap (λ (n : ℕ). (old ++ replicate {A = ℕ} (line_of entry - at) 10 ++ entry_text known entry ++ 10 ∷ []) ++ text_from known n entries) f
+    ∙ (ap (λ (n : ℕ). (old ++ replicate {A = ℕ} (entry_line entry - at) 10 ++ entry_text known entry ++ 10 ∷ []) ++ text_from known n entries) f
     ∙ entry_printed known old at entry entries)
 
 regroup : (old word number operands mark : List ℕ) → (((old ++ word) ++ 32 ∷ number) ++ operands) ++ mark ≡ old ++ (word ++ 32 ∷ (number ++ (operands ++ mark)))

@@ -1,4 +1,4 @@
--- A word in its place means something or has a lowest cause why not, and so have the words of a line.
+-- A word in its place means something or has a lowest cause why not.
 use Rattle.std.proofs.Common.{◌≡◌, ◌≢◌, ◌⊎◌, inl, inr, ℕ, ◌+◌, ◌<◌, ◌≤◌, Bool, true, false, List, [], ◌∷◌, ◌++◌, refl, sym, ◌∙◌, ap, subst, arith}
 use Rattle.std.specs.Prelude.{Option, Some, None, Result, Ok, Err, MatchResult, codes}
 use Rattle.text_words.specs.declared.fault.Cause.{Cause}
@@ -14,18 +14,18 @@ use Rattle.text_words.specs.Values.{Known, monoid_spelling}
 use Rattle.text_words.specs.Names.{memory_named, reducer_named, IsDeclared, HasMonoid, MonoidMeans, SingleMeans, ElementMeans}
 use Rattle.text_words.specs.Causes.{IsLowest, cause_number}
 use Rattle.text_words.proofs.Decided.{OrNot, both_or_not, number_or_not, most_or_not, same_parts, word_or_not, name_or_not, digit_or_not, number_in_or_not}
-use Rattle.trace_text.specs.Lines.{Place, FreshName, Number, Cell, ReducerName, MonoidWord, Mark, Value, OfName, OfNumber, OfMonoid}
+use Rattle.line_grammar.proofs.Readings.{Reading as ReadingBy}
+use Rattle.trace_text.specs.Lines.{Place, FreshName, Number, Cell, ReducerName, MonoidWord, Mark, OfName, OfNumber, OfMonoid, WordMeans}
 use Rattle.trace_text.specs.Faults.{IsUndeclared, WordFault}
 use Rattle.trace_text.specs.Cells.{IsSingleFault, IsElementFault}
-use Rattle.trace_text.specs.Outcome.{Reads, Fits}
+use Rattle.trace_text.specs.Outcome.{Reads}
 use Rattle.trace_text.proofs.Keywords.{monoid_of_word, monoid_of_spelling}
 use Rattle.trace_text.proofs.CellWords.{HasNoBracket, IsSplit, same_some, lowest_bad_word, single_is_cell, element_is_cell, no_closing, digits_begin}
 use Rattle.trace_text.proofs.NamedWords.{number_fault}
-use Rattle.trace_text.proofs.Outcomes.{takes, left_err, lowest_bad_number, lowest_bad_mark}
+use Rattle.trace_text.proofs.Outcomes.{lowest_bad_number, lowest_bad_mark}
 
--- what is read of a word in its place: its value, or the lowest cause
 abbrev pub Reading : Known → Place → List ℕ → Type 0
-Reading known place word = (answer : Result Value Cause) × Reads known place word answer (λ value. value)
+Reading known = ReadingBy (WordMeans known) (WordFault known)
 
 -- ---- names, numbers, monoids and marks
 
@@ -221,27 +221,3 @@ module _ (known : Known) where
   word_reading ReducerName word = reducer_reading known word
   word_reading MonoidWord word = monoid_reading known word
   word_reading Mark word = mark_reading known word
-
-  -- ---- words in their places
-
-  as_values : (places : List Place) (last : Option Place) (words : List (List ℕ)) {A : Type 0} (answer : Result A Cause) (values : A → List Value) →
-      Fits known places last words answer values → (read : Result (List Value) Cause) × Fits known places last words read (λ v. v)
-  as_values places last words (Ok x) values f = (Ok (values x), f)
-  as_values places last words (Err cause) values f = (Err cause, f)
-
-  pub words_reading : (places : List Place) (last : Option Place) (words : List (List ℕ)) → (read : Result (List Value) Cause) × Fits known places last words read (λ v. v)
-  words_reading [] None [] = (Ok [], ([], refl, tt))
-  words_reading [] (Some place) [] = (Ok [], ([], refl, tt))
-  words_reading [] None (word ∷ words) = (Err BadWord, refl)
-  words_reading [] (Some place) (word ∷ []) = go (word_reading place word)
-    where
-      go : Reading known place word → (read : Result (List Value) Cause) × Fits known [] (Some place) (word ∷ []) read (λ v. v)
-      go (Ok value, m) = (Ok (value ∷ []), ((place, word) ∷ [], refl, (m, tt)))
-      go (Err cause, f) = (Err cause, left_err known place word cause f)
-  words_reading [] (Some place) (word ∷ other ∷ words) = (Err BadWord, refl)
-  words_reading (place ∷ places) last [] = (Err BadWord, refl)
-  words_reading (place ∷ places) last (word ∷ words) =
-      let first = word_reading place word in
-      let rest = words_reading places last words in
-      as_values (place ∷ places) last (word ∷ words) _ (λ r. r.0 ∷ r.1)
-      (takes known place places last (word ∷ words) words first.0 rest.0 (λ value. value) (λ values. values) (refl, first.1) rest.1)

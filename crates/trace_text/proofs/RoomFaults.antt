@@ -13,15 +13,18 @@ use Rattle.text_words.specs.declared.fault.TextFault.TheVariants.{At, Memory}
 use Rattle.std.specs.Str.Lines.{strip_carriage_return}
 use Rattle.text_words.specs.Text.{words, lines, pieces, IsTextLine}
 use Rattle.text_words.specs.Values.{Known, Contents}
-use Rattle.trace_text.specs.Lines.{Place, Placed, IsArranged, asks, declares, spelling}
+use Rattle.line_grammar.specs.LineGrammar.{IsArranged}
+use Rattle.line_grammar.proofs.Outcomes.{nowhere}
+use Rattle.line_grammar.proofs.LineFaults.{arranged_once}
+use Rattle.trace_text.specs.Lines.{Placed, table, asks, declares, spelling}
 use Rattle.trace_text.specs.Grammar.{Item, Blank, Declared, Reduces, Asked, ItemMeans, IsInOrder, HasRoom, extended, nothing, LineMeans, LinesMean, LinesOfTrace, TextMeans, IsHeader}
 use Rattle.text_words.specs.Causes.{IsLowest, cause_number}
-use Rattle.trace_text.specs.Faults.{LineFault, LinesFault, FaultOfLines, WordFault, SomeFault, WordsFault}
+use Rattle.trace_text.specs.Faults.{LineFault, LinesFault, FaultOfLines, WordFault, WordsFault}
 use Rattle.text_words.specs.declared.value.Mem.{Mem}
 use Rattle.text_words.specs.declared.value.Reducer.{Reducer}
 use Rattle.text_words.specs.declared.value.TraceLine.{TraceLine}
 use Rattle.trace_text.specs.Drafts.{so_far, IsRoomCause, Extends, IsRoomFault, IsLineFault, IsBodyFault, IsTextFault, IsTaken, IsStopped}
-use Rattle.trace_text.proofs.LineFaults.{arranged_once}
+use Rattle.trace_text.proofs.Outcomes.{clear}
 
 -- an act's keyword declares nothing
 asks_no_declaration : (a : Act) → declares (asks a) ≡ false
@@ -38,12 +41,12 @@ asks_no_declaration (act.Get reducer) = refl
 
 -- a line that a declaration's keyword begins declares something
 pub out_of_order : (at : ℕ) (before : Contents) (ws : List (List ℕ)) (item : Item) (keyword : Keyword) (pairs : List Placed) → ItemMeans at before.known ws item
-    → IsArranged before.known.version ws keyword pairs → declares keyword ≡ true → before.lines ≢ [] → IsInOrder before item → ⊥
+    → IsArranged table before.known.version ws keyword pairs → declares keyword ≡ true → before.lines ≢ [] → IsInOrder before item → ⊥
 out_of_order at before ws Blank keyword pairs m arranged d some order = let e : [] ≡ spelling keyword ∷ arranged.0 = sym m ∙ arranged.1 in cc
 out_of_order at before ws (Declared name length) keyword pairs m arranged d some order = some order
 out_of_order at before ws (Reduces name monoid) keyword pairs m arranged d some order = some order
 out_of_order at before ws (Asked line) keyword pairs m arranged d some order =
-    let same : keyword ≡ asks line.request.act = (arranged_once before.known.version ws keyword (asks line.request.act) pairs m.1.0 arranged m.1.1).0 in
+    let same : keyword ≡ asks line.request.act = (arranged_once (clear before.known) before.known.version ws keyword (asks line.request.act) pairs m.1.0 arranged m.1.1).0 in
     let clash : true ≡ false = sym d ∙ (ap declares same ∙ asks_no_declaration line.request.act) in
     cc
 
@@ -78,12 +81,6 @@ module _ (at : ℕ) (before : Contents) (line : List ℕ) (item : Item) (text : 
 
 -- ---- a line whose words have a fault
 
-nowhere : (known : Known) (pairs : List Placed) (cause : Cause) → ((place : Place) (word : List ℕ) → WordFault known place word cause → ⊥)
-    → SomeFault known pairs cause → ⊥
-nowhere known [] cause h f = f
-nowhere known (pair ∷ pairs) cause h (inl f) = h pair.0 pair.1 f
-nowhere known (pair ∷ pairs) cause h (inr f) = nowhere known pairs cause h f
-
 module _ (at : ℕ) (before : Contents) (line : List ℕ) (text : IsTextLine line) where
   lower_line : (cause : Cause) → cause_number cause < 7 → IsLowest (WordsFault before.known (words line)) cause
       → (lower : Cause) → cause_number lower < cause_number cause → LineFault at before line lower → ⊥
@@ -94,10 +91,10 @@ module _ (at : ℕ) (before : Contents) (line : List ℕ) (text : IsTextLine lin
   lower_line cause small f lower l g = f.1 lower l g
 
   pub lowest_of_words : (cause : Cause) → IsLowest (WordsFault before.known (words line)) cause → IsLowest (LineFault at before line) cause
-  lowest_of_words NotText f = absurd (nowhere before.known f.0.1 NotText (λ place word g. g) f.0.3)
-  lowest_of_words BadNesting f = absurd (nowhere before.known f.0.1 BadNesting (λ place word g. g) f.0.3)
-  lowest_of_words NoMain f = absurd (nowhere before.known f.0.1 NoMain (λ place word g. g) f.0.3)
-  lowest_of_words TooMany f = absurd (nowhere before.known f.0.1 TooMany (λ place word g. g) f.0.3)
+  lowest_of_words NotText f = absurd (nowhere (WordFault before.known) f.0.1 NotText (λ place word g. g) f.0.3)
+  lowest_of_words BadNesting f = absurd (nowhere (WordFault before.known) f.0.1 BadNesting (λ place word g. g) f.0.3)
+  lowest_of_words NoMain f = absurd (nowhere (WordFault before.known) f.0.1 NoMain (λ place word g. g) f.0.3)
+  lowest_of_words TooMany f = absurd (nowhere (WordFault before.known) f.0.1 TooMany (λ place word g. g) f.0.3)
   lowest_of_words cause f = (f.0, lower_line cause (omega arith) f)
 
 -- ---- one line

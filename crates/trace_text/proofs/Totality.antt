@@ -1,6 +1,6 @@
 -- Each text means a trace or has a fault.
 use Rattle.std.proofs.Common.{◌≡◌, ◌⊎◌, inl, inr, ℕ, ◌+◌, ◌<◌, ◌≤◌, List, [], ◌∷◌, ◌++◌, length, refl, sym, ◌∙◌, ap, subst, arith}
-use Rattle.std.specs.Prelude.{Option, Some, None, Result, Ok, Err, codes, option_map, unwrap_or, is_some}
+use Rattle.std.specs.Prelude.{Option, Some, None, codes, option_map, unwrap_or, is_some}
 use Rattle.model_accesses.specs.declared.kind.Kind.TheVariants as kind
 use Rattle.text_words.specs.declared.fault.Cause.{Cause}
 use Rattle.text_words.specs.declared.fault.Cause.TheVariants.{NotText, BadHeader, BadWord, BadNumber, UnknownName, TwiceNamed, BadNesting, NoMain, TooMany}
@@ -17,17 +17,17 @@ use Rattle.text_words.specs.Values.{Known, Contents, version_spelling}
 use Rattle.text_words.specs.Declarations.{cells_of}
 use Rattle.text_words.specs.Causes.{IsLowest, cause_number}
 use Rattle.text_words.proofs.Decided.{OrNot, word_or_not, below_or_not, most_or_not, empty_or_not, text_line_or_not}
+use Rattle.line_grammar.proofs.Readings.{Told, line_told as line_told_by}
 use Rattle.trace_text.specs.declared.keyword.Keyword.{Keyword}
 use Rattle.trace_text.specs.declared.keyword.Keyword.TheVariants.{Mem as MemWord, Reducer as ReducerWord, Spawn, Call, Sync, Return, Access}
-use Rattle.trace_text.specs.Lines.{Place, FreshName, Number, Cell, ReducerName, MonoidWord, Mark, a_strand, a_value, Placed, Value, OfName, OfNumber, OfMonoid, placed, wanted, optional, spelling, HasKeyword, WordMeans, WordsMean, Says, asks, operands, if_there}
+use Rattle.trace_text.specs.Lines.{Place, FreshName, Number, Cell, ReducerName, MonoidWord, Mark, a_strand, a_value, Placed, Value, OfName, OfNumber, OfMonoid, placed, wanted, optional, HasKeyword, WordMeans, WordsMean, Says, asks, operands, if_there}
 use Rattle.trace_text.specs.Grammar.{Item, Blank, Declared, Reduces, Asked, ItemMeans, IsInOrder, HasRoom, extended, LineMeans, LinesMean, LinesOfTrace, IsHeader, nothing}
 use Rattle.trace_text.specs.Faults.{WordsFault, LineFault, HeaderFault, LinesFault, FaultOfLines}
-use Rattle.trace_text.specs.Outcome.{Fits}
 use Rattle.trace_text.specs.Laws.{MeaningOrFault}
-use Rattle.trace_text.proofs.Keywords.{keyword_of_word, keyword_of_spelling}
-use Rattle.trace_text.proofs.LineFaults.{item_clean, line_read, lowest_unknown}
+use Rattle.trace_text.proofs.Outcomes.{clear}
+use Rattle.trace_text.proofs.LineFaults.{item_clean}
 use Rattle.trace_text.proofs.RoomFaults.{lowest_of_room, lowest_of_words, lines_of_trace}
-use Rattle.trace_text.proofs.Readings.{words_reading}
+use Rattle.trace_text.proofs.Readings.{word_reading}
 
 -- ---- keywords
 
@@ -36,19 +36,6 @@ keyword_known_or_not One (Access kind.Bump) = inr (λ t. t)
 keyword_known_or_not Two (Access kind.Bump) = inl tt
 keyword_known_or_not version (Access kind) = inl tt
 keyword_known_or_not version keyword = inl tt
-
-keyword_or_not : (version : Version) (word : List ℕ) →
-    ((keyword : Keyword) × HasKeyword version keyword × (word ≡ spelling keyword)) ⊎ ((keyword : Keyword) → HasKeyword version keyword → word ≡ spelling keyword → ⊥)
-keyword_or_not version word = go (keyword_known_or_not version (keyword_of_word word)) (word_or_not word (spelling (keyword_of_word word)))
-  where
-    same : (keyword : Keyword) → word ≡ spelling keyword → keyword_of_word word ≡ keyword
-    same keyword e = ap keyword_of_word e ∙ keyword_of_spelling keyword
-
-    go : OrNot (HasKeyword version (keyword_of_word word)) → OrNot (word ≡ spelling (keyword_of_word word)) →
-        ((keyword : Keyword) × HasKeyword version keyword × (word ≡ spelling keyword)) ⊎ ((keyword : Keyword) → HasKeyword version keyword → word ≡ spelling keyword → ⊥)
-    go (inl has) (inl e) = inl (keyword_of_word word, has, e)
-    go (inr fails) e = inr (λ keyword has is. fails (subst (λ (k : Keyword). HasKeyword version k) (sym (same keyword is)) has))
-    go (inl has) (inr fails) = inr (λ keyword has is. fails (subst (λ (k : Keyword). word ≡ spelling k) (sym (same keyword is)) is))
 
 -- ---- from values to items
 
@@ -215,20 +202,13 @@ module _ (at : ℕ) (known : Known) (ws : List (List ℕ)) where
 -- the words of a line say something, or have a lowest fault
 words_told : (at : ℕ) (known : Known) (ws : List (List ℕ)) → ((item : Item) × ItemMeans at known ws item) ⊎ ((cause : Cause) × IsLowest (WordsFault known ws) cause)
 words_told at known [] = inl (Blank, refl)
-words_told at known (word ∷ arguments) = go (keyword_or_not known.version word)
+words_told at known (word ∷ arguments) = go (line_told_by (clear known) (word_reading known) known.version (keyword_known_or_not known.version) word arguments)
   where
-    read : (keyword : Keyword) → HasKeyword known.version keyword → word ≡ spelling keyword →
-        (answer : Result (List Value) Cause) × Fits known (wanted keyword) (optional keyword) arguments answer (λ values. values) →
+    go : Told (clear known) (word_reading known) known.version (keyword_known_or_not known.version) (word ∷ arguments) →
         ((item : Item) × ItemMeans at known (word ∷ arguments) item) ⊎ ((cause : Cause) × IsLowest (WordsFault known (word ∷ arguments)) cause)
-    read keyword has e (Ok values, (pairs, fits, m)) =
-        inl (item_said at known (word ∷ arguments) keyword values (are_of known (wanted keyword) (optional keyword) arguments pairs values fits m)
-        (pairs, (arguments, ap (λ w. w ∷ arguments) e, has, fits), m))
-    read keyword has e (Err cause, f) = inr (cause, line_read known at word arguments keyword (Err cause) has e f)
-
-    go : ((keyword : Keyword) × HasKeyword known.version keyword × (word ≡ spelling keyword)) ⊎ ((keyword : Keyword) → HasKeyword known.version keyword → word ≡ spelling keyword → ⊥) →
-        ((item : Item) × ItemMeans at known (word ∷ arguments) item) ⊎ ((cause : Cause) × IsLowest (WordsFault known (word ∷ arguments)) cause)
-    go (inl (keyword, has, e)) = read keyword has e (words_reading known (wanted keyword) (optional keyword) arguments)
-    go (inr none) = inr (BadWord, lowest_unknown known word arguments (λ other. (λ e. absurd (cc), λ is. absurd (none other is.0 is.1))))
+    go (inl (keyword, values, says)) =
+        inl (item_said at known (word ∷ arguments) keyword values (are_of known (wanted keyword) (optional keyword) says.1.0 says.0 values says.1.3 says.2) says)
+    go (inr (cause, f)) = inr (cause, f)
 
 -- ---- lines
 

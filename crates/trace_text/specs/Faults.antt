@@ -1,5 +1,5 @@
 -- What is wrong with a text that means no trace: the first faulty line, and the lowest cause in it.
-use Rattle.std.specs.Prelude.{◌≡◌, ◌≢◌, ℕ, ◌+◌, ◌<◌, ◌≤◌, Bool, true, false, ◌⊎◌, None, List, [], ◌∷◌, ◌++◌, length, codes}
+use Rattle.std.specs.Prelude.{◌≡◌, ◌≢◌, ℕ, ◌+◌, ◌<◌, ◌≤◌, Bool, true, false, ◌⊎◌, None, List, [], ◌∷◌, ◌++◌, codes}
 use Rattle.text_words.specs.declared.fault.Cause.{Cause}
 use Rattle.text_words.specs.declared.fault.Cause.TheVariants.{NotText, BadHeader, BadWord, BadNumber}
 use Rattle.text_words.specs.declared.fault.Cause.TheVariants.{UnknownName, TwiceNamed, BadNesting, TooMany}
@@ -12,7 +12,9 @@ use Rattle.text_words.specs.Limits.{max_strand, max_value, most_lines}
 use Rattle.text_words.specs.Values.{Known, Contents}
 use Rattle.text_words.specs.Causes.{IsLowest}
 use Rattle.text_words.specs.Names.{IsDeclared, IsFresh, element_word, reducer_named, MonoidMeans}
-use Rattle.trace_text.specs.Lines.{Place, FreshName, Number, Cell, ReducerName, MonoidWord, Mark, Placed, IsArranged, declares}
+use Rattle.line_grammar.specs.LineGrammar as line
+use Rattle.line_grammar.specs.LineGrammar.{IsArranged}
+use Rattle.trace_text.specs.Lines.{Place, FreshName, Number, Cell, ReducerName, MonoidWord, Mark, Placed, table, declares}
 use Rattle.trace_text.specs.Grammar.{Item, ItemMeans, LineMeans, HasRoom, IsHeader, nothing, extended}
 
 -- ---- words in their places
@@ -62,18 +64,9 @@ WordFault known place word UnknownName = IsUnknownName known place word
 WordFault known place word TwiceNamed = IsTwiceNamed known place word
 WordFault known place word cause = ⊥
 
-abbrev pub SomeFault : Known → List Placed → Cause → Type 0
-SomeFault known [] cause = ⊥
-SomeFault known (pair ∷ pairs) cause = WordFault known pair.0 pair.1 cause ⊎ SomeFault known pairs cause
-
--- What is wrong with the words of a line. They are of another shape where no keyword arranges them, or where in each
--- arrangement some word is.
+-- What is wrong with the words of a line.
 abbrev pub WordsFault : Known → List (List ℕ) → Cause → Type 0
-WordsFault known ws BadWord =
-    (0 < length ws)
-    × ((keyword : Keyword) (pairs : List Placed) → IsArranged known.version ws keyword pairs → SomeFault known pairs BadWord)
-WordsFault known ws cause =
-    (keyword : Keyword) × (pairs : List Placed) × IsArranged known.version ws keyword pairs × SomeFault known pairs cause
+WordsFault known = line.WordsFault (WordFault known) table known.version
 
 -- ---- lines
 
@@ -81,7 +74,7 @@ WordsFault known ws cause =
 abbrev pub LineFault : ℕ → Contents → List ℕ → Cause → Type 0
 LineFault at so_far line NotText = IsTextLine line → ⊥
 LineFault at so_far line BadNesting =
-    (keyword : Keyword) × (pairs : List Placed) × IsArranged so_far.known.version (words line) keyword pairs
+    (keyword : Keyword) × (pairs : List Placed) × IsArranged table so_far.known.version (words line) keyword pairs
     × (declares keyword ≡ true) × (so_far.lines ≢ [])
 LineFault at so_far line TooMany =
     (most_lines < at) ⊎ ((item : Item) × ItemMeans at so_far.known (words line) item × (HasRoom so_far item → ⊥))

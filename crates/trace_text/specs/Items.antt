@@ -1,6 +1,7 @@
 -- The items that the code makes of lines.
 use Rattle.std.specs.Prelude.{ℕ, Option, List, ◌∷◌, unwrap_or, is_some, Result, MatchResult}
 use Rattle.text_words.specs.declared.fault.Cause.{Cause}
+use Rattle.line_grammar.specs.LineGrammar.{IsPlacedFault}
 use Rattle.trace_text.specs.declared.keyword.Keyword.{Keyword}
 use Rattle.trace_text.specs.declared.line.Item as code
 use Rattle.trace_text.specs.declared.line.Item.TheVariants as code_item
@@ -8,7 +9,7 @@ use Rattle.model_accesses.specs.declared.request.Act.{Act}
 use Rattle.text_words.specs.Values.{Known}
 use Rattle.trace_text.specs.Lines.{spelling, placed, wanted, optional}
 use Rattle.trace_text.specs.Grammar.{Item, Blank, Declared, Reduces, Asked, ItemMeans}
-use Rattle.trace_text.specs.Outcome.{IsPlacedFault}
+use Rattle.trace_text.specs.Faults.{WordFault}
 
 -- What the code's item says.
 abbrev pub item_of : code.Item → Item
@@ -25,4 +26,4 @@ line_asked at strand act mark =
 abbrev pub IsRead : ℕ → Known → Keyword → List (List ℕ) → Result code.Item Cause → Type 0
 IsRead at known keyword words answer =
     MatchResult answer (λ item. ItemMeans at known (spelling keyword ∷ words) (item_of item))
-    (λ cause. IsPlacedFault known (placed (wanted keyword) (optional keyword) words) cause)
+    (λ cause. IsPlacedFault (WordFault known) (placed (wanted keyword) (optional keyword) words) cause)

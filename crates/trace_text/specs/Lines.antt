@@ -1,11 +1,14 @@
 -- The table of lines: what each keyword wants behind it, and what the words of a line mean in their places.
-use Rattle.std.specs.Prelude.{◌≡◌, ℕ, ◌++◌, Bool, true, false, Option, Some, None, List, [], ◌∷◌, codes, option_map}
+use Rattle.std.specs.Prelude.{◌≡◌, ℕ, ◌++◌, Bool, true, false, Option, Some, None, List, [], ◌∷◌, codes}
+use Rattle.std.specs.Option.{option_to_list}
 use Rattle.model_accesses.specs.declared.kind.Kind.TheVariants as kind
 use Rattle.model_accesses.specs.Table.{spelling as kind_spelling}
 use Rattle.text_words.specs.declared.value.Version.{Version}
 use Rattle.model_reducers.specs.declared.monoid.Monoid.{Monoid}
 use Rattle.model_accesses.specs.declared.request.Act.{Act}
 use Rattle.model_accesses.specs.declared.request.Act.TheVariants as act
+use Rattle.line_grammar.specs.LineGrammar as line
+use Rattle.line_grammar.specs.LineGrammar.{Table}
 use Rattle.trace_text.specs.declared.keyword.Keyword.{Keyword}
 use Rattle.trace_text.specs.declared.keyword.Keyword.TheVariants.{Mem as MemWord, Reducer as ReducerWord, Spawn, Call, Sync, Return, Access}
 use Rattle.text_words.specs.Text.{IsName, IsNumberIn}
@@ -91,23 +94,20 @@ optional MemWord = Some (Number 1 most_cells)
 optional ReducerWord = None
 optional keyword = Some Mark
 
--- A word in its place.
+-- The table of keywords, and words in the places of a line, of which the last may be left out.
+abbrev pub table : Table Keyword Place
+table = record {
+  spelling = spelling;
+  HasKeyword = HasKeyword;
+  wanted = wanted;
+  optional = λ keyword. option_to_list (optional keyword);
+}
+
 abbrev pub Placed : Type 0
-Placed = Place × List ℕ
+Placed = line.Placed Place
 
--- Each word in its place, where there are as many as wanted, or the optional one too.
 abbrev pub placed : List Place → Option Place → List (List ℕ) → Option (List Placed)
-placed [] last [] = Some []
-placed [] (Some place) (word ∷ []) = Some ((place, word) ∷ [])
-placed [] last (word ∷ words) = None
-placed (place ∷ places) last [] = None
-placed (place ∷ places) last (word ∷ words) = option_map (λ pairs. (place, word) ∷ pairs) (placed places last words)
-
--- The words are a keyword of the version and others in the places that it wants.
-abbrev pub IsArranged : Version → List (List ℕ) → Keyword → List Placed → Type 0
-IsArranged version ws keyword pairs =
-    (arguments : List (List ℕ)) × (ws ≡ spelling keyword ∷ arguments) × HasKeyword version keyword
-    × (placed (wanted keyword) (optional keyword) arguments ≡ Some pairs)
+placed places last words = line.placed places (option_to_list last) words
 
 -- ---- meanings
 
@@ -126,15 +126,11 @@ WordMeans known MonoidWord word (OfMonoid monoid) = MonoidMeans known.version wo
 WordMeans known Mark word (OfNumber line) = (digits : List ℕ) × (word ≡ codes "@" ++ digits) × IsNumberIn 1 max_strand digits line
 WordMeans known place word value = ⊥
 
--- Each word means its value.
 abbrev pub WordsMean : Known → List Placed → List Value → Type 0
-WordsMean known [] [] = Unit {0}
-WordsMean known (pair ∷ pairs) (value ∷ values) = WordMeans known pair.0 pair.1 value × WordsMean known pairs values
-WordsMean known pairs values = ⊥
+WordsMean known = line.WordsMean (WordMeans known)
 
--- The words are this keyword and words that mean these values.
 abbrev pub Says : Known → List (List ℕ) → Keyword → List Value → Type 0
-Says known ws keyword values = (pairs : List Placed) × IsArranged known.version ws keyword pairs × WordsMean known pairs values
+Says known = line.Says (WordMeans known) table known.version
 
 abbrev pub operands : Act → List Value
 operands (act.Read cell) = OfNumber cell ∷ []

@@ -1,29 +1,20 @@
 -- What the code's places read: a value, or the lowest cause.
-use Rattle.std.specs.Prelude.{◌≡◌, ℕ, Option, Some, Result, Err, List, [], ◌∷◌, MatchOption, MatchResult}
+use Rattle.std.specs.Prelude.{ℕ, Option, Result, List}
+use Rattle.std.specs.Option.{option_to_list}
 use Rattle.text_words.specs.declared.fault.Cause.{Cause}
-use Rattle.text_words.specs.declared.fault.Cause.TheVariants.{BadWord}
 use Rattle.text_words.specs.Values.{Known}
-use Rattle.trace_text.specs.Lines.{Place, Placed, Value, placed, WordMeans, WordsMean}
-use Rattle.text_words.specs.Causes.{IsLowest}
-use Rattle.trace_text.specs.Faults.{WordFault, SomeFault}
+use Rattle.line_grammar.specs.LineGrammar as line
+use Rattle.trace_text.specs.Lines.{Place, Value, WordMeans}
+use Rattle.trace_text.specs.Faults.{WordFault}
 
 -- The answer is what the word means in its place, or the lowest cause why it means nothing.
 abbrev pub Reads : {A : Type 0} → Known → Place → List ℕ → Result A Cause → (A → Value) → Type 0
-Reads known place word answer value =
-    MatchResult answer (λ x. WordMeans known place word (value x)) (λ cause. IsLowest (WordFault known place word) cause)
+Reads known = line.Reads (WordMeans known) (WordFault known)
 
 -- The first word is taken, and the answer is what it means in its place; or there is none.
 abbrev pub TakesWord : {A : Type 0} → Known → Place → List (List ℕ) → List (List ℕ) → Result A Cause → (A → Value) → Type 0
-TakesWord known place [] after answer value = (after ≡ []) × (answer ≡ Err BadWord)
-TakesWord known place (word ∷ words) after answer value = (after ≡ words) × Reads known place word answer value
-
--- The lowest cause of words in their places. Where there are too few or too many, they are of another shape.
-abbrev pub IsPlacedFault : Known → Option (List Placed) → Cause → Type 0
-IsPlacedFault known pairs cause = MatchOption pairs (cause ≡ BadWord) (λ some. IsLowest (SomeFault known some) cause)
+TakesWord known = line.TakesWord (WordMeans known) (WordFault known)
 
 -- The words fit the places, and the answer is what they mean; or it is the lowest cause.
 abbrev pub Fits : {A : Type 0} → Known → List Place → Option Place → List (List ℕ) → Result A Cause → (A → List Value) → Type 0
-Fits known places last words answer values =
-    MatchResult answer
-    (λ x. (pairs : List Placed) × (placed places last words ≡ Some pairs) × WordsMean known pairs (values x))
-    (λ cause. IsPlacedFault known (placed places last words) cause)
+Fits known places last = line.Fits (WordMeans known) (WordFault known) places (option_to_list last)

@@ -20,8 +20,7 @@ abbrev pub IsPlain : List ℕ → Type 0
 IsPlain word = (0 < length word) × AllByRecursion (λ byte. IsTrue (is_word_byte byte)) word
 
 abbrev pub ArePlain : List (List ℕ) → Type 0
-ArePlain [] = Unit {0}
-ArePlain (word ∷ words) = IsPlain word × ArePlain words
+ArePlain = AllByRecursion IsPlain
 
 -- The bytes begin with the digits of this number of 64 bits, and the rest stands behind them.
 abbrev pub HasNumber : List ℕ → ℕ → List ℕ → Type 0

@@ -1,7 +1,9 @@
 -- The plain text of a trace: each item on its own line, words separated by one space, numbers without leading zeros.
 use Rattle.std.specs.Prelude.{◌≡◌, ℕ, ◌+◌, ◌-◌, ◌<◌, ◌≤◌, nat_lt, Option, Some, None, List, []}
 use Rattle.std.specs.Prelude.{◌∷◌, ◌++◌, codes, cond, map, flat_map, replicate, slice_index_or}
+use Rattle.std.specs.Option.{option_to_list}
 use Rattle.std.specs.Fmt.{decimal}
+use Rattle.line_grammar.specs.LineGrammar as line
 use Rattle.trace_text.specs.declared.keyword.Keyword.{Keyword}
 use Rattle.trace_text.specs.declared.keyword.Keyword.TheVariants.{Mem as MemWord, Reducer as ReducerWord}
 use Rattle.text_words.specs.declared.value.Version.{Version}
@@ -32,10 +34,7 @@ plain_word known place (OfNumber number) = decimal number
 
 -- The words for values in the places of a line.
 abbrev pub plain_words : Known → List Place → Option Place → List Value → List (List ℕ)
-plain_words known places last [] = []
-plain_words known [] None (value ∷ values) = []
-plain_words known [] (Some place) (value ∷ values) = plain_word known place value ∷ []
-plain_words known (place ∷ places) last (value ∷ values) = plain_word known place value ∷ plain_words known places last values
+plain_words known places last = line.plain_words (plain_word known) places (option_to_list last)
 
 abbrev pub behind_space : List (List ℕ) → List ℕ
 behind_space [] = []
@@ -58,10 +57,10 @@ pub data Entry : Type 0 where
   OfReducer : (reducer : Reducer) → Entry
   OfRequest : (line : TraceLine) → Entry
 
-abbrev pub line_of : Entry → ℕ
-line_of (OfMemory mem) = mem.line
-line_of (OfReducer reducer) = reducer.line
-line_of (OfRequest line) = line.at
+abbrev pub entry_line : Entry → ℕ
+entry_line (OfMemory mem) = mem.line
+entry_line (OfReducer reducer) = reducer.line
+entry_line (OfRequest line) = line.at
 
 abbrev pub length_of : Mem → Option ℕ
 length_of mem = cond mem.array (Some mem.cells) None
@@ -93,7 +92,7 @@ entries contents = declarations contents.known.mems contents.known.reducers ++ m
 abbrev pub lines_from : Known → ℕ → List Entry → List (List ℕ)
 lines_from known at [] = []
 lines_from known at (entry ∷ entries) =
-    replicate (line_of entry - at) [] ++ entry_text known entry ∷ lines_from known (line_of entry + 1) entries
+    replicate (entry_line entry - at) [] ++ entry_text known entry ∷ lines_from known (entry_line entry + 1) entries
 
 abbrev pub plain_lines : Contents → List (List ℕ)
 plain_lines contents = spaced (codes "cilk" ∷ version_spelling contents.known.version ∷ []) ∷ lines_from contents.known 2 (entries contents)

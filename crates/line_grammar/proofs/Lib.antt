@@ -1,0 +1,4 @@
+pub mod Outcomes
+pub mod LineFaults
+pub mod Readings
+pub mod PlainWords
