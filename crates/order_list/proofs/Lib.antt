@@ -7,3 +7,4 @@ pub mod Stretches
 pub mod Groupings
 pub mod Halves
 pub mod Tied
+pub mod Parted

@@ -7,15 +7,18 @@ use crate::groups::Groups;
 use crate::place::{Place, count_from, item_ahead, place_at, spread, tie};
 use std::alloc::{AllocError, Allocator};
 
-/// A group is halved when it has so many items and one of them has no room behind it. So each group but the first has
-/// half as many at least, and there are never more groups than `most_groups` says.
+/// So many items at most are moved to a new group at once, where one behind which there is no room has more behind it in its group:
+/// half of them are moved then.
 const MANY: u32 = 64;
 
-/// The most groups that so many items make.
+/// So many items a group has on average at least, where groups are made as items are.
+const LEAST: u32 = 16;
+
+/// For how many groups there is room where there are so many items.
 fn most_groups(items: u32) -> u32
-    ensures { result * 32 ≤ items + 32 }
+    ensures { result * 16 ≤ items + 16 }
 {
-    items / (MANY / 2) + 1
+    items / LEAST + 1
 }
 
 /// Items in groups, numbered as they were made.
@@ -32,9 +35,9 @@ pub struct Grouping<A: Allocator> {
 }
 
 impl<A: Allocator> Grouping<A> {
-    ghost use Rattle.std.specs.Prelude.{◌≡◌, ℕ, [], ◌∷◌, ◌+◌, ◌<◌, ◌≤◌, ◌↔◌, length, insert, IsTrue, IfOk, OnOk, OnErr};
+    ghost use Rattle.std.specs.Prelude.{◌≡◌, ℕ, [], ◌∷◌, ◌+◌, ◌<◌, ◌≤◌, ◌↔◌, length, insert, slice_index, IsTrue, IfOk, OnOk, OnErr};
     ghost use Rattle.order_list.specs.Order.{most_items, place_of, insert_behind};
-    ghost use Rattle.order_list.specs.Places.{items_along, HasRoom};
+    ghost use Rattle.order_list.specs.Places.{items_along, groups_of, HasRoom, IsGroupRow};
 
     /// One item, 0, in one group, 0.
     pub fn new(alloc: A) -> Result<Grouping<A>, AllocError>
@@ -130,23 +133,49 @@ impl<A: Allocator> Grouping<A> {
         u32::MAX - here.local
     }
 
-    /// Moves the second half of an item's group to a new group behind it, where there are many.
-    fn halve(&mut self, item: u32)
+    /// The item that follows in the same group, or this one where it is the last of its group.
+    fn follower(&self, item: u32) -> u32
+        requires { item < length (items_along self.now.places.items) }
+        ensures known { result < length (items_along self.now.places.items) }
+        ensures group { slice_index (groups_of self.now.places.items) result ≡ slice_index (groups_of self.now.places.items) item }
+    {
+        let here = place_at(&self.places, item);
+        if here.next != 0 && place_at(&self.places, here.next).group == here.group {
+            return here.next;
+        }
+        item
+    }
+
+    /// The items to be moved where there is no room behind this one: all behind it in its group, or half of them where they are
+    /// many, or it alone where it is the last. It gives the first of them, and their number.
+    fn tail(&self, item: u32) -> (u32, u32)
+        requires { item < length (items_along self.now.places.items) }
+        ensures group { slice_index (groups_of self.now.places.items) result.0 ≡ slice_index (groups_of self.now.places.items) item }
+        ensures row { IsGroupRow self.now.places.items (items_along self.now.places.items) result.0 result.1 }
+    {
+        let begin = self.follower(item);
+        let count = count_from(&self.places, begin);
+        if count <= MANY {
+            return (begin, count);
+        }
+        let half = count / 2;
+        (item_ahead(&self.places, begin, half), count - half)
+    }
+
+    /// Moves what follows an item in its group to a new group behind it.
+    fn part(&mut self, item: u32)
         requires { item < length (items_along self.old.places.items) }
         ensures items { items_along self.new.places.items ≡ items_along self.old.places.items }
         ensures reserved { self.new.reserved ≡ self.old.reserved }
     {
         let group = place_at(&self.places, item).group;
-        let first = self.firsts[group as usize];
-        let count = count_from(&self.places, first);
-        if count < MANY || self.groups.reserved() == 0 {
+        let (begin, count) = self.tail(item);
+        if begin == self.firsts[group as usize] || self.groups.reserved() == 0 {
             return;
         }
-        let half = count / 2;
-        let middle = item_ahead(&self.places, first, half);
         let behind = self.groups.insert_reserved(group);
-        self.firsts.push_reserved(middle);
-        spread(&mut self.places, middle, count - half, behind);
+        self.firsts.push_reserved(begin);
+        spread(&mut self.places, begin, count, behind);
     }
 
     /// Gives the items of an item's group places at equal distances, and gives the distance.
@@ -173,7 +202,7 @@ impl<A: Allocator> Grouping<A> {
         ensures some { 4 ≤ result }
         ensures room { HasRoom self.new.groups.items self.new.places.items item result }
     {
-        self.halve(item);
+        self.part(item);
         let gap = self.gap_behind(item);
         if gap >= 4 {
             return gap;
