@@ -2,8 +2,8 @@
 use Rattle.std.specs.Prelude.{ℕ, ◌≡◌, ◌<◌, Option, Some, None, Bool, true}
 use Rattle.model_accesses.specs.Limits.{most_cells}
 use Rattle.model_bodies.specs.declared.statement.Statement.{Statement}
-use Rattle.model_bodies.specs.declared.statement.Statement.TheVariants.{Let, Read, Write, Bump, Update, Put, Get}
-use Rattle.model_bodies.specs.declared.statement.Statement.TheVariants.{Spawn, Call, Sync, ParallelFor, If, Else, End}
+use Rattle.model_bodies.specs.declared.statement.Statement.TheVariants.{Read, Write, Bump, Update, Put, Get}
+use Rattle.model_bodies.specs.declared.statement.Statement.TheVariants.{Spawn, Call, Sync}
 use Rattle.model_bodies.specs.Lines.{line_of}
 use Rattle.model_bodies.specs.Sound.{is_located}
 use Rattle.model_bodies.specs.Trees.{Tree, Done, Step, Choice}

@@ -96,12 +96,7 @@ optional keyword = Some Mark
 
 -- The table of keywords, and words in the places of a line, of which the last may be left out.
 abbrev pub table : Table Keyword Place
-table = record {
-  spelling = spelling;
-  HasKeyword = HasKeyword;
-  wanted = wanted;
-  optional = λ keyword. option_to_list (optional keyword);
-}
+table = record { spelling = spelling; HasKeyword = HasKeyword; wanted = wanted; optional = λ keyword. option_to_list (optional keyword) }
 
 abbrev pub Placed : Type 0
 Placed = line.Placed Place
