@@ -93,7 +93,8 @@ impl<A: Allocator> Branches<A> {
     pub fn make_room(&mut self, strands: usize)
         ensures { self.new ≡ self.old }
     {
-        let _ = self.names.reserve(strands);
+        // Each event wants room for three.
+        let _ = self.names.reserve(strands.saturating_add(3));
     }
 
     /// A spawn by `strand` began a child and a next strand, and where it is the first of its block, it set a number aside for

@@ -122,15 +122,14 @@ impl<A: Allocator + Clone> Core<A> {
         })
     }
 
-    /// Asks for room for so many more spawns, as [`Strands::make_room`](sp_labels::Strands::make_room) does. It is a hint, which changes
+    /// Asks for room for so many more strands, as [`Strands::make_room`](sp_labels::Strands::make_room) does. It is a hint, which changes
     /// nothing that is seen.
-    pub fn make_room(&mut self, spawns: usize)
+    pub fn make_room(&mut self, strands: usize)
         ensures { self.new ≡ self.old }
     {
-        self.tracks.strands.make_room(spawns);
+        self.tracks.strands.make_room(strands);
         if let Some(reducers) = &mut self.tracks.reducers {
-            // A spawn makes three strands at most.
-            reducers.make_room(spawns.min(self.limit as usize) * 3);
+            reducers.make_room(strands);
         }
     }
 

@@ -92,7 +92,8 @@ impl<A: Allocator + Clone> Views<A> {
     pub fn make_room(&mut self, strands: usize)
         ensures { self.new ≡ self.old }
     {
-        let _ = self.pieces.reserve(strands);
+        // Each event wants room for three.
+        let _ = self.pieces.reserve(strands.saturating_add(3));
     }
 
     /// Whether there is room for the next event.

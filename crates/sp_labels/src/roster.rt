@@ -19,8 +19,8 @@ use slab::Slab;
 use std::alloc::{AllocError, Allocator};
 use std::marker::Model;
 
-/// The spawns after which there may be no number left for a strand, where each makes three.
-const MOST_SPAWNS: usize = 1_000_000;
+/// No order holds more strands.
+const MOST_STRANDS: usize = 3_000_001;
 
 /// How many calls may be open at once, so that 32 bits tell one from another. No memory holds as many.
 const MOST_CALLERS: usize = 4_294_967_296;
@@ -160,16 +160,16 @@ impl<A: Allocator> Strands<A> {
         Ok(())
     }
 
-    /// Asks for room for so many more spawns, so that strands need not grow by and by. It is a hint: it changes nothing that is
-    /// seen, and where there is no memory they grow as they are made.
-    pub fn make_room(&mut self, spawns: usize)
+    /// Asks for room for so many more strands, so that they need not grow by and by. It is a hint: it changes nothing that is seen, and
+    /// where there is no memory they grow as they are made.
+    pub fn make_room(&mut self, strands: usize)
         ensures { self.new ≡ self.old }
     {
-        // A spawn makes three strands at most, and each event wants room for as many.
-        let strands = (spawns.min(MOST_SPAWNS) + 1) * 3;
+        // Places are reserved ahead of the strands that take them.
+        let strands = strands.min(MOST_STRANDS) + AHEAD as usize;
+        let _ = self.records.reserve(strands);
         self.english.make_room(strands as u32);
         self.hebrew.make_room(strands as u32);
-        let _ = self.records.reserve(strands);
     }
 
     /// Whether there is room for one event.

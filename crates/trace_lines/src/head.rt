@@ -128,6 +128,22 @@ pub fn has_more(head: u64) -> bool
     head % STRANDS == MARKER
 }
 
+/// Whether a head is that of a spawn, with three numbers more or without.
+#[inline(always)]
+pub fn is_spawn(head: u64) -> bool
+    ensures { IsTrue result ↔ (tag_in head ≡ 0) }
+{
+    head / STRANDS % ACTS == 0
+}
+
+/// Whether a head is that of a sync.
+#[inline(always)]
+pub fn is_sync(head: u64) -> bool
+    ensures { IsTrue result ↔ (tag_in head ≡ 1) }
+{
+    head / STRANDS % ACTS == 1
+}
+
 /// The line of a head that is enough, behind the line with the number `last`.
 #[inline(always)]
 pub fn line_of_head(last: u32, head: u64) -> TraceLine

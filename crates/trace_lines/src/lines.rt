@@ -1,10 +1,12 @@
 //! A list of lines.
 
-ghost use Rattle.std.specs.Prelude.{◌≡◌, ◌++◌, ◌∷◌, [], ℕ, List, drop, get_or, length, OnOk, OnErr, IsTrue, ◌↔◌};
+ghost use Rattle.std.specs.Prelude.{◌≡◌, ◌≤◌, ◌*◌, ◌++◌, ◌∷◌, [], ℕ, List, drop, get_or, length, OnOk, OnErr, IsTrue, ◌↔◌};
 ghost use Rattle.trace_lines.specs.Heads.{marker, strand_in, line_of_numbers as line_of_numbers_spec};
 ghost use Rattle.trace_lines.specs.Lines.{lines_from, lines_left};
 
-use crate::head::{has_more, head_of, line_of_head, line_of_numbers, numbers_of};
+use crate::head::{
+    has_more, head_of, is_spawn, is_sync, line_of_head, line_of_numbers, numbers_of,
+};
 use std::alloc::{AllocError, Allocator};
 use std::marker::Model;
 use text_words::TraceLine;
@@ -87,6 +89,19 @@ impl<A: Allocator> TraceLines<A> {
         ensures { result ≡ length self.now }
     {
         self.heads.len()
+    }
+
+    /// About how many strands the requests make, if all are granted: two a spawn, and a third at each that opens a block, of which there
+    /// are about as many as syncs. It is a guess, by which room is asked for in advance.
+    pub fn likely_strands(&self) -> usize
+        ensures { result ≤ length self.now * 3 }
+    {
+        let (mut spawns, mut syncs) = (0, 0);
+        for head in self.heads.as_slice() {
+            spawns += usize::from(is_spawn(*head));
+            syncs += usize::from(is_sync(*head));
+        }
+        spawns * 2 + spawns.min(syncs + 1)
     }
 
     /// Whether there are none.
