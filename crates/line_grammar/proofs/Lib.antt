@@ -2,3 +2,4 @@ pub mod Outcomes
 pub mod LineFaults
 pub mod Readings
 pub mod PlainWords
+pub mod Formed

@@ -1,5 +1,5 @@
 -- Words stand in one arrangement at most, and what is wrong with them is what is wrong with one of them there.
-use Rattle.std.proofs.Common.{◌≡◌, ℕ, ◌<◌, ◌∷◌, [], List, length, arith, refl, sym, subst, ap, ◌∙◌}
+use Rattle.std.proofs.Common.{◌≡◌, ℕ, ◌<◌, ◌∷◌, [], List, length, arith, refl, sym, subst, ap, ◌∙◌, ◌⊎◌, inl, inr}
 use Rattle.std.specs.Prelude.{Option, Some, None, Result, Ok, Err, MatchResult, ◌↔◌}
 use Rattle.text_words.specs.declared.fault.Cause.{Cause}
 use Rattle.text_words.specs.declared.fault.Cause.TheVariants.{NotText, BadHeader, BadWord}
@@ -47,7 +47,7 @@ module _ {Keyword Place Value : Type 0} {table : Table Keyword Place} {Means : P
       values_once (pair ∷ pairs) (v ∷ vs) (w ∷ ws) m n =
           ap (λ (x : Value). x ∷ vs) (word_once pair.0 pair.1 v w m.0 n.0) ∙ ap (λ (xs : List Value). w ∷ xs) (values_once pairs vs ws m.1 n.1)
 
-      pub says_once : (ws : List (List ℕ)) (keyword other : Keyword) (values more : List Value) → Says Means table version ws keyword values
+      says_once : (ws : List (List ℕ)) (keyword other : Keyword) (values more : List Value) → Says Means table version ws keyword values
           → Says Means table version ws other more → (keyword ≡ other) × (values ≡ more)
       says_once ws keyword other values more m n =
           let same = arranged_once ws keyword other m.0 n.0 m.1 n.1 in
@@ -122,10 +122,36 @@ module _ {Keyword Place Value : Type 0} {table : Table Keyword Place} {Means : P
 
     -- ---- words that say something have no fault
 
-    pub blank_clean : (cause : Cause) → WordsFault Fault table version [] cause → ⊥
+    blank_clean : (cause : Cause) → WordsFault Fault table version [] cause → ⊥
     blank_clean BadWord f = absurd (omega (arith, f.0))
     blank_clean cause f = let e : [] ≡ table.spelling f.0 ∷ f.2.0 = f.2.1 in cc
 
-    pub says_clean : (ws : List (List ℕ)) (keyword : Keyword) (values : List Value) → Says Means table version ws keyword values
+    says_clean : (ws : List (List ℕ)) (keyword : Keyword) (values : List Value) → Says Means table version ws keyword values
         → (cause : Cause) → WordsFault Fault table version ws cause → ⊥
     says_clean ws keyword values says cause f = words_clean clear says.0 values says.2 cause (to_pairs ws keyword says.0 says.1 cause f)
+
+    -- ---- items, where words behind a keyword make one by their values
+
+    module _ {Item : Type 0} (blank : Item) (item_by : Keyword → List Value → Item) (ws : List (List ℕ)) where
+      -- the words say the item: there are none, or they are a keyword and words whose values make it
+      abbrev pub IsSaid : Item → Type 0
+      IsSaid item =
+          ((item ≡ blank) × (ws ≡ []))
+          ⊎ ((keyword : Keyword) × (values : List Value) × Says Means table version ws keyword values × (item_by keyword values ≡ item))
+
+      no_words_say : (keyword : Keyword) (values : List Value) → ws ≡ [] → Says Means table version ws keyword values → ⊥
+      no_words_say keyword values e says = let none : [] ≡ table.spelling keyword ∷ says.1.0 = sym e ∙ says.1.1 in cc
+
+      -- they say one item at most, where a word means one value at most
+      pub said_once : ((place : Place) (word : List ℕ) (v w : Value) → Means place word v → Means place word w → v ≡ w) → (i j : Item) → IsSaid i → IsSaid j → i ≡ j
+      said_once word_once i j (inl m) (inl n) = m.0 ∙ sym n.0
+      said_once word_once i j (inl m) (inr n) = absurd (no_words_say n.0 n.1 m.1 n.2)
+      said_once word_once i j (inr m) (inl n) = absurd (no_words_say m.0 m.1 n.1 m.2)
+      said_once word_once i j (inr m) (inr n) =
+          let same = says_once word_once ws m.0 n.0 m.1 n.1 m.2 n.2 in
+          sym m.3 ∙ (ap (λ (k : Keyword). item_by k m.1) same.0 ∙ (ap (item_by n.0) same.1 ∙ n.3))
+
+      -- and have no fault
+      pub said_clean : (item : Item) → IsSaid item → (cause : Cause) → WordsFault Fault table version ws cause → ⊥
+      said_clean item (inl m) cause f = blank_clean cause (subst (λ (t : List (List ℕ)). WordsFault Fault table version t cause) m.1 f)
+      said_clean item (inr m) cause f = says_clean ws m.0 m.1 m.2 cause f

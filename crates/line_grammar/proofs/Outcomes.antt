@@ -24,6 +24,24 @@ pub split_option : {Place : Type 0} (place : Place) (word : List ℕ) (o : Optio
 split_option place word None pairs e = cc
 split_option place word (Some rest) pairs e = (rest, refl, cc)
 
+-- the word in the first place means the first value, and the others mean theirs behind it
+pub first_means : {Place Value : Type 0} (Means : Place → List ℕ → Value → Type 0) (place : Place) (places last : List Place) (arguments : List (List ℕ)) (pairs : List (Placed Place))
+    (value : Value) (values : List Value) → placed (place ∷ places) last arguments ≡ Some pairs → WordsMean Means pairs (value ∷ values)
+    → (word : List ℕ) × (rest : List (List ℕ)) × (more : List (Placed Place)) × Means place word value × WordsMean Means more values × (placed places last rest ≡ Some more)
+first_means Means place places last [] pairs value values e m = cc
+first_means {Place} Means place places last (word ∷ rest) pairs value values e m =
+    let parts = split_option place word (placed places last rest) pairs e in
+    let behind = subst (λ (ps : List (Placed Place)). WordsMean Means ps (value ∷ values)) parts.2 m in
+    (word, rest, parts.0, behind.0, behind.1, parts.1)
+
+-- and so does the first word of those that may stand at the end
+pub last_means : {Place Value : Type 0} (Means : Place → List ℕ → Value → Type 0) (place : Place) (last : List Place) (arguments : List (List ℕ)) (pairs : List (Placed Place))
+    (value : Value) (values : List Value) → placed [] (place ∷ last) arguments ≡ Some pairs → WordsMean Means pairs (value ∷ values) → (word : List ℕ) × Means place word value
+last_means {Place} Means place last [] pairs value values e m =
+    let none : pairs ≡ [] = cc in absurd (subst (λ (ps : List (Placed Place)). WordsMean Means ps (value ∷ values)) none m)
+last_means Means place last (word ∷ rest) pairs value values e m =
+    let first = first_means Means place last [] (word ∷ rest) pairs value values e m in (first.0, first.3)
+
 -- a fault that no word has
 pub nowhere : {Place : Type 0} (Fault : Place → List ℕ → Cause → Type 0) (pairs : List (Placed Place)) (cause : Cause)
     → ((place : Place) (word : List ℕ) → Fault place word cause → ⊥) → SomeFault Fault pairs cause → ⊥

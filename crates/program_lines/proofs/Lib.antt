@@ -1,7 +1,6 @@
 pub mod Keywords
 pub mod LocationWords
 pub mod Outcomes
-pub mod LineFaults
 pub mod NameLists
 pub mod Once
 pub mod Crowded

@@ -1,6 +1,6 @@
 -- Words mean one thing at most, and so do lines.
 use Rattle.std.proofs.Common.{◌≡◌, ℕ, ◌<◌, ◌∷◌, [], List, refl, sym, ◌∙◌, ap, subst, lit<, inl, inr}
-use Rattle.std.specs.Prelude.{Option, Some, None, ◌⊎◌}
+use Rattle.std.specs.Prelude.{Option, Some, None}
 use denote.Struct.Props.{props}
 use Rattle.model_accesses.specs.declared.kind.Kind.TheVariants as kind
 use Rattle.text_words.specs.declared.value.Mem.{Mem}
@@ -24,10 +24,12 @@ use Rattle.model_bodies.specs.declared.statement.Statement.{Statement}
 use Rattle.model_bodies.specs.declared.statement.Statement.TheVariants.{Let, Read, Write, Bump, Update, Put, Get, Spawn, Call, Sync, ParallelFor, If, Else, End}
 use Rattle.program_lines.specs.Scopes.{NameScope, register_named}
 use Rattle.program_lines.specs.Places.{Place, Common, FreshName, OperandWord, LocationWord, AssignedRegister, KnownRegister, FunctionName, ParameterName, Sign, Exactly, Value, Plain, OfOperand, OfLocation, OfRegister, OfAssigned, OfSign, Nothing, WordMeans, OperandMeans, ElementMeans, LocationMeans, AssignedMeans}
-use Rattle.program_lines.specs.Table.{spelling, Says}
 use Rattle.program_lines.specs.Grammar.{Item, Blank, Declared, Reduces, Begins, Does, Decides, Otherwise, Ends, ItemMeans, number_if_there, keyword_of_statement, statement_values}
 use Rattle.program_lines.proofs.Keywords.{sign_once}
-use Rattle.line_grammar.proofs.LineFaults.{says_once as words_say_once}
+use Rattle.line_grammar.proofs.LineFaults.{IsSaid, said_once, said_clean}
+use Rattle.line_grammar.proofs.Formed.{first_or, behind_first}
+use Rattle.text_words.specs.declared.fault.Cause.{Cause}
+use Rattle.program_lines.specs.Faults.{WordsFault}
 use Rattle.program_lines.proofs.Outcomes.{clear}
 use Rattle.program_lines.proofs.LocationWords.{name_no_digit, unnamed}
 
@@ -112,10 +114,6 @@ module _ (scope : NameScope) where
   word_once (Exactly other) word Nothing w m n = absurd n
   word_once place word v w m n = absurd m
 
-  pub says_once : (ws : List (List ℕ)) (keyword other : Keyword) (values more : List Value) → Says scope ws keyword values → Says scope ws other more
-      → (keyword ≡ other) × (values ≡ more)
-  says_once ws keyword other values more m n = words_say_once (clear scope) scope.known.version word_once ws keyword other values more m n
-
 -- ---- items, from their keyword and values
 
 abbrev first_register : Register
@@ -180,12 +178,7 @@ access_by at begin.Func a b = Begins (name_in a) (name_in b)
 access_by at keyword a b = Blank
 
 abbrev pub first_of_values : List Value → Value
-first_of_values [] = Nothing
-first_of_values (value ∷ values) = value
-
-abbrev pub behind_first : List Value → List Value
-behind_first [] = []
-behind_first (value ∷ values) = values
+first_of_values = first_or Nothing
 
 abbrev pub item_by : ℕ → Keyword → List Value → Item
 item_by at begin.Mem values = Declared (name_in (first_of_values values)) (count_in (behind_first values))
@@ -197,10 +190,6 @@ item_by at begin.If values = Decides (register_in (first_of_values values))
 item_by at begin.Else values = Otherwise
 item_by at begin.End values = Ends
 item_by at keyword values = access_by at keyword (first_of_values values) (first_of_values (behind_first values))
-
--- what a line other than a blank one says
-abbrev IsSaid : ℕ → NameScope → List (List ℕ) → Item → Type 0
-IsSaid at scope ws item = (keyword : Keyword) × (values : List Value) × Says scope ws keyword values × (item_by at keyword values ≡ item)
 
 -- a statement that names no new register
 unnamed_statement : (made : ℕ → Statement) (at line : ℕ) (named : Option (List ℕ)) → named ≡ None → line ≡ at → Does (made at) None ≡ Does (made line) named
@@ -239,8 +228,7 @@ module _ (at : ℕ) (scope : NameScope) (ws : List (List ℕ)) where
   count_back None = refl
   count_back (Some number) = refl
 
-  -- a line without words, or what a keyword and values say
-  said : (item : Item) → ItemMeans at scope ws item → ((item ≡ Blank) × (ws ≡ [])) ⊎ IsSaid at scope ws item
+  said : (item : Item) → ItemMeans at scope ws item → IsSaid (clear scope) scope.known.version Blank (item_by at) ws item
   said Blank m = inl (refl, m)
   said (Declared name count) m = inr (begin.Mem, Plain (trace.OfName name) ∷ number_if_there count, m, ap (Declared name) (count_back count))
   said (Reduces name monoid) m = inr (begin.Reducer, Plain (trace.OfName name) ∷ Plain (trace.OfMonoid monoid) ∷ [], m, refl)
@@ -250,17 +238,10 @@ module _ (at : ℕ) (scope : NameScope) (ws : List (List ℕ)) where
   said Otherwise m = inr (begin.Else, [], m, refl)
   said Ends m = inr (begin.End, [], m, refl)
 
-  no_words_say : (keyword : Keyword) (values : List Value) → ws ≡ [] → Says scope ws keyword values → ⊥
-  no_words_say keyword values e says = let none : [] ≡ spelling keyword ∷ says.1.0 = sym e ∙ says.1.1 in cc
-
-  once_by : (i j : Item) → ((i ≡ Blank) × (ws ≡ [])) ⊎ IsSaid at scope ws i → ((j ≡ Blank) × (ws ≡ [])) ⊎ IsSaid at scope ws j → i ≡ j
-  once_by i j (inl m) (inl n) = m.0 ∙ sym n.0
-  once_by i j (inl m) (inr n) = absurd (no_words_say n.0 n.1 m.1 n.2)
-  once_by i j (inr m) (inl n) = absurd (no_words_say m.0 m.1 n.1 m.2)
-  once_by i j (inr m) (inr n) =
-      let same = says_once scope ws m.0 n.0 m.1 n.1 m.2 n.2 in
-      sym m.3 ∙ (ap (λ (k : Keyword). item_by at k m.1) same.0 ∙ (ap (item_by at n.0) same.1 ∙ n.3))
-
   -- the words of a line say one thing at most
   pub item_once : (i j : Item) → ItemMeans at scope ws i → ItemMeans at scope ws j → i ≡ j
-  item_once i j m n = once_by i j (said i m) (said j n)
+  item_once i j m n = said_once (clear scope) scope.known.version Blank (item_by at) ws (word_once scope) i j (said i m) (said j n)
+
+-- and have no fault where they say something
+pub item_clean : (scope : NameScope) (at : ℕ) (ws : List (List ℕ)) (item : Item) → ItemMeans at scope ws item → (cause : Cause) → WordsFault scope ws cause → ⊥
+item_clean scope at ws item m = said_clean (clear scope) scope.known.version Blank (item_by at) ws item (said at scope ws item m)

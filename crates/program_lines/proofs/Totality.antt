@@ -1,6 +1,5 @@
 -- The words of a line say something in their scope, or have a lowest cause why not.
 use Rattle.std.proofs.Common.{◌≡◌, ◌⊎◌, inl, inr, ℕ, List, [], ◌∷◌, refl, sym, ◌∙◌, ap, subst}
-use Rattle.std.specs.Prelude.{Some}
 use Rattle.model_accesses.specs.declared.kind.Kind.TheVariants as kind
 use Rattle.text_words.specs.declared.fault.Cause.{Cause}
 use Rattle.text_words.specs.declared.value.Version.{Version}
@@ -8,7 +7,7 @@ use Rattle.text_words.specs.declared.value.Version.TheVariants.{One, Two}
 use Rattle.text_words.specs.Causes.{IsLowest}
 use Rattle.model_accesses.specs.Limits.{most_cells}
 use Rattle.text_words.proofs.Decided.{OrNot}
-use Rattle.line_grammar.proofs.Outcomes.{split_option}
+use Rattle.line_grammar.proofs.Formed.{behind_first, line_formed, all_formed as all_formed_by}
 use Rattle.line_grammar.proofs.Readings.{Told as ToldBy, line_told as line_told_by}
 use Rattle.trace_text.specs.Lines as trace
 use Rattle.program_lines.specs.declared.keyword.Keyword.{Keyword}
@@ -17,12 +16,12 @@ use Rattle.program_lines.specs.declared.operator.Operator.{Operator}
 use Rattle.program_lines.specs.declared.operator.Operator.TheVariants.{Plus, Minus, Times, Below}
 use Rattle.program_lines.specs.Scopes.{NameScope}
 use Rattle.program_lines.specs.Places.{Place, Common, FreshName, OperandWord, LocationWord, AssignedRegister, KnownRegister, FunctionName, ParameterName, Sign, Exactly, Value, Plain, OfOperand, OfLocation, OfRegister, OfAssigned, OfSign, Nothing, WordMeans}
-use Rattle.program_lines.specs.Table.{HasKeyword, wanted, optional, Placed, placed, WordsMean, Says}
+use Rattle.program_lines.specs.Table.{table, HasKeyword, wanted, optional, Says}
 use Rattle.program_lines.specs.Grammar.{Item, Blank, ItemMeans, number_if_there, expression_values}
 use Rattle.program_lines.specs.Faults.{WordsFault}
 use Rattle.program_lines.specs.Laws.{MeaningOrFault}
 use Rattle.program_lines.proofs.Outcomes.{clear}
-use Rattle.program_lines.proofs.Once.{register_in, named_in, operand_in, location_in, number_in, name_in, monoid_in, count_in, expression_in, first_of_values, behind_first, item_by}
+use Rattle.program_lines.proofs.Once.{register_in, named_in, operand_in, location_in, number_in, name_in, monoid_in, count_in, expression_in, first_of_values, item_by}
 use Rattle.program_lines.proofs.Readings.{word_reading}
 
 -- ---- keywords
@@ -57,24 +56,8 @@ formed ParameterName value = Plain (trace.OfName (name_in value))
 formed Sign value = OfSign (sign_in value)
 formed (Exactly word) value = Nothing
 
--- as many values as the places want
-abbrev each_formed : List Place → List Value → List Value
-each_formed [] values = []
-each_formed (place ∷ places) values = formed place (first_of_values values) ∷ each_formed places (behind_first values)
-
--- all that may stand at the end, or nothing
-abbrev end_formed : List Place → List Value → List Value
-end_formed [] values = []
-end_formed (place ∷ places) [] = []
-end_formed (place ∷ places) (value ∷ values) = formed place value ∷ each_formed places values
-
-abbrev all_formed : List Place → List Place → List Value → List Value
-all_formed [] last values = end_formed last values
-all_formed (place ∷ places) last values = formed place (first_of_values values) ∷ all_formed places last (behind_first values)
-
-each_same : (places : List Place) (values : List Value) → all_formed places [] values ≡ each_formed places values
-each_same [] values = refl
-each_same (place ∷ places) values = ap (λ (vs : List Value). formed place (first_of_values values) ∷ vs) (each_same places (behind_first values))
+abbrev all_formed : (places last : List Place) → List Value → List Value
+all_formed = all_formed_by Nothing formed
 
 module _ (scope : NameScope) where
   common_formed : (place : trace.Place) (word : List ℕ) (value : trace.Value) → trace.WordMeans scope.known place word value → Plain value ≡ formed (Common place) (Plain value)
@@ -101,47 +84,10 @@ module _ (scope : NameScope) where
   word_formed (Exactly other) word Nothing m = refl
   word_formed place word value m = absurd m
 
-  one_more : (place : Place) (word : List ℕ) (value : Value) (values rest : List Value) → WordMeans scope place word value → values ≡ rest → value ∷ values ≡ formed place value ∷ rest
-  one_more place word value values rest m e = ap (λ (v : Value). v ∷ values) (word_formed place word value m) ∙ ap (λ (vs : List Value). formed place value ∷ vs) e
-
-  none_formed : (last : List Place) → [] ≡ all_formed [] last []
-  none_formed [] = refl
-  none_formed (place ∷ last) = refl
-
-  no_values : (pairs : List Placed) (values : List Value) → [] ≡ pairs → WordsMean scope pairs values → values ≡ []
-  no_values [] [] e m = refl
-  no_values [] (value ∷ values) e m = absurd m
-  no_values (pair ∷ pairs) values e m = absurd (cc)
-
-  -- what words mean in their places has the places' form
-  words_formed : (places last : List Place) (words : List (List ℕ)) (pairs : List Placed) (values : List Value) →
-      placed places last words ≡ Some pairs → WordsMean scope pairs values → values ≡ all_formed places last values
-  words_formed [] last [] pairs values e m =
-      let none : values ≡ [] = no_values pairs values (let same : [] ≡ pairs = cc in same) m in
-      none ∙ (none_formed last ∙ ap (all_formed [] last) (sym none))
-  words_formed [] [] (word ∷ words) pairs values e m = absurd (cc)
-  words_formed [] (place ∷ last) (word ∷ words) pairs values e m =
-      let parts = split_option place word (placed last [] words) pairs e in
-      by parts.0 values (subst (λ (ps : List Placed). WordsMean scope ps values) parts.2 m) (λ rest k. words_formed last [] words parts.0 rest parts.1 k)
-    where
-      by : (more : List Placed) (values : List Value) → WordsMean scope ((place, word) ∷ more) values →
-          ((rest : List Value) → WordsMean scope more rest → rest ≡ all_formed last [] rest) → values ≡ all_formed [] (place ∷ last) values
-      by more [] m behind = absurd m
-      by more (value ∷ rest) m behind = one_more place word value rest (each_formed last rest) m.0 (behind rest m.1 ∙ each_same last rest)
-  words_formed (place ∷ places) last [] pairs values e m = absurd (cc)
-  words_formed (place ∷ places) last (word ∷ words) pairs values e m =
-      let parts = split_option place word (placed places last words) pairs e in
-      by parts.0 values (subst (λ (ps : List Placed). WordsMean scope ps values) parts.2 m) (λ rest k. words_formed places last words parts.0 rest parts.1 k)
-    where
-      by : (more : List Placed) (values : List Value) → WordsMean scope ((place, word) ∷ more) values →
-          ((rest : List Value) → WordsMean scope more rest → rest ≡ all_formed places last rest) → values ≡ all_formed (place ∷ places) last values
-      by more [] m behind = absurd m
-      by more (value ∷ rest) m behind = one_more place word value rest (all_formed places last rest) m.0 (behind rest m.1)
-
   -- ---- from values to items
 
   said_as : (ws : List (List ℕ)) (keyword : Keyword) (values : List Value) → Says scope ws keyword values → values ≡ all_formed (wanted keyword) (optional keyword) values
-  said_as ws keyword values says = words_formed (wanted keyword) (optional keyword) says.1.0 says.0 values says.1.3 says.2
+  said_as ws keyword values says = line_formed Nothing formed (WordMeans scope) word_formed table scope.known.version ws keyword values says
 
   counted : (values : List Value) → all_formed [] (Common (trace.Number 1 most_cells) ∷ []) values ≡ number_if_there (count_in values)
   counted [] = refl

@@ -1,9 +1,10 @@
 -- What a statement names is there.
-use Rattle.std.proofs.Common.{◌≡◌, ℕ, ◌+◌, ◌<◌, ◌≤◌, ◌∷◌, [], List, length, Bool, true, false, cond, arith, subst}
+use Rattle.std.proofs.Common.{◌≡◌, ℕ, ◌+◌, ◌<◌, ◌≤◌, ◌∷◌, [], List, length, Bool, true, false, cond, arith}
 use Rattle.std.specs.Prelude.{Option, Some, IsTrue}
 use Rattle.std.specs.List.{All, position_from}
 use Rattle.text_words.specs.declared.value.Mem.{Mem}
 use Rattle.text_words.specs.Declarations.{cells_of}
+use Rattle.line_grammar.proofs.Outcomes.{first_means}
 use Rattle.trace_text.specs.Lines as trace
 use Rattle.text_words.specs.Names.{IsDeclared}
 use Rattle.trace_text.specs.Shapes.{is_numbered}
@@ -65,24 +66,18 @@ module _ (scope : NameScope) (numbered : IsTrue (is_numbered 0 scope.known.mems)
 
   two_means : (first second : Place) (words : List (List ℕ)) (pairs : List Placed) (a b : Value) → placed (first ∷ second ∷ []) [] words ≡ Some pairs
       → WordsMean scope pairs (a ∷ b ∷ []) → (u : List ℕ) × (v : List ℕ) × WordMeans scope first u a × WordMeans scope second v b
-  two_means first second [] pairs a b e m = cc
-  two_means first second (u ∷ []) pairs a b e m = cc
-  two_means first second (u ∷ v ∷ []) pairs a b e m =
-      let same : pairs ≡ (first, u) ∷ (second, v) ∷ [] = cc in
-      let both = subst (λ (ps : List Placed). WordsMean scope ps (a ∷ b ∷ [])) same m in
-      (u, v, both.0, both.1.0)
-  two_means first second (u ∷ v ∷ w ∷ words) pairs a b e m = cc
+  two_means first second words pairs a b e m =
+      let one = first_means (WordMeans scope) first (second ∷ []) [] words pairs a (b ∷ []) e m in
+      let other = first_means (WordMeans scope) second [] [] one.1 one.2 b [] one.5 one.4 in
+      (one.0, other.0, one.3, other.3)
 
   three_means : (first second third : Place) (words : List (List ℕ)) (pairs : List Placed) (a b c : Value) → placed (first ∷ second ∷ third ∷ []) [] words ≡ Some pairs
       → WordsMean scope pairs (a ∷ b ∷ c ∷ []) → (w : List ℕ) × WordMeans scope third w c
-  three_means first second third [] pairs a b c e m = cc
-  three_means first second third (u ∷ []) pairs a b c e m = cc
-  three_means first second third (u ∷ v ∷ []) pairs a b c e m = cc
-  three_means first second third (u ∷ v ∷ w ∷ []) pairs a b c e m =
-      let same : pairs ≡ (first, u) ∷ (second, v) ∷ (third, w) ∷ [] = cc in
-      let all = subst (λ (ps : List Placed). WordsMean scope ps (a ∷ b ∷ c ∷ [])) same m in
-      (w, all.1.1.0)
-  three_means first second third (u ∷ v ∷ w ∷ x ∷ words) pairs a b c e m = cc
+  three_means first second third words pairs a b c e m =
+      let one = first_means (WordMeans scope) first (second ∷ third ∷ []) [] words pairs a (b ∷ c ∷ []) e m in
+      let other = first_means (WordMeans scope) second (third ∷ []) [] one.1 one.2 b (c ∷ []) one.5 one.4 in
+      let last = first_means (WordMeans scope) third [] [] other.1 other.2 c [] other.5 other.4 in
+      (last.0, last.3)
 
   -- what a statement names is there
   pub does_within : (at : ℕ) (ws : List (List ℕ)) (statement : Statement) (named : Option (List ℕ)) → ItemMeans at scope ws (Does statement named) → IsWithinScope scope statement

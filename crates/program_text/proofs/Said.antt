@@ -1,6 +1,6 @@
 -- What the words of a line tell of its names.
 use Rattle.std.proofs.Common.{◌≡◌, ℕ, ◌<◌, ◌≤◌, ◌∷◌, [], List, length, arith, refl, sym, ap, ◌∙◌, subst}
-use Rattle.std.specs.Prelude.{codes, unwrap_or, Option, Some, None, option_map}
+use Rattle.std.specs.Prelude.{codes, unwrap_or, Option, Some, None}
 use Rattle.trace_text.specs.Lines.{OfName, OfNumber, OfMonoid}
 use Rattle.text_words.specs.Text.{IsName}
 use Rattle.program_lines.specs.declared.keyword.Keyword.{Keyword}
@@ -9,25 +9,15 @@ use Rattle.model_bodies.specs.declared.statement.Register.{Register}
 use Rattle.model_bodies.specs.declared.statement.Statement.{Statement}
 use Rattle.model_bodies.specs.declared.statement.Statement.TheVariants.{Let, Read, Get, ParallelFor, If, Else, End}
 use Rattle.text_words.specs.Names.{IsFresh as IsUndeclaredName}
+use Rattle.line_grammar.proofs.Outcomes.{first_means, last_means}
 use Rattle.trace_text.specs.Lines as trace
 use Rattle.model_accesses.specs.declared.kind.Kind.TheVariants as kind
 use Rattle.program_lines.specs.Scopes.{NameScope, IsFresh, HasNotBegun}
-use Rattle.program_lines.specs.Places.{Place, Common, FreshName, OperandWord, LocationWord, AssignedRegister, FunctionName, ParameterName, Exactly, Value, Plain, OfOperand, OfLocation, OfAssigned, Nothing}
+use Rattle.program_lines.specs.Places.{Place, Common, FreshName, OperandWord, LocationWord, AssignedRegister, FunctionName, ParameterName, Exactly, Value, Plain, OfOperand, OfLocation, OfAssigned, Nothing, WordMeans}
 use Rattle.program_lines.specs.Table.{Placed, placed, wanted, optional, WordsMean, Says}
 use Rattle.program_lines.specs.Grammar.{Item, Blank, Declared, Reduces, Begins, Does, Decides, Otherwise, Ends, ItemMeans, number_if_there, expression_values}
 use Rattle.program_text.specs.Drafts.{Draft, scope_of}
 use Rattle.program_text.specs.Grammar.{IsSaid}
-
--- the first place has a word
-first_placed : (p : Place) (places last : List Place) (arguments : List (List ℕ)) (pairs : List Placed) → placed (p ∷ places) last arguments ≡ Some pairs
-    → (w : List ℕ) × (rest : List (List ℕ)) × (more : List Placed) × (pairs ≡ (p, w) ∷ more) × (placed places last rest ≡ Some more)
-first_placed p places last [] pairs e = cc
-first_placed p places last (w ∷ arguments) pairs e = by (placed places last arguments) refl e
-  where
-    by : (o : Option (List Placed)) → placed places last arguments ≡ o → option_map (λ ps. (p, w) ∷ ps) o ≡ Some pairs
-        → (w : List ℕ) × (rest : List (List ℕ)) × (more : List Placed) × (pairs ≡ (p, w) ∷ more) × (placed places last rest ≡ Some more)
-    by None f e = cc
-    by (Some more) f e = (w, arguments, more, cc, f)
 
 module _ (scope : NameScope) (ws : List (List ℕ)) where
   -- what the first word behind the keyword means
@@ -37,9 +27,8 @@ module _ (scope : NameScope) (ws : List (List ℕ)) where
   first_said keyword p places value values e says =
       let placing : placed (p ∷ places) (optional keyword) says.1.0 ≡ Some says.0 =
       subst (λ (t : List Place). placed t (optional keyword) says.1.0 ≡ Some says.0) e says.1.3 in
-      let first = first_placed p places (optional keyword) says.1.0 says.0 placing in
-      let m : WordsMean scope ((p, first.0) ∷ first.2) (value ∷ values) = subst (λ (t : List Placed). WordsMean scope t (value ∷ values)) first.3 says.2 in
-      (first.0, first.2, first.1, (m.0, tt), m.1, first.4)
+      let first = first_means (WordMeans scope) p places (optional keyword) says.1.0 says.0 value values placing says.2 in
+      (first.0, first.2, first.1, (first.3, tt), first.4, first.5)
 
   new_register : (keyword : Keyword) (places : List Place) (register : Register) (name : List ℕ) (values : List Value) → wanted keyword ≡ AssignedRegister ∷ places
       → Says scope ws keyword (OfAssigned register (Some name) ∷ values) → IsName name × (length scope.registers < 16)
@@ -106,12 +95,7 @@ said names at before ws Ends m = tt
 
 number_said : (scope : NameScope) (low n : ℕ) (rest : List (List ℕ)) (more : List Placed) → placed [] (Common (trace.Number low 1000000) ∷ []) rest ≡ Some more
     → WordsMean scope more (Plain (OfNumber n) ∷ []) → low ≤ n
-number_said scope low n [] more e m = let same : more ≡ [] = cc in absurd (subst (λ (t : List Placed). WordsMean scope t (Plain (OfNumber n) ∷ [])) same m)
-number_said scope low n (word ∷ []) more e m =
-    let same : more ≡ (Common (trace.Number low 1000000), word) ∷ [] = cc in
-    let k : WordsMean scope ((Common (trace.Number low 1000000), word) ∷ []) (Plain (OfNumber n) ∷ []) = subst (λ (t : List Placed). WordsMean scope t (Plain (OfNumber n) ∷ [])) same m in
-    k.0.1
-number_said scope low n (word ∷ next ∷ rest) more e m = cc
+number_said scope low n rest more e m = (last_means (WordMeans scope) (Common (trace.Number low 1000000)) [] rest more (Plain (OfNumber n)) [] e m).1.1
 
 -- a memory has a cell at least
 pub length_said : (scope : NameScope) (ws : List (List ℕ)) (name : List ℕ) (length : Option ℕ) → Says scope ws word.Mem (Plain (OfName name) ∷ number_if_there length) → 1 ≤ unwrap_or length 1

@@ -21,8 +21,7 @@ use Rattle.program_text.specs.Functions.{functions_of}
 use Rattle.program_text.specs.Drafts.{Draft, Contents, Open, begun, registers_of, scope_of, held}
 use Rattle.program_text.specs.Grammar.{IsInOrder, HasRoom, extended, nothing, LineMeans, LinesMean, LinesOfProgram, TextMeans, ended, ended_by}
 use Rattle.program_text.specs.Faults.{LineFault, EndFault, LinesFault, FaultOfLines, IsTextFault, Extends, IsRoomCause, IsRoomFault, IsLineFault, IsEndFault, IsFaultOfLines, IsBodyFault, DecidesLines}
-use Rattle.program_lines.proofs.Once.{item_once}
-use Rattle.program_lines.proofs.LineFaults.{item_clean}
+use Rattle.program_lines.proofs.Once.{item_once, item_clean}
 use Rattle.program_lines.proofs.Crowded.{no_words_fault}
 
 -- the scope that the code makes

@@ -12,8 +12,7 @@ use Rattle.program_text.specs.Functions.{functions_of}
 use Rattle.program_text.specs.Drafts.{Draft, Contents, scope_of}
 use Rattle.program_text.specs.Grammar.{IsInOrder, HasRoom, extended, nothing, EndMeans, LineMeans, LinesMean, LinesOfProgram, TextMeans}
 use Rattle.program_text.specs.Faults.{LineFault, EndFault, LinesFault, FaultOfLines, TextFaults}
-use Rattle.program_lines.proofs.Once.{item_once}
-use Rattle.program_lines.proofs.LineFaults.{item_clean}
+use Rattle.program_lines.proofs.Once.{item_once, item_clean}
 
 module _ (names : List (List ℕ)) where
   line_once : (at : ℕ) (before : Draft) (line : List ℕ) (i j : Item) → LineMeans names at before line i → LineMeans names at before line j → i ≡ j

@@ -20,7 +20,8 @@ use Rattle.trace_text.specs.Lines.{OfName, OfMonoid}
 use Rattle.trace_text.proofs.Kept.{cells_cons}
 use Rattle.program_lines.specs.declared.keyword.Keyword.TheVariants as word
 use Rattle.program_lines.specs.Scopes.{NameScope}
-use Rattle.program_lines.specs.Places.{Common, FreshName, Plain}
+use Rattle.program_lines.specs.Places.{Common, FreshName, Plain, WordMeans}
+use Rattle.line_grammar.proofs.Outcomes.{first_means}
 use Rattle.program_lines.specs.Table.{Placed, placed, WordsMean}
 use Rattle.program_lines.specs.Grammar.{Item, Blank, Declared, Reduces, Begins, Does, Decides, Otherwise, Ends}
 use Rattle.program_text.specs.declared.open_function.Part.{Part}
@@ -145,12 +146,7 @@ apart_more names name (r ∷ reducers) h k =
 
 monoid_said : (scope : NameScope) (rest : List (List ℕ)) (more : List Placed) (monoid : Monoid) → placed (Common trace.MonoidWord ∷ []) [] rest ≡ Some more
     → WordsMean scope more (Plain (OfMonoid monoid) ∷ []) → HasMonoid scope.known.version monoid
-monoid_said scope [] more monoid e m = cc
-monoid_said scope (w ∷ []) more monoid e m =
-    let same : more ≡ (Common trace.MonoidWord, w) ∷ [] = cc in
-    let k : WordsMean scope ((Common trace.MonoidWord, w) ∷ []) (Plain (OfMonoid monoid) ∷ []) = subst (λ (ps : List Placed). WordsMean scope ps (Plain (OfMonoid monoid) ∷ [])) same m in
-    k.0.0
-monoid_said scope (w ∷ v ∷ rest) more monoid e m = cc
+monoid_said scope rest more monoid e m = (first_means (WordMeans scope) (Common trace.MonoidWord) [] [] rest more (Plain (OfMonoid monoid)) [] e m).3.0
 
 single : (count : Option ℕ) → is_some count ≡ false → unwrap_or count 1 ≡ 1
 single None e = refl

@@ -1,6 +1,6 @@
 -- What every trace keeps, a line at a time.
 use Rattle.std.proofs.Common.{◌≡◌, ℕ, suc, ◌≤◌, ◌+◌, ◌∷◌, ◌++◌, [], List, Bool, true, false, cond, length, length as len, arith, refl, sym, ap, subst, ◌∙◌, inl, inr, zero-add}
-use Rattle.std.specs.Prelude.{Option, Some, None, ◌==◌, ◌&&◌, option_map, unwrap_or, IsTrue}
+use Rattle.std.specs.Prelude.{Option, Some, None, ◌==◌, ◌&&◌, unwrap_or, IsTrue}
 use Rattle.std.specs.List.{All, AllByRecursion, position_from}
 use Rattle.std.proofs.lemmas.Bool.Decides.{nat_tests}
 use Rattle.std.proofs.lemmas.List.{length_push}
@@ -18,7 +18,9 @@ use Rattle.model_reducers.specs.Limits.{most_reducers}
 use Rattle.text_words.specs.Limits.{most_requests}
 use Rattle.text_words.specs.Values.{Known, Contents}
 use Rattle.text_words.specs.Names.{CellMeans}
-use Rattle.trace_text.specs.Lines.{Place, FreshName, Number, Placed, placed, Value, OfName, OfNumber, WordsMean, Cell, ReducerName, a_strand, a_value, Mark, wanted, optional, asks, operands, if_there}
+use Rattle.std.specs.Option.{option_to_list}
+use Rattle.line_grammar.proofs.Outcomes.{first_means, last_means}
+use Rattle.trace_text.specs.Lines.{Place, FreshName, Number, Placed, placed, Value, OfName, OfNumber, WordMeans, WordsMean, Cell, ReducerName, a_strand, a_value, Mark, wanted, optional, asks, operands, if_there}
 use Rattle.text_words.specs.Declarations.{cells_of, memory_at, reducer_at}
 use Rattle.trace_text.specs.Grammar.{Item, Blank, Declared, Reduces, Asked, ItemMeans, LineMeans, LinesMean, LinesOfTrace, TextMeans, extended, nothing}
 use Rattle.trace_text.specs.Shapes.{is_numbered, cells_used, reducers_used, IsWithin}
@@ -95,34 +97,21 @@ position_within test from (reducer ∷ reducers) i e = by (test reducer) e (posi
     by true e f = let same : from ≡ i = cc in omega arith
     by false e f = omega (arith, f e)
 
-second_place : (p q : Place) (places : List Place) (last : Option Place) (arguments : List (List ℕ)) (pairs : List Placed)
-    → placed (p ∷ q ∷ places) last arguments ≡ Some pairs → (w : List ℕ) × (v : List ℕ) × (rest : List Placed) × (pairs ≡ (p, w) ∷ (q, v) ∷ rest)
-second_place p q places last [] pairs e = cc
-second_place p q places last (w ∷ []) pairs e = cc
-second_place p q places last (w ∷ v ∷ arguments) pairs e = by (placed places last arguments) e
-  where
-    by : (o : Option (List Placed)) → option_map (λ ps. (p, w) ∷ ps) (option_map (λ ps. (q, v) ∷ ps) o) ≡ Some pairs
-        → (w : List ℕ) × (v : List ℕ) × (rest : List Placed) × (pairs ≡ (p, w) ∷ (q, v) ∷ rest)
-    by None e = cc
-    by (Some rest) e = (w, v, rest, cc)
-
 module _ (at : ℕ) (before : Contents) (ws : List (List ℕ)) (kept : IsKept before) where
   named_cell : (p : Place) (places : List Place) (last : Option Place) (arguments : List (List ℕ)) (pairs : List Placed) (s cell : ℕ) (more : List Value)
       → placed (p ∷ Cell ∷ places) last arguments ≡ Some pairs → WordsMean before.known pairs (OfNumber s ∷ OfNumber cell ∷ more) → suc cell ≤ cells_of before.known.mems
   named_cell p places last arguments pairs s cell more e m =
-      let second = second_place p Cell places last arguments pairs e in
-      let n : WordsMean before.known ((p, second.0) ∷ (Cell, second.1) ∷ second.2) (OfNumber s ∷ OfNumber cell ∷ more) =
-      subst (λ (ps : List Placed). WordsMean before.known ps (OfNumber s ∷ OfNumber cell ∷ more)) second.3 m in
-      cell_within before.known.mems second.1 cell kept.numbered kept.not_empty n.1.0
+      let first = first_means (WordMeans before.known) p (Cell ∷ places) (option_to_list last) arguments pairs (OfNumber s) (OfNumber cell ∷ more) e m in
+      let second = first_means (WordMeans before.known) Cell places (option_to_list last) first.1 first.2 (OfNumber cell) more first.5 first.4 in
+      cell_within before.known.mems second.0 cell kept.numbered kept.not_empty second.3
 
   named_reducer : (p : Place) (places : List Place) (last : Option Place) (arguments : List (List ℕ)) (pairs : List Placed) (s reducer : ℕ) (more : List Value)
       → placed (p ∷ ReducerName ∷ places) last arguments ≡ Some pairs → WordsMean before.known pairs (OfNumber s ∷ OfNumber reducer ∷ more)
       → suc reducer ≤ length before.known.reducers
   named_reducer p places last arguments pairs s reducer more e m =
-      let second = second_place p ReducerName places last arguments pairs e in
-      let n : WordsMean before.known ((p, second.0) ∷ (ReducerName, second.1) ∷ second.2) (OfNumber s ∷ OfNumber reducer ∷ more) =
-      subst (λ (ps : List Placed). WordsMean before.known ps (OfNumber s ∷ OfNumber reducer ∷ more)) second.3 m in
-      omega (arith, position_within _ 0 before.known.reducers reducer n.1.0.1)
+      let first = first_means (WordMeans before.known) p (ReducerName ∷ places) (option_to_list last) arguments pairs (OfNumber s) (OfNumber reducer ∷ more) e m in
+      let second = first_means (WordMeans before.known) ReducerName places (option_to_list last) first.1 first.2 (OfNumber reducer) more first.5 first.4 in
+      omega (arith, position_within _ 0 before.known.reducers reducer second.3.1)
 
   module _ (s : ℕ) (last : List Value) (pairs : List Placed) (arguments : List (List ℕ)) where
     within_by : (a : Act) → placed (wanted (asks a)) (optional (asks a)) arguments ≡ Some pairs → WordsMean before.known pairs (OfNumber s ∷ (operands a ++ last))
@@ -140,31 +129,11 @@ module _ (at : ℕ) (before : Contents) (ws : List (List ℕ)) (kept : IsKept be
 
 -- ---- one more line
 
-first_placed : (p : Place) (last : Option Place) (arguments : List (List ℕ)) (pairs : List Placed) → placed (p ∷ []) last arguments ≡ Some pairs
-    → (w : List ℕ) × (rest : List (List ℕ)) × (more : List Placed) × (pairs ≡ (p, w) ∷ more) × (placed [] last rest ≡ Some more)
-first_placed p last [] pairs e = cc
-first_placed p last (w ∷ arguments) pairs e = by (placed [] last arguments) refl e
-  where
-    by : (o : Option (List Placed)) → placed [] last arguments ≡ o → option_map (λ ps. (p, w) ∷ ps) o ≡ Some pairs
-        → (w : List ℕ) × (rest : List (List ℕ)) × (more : List Placed) × (pairs ≡ (p, w) ∷ more) × (placed [] last rest ≡ Some more)
-    by None f e = cc
-    by (Some more) f e = (w, arguments, more, cc, f)
-
-length_placed : (known : Known) (rest : List (List ℕ)) (more : List Placed) (n : ℕ) → placed [] (Some (Number 1 most_cells)) rest ≡ Some more → WordsMean known more (OfNumber n ∷ []) → 1 ≤ n
-length_placed known [] more n e m = let same : more ≡ [] = cc in absurd (subst (λ (ps : List Placed). WordsMean known ps (OfNumber n ∷ [])) same m)
-length_placed known (word ∷ []) more n e m =
-    let same : more ≡ (Number 1 most_cells, word) ∷ [] = cc in
-    let k : WordsMean known ((Number 1 most_cells, word) ∷ []) (OfNumber n ∷ []) = subst (λ (ps : List Placed). WordsMean known ps (OfNumber n ∷ [])) same m in
-    k.0.1
-length_placed known (word ∷ next ∷ rest) more n e m = cc
-
 length_given : (at : ℕ) (known : Known) (ws : List (List ℕ)) (name : List ℕ) (length : Option ℕ) → ItemMeans at known ws (Declared name length) → 1 ≤ unwrap_or length 1
 length_given at known ws name None m = omega arith
 length_given at known ws name (Some n) m =
-    let first = first_placed FreshName (Some (Number 1 most_cells)) m.1.0 m.0 m.1.3 in
-    let k : WordsMean known ((FreshName, first.0) ∷ first.2) (OfName name ∷ OfNumber n ∷ []) =
-    subst (λ (ps : List Placed). WordsMean known ps (OfName name ∷ OfNumber n ∷ [])) first.3 m.2 in
-    length_placed known first.1 first.2 n first.4 k.1
+    let first = first_means (WordMeans known) FreshName [] (Number 1 most_cells ∷ []) m.1.0 m.0 (OfName name) (OfNumber n ∷ []) m.1.3 m.2 in
+    (last_means (WordMeans known) (Number 1 most_cells) [] first.1 first.2 (OfNumber n) [] first.5 first.4).1.1
 
 none_within : (lines : List TraceLine) (cells reducers : ℕ) → lines ≡ [] → All (IsWithin cells reducers) lines
 none_within lines cells reducers e = subst (λ (ls : List TraceLine). All (IsWithin cells reducers) ls) (sym e) (All-from_recursion (IsWithin cells reducers) [] tt)

@@ -2,7 +2,6 @@ pub mod Numbers
 pub mod Keywords
 pub mod CellWords
 pub mod Outcomes
-pub mod LineFaults
 pub mod Once
 pub mod NamedWords
 pub mod RoomFaults

@@ -4,7 +4,7 @@ use Rattle.std.specs.Prelude.{Option, Some, None, codes, unwrap_or, is_some}
 use Rattle.std.proofs.lemmas.List.{append_cancel_right}
 use Rattle.model_accesses.specs.declared.kind.Kind.TheVariants as kind
 use Rattle.trace_text.specs.declared.keyword.Keyword.{Keyword}
-use Rattle.trace_text.specs.declared.keyword.Keyword.TheVariants.{Mem as MemWord, Reducer as ReducerWord, Spawn, Call, Sync, Return, Access}
+use Rattle.trace_text.specs.declared.keyword.Keyword.TheVariants.{Mem as MemWord, Reducer as ReducerWord, Call, Sync, Return, Access}
 use Rattle.model_accesses.specs.declared.request.Act.{Act}
 use Rattle.model_accesses.specs.declared.request.Act.TheVariants as act
 use Rattle.model_reducers.specs.declared.monoid.Monoid.{Monoid}
@@ -15,11 +15,15 @@ use Rattle.text_words.specs.Text.{words, IsName, IsNumberIn}
 use Rattle.text_words.specs.Limits.{max_strand, max_value}
 use Rattle.text_words.specs.Values.{Known, Contents}
 use Rattle.text_words.specs.Names.{CellMeans, ElementMeans, element_word}
-use Rattle.trace_text.specs.Lines.{Place, FreshName, Number, Cell, ReducerName, MonoidWord, Mark, Value, OfName, OfNumber, OfMonoid, WordMeans, Says, asks, operands, if_there}
+use Rattle.trace_text.specs.Lines.{Place, FreshName, Number, Cell, ReducerName, MonoidWord, Mark, Value, OfName, OfNumber, OfMonoid, WordMeans, asks, operands, if_there}
 use Rattle.trace_text.specs.Grammar.{Item, Blank, Declared, Reduces, Asked, ItemMeans, LineMeans}
 use Rattle.trace_text.proofs.CellWords.{same_some, same_split, name_no_bracket, no_element, flat}
 use Rattle.trace_text.proofs.Keywords.{monoid_once}
-use Rattle.line_grammar.proofs.LineFaults.{same_head, says_once as words_say_once}
+use Rattle.line_grammar.proofs.LineFaults.{IsSaid, said_once, said_clean}
+use Rattle.line_grammar.proofs.Formed.{first_or, behind_first}
+use Rattle.text_words.specs.declared.fault.Cause.{Cause}
+use Rattle.trace_text.specs.Faults.{WordsFault}
+use Rattle.trace_text.specs.Items.{line_asked}
 use Rattle.trace_text.proofs.Outcomes.{clear}
 
 pub number_once : (low high : ℕ) (word : List ℕ) (m n : ℕ) → IsNumberIn low high word m → IsNumberIn low high word n → m ≡ n
@@ -74,160 +78,93 @@ module _ (known : Known) where
   word_once Mark word (OfNumber a) w m n = absurd n
   word_once place word v w m n = absurd m
 
-  pub says_once : (ws : List (List ℕ)) (keyword other : Keyword) (values more : List Value) → Says known ws keyword values → Says known ws other more
-      → (keyword ≡ other) × (values ≡ more)
-  says_once ws keyword other values more m n = words_say_once (clear known) known.version word_once ws keyword other values more m n
+-- ---- items, from their keyword and values
 
--- ---- acts, from their keyword and operands
-
-abbrev number_in : Value → ℕ
+abbrev pub number_in : Value → ℕ
 number_in (OfNumber n) = n
 number_in value = 0
 
-abbrev first_number : List Value → ℕ
-first_number [] = 0
-first_number (value ∷ values) = number_in value
-
-abbrev tail_of : List Value → List Value
-tail_of [] = []
-tail_of (value ∷ values) = values
-
-abbrev act_by : Keyword → List Value → Act
-act_by Spawn values = act.Spawn
-act_by Call values = act.Call
-act_by Sync values = act.Sync
-act_by Return values = act.Return
-act_by (Access kind.Read) values = act.Read (first_number values)
-act_by (Access kind.Write) values = act.Write (first_number values) (first_number (tail_of values))
-act_by (Access kind.Bump) values = act.Bump (first_number values) (first_number (tail_of values))
-act_by (Access kind.Update) values = act.Update (first_number values) (first_number (tail_of values))
-act_by (Access kind.Put) values = act.Put (first_number values) (first_number (tail_of values))
-act_by (Access kind.Get) values = act.Get (first_number values)
-act_by keyword values = act.Spawn
-
-abbrev rest_by : Keyword → List Value → List Value
-rest_by (Access kind.Read) values = tail_of values
-rest_by (Access kind.Write) values = tail_of (tail_of values)
-rest_by (Access kind.Bump) values = tail_of (tail_of values)
-rest_by (Access kind.Update) values = tail_of (tail_of values)
-rest_by (Access kind.Put) values = tail_of (tail_of values)
-rest_by (Access kind.Get) values = tail_of values
-rest_by keyword values = values
-
-act_back : (a : Act) (rest : List Value) → (act_by (asks a) (operands a ++ rest) ≡ a) × (rest_by (asks a) (operands a ++ rest) ≡ rest)
-act_back act.Spawn rest = (refl, refl)
-act_back act.Sync rest = (refl, refl)
-act_back act.Call rest = (refl, refl)
-act_back act.Return rest = (refl, refl)
-act_back (act.Read cell) rest = (refl, refl)
-act_back (act.Write cell value) rest = (refl, refl)
-act_back (act.Bump cell value) rest = (refl, refl)
-act_back (act.Update reducer value) rest = (refl, refl)
-act_back (act.Put reducer value) rest = (refl, refl)
-act_back (act.Get reducer) rest = (refl, refl)
-
-act_once : (a b : Act) (xs ys : List Value) → asks a ≡ asks b → operands a ++ xs ≡ operands b ++ ys → (a ≡ b) × (xs ≡ ys)
-act_once a b xs ys e f = (
-  sym (act_back a xs).0 ∙ (ap (λ (k : Keyword). act_by k (operands a ++ xs)) e ∙ (ap (act_by (asks b)) f ∙ (act_back b ys).0)),
-  sym (act_back a xs).1 ∙ (ap (λ (k : Keyword). rest_by k (operands a ++ xs)) e ∙ (ap (rest_by (asks b)) f ∙ (act_back b ys).1)),
-)
-
-there_once : (m n : Option ℕ) → if_there m ≡ if_there n → m ≡ n
-there_once None None e = refl
-there_once None (Some b) e = cc
-there_once (Some a) None e = cc
-there_once (Some a) (Some b) e = let same : OfNumber a ≡ OfNumber b = (same_head (OfNumber a) (OfNumber b) [] [] e).0 in ap (λ (v : Value). Some (number_in v)) same
-
--- ---- items
-
-same_line : (x y : TraceLine) → x.at ≡ y.at → x.request.strand ≡ y.request.strand → x.request.act ≡ y.request.act → x.request.line ≡ y.request.line → x.marked ≡ y.marked → x ≡ y
-same_line x y e f g h k =
-    let made : ℕ → ℕ → Act → ℕ → Bool → TraceLine = λ at strand act line marked. record { at = at; request = record { strand = strand; act = act; line = line }; marked = marked } in
-    ap (λ (t : ℕ). made t x.request.strand x.request.act x.request.line x.marked) e
-    ∙ (ap (λ (t : ℕ). made y.at t x.request.act x.request.line x.marked) f
-    ∙ (ap (λ (t : Act). made y.at y.request.strand t x.request.line x.marked) g
-    ∙ (ap (λ (t : ℕ). made y.at y.request.strand y.request.act t x.marked) h
-    ∙ ap (λ (t : Bool). made y.at y.request.strand y.request.act y.request.line t) k)))
-
-asked_once : (at : ℕ) (known : Known) (ws : List (List ℕ)) (x y : TraceLine) → ItemMeans at known ws (Asked x) → ItemMeans at known ws (Asked y) → x ≡ y
-asked_once at known ws x y m n =
-    let same = says_once known ws _ _ _ _ m.1 n.1 in
-    let parts = same_head (OfNumber x.request.strand) (OfNumber y.request.strand) (operands x.request.act ++ if_there m.0) (operands y.request.act ++ if_there n.0) same.1 in
-    let act = act_once x.request.act y.request.act (if_there m.0) (if_there n.0) same.0 parts.1 in
-    let mark : m.0 ≡ n.0 = there_once m.0 n.0 act.1 in
-    same_line x y (m.2 ∙ sym n.2) (ap number_in parts.0) act.0
-    (m.3 ∙ (ap (λ (t : Option ℕ). unwrap_or t at) mark ∙ sym n.3))
-    (m.4 ∙ (ap (λ (t : Option ℕ). is_some t) mark ∙ sym n.4))
-
-no_words_say : (known : Known) (ws : List (List ℕ)) (keyword : Keyword) (values : List Value) → ws ≡ [] → Says known ws keyword values → ⊥
-no_words_say known ws keyword values e says = let none : [] ≡ _ = sym e ∙ says.1.1 in cc
-
-asks_no_declaration : (a : Act) → (asks a ≡ MemWord → ⊥) × (asks a ≡ ReducerWord → ⊥)
-asks_no_declaration act.Spawn = (λ e. cc, λ e. cc)
-asks_no_declaration act.Sync = (λ e. cc, λ e. cc)
-asks_no_declaration act.Call = (λ e. cc, λ e. cc)
-asks_no_declaration act.Return = (λ e. cc, λ e. cc)
-asks_no_declaration (act.Read cell) = (λ e. cc, λ e. cc)
-asks_no_declaration (act.Write cell value) = (λ e. cc, λ e. cc)
-asks_no_declaration (act.Bump cell value) = (λ e. cc, λ e. cc)
-asks_no_declaration (act.Update reducer value) = (λ e. cc, λ e. cc)
-asks_no_declaration (act.Put reducer value) = (λ e. cc, λ e. cc)
-asks_no_declaration (act.Get reducer) = (λ e. cc, λ e. cc)
-
-abbrev name_in : Value → List ℕ
+abbrev pub name_in : Value → List ℕ
 name_in (OfName name) = name
 name_in value = []
 
-abbrev monoid_in : Value → Monoid
+abbrev pub monoid_in : Value → Monoid
 monoid_in (OfMonoid monoid) = monoid
 monoid_in value = Sum
 
-declared_once : (name other : List ℕ) (m n : Option ℕ) → OfName name ∷ if_there m ≡ OfName other ∷ if_there n → Declared name m ≡ Declared other n
-declared_once name other m n e =
-    let same = same_head (OfName name) (OfName other) (if_there m) (if_there n) e in
-    ap (λ (t : List ℕ). Declared t m) (ap name_in same.0) ∙ ap (λ (t : Option ℕ). Declared other t) (there_once m n same.1)
+abbrev pub count_in : List Value → Option ℕ
+count_in [] = None
+count_in (value ∷ values) = Some (number_in value)
 
-reduces_once : (name other : List ℕ) (m n : Monoid) → OfName name ∷ OfMonoid m ∷ [] ≡ OfName other ∷ OfMonoid n ∷ [] → Reduces name m ≡ Reduces other n
-reduces_once name other m n e =
-    let same = same_head (OfName name) (OfName other) (OfMonoid m ∷ []) (OfMonoid n ∷ []) e in
-    let last = same_head (OfMonoid m) (OfMonoid n) [] [] same.1 in
-    ap (λ (t : List ℕ). Reduces t m) (ap name_in same.0) ∙ ap (λ (t : Monoid). Reduces other t) (ap monoid_in last.0)
+abbrev pub first_of_values : List Value → Value
+first_of_values = first_or (OfNumber 0)
 
-abbrev declared_values : List ℕ → Option ℕ → List Value
-declared_values name length = OfName name ∷ if_there length
+abbrev pub act_by : Keyword → (first second : ℕ) → Act
+act_by Call first second = act.Call
+act_by Sync first second = act.Sync
+act_by Return first second = act.Return
+act_by (Access kind.Read) first second = act.Read first
+act_by (Access kind.Write) first second = act.Write first second
+act_by (Access kind.Bump) first second = act.Bump first second
+act_by (Access kind.Update) first second = act.Update first second
+act_by (Access kind.Put) first second = act.Put first second
+act_by (Access kind.Get) first second = act.Get first
+act_by keyword first second = act.Spawn
 
-abbrev reduced_values : List ℕ → Monoid → List Value
-reduced_values name monoid = OfName name ∷ OfMonoid monoid ∷ []
+-- what stands behind the operands
+abbrev pub rest_by : Keyword → List Value → List Value
+rest_by (Access kind.Read) values = behind_first values
+rest_by (Access kind.Get) values = behind_first values
+rest_by (Access kind.Write) values = behind_first (behind_first values)
+rest_by (Access kind.Bump) values = behind_first (behind_first values)
+rest_by (Access kind.Update) values = behind_first (behind_first values)
+rest_by (Access kind.Put) values = behind_first (behind_first values)
+rest_by keyword values = values
 
-abbrev asked_values : TraceLine → Option ℕ → List Value
-asked_values line mark = OfNumber line.request.strand ∷ (operands line.request.act ++ if_there mark)
+abbrev pub asked_by : ℕ → Keyword → (strand : Value) → (operands : List Value) → Item
+asked_by at keyword strand operands =
+    line_asked at (number_in strand) (act_by keyword (number_in (first_of_values operands)) (number_in (first_of_values (behind_first operands))))
+    (count_in (rest_by keyword operands))
+
+abbrev pub item_by : ℕ → Keyword → List Value → Item
+item_by at MemWord values = Declared (name_in (first_of_values values)) (count_in (behind_first values))
+item_by at ReducerWord values = Reduces (name_in (first_of_values values)) (monoid_in (first_of_values (behind_first values)))
+item_by at keyword values = asked_by at keyword (first_of_values values) (behind_first values)
+
+count_back : (count : Option ℕ) → count_in (if_there count) ≡ count
+count_back None = refl
+count_back (Some number) = refl
+
+asked_back : (at : ℕ) (a : Act) (strand : ℕ) (mark : Option ℕ) → item_by at (asks a) (OfNumber strand ∷ (operands a ++ if_there mark)) ≡ line_asked at strand a mark
+asked_back at act.Spawn strand mark = ap (line_asked at strand act.Spawn) (count_back mark)
+asked_back at a strand mark = ap (line_asked at strand a) (count_back mark)
+
+asked_is : (line : TraceLine) (at : ℕ) (mark : Option ℕ) → line.at ≡ at → line.request.line ≡ unwrap_or mark at → line.marked ≡ is_some mark
+    → line_asked at line.request.strand line.request.act mark ≡ Asked line
+asked_is line at mark e f g =
+    let made : ℕ → ℕ → Bool → Item = λ t number marked. Asked (record { at = t; request = record { strand = line.request.strand; act = line.request.act; line = number }; marked = marked }) in
+    ap (λ (t : ℕ). made t (unwrap_or mark at) (is_some mark)) (sym e)
+    ∙ (ap (λ (t : ℕ). made line.at t (is_some mark)) (sym f) ∙ ap (made line.at line.request.line) (sym g))
 
 module _ (at : ℕ) (known : Known) (ws : List (List ℕ)) where
+  said : (item : Item) → ItemMeans at known ws item → IsSaid (clear known) known.version Blank (item_by at) ws item
+  said Blank m = inl (refl, m)
+  said (Declared name length) m = inr (MemWord, OfName name ∷ if_there length, m, ap (Declared name) (count_back length))
+  said (Reduces name monoid) m = inr (ReducerWord, OfName name ∷ OfMonoid monoid ∷ [], m, refl)
+  said (Asked line) m = inr (
+    asks line.request.act,
+    OfNumber line.request.strand ∷ (operands line.request.act ++ if_there m.0),
+    m.1,
+    asked_back at line.request.act line.request.strand m.0 ∙ asked_is line at m.0 m.2 m.3 m.4,
+  )
+
+  -- the words of a line say one thing at most
   pub item_once : (i j : Item) → ItemMeans at known ws i → ItemMeans at known ws j → i ≡ j
-  item_once Blank Blank m n = refl
-  item_once Blank (Declared name length) m n = absurd (no_words_say known ws MemWord (declared_values name length) m n)
-  item_once Blank (Reduces name monoid) m n = absurd (no_words_say known ws ReducerWord (reduced_values name monoid) m n)
-  item_once Blank (Asked line) m n = absurd (no_words_say known ws (asks line.request.act) (asked_values line n.0) m n.1)
-  item_once (Declared name length) Blank m n = absurd (no_words_say known ws MemWord (declared_values name length) n m)
-  item_once (Reduces name monoid) Blank m n = absurd (no_words_say known ws ReducerWord (reduced_values name monoid) n m)
-  item_once (Asked line) Blank m n = absurd (no_words_say known ws (asks line.request.act) (asked_values line m.0) n m.1)
-  item_once (Declared name length) (Declared other number) m n =
-      declared_once name other length number (says_once known ws MemWord MemWord (declared_values name length) (declared_values other number) m n).1
-  item_once (Declared name length) (Reduces other monoid) m n =
-      let clash : MemWord ≡ ReducerWord = (says_once known ws MemWord ReducerWord (declared_values name length) (reduced_values other monoid) m n).0 in cc
-  item_once (Reduces name monoid) (Declared other length) m n =
-      let clash : ReducerWord ≡ MemWord = (says_once known ws ReducerWord MemWord (reduced_values name monoid) (declared_values other length) m n).0 in cc
-  item_once (Reduces name monoid) (Reduces other more) m n =
-      reduces_once name other monoid more (says_once known ws ReducerWord ReducerWord (reduced_values name monoid) (reduced_values other more) m n).1
-  item_once (Asked line) (Declared name length) m n =
-      absurd ((asks_no_declaration line.request.act).0 (says_once known ws (asks line.request.act) MemWord (asked_values line m.0) (declared_values name length) m.1 n).0)
-  item_once (Declared name length) (Asked line) m n =
-      absurd ((asks_no_declaration line.request.act).0 (says_once known ws (asks line.request.act) MemWord (asked_values line n.0) (declared_values name length) n.1 m).0)
-  item_once (Asked line) (Reduces name monoid) m n =
-      absurd ((asks_no_declaration line.request.act).1 (says_once known ws (asks line.request.act) ReducerWord (asked_values line m.0) (reduced_values name monoid) m.1 n).0)
-  item_once (Reduces name monoid) (Asked line) m n =
-      absurd ((asks_no_declaration line.request.act).1 (says_once known ws (asks line.request.act) ReducerWord (asked_values line n.0) (reduced_values name monoid) n.1 m).0)
-  item_once (Asked x) (Asked y) m n = ap Asked (asked_once at known ws x y m n)
+  item_once i j m n = said_once (clear known) known.version Blank (item_by at) ws (word_once known) i j (said i m) (said j n)
+
+-- and have no fault where they say something
+pub item_clean : (known : Known) (at : ℕ) (ws : List (List ℕ)) (item : Item) → ItemMeans at known ws item → (cause : Cause) → WordsFault known ws cause → ⊥
+item_clean known at ws item m = said_clean (clear known) known.version Blank (item_by at) ws item (said at known ws item m)
 
 pub line_once : (at : ℕ) (before : Contents) (line : List ℕ) (i j : Item) → LineMeans at before line i → LineMeans at before line j → i ≡ j
 line_once at before line i j m n = item_once at before.known (words line) i j m.2 n.2

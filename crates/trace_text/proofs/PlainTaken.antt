@@ -9,7 +9,7 @@ use Rattle.trace_text.specs.Grammar.{ItemMeans}
 use Rattle.trace_text.specs.Items.{line_asked}
 use Rattle.trace_text.specs.Drafts.{Extends, IsRoomFault, IsTaken, IsStopped}
 use Rattle.trace_text.specs.Plain.{HasRequest}
-use Rattle.trace_text.proofs.LineFaults.{item_clean}
+use Rattle.trace_text.proofs.Once.{item_clean}
 use Rattle.trace_text.proofs.RoomFaults.{line_taken}
 use Rattle.trace_text.proofs.PlainWords.{line_ended}
 

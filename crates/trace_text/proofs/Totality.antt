@@ -1,14 +1,11 @@
 -- Each text means a trace or has a fault.
-use Rattle.std.proofs.Common.{◌≡◌, ◌⊎◌, inl, inr, ℕ, ◌+◌, ◌<◌, ◌≤◌, List, [], ◌∷◌, ◌++◌, length, refl, sym, ◌∙◌, ap, subst, arith}
-use Rattle.std.specs.Prelude.{Option, Some, None, codes, option_map, unwrap_or, is_some}
+use Rattle.std.proofs.Common.{◌≡◌, ◌⊎◌, inl, inr, ℕ, ◌+◌, ◌<◌, ◌≤◌, List, [], ◌∷◌, length, refl, ◌∙◌, ap, subst, arith}
+use Rattle.std.specs.Prelude.{codes, unwrap_or}
 use Rattle.model_accesses.specs.declared.kind.Kind.TheVariants as kind
 use Rattle.text_words.specs.declared.fault.Cause.{Cause}
 use Rattle.text_words.specs.declared.fault.Cause.TheVariants.{NotText, BadHeader, BadWord, BadNumber, UnknownName, TwiceNamed, BadNesting, NoMain, TooMany}
 use Rattle.text_words.specs.declared.value.Version.{Version}
 use Rattle.text_words.specs.declared.value.Version.TheVariants.{One, Two}
-use Rattle.model_accesses.specs.declared.request.Act.{Act}
-use Rattle.model_reducers.specs.declared.monoid.Monoid.{Monoid}
-use Rattle.model_accesses.specs.declared.request.Act.TheVariants as act
 use Rattle.text_words.specs.Text.{words, lines, IsTextLine}
 use Rattle.model_accesses.specs.Limits.{most_cells}
 use Rattle.model_reducers.specs.Limits.{most_reducers}
@@ -20,12 +17,14 @@ use Rattle.text_words.proofs.Decided.{OrNot, word_or_not, below_or_not, most_or_
 use Rattle.line_grammar.proofs.Readings.{Told, line_told as line_told_by}
 use Rattle.trace_text.specs.declared.keyword.Keyword.{Keyword}
 use Rattle.trace_text.specs.declared.keyword.Keyword.TheVariants.{Mem as MemWord, Reducer as ReducerWord, Spawn, Call, Sync, Return, Access}
-use Rattle.trace_text.specs.Lines.{Place, FreshName, Number, Cell, ReducerName, MonoidWord, Mark, a_strand, a_value, Placed, Value, OfName, OfNumber, OfMonoid, placed, wanted, optional, HasKeyword, WordMeans, WordsMean, Says, asks, operands, if_there}
+use Rattle.trace_text.specs.Lines.{table, Place, FreshName, Number, Cell, ReducerName, MonoidWord, Mark, Value, OfName, OfNumber, OfMonoid, wanted, optional, HasKeyword, WordMeans, Says, if_there}
 use Rattle.trace_text.specs.Grammar.{Item, Blank, Declared, Reduces, Asked, ItemMeans, IsInOrder, HasRoom, extended, LineMeans, LinesMean, LinesOfTrace, IsHeader, nothing}
 use Rattle.trace_text.specs.Faults.{WordsFault, LineFault, HeaderFault, LinesFault, FaultOfLines}
 use Rattle.trace_text.specs.Laws.{MeaningOrFault}
 use Rattle.trace_text.proofs.Outcomes.{clear}
-use Rattle.trace_text.proofs.LineFaults.{item_clean}
+use Rattle.line_grammar.proofs.Formed.{behind_first, all_formed, line_formed}
+use Rattle.std.specs.Option.{option_to_list}
+use Rattle.trace_text.proofs.Once.{item_clean, number_in, name_in, monoid_in, count_in, first_of_values, item_by}
 use Rattle.trace_text.proofs.RoomFaults.{lowest_of_room, lowest_of_words, lines_of_trace}
 use Rattle.trace_text.proofs.Readings.{word_reading}
 
@@ -39,165 +38,67 @@ keyword_known_or_not version keyword = inl tt
 
 -- ---- from values to items
 
--- the value is one that a word in this place can mean
-abbrev IsOf : Place → Value → Type 0
-IsOf FreshName (OfName name) = Unit {0}
-IsOf (Number low high) (OfNumber number) = Unit {0}
-IsOf Cell (OfNumber number) = Unit {0}
-IsOf ReducerName (OfNumber number) = Unit {0}
-IsOf Mark (OfNumber number) = Unit {0}
-IsOf MonoidWord (OfMonoid monoid) = Unit {0}
-IsOf place value = ⊥
+-- a value in the form that the place gives it
+abbrev formed : Place → Value → Value
+formed FreshName value = OfName (name_in value)
+formed MonoidWord value = OfMonoid (monoid_in value)
+formed place value = OfNumber (number_in value)
 
-abbrev AreOf : List Place → Option Place → List Value → Type 0
-AreOf [] last [] = Unit {0}
-AreOf [] (Some place) (value ∷ []) = IsOf place value
-AreOf (place ∷ places) last (value ∷ values) = IsOf place value × AreOf places last values
-AreOf places last values = ⊥
+abbrev values_formed : (places last : List Place) → List Value → List Value
+values_formed = all_formed (OfNumber 0) formed
 
-module _ (known : Known) where
-  is_of : (place : Place) (word : List ℕ) (value : Value) → WordMeans known place word value → IsOf place value
-  is_of FreshName word (OfName name) m = tt
-  is_of (Number low high) word (OfNumber number) m = tt
-  is_of Cell word (OfNumber number) m = tt
-  is_of ReducerName word (OfNumber number) m = tt
-  is_of MonoidWord word (OfMonoid monoid) m = tt
-  is_of Mark word (OfNumber number) m = tt
-  is_of place word value m = absurd m
+marked_formed : (values : List Value) → values_formed [] (Mark ∷ []) values ≡ if_there (count_in values)
+marked_formed [] = refl
+marked_formed (value ∷ values) = refl
 
-  are_of : (places : List Place) (last : Option Place) (words : List (List ℕ)) (pairs : List Placed) (values : List Value) →
-      placed places last words ≡ Some pairs → WordsMean known pairs values → AreOf places last values
-  are_of [] last [] pairs values e m = none pairs values (let same : [] ≡ pairs = cc in same) m
-    where
-      none : (pairs : List Placed) (values : List Value) → [] ≡ pairs → WordsMean known pairs values → AreOf [] last values
-      none [] [] e m = tt
-      none [] (value ∷ values) e m = absurd m
-      none (pair ∷ pairs) values e m = absurd (cc)
-  are_of [] (Some place) (word ∷ []) pairs values e m =
-      let same : (place, word) ∷ [] ≡ pairs = cc in by values (subst (λ (ps : List Placed). WordsMean known ps values) (sym same) m)
-    where
-      by : (values : List Value) → WordsMean known ((place, word) ∷ []) values → AreOf [] (Some place) values
-      by [] m = absurd m
-      by (value ∷ []) m = is_of place word value m.0
-      by (value ∷ other ∷ values) m = absurd m.1
-  are_of [] None (word ∷ words) pairs values e m = absurd (cc)
-  are_of [] (Some place) (word ∷ other ∷ words) pairs values e m = absurd (cc)
-  are_of (place ∷ places) last [] pairs values e m = absurd (cc)
-  are_of (place ∷ places) last (word ∷ words) pairs values e m =
-      behind (λ more values f m. are_of places last words more values f m) (placed places last words) refl e
-    where
-      Behind : Type 0
-      Behind = (more : List Placed) (values : List Value) → placed places last words ≡ Some more → WordsMean known more values → AreOf places last values
-
-      by : Behind → (more : List Placed) → placed places last words ≡ Some more → (values : List Value) → WordsMean known ((place, word) ∷ more) values →
-          AreOf (place ∷ places) last values
-      by rest more f [] m = absurd m
-      by rest more f (value ∷ values) m = (is_of place word value m.0, rest more values f m.1)
-
-      behind : Behind → (rest : Option (List Placed)) → placed places last words ≡ rest → option_map (λ pairs. (place, word) ∷ pairs) rest ≡ Some pairs →
-          AreOf (place ∷ places) last values
-      behind rest None f g = absurd (cc)
-      behind rest (Some more) f g =
-          let same : (place, word) ∷ more ≡ pairs = cc in
-          by rest more f values (subst (λ (ps : List Placed). WordsMean known ps values) (sym same) m)
-
--- a word in this place means a number
-abbrev IsNumeric : Place → Type 0
-IsNumeric FreshName = ⊥
-IsNumeric MonoidWord = ⊥
-IsNumeric place = Unit {0}
-
-number_in : (place : Place) → IsNumeric place → (value : Value) → IsOf place value → (n : ℕ) × (value ≡ OfNumber n)
-number_in FreshName numeric value fit = absurd numeric
-number_in MonoidWord numeric value fit = absurd numeric
-number_in (Number low high) numeric (OfNumber n) fit = (n, refl)
-number_in Cell numeric (OfNumber n) fit = (n, refl)
-number_in ReducerName numeric (OfNumber n) fit = (n, refl)
-number_in Mark numeric (OfNumber n) fit = (n, refl)
-number_in place numeric value fit = absurd fit
-
-first_number : (place : Place) → IsNumeric place → (places : List Place) (last : Option Place) (values : List Value) → AreOf (place ∷ places) last values →
-    (n : ℕ) × (rest : List Value) × (values ≡ OfNumber n ∷ rest) × AreOf places last rest
-first_number place numeric places last [] fit = absurd fit
-first_number place numeric places last (value ∷ rest) fit =
-    let n = number_in place numeric value fit.0 in (n.0, rest, ap (λ v. v ∷ rest) n.1, fit.1)
-
-last_number : (place : Place) → IsNumeric place → (values : List Value) → AreOf [] (Some place) values → (number : Option ℕ) × (values ≡ if_there number)
-last_number place numeric [] fit = (None, refl)
-last_number place numeric (value ∷ []) fit = let n = number_in place numeric value fit in (Some n.0, ap (λ v. v ∷ []) n.1)
-last_number place numeric (value ∷ other ∷ values) fit = absurd fit
-
-without_operands : (values : List Value) → AreOf (a_strand ∷ []) (Some Mark) values → (strand : ℕ) × (mark : Option ℕ) × (values ≡ OfNumber strand ∷ if_there mark)
-without_operands values fit =
-    let strand = first_number a_strand tt [] (Some Mark) values fit in
-    let mark = last_number Mark tt strand.1 strand.3 in
-    (strand.0, mark.0, strand.2 ∙ ap (λ rest. OfNumber strand.0 ∷ rest) mark.1)
-
-with_one : (place : Place) → IsNumeric place → (values : List Value) → AreOf (a_strand ∷ place ∷ []) (Some Mark) values →
-    (strand : ℕ) × (operand : ℕ) × (mark : Option ℕ) × (values ≡ OfNumber strand ∷ OfNumber operand ∷ if_there mark)
-with_one place numeric values fit =
-    let strand = first_number a_strand tt (place ∷ []) (Some Mark) values fit in
-    let operand = first_number place numeric [] (Some Mark) strand.1 strand.3 in
-    let mark = last_number Mark tt operand.1 operand.3 in
-    (strand.0, operand.0, mark.0, strand.2 ∙ ap (λ rest. OfNumber strand.0 ∷ rest) (operand.2 ∙ ap (λ rest. OfNumber operand.0 ∷ rest) mark.1))
-
-with_two : (place : Place) → IsNumeric place → (values : List Value) → AreOf (a_strand ∷ place ∷ a_value ∷ []) (Some Mark) values →
-    (strand : ℕ) × (operand : ℕ) × (value : ℕ) × (mark : Option ℕ) × (values ≡ OfNumber strand ∷ OfNumber operand ∷ OfNumber value ∷ if_there mark)
-with_two place numeric values fit =
-    let strand = first_number a_strand tt (place ∷ a_value ∷ []) (Some Mark) values fit in
-    let operand = first_number place numeric (a_value ∷ []) (Some Mark) strand.1 strand.3 in
-    let value = first_number a_value tt [] (Some Mark) operand.1 operand.3 in
-    let mark = last_number Mark tt value.1 value.3 in (
-      strand.0,
-      operand.0,
-      value.0,
-      mark.0,
-      strand.2 ∙ ap (λ rest. OfNumber strand.0 ∷ rest) (operand.2 ∙ ap (λ rest. OfNumber operand.0 ∷ rest) (value.2 ∙ ap (λ rest. OfNumber value.0 ∷ rest) mark.1)),
-    )
-
-monoid_last : (values : List Value) → AreOf (MonoidWord ∷ []) None values → (monoid : Monoid) × (values ≡ OfMonoid monoid ∷ [])
-monoid_last [] fit = absurd fit
-monoid_last (OfMonoid monoid ∷ []) fit = (monoid, refl)
-monoid_last (OfMonoid monoid ∷ other ∷ values) fit = absurd fit.1
-monoid_last (OfName name ∷ values) fit = absurd fit.0
-monoid_last (OfNumber number ∷ values) fit = absurd fit.0
+counted_formed : (values : List Value) → values_formed [] (Number 1 most_cells ∷ []) values ≡ if_there (count_in values)
+counted_formed [] = refl
+counted_formed (value ∷ values) = refl
 
 module _ (at : ℕ) (known : Known) (ws : List (List ℕ)) where
-  abbrev SomeItem : Type 0
-  SomeItem = (item : Item) × ItemMeans at known ws item
+  word_formed : (place : Place) (word : List ℕ) (value : Value) → WordMeans known place word value → value ≡ formed place value
+  word_formed FreshName word (OfName name) m = refl
+  word_formed (Number low high) word (OfNumber number) m = refl
+  word_formed Cell word (OfNumber number) m = refl
+  word_formed ReducerName word (OfNumber number) m = refl
+  word_formed MonoidWord word (OfMonoid monoid) m = refl
+  word_formed Mark word (OfNumber number) m = refl
+  word_formed place word value m = absurd m
 
-  asking : (asked : Act) (strand : ℕ) (mark : Option ℕ) → Says known ws (asks asked) (OfNumber strand ∷ (operands asked ++ if_there mark)) → SomeItem
-  asking asked strand mark says =
-      (Asked (record { at = at; request = record { strand = strand; act = asked; line = unwrap_or mark at }; marked = is_some mark }), (mark, says, refl, refl, refl))
+  line_as : (keyword : Keyword) (values : List Value) → Says known ws keyword values → values ≡ values_formed (wanted keyword) (option_to_list (optional keyword)) values
+  line_as keyword values says = line_formed (OfNumber 0) formed (WordMeans known) word_formed table known.version ws keyword values says
+
+  -- a mark behind the other values
+  marked : (keyword : Keyword) (values : List Value) (front : List Value → List Value) (rest : List Value) → values ≡ front (values_formed [] (Mark ∷ []) rest)
+      → Says known ws keyword values → Says known ws keyword (front (if_there (count_in rest)))
+  marked keyword values front rest e says = subst (λ (vs : List Value). Says known ws keyword vs) (e ∙ ap front (marked_formed rest)) says
 
   -- what a keyword and values of its places say
-  item_said : (keyword : Keyword) (values : List Value) → AreOf (wanted keyword) (optional keyword) values → Says known ws keyword values → SomeItem
-  item_said MemWord (OfName name ∷ rest) fit says =
-      let length = last_number (Number 1 most_cells) tt rest fit.1 in (Declared name length.0, subst (λ (vs : List Value). Says known ws MemWord (OfName name ∷ vs)) length.1 says)
-  item_said MemWord (OfNumber number ∷ rest) fit says = absurd fit.0
-  item_said MemWord (OfMonoid monoid ∷ rest) fit says = absurd fit.0
-  item_said MemWord [] fit says = absurd fit
-  item_said ReducerWord (OfName name ∷ rest) fit says =
-      let monoid = monoid_last rest fit.1 in (Reduces name monoid.0, subst (λ (vs : List Value). Says known ws ReducerWord (OfName name ∷ vs)) monoid.1 says)
-  item_said ReducerWord (OfNumber number ∷ rest) fit says = absurd fit.0
-  item_said ReducerWord (OfMonoid monoid ∷ rest) fit says = absurd fit.0
-  item_said ReducerWord [] fit says = absurd fit
-  item_said Spawn values fit says = let t = without_operands values fit in asking act.Spawn t.0 t.1 (subst (λ (vs : List Value). Says known ws Spawn vs) t.2 says)
-  item_said Call values fit says = let t = without_operands values fit in asking act.Call t.0 t.1 (subst (λ (vs : List Value). Says known ws Call vs) t.2 says)
-  item_said Sync values fit says = let t = without_operands values fit in asking act.Sync t.0 t.1 (subst (λ (vs : List Value). Says known ws Sync vs) t.2 says)
-  item_said Return values fit says = let t = without_operands values fit in asking act.Return t.0 t.1 (subst (λ (vs : List Value). Says known ws Return vs) t.2 says)
-  item_said (Access kind.Read) values fit says =
-      let t = with_one Cell tt values fit in asking (act.Read t.1) t.0 t.2 (subst (λ (vs : List Value). Says known ws (Access kind.Read) vs) t.3 says)
-  item_said (Access kind.Get) values fit says =
-      let t = with_one ReducerName tt values fit in asking (act.Get t.1) t.0 t.2 (subst (λ (vs : List Value). Says known ws (Access kind.Get) vs) t.3 says)
-  item_said (Access kind.Write) values fit says =
-      let t = with_two Cell tt values fit in asking (act.Write t.1 t.2) t.0 t.3 (subst (λ (vs : List Value). Says known ws (Access kind.Write) vs) t.4 says)
-  item_said (Access kind.Bump) values fit says =
-      let t = with_two Cell tt values fit in asking (act.Bump t.1 t.2) t.0 t.3 (subst (λ (vs : List Value). Says known ws (Access kind.Bump) vs) t.4 says)
-  item_said (Access kind.Update) values fit says =
-      let t = with_two ReducerName tt values fit in asking (act.Update t.1 t.2) t.0 t.3 (subst (λ (vs : List Value). Says known ws (Access kind.Update) vs) t.4 says)
-  item_said (Access kind.Put) values fit says =
-      let t = with_two ReducerName tt values fit in asking (act.Put t.1 t.2) t.0 t.3 (subst (λ (vs : List Value). Says known ws (Access kind.Put) vs) t.4 says)
+  item_said : (keyword : Keyword) (values : List Value) → Says known ws keyword values → ItemMeans at known ws (item_by at keyword values)
+  item_said MemWord values says =
+      subst (λ (vs : List Value). Says known ws MemWord vs)
+      (line_as MemWord values says ∙ ap (λ (vs : List Value). OfName (name_in (first_of_values values)) ∷ vs) (counted_formed (behind_first values))) says
+  item_said ReducerWord values says = subst (λ (vs : List Value). Says known ws ReducerWord vs) (line_as ReducerWord values says) says
+  item_said Spawn values says =
+      (count_in (behind_first values), marked Spawn values (λ vs. OfNumber (number_in (first_of_values values)) ∷ vs) (behind_first values) (line_as Spawn values says) says, refl, refl, refl)
+  item_said Call values says =
+      (count_in (behind_first values), marked Call values (λ vs. OfNumber (number_in (first_of_values values)) ∷ vs) (behind_first values) (line_as Call values says) says, refl, refl, refl)
+  item_said Sync values says =
+      (count_in (behind_first values), marked Sync values (λ vs. OfNumber (number_in (first_of_values values)) ∷ vs) (behind_first values) (line_as Sync values says) says, refl, refl, refl)
+  item_said Return values says =
+      (count_in (behind_first values), marked Return values (λ vs. OfNumber (number_in (first_of_values values)) ∷ vs) (behind_first values) (line_as Return values says) says, refl, refl, refl)
+  item_said (Access kind.Read) values says =
+      (count_in (behind_first (behind_first values)), marked (Access kind.Read) values (λ vs. OfNumber (number_in (first_of_values values)) ∷ OfNumber (number_in (first_of_values (behind_first values))) ∷ vs) (behind_first (behind_first values)) (line_as (Access kind.Read) values says) says, refl, refl, refl)
+  item_said (Access kind.Get) values says =
+      (count_in (behind_first (behind_first values)), marked (Access kind.Get) values (λ vs. OfNumber (number_in (first_of_values values)) ∷ OfNumber (number_in (first_of_values (behind_first values))) ∷ vs) (behind_first (behind_first values)) (line_as (Access kind.Get) values says) says, refl, refl, refl)
+  item_said (Access kind.Write) values says =
+      (count_in (behind_first (behind_first (behind_first values))), marked (Access kind.Write) values (λ vs. OfNumber (number_in (first_of_values values)) ∷ OfNumber (number_in (first_of_values (behind_first values))) ∷ OfNumber (number_in (first_of_values (behind_first (behind_first values)))) ∷ vs) (behind_first (behind_first (behind_first values))) (line_as (Access kind.Write) values says) says, refl, refl, refl)
+  item_said (Access kind.Bump) values says =
+      (count_in (behind_first (behind_first (behind_first values))), marked (Access kind.Bump) values (λ vs. OfNumber (number_in (first_of_values values)) ∷ OfNumber (number_in (first_of_values (behind_first values))) ∷ OfNumber (number_in (first_of_values (behind_first (behind_first values)))) ∷ vs) (behind_first (behind_first (behind_first values))) (line_as (Access kind.Bump) values says) says, refl, refl, refl)
+  item_said (Access kind.Update) values says =
+      (count_in (behind_first (behind_first (behind_first values))), marked (Access kind.Update) values (λ vs. OfNumber (number_in (first_of_values values)) ∷ OfNumber (number_in (first_of_values (behind_first values))) ∷ OfNumber (number_in (first_of_values (behind_first (behind_first values)))) ∷ vs) (behind_first (behind_first (behind_first values))) (line_as (Access kind.Update) values says) says, refl, refl, refl)
+  item_said (Access kind.Put) values says =
+      (count_in (behind_first (behind_first (behind_first values))), marked (Access kind.Put) values (λ vs. OfNumber (number_in (first_of_values values)) ∷ OfNumber (number_in (first_of_values (behind_first values))) ∷ OfNumber (number_in (first_of_values (behind_first (behind_first values)))) ∷ vs) (behind_first (behind_first (behind_first values))) (line_as (Access kind.Put) values says) says, refl, refl, refl)
 
 -- the words of a line say something, or have a lowest fault
 words_told : (at : ℕ) (known : Known) (ws : List (List ℕ)) → ((item : Item) × ItemMeans at known ws item) ⊎ ((cause : Cause) × IsLowest (WordsFault known ws) cause)
@@ -206,8 +107,7 @@ words_told at known (word ∷ arguments) = go (line_told_by (clear known) (word_
   where
     go : Told (clear known) (word_reading known) known.version (keyword_known_or_not known.version) (word ∷ arguments) →
         ((item : Item) × ItemMeans at known (word ∷ arguments) item) ⊎ ((cause : Cause) × IsLowest (WordsFault known (word ∷ arguments)) cause)
-    go (inl (keyword, values, says)) =
-        inl (item_said at known (word ∷ arguments) keyword values (are_of known (wanted keyword) (optional keyword) says.1.0 says.0 values says.1.3 says.2) says)
+    go (inl (keyword, values, says)) = inl (item_by at keyword values, item_said at known (word ∷ arguments) keyword values says)
     go (inr (cause, f)) = inr (cause, f)
 
 -- ---- lines

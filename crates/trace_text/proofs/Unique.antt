@@ -12,9 +12,8 @@ use Rattle.trace_text.specs.Grammar.{Item, HasRoom, extended, nothing, IsHeader,
 use Rattle.text_words.specs.Causes.{IsLowest, cause_number}
 use Rattle.trace_text.specs.Faults.{LineFault, LinesFault, HeaderFault, FaultOfLines, TextFaults}
 use Rattle.line_grammar.proofs.LineFaults.{same_head}
-use Rattle.trace_text.proofs.LineFaults.{item_clean}
 use Rattle.trace_text.proofs.RoomFaults.{out_of_order}
-use Rattle.trace_text.proofs.Once.{item_once, line_once}
+use Rattle.trace_text.proofs.Once.{item_once, item_clean, line_once}
 
 -- ---- headers
 

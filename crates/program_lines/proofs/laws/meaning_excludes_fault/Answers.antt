@@ -1,4 +1,4 @@
-use Rattle.program_lines.proofs.LineFaults.{item_clean}
+use Rattle.program_lines.proofs.Once.{item_clean}
 use Rattle.program_lines.proofs.laws.meaning_excludes_fault.Goals as goal
 
 pub returns : goal.returns

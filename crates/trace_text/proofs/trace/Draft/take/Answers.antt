@@ -5,7 +5,7 @@ use Rattle.text_words.specs.Causes.{IsLowest}
 use Rattle.trace_text.specs.Faults.{WordsFault}
 use Rattle.trace_text.specs.Items.{item_of}
 use Rattle.trace_text.specs.Drafts.{so_far}
-use Rattle.trace_text.proofs.LineFaults.{item_clean}
+use Rattle.trace_text.proofs.Once.{item_clean}
 use Rattle.trace_text.proofs.RoomFaults.{line_taken, lowest_of_words}
 use Rattle.trace_text.proofs.trace.Draft.take.Goals as goal
 
