@@ -1,11 +1,12 @@
 -- Receipts whose numbers rise, and one more.
 -- rs: receipts; at: a place among them; r: the receipt there; d: what a list gives where it has no receipt
-use Rattle.std.proofs.Common.{◌≡◌, ℕ, zero, suc, ◌+◌, ◌-◌, ◌<◌, List, [], ◌∷◌, ◌++◌, length, take, get_or, Some, ap, sym, subst, arith, ◌∙◌}
+use Rattle.std.proofs.Common.{◌≡◌, ℕ, zero, suc, ◌+◌, ◌-◌, ◌<◌, List, [], ◌∷◌, ◌++◌, length, take, get_or, Some, refl, ap, sym, subst, arith, ◌∙◌}
 use Rattle.std.specs.List.{AllAdjacentBelow, slice_get}
-use Rattle.std.proofs.lemmas.Option.{get_or_from_slice_get}
+use Rattle.std.proofs.lemmas.Option.{get_or_from_slice_get, same_Some}
 use Rattle.std.proofs.lemmas.List.Sorted.{all_adjacent_more}
+use Rattle.model_histories.specs.declared.answer.Entry.{Entry}
 use Rattle.model_histories.specs.declared.reply.Receipt.{Receipt}
-use Rattle.locked_replay.specs.Receipts.{Rises, RisesAt}
+use Rattle.locked_replay.specs.Receipts.{receipt_of, Rises, RisesAt}
 use Rattle.locked_replay.proofs.Marking.{one_more}
 
 abbrev pub RiseBelow : List Receipt → ℕ → Type 0
@@ -24,3 +25,25 @@ falls rs at low none all = none (λ positive d.
 pub taken : (met rs : List Receipt) (at : ℕ) (r : Receipt) → at < length rs → slice_get rs at ≡ Some r → (met ++ take at rs) ++ r ∷ [] ≡ met ++ take (at + 1) rs
 taken met rs at r low is =
     ap (λ (x : Receipt). (met ++ take at rs) ++ x ∷ []) (sym (get_or_from_slice_get rs at r r is)) ∙ one_more met rs at r low
+
+-- there is a receipt at each place
+pub some_there : (rs : List Receipt) (at : ℕ) → at < length rs → (r : Receipt) × (slice_get rs at ≡ Some r)
+some_there [] at low = absurd (omega (arith, low))
+some_there (r ∷ rs) zero low = (r, refl)
+some_there (r ∷ rs) (suc at) low = some_there rs at (omega (arith, low))
+
+-- the receipt at a place rises where its number is greater than the one before
+pub rises_told : (rs : List Receipt) (at before here : ℕ) → at < length rs → ((d : Receipt) → (get_or rs (at - 1) d).number ≡ before) →
+    ((d : Receipt) → (get_or rs at d).number ≡ here) → (before < here → RisesAt rs at) × (0 < at → RisesAt rs at → before < here)
+rises_told rs at before here low one next = (
+  (λ less positive d. omega (arith, less, one d, next d)),
+  (λ positive rises. let r = (some_there rs at low).0 in omega (arith, one r, next r, rises positive r)),
+)
+
+-- whether the receipt at a place is that of an entry, by another receipt that is
+module _ (rs : List Receipt) (at : ℕ) (r given : Receipt) (number : ℕ) (entry : Entry) (is : slice_get rs at ≡ Some r) (same : r.number ≡ number) (told : given ≡ receipt_of number entry) where
+  pub not_told : (slice_get rs at ≡ Some given → ⊥) → r ≡ receipt_of r.number entry → ⊥
+  not_told none here = none (is ∙ ap (λ (x : Receipt). Some x) (here ∙ ap (λ n. receipt_of n entry) same ∙ sym told))
+
+  pub is_told : slice_get rs at ≡ Some given → r ≡ receipt_of r.number entry
+  is_told here = same_Some r given (sym is ∙ here) ∙ told ∙ ap (λ n. receipt_of n entry) (sym same)

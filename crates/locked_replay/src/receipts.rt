@@ -1,38 +1,40 @@
 //! Whether receipts are those of a history, each once.
 
-ghost use Rattle.std.specs.Prelude.{◌≡◌, ◌↔◌, ◌++◌, ◌∷◌, ◌<◌, [], ◌⊎◌, List, IsTrue, length};
+ghost use Rattle.std.specs.Prelude.{◌≡◌, ◌↔◌, ◌++◌, ◌∷◌, ◌<◌, [], ◌⊎◌, List, IsTrue, Some, length, slice_get};
 ghost use Rattle.std.specs.Bool.{MatchBool};
 ghost use Rattle.model_histories.specs.declared.reply.Receipt.{Receipt as OneReceipt};
 ghost use Rattle.locked_replay.specs.Receipts.{receipt_of, Rises, RisesAt, AreMarked, AreAstray};
 
-use crate::same::is_same_receipt;
 use race_gate::{Entry, Receipt};
 use short_receipts::Receipts;
 
-/// Whether the receipt is that of the entry, but for the number.
-fn is_receipt(receipt: Receipt, entry: Entry) -> bool
-    ensures { IsTrue result ↔ receipt ≡ receipt_of receipt.number entry }
+/// The receipt of the entry with this number.
+#[inline(always)]
+fn receipt_of(number: u32, entry: Entry) -> Receipt
+    ensures { result ≡ receipt_of number entry }
 {
-    let expected = Receipt {
-        number: receipt.number,
+    Receipt {
+        number,
         request: entry.request,
         answer: entry.answer,
-    };
-    is_same_receipt(receipt, expected)
+    }
 }
 
-/// Marks the entry whose receipt it is, where there is one that was not marked.
-fn mark(marks: &mut [bool], entries: &[Entry], receipt: Receipt) -> bool
-    requires { length marks.old ≡ length entries.now }
+/// Marks the entry whose receipt is at this place, where there is one that was not marked.
+fn mark(marks: &mut [bool], entries: &[Entry], receipts: &Receipts, at: usize) -> bool
+    requires marks { length marks.old ≡ length entries.now }
+    requires there { at < length receipts.now.items }
     ensures length { length marks.new ≡ length marks.old }
-    ensures marks { (met : List OneReceipt) → AreMarked marks.old entries.now met →
+    ensures marks { (met : List OneReceipt) (receipt : OneReceipt) → slice_get receipts.now.items at ≡ Some receipt →
+        AreMarked marks.old entries.now met →
         MatchBool result (AreMarked marks.new entries.now (met ++ receipt ∷ [])) (AreAstray entries.now (met ++ receipt ∷ [])) }
 {
-    if receipt.number == 0 || receipt.number as usize > entries.len() {
+    let number = receipts.number(at);
+    if number == 0 || number as usize > entries.len() {
         return false;
     }
-    let place = receipt.number as usize - 1;
-    if marks[place] || !is_receipt(receipt, entries[place]) {
+    let place = number as usize - 1;
+    if marks[place] || !receipts.is_at(at, receipt_of(number, entries[place])) {
         return false;
     }
     marks[place] = true;
@@ -44,7 +46,7 @@ fn rises_at(receipts: &Receipts, at: usize) -> bool
     requires { at < length receipts.now.items }
     ensures { IsTrue result ↔ RisesAt receipts.now.items at }
 {
-    at == 0 || receipts.get(at - 1).number < receipts.get(at).number
+    at == 0 || receipts.number(at - 1) < receipts.number(at)
 }
 
 /// Marks the entries whose receipts these are, where the receipts rise in number, and each is that of an entry that was not marked.
@@ -57,11 +59,10 @@ pub fn mark_all(marks: &mut [bool], entries: &[Entry], receipts: &Receipts) -> b
         ((Rises receipts.now.items → ⊥) ⊎ AreAstray entries.now (met ++ receipts.now.items)) }
 {
     for at in 0..receipts.len() {
-        let receipt = receipts.get(at);
         if !rises_at(receipts, at) {
             return false;
         }
-        if !mark(marks, entries, receipt) {
+        if !mark(marks, entries, receipts, at) {
             return false;
         }
     }

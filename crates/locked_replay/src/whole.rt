@@ -86,6 +86,31 @@ pub fn check_run<B: Allocator>(
     }
 }
 
+/// What [`check_run`] answers of this gate, and where that is Ok its entries, the oldest first, and what its cells hold. What else the gate
+/// kept is let go before the replay, which may have its room.
+fn parts_of<B: Allocator>(
+    alloc: Global,
+    program: &Program<B>,
+    gate: Gate<Global>,
+) -> Result<(Vec<Entry>, Vec<u64>), RunFault>
+    ensures shape { OnOk result (gate.shape ≡ shape_in program.now) }
+    ensures entries { IfOk result (λ parts. reverse parts.0.items ≡ gate.history) }
+    ensures memory { IfOk result (λ parts. parts.1.items ≡ gate.memory) }
+    ensures run { OnOk result (IsFinishedRun program.now.functions (shape_in program.now) gate.history) }
+    ensures strange { result ≡ Err RunFault.Strange → IsStrangeGate program.now.functions (shape_in program.now) gate }
+    ensures faults { ¬ (result ≡ Err RunFault.Limit) × ¬ (result ≡ Err RunFault.Stopped) × ¬ (result ≡ Err RunFault.Torn) }
+{
+    let shape = program.shape(alloc)?;
+    if !is_same_shape(gate.shape(), &shape) {
+        return Err(RunFault::Strange);
+    }
+    let (entries, memory) = gate.into_parts();
+    match replay(alloc, program, entries.as_slice()) {
+        Ok(()) => Ok((entries, memory)),
+        Err(fault) => Err(fault_of(fault)),
+    }
+}
+
 /// What [`gather`] answers of the gate that it took out of its lock. Stopped where the gate is stopped, else Torn where the logs are not
 /// whole, else Strange where the gate is not that of a finished run of the program; Memory at a refused growth.
 fn whole_of<L: Ledger, B: Allocator>(
@@ -106,8 +131,7 @@ fn whole_of<L: Ledger, B: Allocator>(
     check_logs(alloc, &gate, logs.as_slice())?;
     // The replay may have the room of the receipts.
     drop(logs);
-    check_run(alloc, program, &gate)?;
-    let (entries, memory) = gate.into_parts();
+    let (entries, memory) = parts_of(alloc, program, gate)?;
     let clean = is_clean(entries.as_slice());
     Ok(Whole {
         entries,

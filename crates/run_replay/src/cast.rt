@@ -120,6 +120,18 @@ impl<A: Allocator + Copy> Cast<A> {
         })
     }
 
+    /// Asks for room for so many more spawns. It is a hint, which changes nothing that is seen.
+    pub fn make_room(&mut self, spawns: usize)
+        ensures core { self.new.core ≡ self.old.core }
+        ensures slots { self.new.slots ≡ self.old.slots }
+        ensures homes { self.new.homes.items ≡ self.old.homes.items }
+        ensures places { self.new.places.items ≡ self.old.places.items }
+    {
+        self.core.make_room(spawns);
+        let _homes = self.homes.reserve(spawns);
+        let _places = self.places.reserve(spawns.saturating_mul(3));
+    }
+
     /// A slot whose frame has ended, if one is known.
     fn freed(&mut self) -> Option<usize>
         ensures ended { IfSome result (λ home.

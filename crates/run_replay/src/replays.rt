@@ -13,7 +13,7 @@ ghost use Rattle.run_replay.specs.declared.replays.ReplayFault.{ReplayFault};
 use crate::cast::Cast;
 use crate::turn::Misfit;
 use program_text::Program;
-use race_gate::{Core, Entry};
+use race_gate::{Answer, Core, Entry};
 use std::alloc::{AllocError, Allocator};
 use thiserror::Error;
 
@@ -81,6 +81,23 @@ fn play_all<A: Allocator + Copy, B: Allocator>(
     }
 }
 
+/// From how many spawns on a replay asks for their room at once.
+const MANY_SPAWNS: usize = 1_000;
+
+/// For how many spawns more it asks, since the orders of strands take room for some at once.
+const MORE_SPAWNS: usize = 64;
+
+/// How many entries are spawns.
+fn spawns_of(entries: &[Entry]) -> usize {
+    let mut spawns = 0usize;
+    for entry in entries {
+        if matches!(entry.answer, Answer::Split(_)) {
+            spawns = spawns.saturating_add(1);
+        }
+    }
+    spawns
+}
+
 /// Plays the entries, the oldest first, with the program's frames before a fresh core of the gate. It is Ok only on a finished run. Of a
 /// run that is not finished it says so, and otherwise which entry is strange; a refused entry can be strange in its witness alone.
 pub fn replay<A: Allocator + Copy, B: Allocator>(
@@ -95,5 +112,9 @@ pub fn replay<A: Allocator + Copy, B: Allocator>(
         IsStrange program.now.functions (shape_in program.now) entries.now number }
 {
     let mut cast = Cast::open(alloc, program)?;
+    let spawns = spawns_of(entries);
+    if spawns >= MANY_SPAWNS {
+        cast.make_room(spawns.saturating_add(MORE_SPAWNS));
+    }
     play_all(&mut cast, program, entries)
 }

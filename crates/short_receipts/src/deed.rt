@@ -206,3 +206,83 @@ pub fn plain(short: Short) -> Receipt
         answer: answer_of(short.deed),
     }
 }
+
+#[inline(always)]
+fn is_same_act(one: Act, other: Act) -> bool
+    ensures { IsTrue result ↔ one ≡ other }
+{
+    one == other
+}
+
+#[inline(always)]
+fn is_same_answer(one: Answer, other: Answer) -> bool
+    ensures { IsTrue result ↔ one ≡ other }
+{
+    one == other
+}
+
+/// Whether these are one act and one answer.
+#[inline(always)]
+fn are_same(one: Act, other: Act, answer: Answer, another: Answer) -> bool
+    ensures { IsTrue result ↔ (one ≡ other) × (answer ≡ another) }
+{
+    is_same_act(one, other) && is_same_answer(answer, another)
+}
+
+/// Whether this was asked and answered. Case by case, so that the one side of each comparison is known.
+#[inline(always)]
+fn is_deed(deed: Deed, act: Act, answer: Answer) -> bool
+    ensures { IsTrue result ↔ (act_spec deed ≡ act) × (answer_spec deed ≡ answer) }
+{
+    match deed {
+        Deed::Open(..) => are_same(Act::Spawn, act, answer_of(deed), answer),
+        Deed::Spawn(..) => are_same(Act::Spawn, act, answer_of(deed), answer),
+        Deed::Call => are_same(Act::Call, act, Answer::Same, answer),
+        Deed::Pass => are_same(Act::Sync, act, Answer::Same, answer),
+        Deed::Join(join) => are_same(Act::Sync, act, Answer::Joined(join), answer),
+        Deed::Wait => are_same(Act::Sync, act, Answer::Waits, answer),
+        Deed::Resume => are_same(Act::Return, act, Answer::Resumed, answer),
+        Deed::End => are_same(Act::Return, act, Answer::Ended, answer),
+        Deed::EndJoin(join) => are_same(Act::Return, act, Answer::EndedJoined(join), answer),
+        Deed::Read(cell, value) => are_same(
+            Act::Read(cell),
+            act,
+            Answer::Value(u64::from(value)),
+            answer,
+        ),
+        Deed::Write(cell, value) => are_same(
+            Act::Write(cell, u64::from(value)),
+            act,
+            Answer::Granted,
+            answer,
+        ),
+        _ => are_same(act_of(deed), act, answer_of(deed), answer),
+    }
+}
+
+/// Whether the receipt that these small numbers are of is this one.
+#[inline(always)]
+pub fn is_plain(short: Short, receipt: Receipt) -> bool
+    ensures { IsTrue result ↔ plain_spec short ≡ receipt }
+{
+    short.number == receipt.number
+        && short.strand == receipt.request.strand
+        && short.line == receipt.request.line
+        && is_deed(short.deed, receipt.request.act, receipt.answer)
+}
+
+#[inline(always)]
+fn is_same_request(one: Request, other: Request) -> bool
+    ensures { IsTrue result ↔ one ≡ other }
+{
+    one.strand == other.strand && one.line == other.line && is_same_act(one.act, other.act)
+}
+
+/// Whether the two are one receipt.
+pub fn is_same(one: Receipt, other: Receipt) -> bool
+    ensures { IsTrue result ↔ one ≡ other }
+{
+    one.number == other.number
+        && is_same_request(one.request, other.request)
+        && is_same_answer(one.answer, other.answer)
+}

@@ -1,9 +1,10 @@
 //! A list of receipts.
 
 ghost use Rattle.std.specs.Prelude.{◌≡◌, ◌↔◌, ◌<◌, ◌++◌, ◌∷◌, [], true, get_or, length, slice_get, Some, IsTrue, OnOk, OnErr};
+ghost use Rattle.model_histories.specs.declared.reply.Receipt.{Receipt as OneReceipt};
 ghost use Rattle.short_receipts.specs.Shorts.{index_of as index_spec, plain as plain_spec};
 
-use crate::deed::{Short, index_of, is_long, long_at, plain, short_of};
+use crate::deed::{Short, index_of, is_long, is_plain, is_same, long_at, plain, short_of};
 use model_histories::Receipt;
 use std::alloc::{AllocError, Global};
 use std::marker::Model;
@@ -19,11 +20,26 @@ fn long_of(longs: &[Receipt], short: Short) -> Receipt
 }
 
 /// Receipts in their order.
-#[derive(Drop)]
 pub struct Receipts {
     shorts: Vec<Short>,
     longs: Vec<Receipt>,
     has_room: bool,
+}
+
+/// The lists are made small before they are let go: a great block that is let go raises the size below which the C library's heap copies
+/// a list that grows, where it would move its pages.
+impl Drop for Receipts {
+    fn drop(self) {
+        let Receipts {
+            mut shorts,
+            mut longs,
+            has_room: _,
+        } = self;
+        shorts.clear();
+        shorts.shrink_to(1);
+        longs.clear();
+        longs.shrink_to(1);
+    }
 }
 
 impl Model for Receipts {
@@ -105,9 +121,10 @@ impl Receipts {
         self.shorts.is_empty()
     }
 
-    /// The receipt at a place.
-    #[inline(always)]
-    pub fn get(&self, at: usize) -> Receipt
+    /// The receipt at a place, be it kept short or beside.
+    #[cold]
+    #[inline(never)]
+    fn either(&self, at: usize) -> Receipt
         requires { at < length self.now.items }
         ensures { slice_get self.now.items at ≡ Some result }
     {
@@ -116,6 +133,45 @@ impl Receipts {
             long_of(self.longs.as_slice(), short)
         } else {
             plain(short)
+        }
+    }
+
+    /// The number of the receipt at a place.
+    #[inline(always)]
+    pub fn number(&self, at: usize) -> u32
+        requires { at < length self.now.items }
+        ensures { (d : OneReceipt) → (get_or self.now.items at d).number ≡ result }
+    {
+        if is_long(self.shorts[at].deed) {
+            self.either(at).number
+        } else {
+            self.shorts[at].number
+        }
+    }
+
+    /// Whether the receipt at a place is this one.
+    #[inline(always)]
+    pub fn is_at(&self, at: usize, receipt: Receipt) -> bool
+        requires { at < length self.now.items }
+        ensures { IsTrue result ↔ slice_get self.now.items at ≡ Some receipt }
+    {
+        if is_long(self.shorts[at].deed) {
+            is_same(self.either(at), receipt)
+        } else {
+            is_plain(self.shorts[at], receipt)
+        }
+    }
+
+    /// The receipt at a place.
+    #[inline(always)]
+    pub fn get(&self, at: usize) -> Receipt
+        requires { at < length self.now.items }
+        ensures { slice_get self.now.items at ≡ Some result }
+    {
+        if is_long(self.shorts[at].deed) {
+            self.either(at)
+        } else {
+            plain(self.shorts[at])
         }
     }
 }

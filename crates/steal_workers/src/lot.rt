@@ -1,14 +1,13 @@
 //! Where tasks wait for their joins.
 
-ghost use Rattle.std.specs.Prelude.{◌≡◌, ◌≢◌, ℕ, IfOk, IfSome};
-ghost use Rattle.std.specs.Ordering.{nat_cmp};
-ghost use Rattle.std.specs.BTreeMap.{get};
-ghost use Rattle.steal_workers.specs.Places.{Parks, Wakes};
+ghost use Rattle.std.specs.Prelude.{◌≡◌, ◌≢◌, ◌<◌, ◌↔◌, ℕ, get_or, length, IfOk, IfSome, IsOk, IsTrue, OnOk, is_some};
+ghost use Rattle.slab.specs.Slab.{get};
+ghost use Rattle.steal_workers.specs.Places.{Parks, Wakes, place_at, task_in, OthersStay};
 ghost use Rattle.steal_workers.specs.Tasks.{IsOn};
 
 use crate::task::Task;
-use std::alloc::Global;
-use std::collections::BTreeMap;
+use slab::Slab;
+use std::alloc::{AllocError, Global};
 use std::sync::atomic::{AtomicU64, Ordering};
 use std::sync::{Mutex, Wait};
 use std::time::Duration;
@@ -28,59 +27,151 @@ pub enum LotFault {
 /// For how many microseconds a worker dozes that finds nothing to do.
 const DOZE: u64 = 100;
 
+/// The greatest join for which there is a mark. No gate has so many strands.
+const MOST_JOIN: u32 = 4_194_303;
+
+/// For how many joins more there is a mark at once.
+const MORE_MARKS: usize = 1_024;
+
 /// What came for a join.
-#[derive(Drop)]
-enum Place<'p> {
-    /// A task, which waits.
-    Parked(Task<'p>),
+#[derive(Clone, Copy)]
+enum Mark {
+    /// Nothing.
+    Unmet,
+    /// A task, which waits in this slot.
+    Parked(u32),
     /// The last child's end. The task is still to come.
     Woken,
     /// Both.
     Met,
 }
 
-/// What lies under the lock.
+/// A task, and the join for which it waits.
+#[derive(Drop)]
+struct Waiting<'p> {
+    join: u32,
+    task: Task<'p>,
+}
+
+/// Whether the task of this join waits in this slot.
+fn holds<'p>(waiting: &Slab<Waiting<'p>>, slot: u32, join: u32) -> bool
+    ensures { result ≡ is_some (task_in (get waiting.now slot) join) }
+{
+    match waiting.get(slot as usize) {
+        Some(found) => found.join == join,
+        None => false,
+    }
+}
+
+/// The task of this join, where it waits in this slot.
+fn taken<'p>(waiting: &mut Slab<Waiting<'p>>, slot: u32, join: u32) -> Option<Task<'p>>
+    ensures task { result ≡ task_in (get waiting.old slot) join }
+    ensures others { OthersStay waiting.old waiting.new join }
+{
+    if !holds(waiting, slot, join) {
+        return None;
+    }
+    match waiting.try_remove(slot as usize) {
+        Some(found) => {
+            let Waiting { join: _, task } = found;
+            Some(task)
+        }
+        None => None,
+    }
+}
+
+/// What lies under the lock: a mark for each join up to some, and the tasks that wait.
 #[derive(Drop)]
 struct Places<'p> {
-    by_join: BTreeMap<u32, Place<'p>>,
+    marks: Vec<Mark>,
+    waiting: Slab<Waiting<'p>>,
 }
 
 impl<'p> Places<'p> {
-    fn park(&mut self, join: u32, task: Task<'p>) -> Result<Option<Task<'p>>, LotFault>
-        ensures parks { Parks join task.entry (get nat_cmp self.old.by_join join) result (get nat_cmp self.new.by_join join) }
-        ensures others { (other : ℕ) → other ≢ join → get nat_cmp self.new.by_join other ≡ get nat_cmp self.old.by_join other }
+    /// Sees that there is a mark for this join.
+    fn reach(&mut self, join: u32) -> Result<(), AllocError>
+        ensures ok { OnOk result (join < length self.new.marks.items) }
+        ensures succeeds { join < length self.old.marks.items → IsOk result }
+        ensures marks { (other : ℕ) → get_or self.new.marks.items other Mark.Unmet ≡ get_or self.old.marks.items other Mark.Unmet }
+        ensures waiting { self.new.waiting ≡ self.old.waiting }
     {
-        match self.by_join.get_mut(&join) {
-            Some(place) => match place {
-                Place::Woken => {
-                    *place = Place::Met;
-                    Ok(Some(task.on(join)))
+        if (join as usize) < self.marks.len() {
+            return Ok(());
+        }
+        if join > MOST_JOIN {
+            return Err(AllocError);
+        }
+        self.marks.resize(join as usize + MORE_MARKS, Mark::Unmet)
+    }
+
+    /// Keeps a task for this join, for which nothing came yet.
+    fn keep(&mut self, join: u32, task: Task<'p>) -> Result<Option<Task<'p>>, LotFault>
+        requires reached { join < length self.old.marks.items }
+        requires nothing { place_at self.old.marks.items self.old.waiting join ≡ None }
+        ensures parks { Parks join task.entry None result (place_at self.new.marks.items self.new.waiting join) }
+        ensures others { (other : ℕ) → other ≢ join →
+            place_at self.new.marks.items self.new.waiting other ≡ place_at self.old.marks.items self.old.waiting other }
+    {
+        let slot = self.waiting.vacant_key();
+        if slot > 4_294_967_295 || self.waiting.reserve(1).is_err() {
+            return Err(LotFault::Memory);
+        }
+        self.waiting.insert_reserved(Waiting { join, task });
+        self.marks[join as usize] = Mark::Parked(slot as u32);
+        Ok(None)
+    }
+
+    fn park(&mut self, join: u32, task: Task<'p>) -> Result<Option<Task<'p>>, LotFault>
+        ensures parks { Parks join task.entry (place_at self.old.marks.items self.old.waiting join) result
+            (place_at self.new.marks.items self.new.waiting join) }
+        ensures others { (other : ℕ) → other ≢ join →
+            place_at self.new.marks.items self.new.waiting other ≡ place_at self.old.marks.items self.old.waiting other }
+    {
+        if self.reach(join).is_err() {
+            return Err(LotFault::Memory);
+        }
+        match self.marks[join as usize] {
+            Mark::Woken => {
+                self.marks[join as usize] = Mark::Met;
+                Ok(Some(task.on(join)))
+            }
+            Mark::Met => Err(LotFault::Torn),
+            Mark::Parked(slot) => {
+                if holds(&self.waiting, slot, join) {
+                    Err(LotFault::Torn)
+                } else {
+                    self.keep(join, task)
                 }
-                Place::Parked(_) | Place::Met => Err(LotFault::Torn),
-            },
-            None => match self.by_join.insert(join, Place::Parked(task)) {
-                Ok(_) => Ok(None),
-                Err(_) => Err(LotFault::Memory),
-            },
+            }
+            Mark::Unmet => self.keep(join, task),
         }
     }
 
     fn wake(&mut self, join: u32) -> Result<Option<Task<'p>>, LotFault>
-        ensures wakes { Wakes join (get nat_cmp self.old.by_join join) result (get nat_cmp self.new.by_join join) }
-        ensures others { (other : ℕ) → other ≢ join → get nat_cmp self.new.by_join other ≡ get nat_cmp self.old.by_join other }
+        ensures wakes { Wakes join (place_at self.old.marks.items self.old.waiting join) result
+            (place_at self.new.marks.items self.new.waiting join) }
+        ensures others { (other : ℕ) → other ≢ join →
+            place_at self.new.marks.items self.new.waiting other ≡ place_at self.old.marks.items self.old.waiting other }
     {
-        match self.by_join.get_mut(&join) {
-            Some(place) => match std::mem::replace(place, Place::Met) {
-                Place::Parked(task) => Ok(Some(task.on(join))),
-                again => {
-                    *place = again;
-                    Err(LotFault::Torn)
+        if self.reach(join).is_err() {
+            return Err(LotFault::Memory);
+        }
+        match self.marks[join as usize] {
+            Mark::Parked(slot) => match taken(&mut self.waiting, slot, join) {
+                Some(task) => {
+                    self.marks[join as usize] = Mark::Met;
+                    Ok(Some(task.on(join)))
+                }
+                None => {
+                    self.marks[join as usize] = Mark::Woken;
+                    Ok(None)
                 }
             },
-            None => match self.by_join.insert(join, Place::Woken) {
-                Ok(_) => Ok(None),
-                Err(_) => Err(LotFault::Memory),
-            },
+            Mark::Unmet => {
+                self.marks[join as usize] = Mark::Woken;
+                Ok(None)
+            }
+            Mark::Woken | Mark::Met => Err(LotFault::Torn),
         }
     }
 }
@@ -98,7 +189,8 @@ impl<'p> Lot<'p> {
     pub fn new(alloc: Global) -> Lot<'p> {
         Lot {
             places: Mutex::new(Places {
-                by_join: BTreeMap::new(alloc),
+                marks: Vec::new(alloc),
+                waiting: Slab::new(alloc),
             }),
             closed: AtomicU64::new(0),
         }

@@ -14,7 +14,7 @@ use std::alloc::{AllocError, Global};
 pub(crate) type Spare = Vec<Box<Frame<Global>>>;
 
 /// How many frames a worker keeps to be used again.
-const MOST_SPARE: usize = 64;
+const MOST_SPARE: usize = 256;
 
 /// A frame of a program, and the strand on which it goes on. The frame is boxed, since a task goes from deques to workers and to the lot.
 #[derive(Drop)]

@@ -1,10 +1,11 @@
-use Rattle.std.proofs.Common.{rules, inl, inr, ◌++◌, ◌∷◌, [], take, sym, subst, ◌∙◌}
+use Rattle.std.proofs.Common.{rules, inl, inr, ◌++◌, ◌∷◌, [], take, get_or, Some, sym, subst, ◌∙◌}
+use Rattle.std.specs.List.{slice_get}
 use Rattle.std.proofs.lemmas.Option.{get_or_from_slice_get}
 use Rattle.short_receipts.specs.Lists.{Listed}
 use Rattle.model_histories.specs.declared.reply.Receipt.{Receipt}
 use Rattle.locked_replay.specs.Receipts.{AreMarked, AreAstray}
 use Rattle.locked_replay.proofs.Marking.{astray_at}
-use Rattle.locked_replay.proofs.Rising.{rise_more, falls, taken}
+use Rattle.locked_replay.proofs.Rising.{rise_more, falls, taken, some_there}
 use Rattle.locked_replay.proofs.receipts.mark_all.Goals as goal
 
 pub returns-then-not-rises_at-clause-marks : goal.returns-then-not-rises_at-clause-marks
@@ -15,19 +16,21 @@ returns-then-not-rises_at-clause-marks c met are =
 pub returns-then-not-mark-clause-marks : goal.returns-then-not-mark-clause-marks
 returns-then-not-mark-clause-marks c met are =
     let list : Listed = c.args.receipts.now in
-    let receipt : Receipt = c.get-receipt.result in
-    let astray = c.if-not-mark.ensures.marks (met ++ take c.loop-at.at list.items) (c.loop-at.invariant.2 met are) in
+    let there = some_there list.items c.loop-at.at (search rules) in
+    let receipt : Receipt = there.0 in
+    let astray = c.if-not-mark.ensures.marks (met ++ take c.loop-at.at list.items) receipt there.1 (c.loop-at.invariant.2 met are) in
     inr (astray_at c.args.entries.now met list.items c.loop-at.at receipt (search rules)
     (subst (λ (x : Receipt). AreAstray c.args.entries.now ((met ++ take c.loop-at.at list.items) ++ x ∷ []))
-    (sym (get_or_from_slice_get list.items c.loop-at.at receipt receipt c.get-receipt.ensures)) astray))
+    (sym (get_or_from_slice_get list.items c.loop-at.at receipt receipt there.1)) astray))
 
 pub loop-at-preserved : goal.loop-at-preserved
 loop-at-preserved c =
     let list : Listed = c.args.receipts.now in
-    let receipt : Receipt = c.get-receipt.result in (
+    let there = some_there list.items c.loop-at.at (search rules) in
+    let receipt : Receipt = there.0 in (
       c.mark.ensures.length ∙ c.loop-at.invariant.0,
       rise_more list.items c.loop-at.at c.loop-at.invariant.1 (c.rises_at.ensures.0 c.if-not-rises_at.false),
       λ met are.
-          subst (AreMarked c.mark.new.marks c.args.entries.now) (taken met list.items c.loop-at.at receipt (search rules) c.get-receipt.ensures)
-          (c.if-not-mark.ensures.marks (met ++ take c.loop-at.at list.items) (c.loop-at.invariant.2 met are)),
+          subst (AreMarked c.mark.new.marks c.args.entries.now) (taken met list.items c.loop-at.at receipt (search rules) there.1)
+          (c.if-not-mark.ensures.marks (met ++ take c.loop-at.at list.items) receipt there.1 (c.loop-at.invariant.2 met are)),
     )

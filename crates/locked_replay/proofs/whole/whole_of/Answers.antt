@@ -10,24 +10,24 @@ use Rattle.locked_replay.proofs.Reversed.{clean_either}
 use Rattle.locked_replay.proofs.Faulted.{run_faulted}
 use Rattle.locked_replay.proofs.whole.whole_of.Goals as goal
 
-pub returns-in_err-check_run-clause-faults : goal.returns-in_err-check_run-clause-faults
-returns-in_err-check_run-clause-faults g c =
+pub returns-in_err-entries-clause-faults : goal.returns-in_err-entries-clause-faults
+returns-in_err-entries-clause-faults g c =
     let functions = c.args.program.now.functions in
     let gate = c.args.gate in
-    let fault = c.in_err-check_run.field-0.0 in
-    let p = err_from_is_err_and c.from_residual-in_err-check_run.result c.from_residual-in_err-check_run.ensures.1 in
+    let fault = c.in_err-entries.field-0.0 in
+    let p = err_from_is_err_and c.from_residual-in_err-entries.result c.from_residual-in_err-entries.ensures.1 in
     rw (p.1, p.2) (
     run_faulted functions (shape_in c.args.program.now) gate c.args.logs.items c.check_logs.result fault
     (λ e. let was = c.in_ok-check_logs.was in cc)
     c.check_logs.ensures.stopped.1
     (subst (λ (l : List (WorkerLog _)). AreWhole (reverse gate.history) l) c.as_slice.ensures.value c.in_ok-check_logs.ensures.whole)
-    (λ e. c.in_err-check_run.ensures.strange (ap (λ (f : RunFault). Err f) e))
-    (λ e. c.in_err-check_run.ensures.faults.0 (ap (λ (f : RunFault). Err f) e))
-    (λ e. c.in_err-check_run.ensures.faults.1 (ap (λ (f : RunFault). Err f) e))
-    (λ e. c.in_err-check_run.ensures.faults.2 (ap (λ (f : RunFault). Err f) e)))
+    (λ e. c.in_err-entries.ensures.strange (ap (λ (f : RunFault). Err f) e))
+    (λ e. c.in_err-entries.ensures.faults.0 (ap (λ (f : RunFault). Err f) e))
+    (λ e. c.in_err-entries.ensures.faults.1 (ap (λ (f : RunFault). Err f) e))
+    (λ e. c.in_err-entries.ensures.faults.2 (ap (λ (f : RunFault). Err f) e)))
 
 pub returns-clause-clean : goal.returns-clause-clean
 returns-clause-clean g c =
     let tells = clean_either c.as_slice-2.result.now c.is_clean-clean.result c.is_clean-clean.ensures in
     subst (λ (l : List Entry). (IsTrue c.is_clean-clean.result → IsClean l) × (IsClean l → IsTrue c.is_clean-clean.result))
-    (ap reverse c.as_slice-2.ensures.value ∙ c.into_parts-entries.ensures.entries) tells
+    (ap reverse c.as_slice-2.ensures.value ∙ c.in_ok-entries.ensures.entries) tells
