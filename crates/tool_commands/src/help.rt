@@ -1,8 +1,9 @@
 //! The texts that tell how the program is used.
 
-/// The program's version, and the toolchain that its proofs were checked with, as its own command `rt version` names it.
+/// The program's version, and the logic in which its proofs were checked, by the number that `rt version` gives it: several kits may have
+/// one logic.
 pub const VERSION: &str = "0.1.0
-proved with rattle-kit-13b logic dac8208d650f15bf";
+proved in Rattle's logic dac8208d650f15bf";
 
 pub const ABOUT: &str =
     "Finds determinacy races and view-read races in spawn-sync programs, and in traces of their accesses";
