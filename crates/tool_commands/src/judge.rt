@@ -105,8 +105,7 @@ fn judge<A: Allocator + Copy, W: Write>(
         lines: Waiting::new(alloc)?,
         met: Met::new(),
     };
-    // There are no more spawns than requests. Room that is not filled costs nothing, and a pass that counts them would.
-    core.make_room(trace.lines.len());
+    core.make_room(trace.lines.likely_strands());
     for line in trace.lines.iter() {
         tell(&mut core, &mut verdicts, output, line.request);
     }
@@ -158,6 +157,16 @@ fn answer_text<A: Allocator + Copy, W: Write>(
     finish(output, verdicts)
 }
 
+/// The greatest block but a page that teaches the C library's heap anything when it is let go.
+const GREAT: usize = 33_550_336;
+
+/// Takes and lets go a great block, of which no page is touched. From then on the C library's heap maps no list of its own that is
+/// smaller, but grows: a list at its end grows in place, and the pages of a text that is let go serve the lists behind it. Elsewhere,
+/// or where the block is refused, nothing comes of it.
+fn keep_pages<A: Allocator + Copy>(alloc: A) {
+    let _ = Vec::<u8, A>::with_capacity(alloc, GREAT);
+}
+
 /// Reads a trace to its end, judges its requests in their order by a gate with this limit on the entries of its history, and writes
 /// the verdict line of each reply. It answers the exit status of the replies: 3 where one is a want of memory, else 4 where one is
 /// beyond the limit, else 2 where one is illegal, else 1 where one is refused, else 0.
@@ -186,6 +195,7 @@ pub fn judge_stream<A: Allocator + Copy, R: Read, W: Write>(
     ensures reads { IsCalledAtMost most_reads (calls_of input.old) (calls_of input.new) }
     ensures unwritten { IfErr result (λ fault. fault ≢ CliFault.Write → output.new ≡ output.old) }
 {
+    keep_pages(alloc);
     let text = read_text(alloc, input)?;
     answer_text(alloc, text, output, limit)
 }
