@@ -91,6 +91,7 @@ module _ {Place Value : Type 0} (Means : Place → List ℕ → Value → Type 0
 
 -- ---- the words for values, where `plain` says it of a value in its place
 
+-- The words for values in the places of a line.
 abbrev pub plain_words : {Place Value : Type 0} → (Place → Value → List ℕ) → (places last : List Place) → List Value → List (List ℕ)
 plain_words plain places last [] = []
 plain_words plain [] [] (value ∷ values) = []

@@ -67,6 +67,7 @@ plain_word scope (Exactly other) value = other
 plain_word scope place value = []
 
 -- The words for values in the places of a line.
+-- The words for values in the places of a line.
 abbrev pub plain_words : NameScope → (places last : List Place) → List Value → List (List ℕ)
 plain_words scope = line.plain_words (plain_word scope)
 

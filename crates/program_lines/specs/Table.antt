@@ -71,8 +71,10 @@ Placed = line.Placed Place
 abbrev pub placed : (places last : List Place) → List (List ℕ) → Option (List Placed)
 placed = line.placed
 
+-- Each word means its value.
 abbrev pub WordsMean : NameScope → List Placed → List Value → Type 0
 WordsMean scope = line.WordsMean (WordMeans scope)
 
+-- The words are a keyword and words that mean these values in the places that it wants.
 abbrev pub Says : NameScope → List (List ℕ) → Keyword → List Value → Type 0
 Says scope = line.Says (WordMeans scope) table scope.known.version

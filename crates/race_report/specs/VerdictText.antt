@@ -62,13 +62,13 @@ fault_word Unsynced = codes "unsynced"
 fault_word Memory = codes "memory"
 
 -- the line of a reply: the entry's number and the answer, or `illegal` and the fault's word
-abbrev pub line_of : Reply → List ℕ
-line_of (Done receipt) = decimal receipt.number ++ codes " " ++ answer_text receipt.request.act receipt.answer ++ codes "\n"
-line_of (Illegal fault) = codes "illegal " ++ fault_word fault ++ codes "\n"
+abbrev pub line_of_reply : Reply → List ℕ
+line_of_reply (Done receipt) = decimal receipt.number ++ codes " " ++ answer_text receipt.request.act receipt.answer ++ codes "\n"
+line_of_reply (Illegal fault) = codes "illegal " ++ fault_word fault ++ codes "\n"
 
 -- a line for each reply, in their order
 abbrev pub verdict_text : List Reply → List ℕ
-verdict_text replies = flat_map line_of replies
+verdict_text replies = flat_map line_of_reply replies
 
 -- a refused access conflicts with its witness, so that their rule has a word
 abbrev pub HasWord : Act → Answer → Type 0

@@ -46,7 +46,7 @@ fn name_of<A: Allocator>(
 
 /// The line of the entry with this number.
 #[tactic(auto, using(std::proofs::lemmas::Option::gets))]
-fn line_of(entries: &[Entry], number: u32) -> u32
+fn line_of_entry(entries: &[Entry], number: u32) -> u32
     requires first { 0 < number }
     requires last { number ≤ length entries.now }
     ensures { result ≡ line_of_entry entries.now number }
@@ -62,7 +62,7 @@ fn witness_value(alloc: Global, entries: &[Entry], witness: Witness) -> Result<V
 {
     json!(in alloc; {
         "entry": witness.entry,
-        "line": line_of(entries, witness.entry),
+        "line": line_of_entry(entries, witness.entry),
         "strand": witness.strand,
     })
 }

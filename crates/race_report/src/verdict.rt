@@ -4,7 +4,7 @@ ghost use Rattle.std.specs.Prelude.{◌≡◌, ◌++◌, ◌∷◌, ◌+◌, ◌
 ghost use Rattle.std.specs.Prelude.{IsSome, codes, decimal, length, take, unwrap_or, vec_capacity};
 ghost use Rattle.std.specs.List.{All};
 ghost use Rattle.race_report.specs.VerdictText.{refusal_word, HasWord, HasWords, answer_text};
-ghost use Rattle.race_report.specs.VerdictText.{fault_word, numbers_text, line_of, verdict_text};
+ghost use Rattle.race_report.specs.VerdictText.{fault_word, numbers_text, line_of_reply, verdict_text};
 ghost use Rattle.race_report.specs.Rooms.{HasRoom, number_room, line_room};
 
 use crate::counted::Counted;
@@ -146,7 +146,7 @@ pub fn put_verdict(out: &mut [u8], at: usize, reply: &Reply, counted: &mut Count
     requires words { HasWords reply.now }
     requires room { at + line_room ≤ length out.old }
     ensures len { length out.new ≡ length out.old }
-    ensures put { take result out.new ≡ take at out.old ++ line_of reply.now }
+    ensures put { take result out.new ≡ take at out.old ++ line_of_reply reply.now }
 {
     match reply {
         Reply::Done(receipt) => {
@@ -164,7 +164,7 @@ fn push_verdict<A: Allocator>(
     counted: &mut Counted,
 ) -> Result<(), AllocError>
     requires { HasWords reply.now }
-    ensures { OnOk result (text.new.items ≡ text.old.items ++ line_of reply.now) }
+    ensures { OnOk result (text.new.items ≡ text.old.items ++ line_of_reply reply.now) }
 {
     let at = text.len();
     // Room is asked for once, for the longest line, and what is left of it is cut off.

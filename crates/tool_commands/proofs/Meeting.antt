@@ -13,7 +13,7 @@ use Rattle.model_histories.specs.Shapes.{Shape}
 use Rattle.model_histories.specs.States.{State, opening}
 use Rattle.model_histories.specs.Replies.{JudgesAll}
 use Rattle.race_gate.specs.Cores.{CoreState}
-use Rattle.race_report.specs.VerdictText.{line_of, verdict_text}
+use Rattle.race_report.specs.VerdictText.{line_of_reply, verdict_text}
 use Rattle.tool_commands.specs.declared.status.Met.{Met}
 use Rattle.tool_commands.specs.declared.judge.Verdicts.{Verdicts}
 use Rattle.tool_commands.specs.Streams.{declared_shape, requests_of, StopsWriting}
@@ -43,9 +43,9 @@ met_more replies reply old new memory limit illegal refusal met = record {
   refusal = any_more is_refusal replies reply old.refusal new.refusal refusal met.refusal;
 }
 
-pub lines_more : (replies : List Reply) (reply : Reply) → verdict_text replies ++ line_of reply ≡ verdict_text (replies ++ reply ∷ [])
+pub lines_more : (replies : List Reply) (reply : Reply) → verdict_text replies ++ line_of_reply reply ≡ verdict_text (replies ++ reply ∷ [])
 lines_more replies reply =
-    ap (λ l. verdict_text replies ++ l) (sym (append-nil (line_of reply))) ∙ sym (flat_map-append line_of replies (reply ∷ []))
+    ap (λ l. verdict_text replies ++ l) (sym (append-nil (line_of_reply reply))) ∙ sym (flat_map-append line_of_reply replies (reply ∷ []))
 
 -- nothing is told of nothing
 pub none_told : (known : Option (List ℕ)) (failed : Bool) (waiting : List ℕ) → waiting ≡ [] → IsTold known known failed waiting []

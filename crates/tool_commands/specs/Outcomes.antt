@@ -16,10 +16,10 @@ IsSo functions shape entries (Replayed number) = IsFinishedRun functions shape (
 IsSo functions shape entries (Strange number) = IsStrange functions shape entries number
 IsSo functions shape entries Unfinished = IsUnfinishedRun functions shape (reverse entries)
 
-abbrev pub line_of : Outcome → List ℕ
-line_of (Replayed number) = codes "replayed " ++ decimal number ++ codes "\n"
-line_of (Strange number) = codes "strange " ++ decimal number ++ codes "\n"
-line_of Unfinished = codes "unfinished\n"
+abbrev pub line_of_outcome : Outcome → List ℕ
+line_of_outcome (Replayed number) = codes "replayed " ++ decimal number ++ codes "\n"
+line_of_outcome (Strange number) = codes "strange " ++ decimal number ++ codes "\n"
+line_of_outcome Unfinished = codes "unfinished\n"
 
 -- 1 where an entry is refused or unset, else 0
 abbrev pub refusal_status : List Entry → ℕ

@@ -22,7 +22,7 @@ use Rattle.tool_commands.specs.declared.fault.CliFault.TheVariants.{Shape as Sha
 use Rattle.tool_commands.specs.declared.outcome.Outcome.{Outcome}
 use Rattle.tool_commands.specs.Declarations.{DeclareSame}
 use Rattle.tool_commands.specs.Elided.{IsFaultyProgram, monoids_of}
-use Rattle.tool_commands.specs.Outcomes.{IsSo, line_of, status_of}
+use Rattle.tool_commands.specs.Outcomes.{IsSo, line_of_outcome, status_of}
 use Rattle.tool_commands.specs.Streams.{declared_shape, requests_of, IsJudgedBy, JudgesTrace, IsFaulty, IsRead, StopsReading}
 
 -- ---- the gate that judges the requests of a trace
@@ -72,7 +72,7 @@ pub record ReplaysContents (program : Contents) (trace : TraceContents) (line : 
   pub history : reverse entries ≡ gate.history
   pub outcome : Outcome
   pub so : IsSo program.functions (shape_of_program program) entries outcome
-  pub line_is : line ≡ line_of outcome
+  pub line_is : line ≡ line_of_outcome outcome
   pub status_is : status ≡ status_of entries outcome
 
 -- Why a trace is not replayed.

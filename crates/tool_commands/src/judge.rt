@@ -17,7 +17,7 @@ ghost use Rattle.model_accesses.specs.declared.request.Request.{Request as SpecR
 ghost use Rattle.tool_commands.specs.Watched.{held, has_failed, is_delivered, calls_of, IsCalledAtMost};
 ghost use Rattle.tool_commands.specs.Waiting.{most_filled};
 ghost use Rattle.tool_commands.specs.Meetings.{IsTold, HasJudged, Tells, TellsTrace};
-ghost use Rattle.race_report.specs.VerdictText.{HasWords, line_of, verdict_text};
+ghost use Rattle.race_report.specs.VerdictText.{HasWords, line_of_reply, verdict_text};
 ghost use Rattle.tool_commands.specs.Statuses.{status_of_replies};
 ghost use Rattle.tool_commands.specs.Streams.{most_reads, declared_shape, requests_of, IsJudgedBy, JudgesTrace};
 ghost use Rattle.tool_commands.specs.Streams.{AreReplies, AnswersText, IsAnswered, StopsWriting, StopsAnswer, HasCause};
@@ -60,7 +60,7 @@ fn put<A: Allocator, W: Write>(output: &mut Watched<W>, lines: &mut Waiting<A>, 
     requires { HasWords reply.now }
     ensures { (wrote : Option (List ℕ)) (text : List ℕ) →
         IsTold wrote (W.contents (held output.old)) (has_failed output.old) lines.old.text text →
-        IsTold wrote (W.contents (held output.new)) (has_failed output.new) lines.new.text (text ++ line_of reply.now) }
+        IsTold wrote (W.contents (held output.new)) (has_failed output.new) lines.new.text (text ++ line_of_reply reply.now) }
 {
     if !lines.has_room() {
         give(output, lines);

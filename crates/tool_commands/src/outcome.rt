@@ -4,7 +4,7 @@ ghost use Rattle.std.specs.Prelude.{◌≡◌, IfOk, IfErr};
 ghost use Rattle.std.specs.List.{list_any};
 ghost use Rattle.program_text.specs.Shapes.{shape_in};
 ghost use Rattle.tool_commands.specs.Statuses.{is_refused as refused_spec};
-ghost use Rattle.tool_commands.specs.Outcomes.{IsSo, line_of as line_spec, refusal_status as status_of_run, status_of};
+ghost use Rattle.tool_commands.specs.Outcomes.{IsSo, line_of_outcome as line_spec, refusal_status as status_of_run, status_of};
 
 use crate::fault::CliFault;
 use program_text::Program;

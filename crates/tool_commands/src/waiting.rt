@@ -1,7 +1,7 @@
 //! Verdict lines that wait to be written.
 
 ghost use Rattle.std.specs.Prelude.{◌≡◌, ◌↔◌, ◌≤◌, ◌++◌, [], IfOk, IsTrue};
-ghost use Rattle.race_report.specs.VerdictText.{HasWords, line_of};
+ghost use Rattle.race_report.specs.VerdictText.{HasWords, line_of_reply};
 ghost use Rattle.tool_commands.specs.Waiting.{most_filled};
 
 use race_gate::Reply;
@@ -56,7 +56,7 @@ impl<A: Allocator> Waiting<A> {
     pub fn add(&mut self, reply: &Reply)
         requires words { HasWords reply.now }
         requires room { self.old.filled ≤ most_filled }
-        ensures { self.new.text ≡ self.old.text ++ line_of reply.now }
+        ensures { self.new.text ≡ self.old.text ++ line_of_reply reply.now }
     {
         self.filled = put_verdict(
             self.bytes.as_mut_slice(),

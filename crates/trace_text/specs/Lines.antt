@@ -121,9 +121,11 @@ WordMeans known MonoidWord word (OfMonoid monoid) = MonoidMeans known.version wo
 WordMeans known Mark word (OfNumber line) = (digits : List ℕ) × (word ≡ codes "@" ++ digits) × IsNumberIn 1 max_strand digits line
 WordMeans known place word value = ⊥
 
+-- Each word means its value.
 abbrev pub WordsMean : Known → List Placed → List Value → Type 0
 WordsMean known = line.WordsMean (WordMeans known)
 
+-- The words are a keyword and words that mean these values in the places that it wants.
 abbrev pub Says : Known → List (List ℕ) → Keyword → List Value → Type 0
 Says known = line.Says (WordMeans known) table known.version
 

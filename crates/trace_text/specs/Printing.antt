@@ -33,6 +33,7 @@ plain_word known Mark (OfNumber line) = codes "@" ++ decimal line
 plain_word known place (OfNumber number) = decimal number
 
 -- The words for values in the places of a line.
+-- The words for values in the places of a line.
 abbrev pub plain_words : Known → List Place → Option Place → List Value → List (List ℕ)
 plain_words known places last = line.plain_words (plain_word known) places (option_to_list last)
 
