@@ -19,7 +19,7 @@ use crate::same::is_same_shape;
 use crate::worker::WorkerLog;
 use program_text::Program;
 use race_gate::{Answer, Entry, Gate};
-use run_replay::{ReplayFault, replay};
+use run_replay::{ReplayFault, follow};
 use std::alloc::{Allocator, Global};
 use std::sync::ledger::Ledger;
 
@@ -80,7 +80,7 @@ pub fn check_run<B: Allocator>(
     if !is_same_shape(gate.shape(), &shape) {
         return Err(RunFault::Strange);
     }
-    match replay(alloc, program, gate.history()) {
+    match follow(alloc, program, gate.history()) {
         Ok(()) => Ok(()),
         Err(fault) => Err(fault_of(fault)),
     }
@@ -105,7 +105,7 @@ fn parts_of<B: Allocator>(
         return Err(RunFault::Strange);
     }
     let (entries, memory) = gate.into_parts();
-    match replay(alloc, program, entries.as_slice()) {
+    match follow(alloc, program, entries.as_slice()) {
         Ok(()) => Ok((entries, memory)),
         Err(fault) => Err(fault_of(fault)),
     }

@@ -7,3 +7,4 @@ pub mod Openings
 pub mod Played
 pub mod Told
 pub mod Slots
+pub mod Followed

@@ -3,22 +3,21 @@
 ghost use Rattle.std.specs.Prelude.{◌≡◌, ◌≢◌, ◌⊎◌, ◌<◌, ◌++◌, [], ◌∷◌, List, length, slice_get, Some, IfOk, IfErr, IfSome, OnOk, Err};
 ghost use Rattle.model_histories.specs.Shapes.{most_entries};
 ghost use Rattle.model_histories.specs.States.{State as GateState, opening};
-ghost use Rattle.race_gate.specs.Cores.{IsCoreOf};
 ghost use Rattle.frame_steps.specs.States.{State};
 ghost use Rattle.frame_steps.specs.Frames.{Stands};
 ghost use Rattle.frame_steps.specs.declared.phase.Phase.{Phase};
 ghost use Rattle.run_replay.specs.declared.cast.Slot.{Slot};
 ghost use Rattle.program_text.specs.Shapes.{shape_in};
-ghost use Rattle.run_replay.specs.Casts.{new_places, IsBegun, Opens, IsPlayed, IsMisfit};
+ghost use Rattle.run_replay.specs.Casts.{new_places, IsBegun, Opens, IsMisfit};
 ghost use Rattle.run_replay.specs.Slots.{AreHeld, OpensIn, PlaysIn};
-ghost use Rattle.run_replay.specs.Turns.{IsTurn, HasNoTurn};
+ghost use Rattle.run_replay.specs.Turns.{IsTurn, HasNoTurn, IsEntered};
 ghost use Rattle.run_replay.specs.declared.turn.Misfit.{Misfit};
 
-use crate::turn::{Misfit, confirm, turn};
+use crate::turn::{Misfit, turn};
 use frame_steps::Frame;
 use function_steps::Target;
 use program_text::Program;
-use race_gate::{Answer, Core, Entry};
+use race_gate::{Answer, Entry};
 use std::alloc::{AllocError, Allocator};
 
 /// A frame, and its number among the frames in order of their spawns, that of the root function being 0.
@@ -28,28 +27,16 @@ pub struct Slot<A: Allocator> {
     frame: Frame<A>,
 }
 
-/// A core with what is played before it. A frame that begins takes the slot of one that has ended, so there are as many slots as frames
-/// were alive at once. For each frame that has begun there is its slot, also where another has it now, and for each strand that has begun
-/// or is reserved the number of its frame. The entries that were played are not kept.
+/// The frames that play. A frame that begins takes the slot of one that has ended, so there are as many slots as frames were alive at
+/// once. For each frame that has begun there is its slot, also where another has it now, and for each strand that has begun or is reserved
+/// the number of its frame. The entries that were played are not kept.
 #[derive(Drop)]
 pub struct Cast<A: Allocator + Copy> {
     alloc: A,
-    pub core: Core<A>,
     slots: Vec<Slot<A>, A>,
     homes: Vec<usize, A>,
     places: Vec<usize, A>,
     free: Vec<usize, A>,
-}
-
-/// A core of the program's shape, before any entry.
-fn core_of<A: Allocator + Copy, B: Allocator>(
-    alloc: A,
-    program: &Program<B>,
-) -> Result<Core<A>, AllocError>
-    ensures { IfOk result (λ core. IsCoreOf core (opening (shape_in program.now) most_entries)) }
-{
-    let shape = program.shape(alloc)?;
-    Core::new(alloc, &shape, 1_000_000)
 }
 
 /// A list of one item.
@@ -101,8 +88,7 @@ fn turn_of<A: Allocator, B: Allocator>(
 impl<A: Allocator + Copy> Cast<A> {
     /// The root function before its first request.
     pub fn open<B: Allocator>(alloc: A, program: &Program<B>) -> Result<Cast<A>, AllocError>
-        ensures core { IfOk result (λ cast. IsCoreOf cast.core (opening (shape_in program.now) most_entries)) }
-        ensures opens { IfOk result (λ cast.
+        ensures { IfOk result (λ cast.
             OpensIn program.now.functions (shape_in program.now) (opening (shape_in program.now) most_entries)
             cast.slots.items cast.homes.items cast.places.items) }
     {
@@ -112,7 +98,6 @@ impl<A: Allocator + Copy> Cast<A> {
         let places = alone(alloc, 0)?;
         Ok(Cast {
             alloc,
-            core: core_of(alloc, program)?,
             slots,
             homes,
             places,
@@ -122,12 +107,10 @@ impl<A: Allocator + Copy> Cast<A> {
 
     /// Asks for room for so many more spawns. It is a hint, which changes nothing that is seen.
     pub fn make_room(&mut self, spawns: usize)
-        ensures core { self.new.core ≡ self.old.core }
         ensures slots { self.new.slots ≡ self.old.slots }
         ensures homes { self.new.homes.items ≡ self.old.homes.items }
         ensures places { self.new.places.items ≡ self.old.places.items }
     {
-        self.core.make_room(spawns);
         let _homes = self.homes.reserve(spawns);
         let _places = self.places.reserve(spawns.saturating_mul(3));
     }
@@ -137,7 +120,7 @@ impl<A: Allocator + Copy> Cast<A> {
         ensures ended { IfSome result (λ home.
             (slot : Slot A) × (slice_get self.old.slots.items home ≡ Some slot) × (slot.frame.phase ≡ Phase.Over)) }
         ensures rest { (self.new.slots ≡ self.old.slots) × (self.new.homes ≡ self.old.homes)
-            × (self.new.places ≡ self.old.places) × (self.new.core ≡ self.old.core) }
+            × (self.new.places ≡ self.old.places) }
     {
         let home = self.free.pop()?;
         match self.slots.get(home) {
@@ -165,7 +148,7 @@ impl<A: Allocator + Copy> Cast<A> {
             (next : List State) × AreHeld self.new.slots.items (self.old.homes.items ++ home ∷ []) next
             × IsBegun program.now.functions target frames next) }
         ensures rest { OnOk result ((self.new.homes ≡ self.old.homes)
-            × (self.new.places ≡ self.old.places) × (self.new.core ≡ self.old.core)) }
+            × (self.new.places ≡ self.old.places)) }
     {
         match self.freed() {
             Some(home) => {
@@ -198,7 +181,6 @@ impl<A: Allocator + Copy> Cast<A> {
             × IsBegun program.now.functions target frames next) }
         ensures places { OnOk result
             (self.new.places.items ≡ self.old.places.items ++ new_places first (length self.old.homes.items) place) }
-        ensures core { OnOk result (self.new.core ≡ self.old.core) }
     {
         let child = self.homes.len();
         let home = self.house(program, child, target)?;
@@ -209,7 +191,7 @@ impl<A: Allocator + Copy> Cast<A> {
     /// Keeps a slot for another frame where its frame has ended by this answer.
     fn vacate(&mut self, home: usize, answer: Answer) -> Result<(), Misfit>
         ensures rest { (self.new.slots ≡ self.old.slots) × (self.new.homes ≡ self.old.homes)
-            × (self.new.places ≡ self.old.places) × (self.new.core ≡ self.old.core) }
+            × (self.new.places ≡ self.old.places) }
         ensures err { IfErr result (λ fault. fault ≡ Misfit.Memory) }
     {
         match answer {
@@ -221,17 +203,16 @@ impl<A: Allocator + Copy> Cast<A> {
         }
     }
 
-    /// Plays an entry: its frame asks, and the core answers.
+    /// Plays an entry, which some gate has entered: its frame asks, and is answered.
     pub fn play<B: Allocator>(&mut self, program: &Program<B>, entry: Entry) -> Result<(), Misfit>
-        requires plays { (state : GateState) × IsCoreOf self.old.core state ×
-            PlaysIn program.now.functions (shape_in program.now) state self.old.slots.items self.old.homes.items self.old.places.items }
-        ensures ok { (state : GateState) → IsCoreOf self.old.core state →
-            PlaysIn program.now.functions (shape_in program.now) state self.old.slots.items self.old.homes.items self.old.places.items →
-            OnOk result ((next : GateState) × IsCoreOf self.new.core next ×
-            PlaysIn program.now.functions (shape_in program.now) next self.new.slots.items self.new.homes.items self.new.places.items ×
-            IsPlayed entry state next) }
-        ensures strange { (state : GateState) → IsCoreOf self.old.core state →
-            PlaysIn program.now.functions (shape_in program.now) state self.old.slots.items self.old.homes.items self.old.places.items →
+        requires plays { (state : GateState) × PlaysIn program.now.functions (shape_in program.now) state
+            self.old.slots.items self.old.homes.items self.old.places.items }
+        ensures ok { (state next : GateState) → PlaysIn program.now.functions (shape_in program.now) state
+            self.old.slots.items self.old.homes.items self.old.places.items → IsEntered entry state next →
+            OnOk result (PlaysIn program.now.functions (shape_in program.now) next
+            self.new.slots.items self.new.homes.items self.new.places.items) }
+        ensures strange { (state : GateState) → PlaysIn program.now.functions (shape_in program.now) state
+            self.old.slots.items self.old.homes.items self.old.places.items →
             result ≡ Err Misfit.Strange → IsMisfit program.now.functions (shape_in program.now) entry state }
     {
         let place = match self.places.get(entry.request.strand as usize) {
@@ -240,7 +221,6 @@ impl<A: Allocator + Copy> Cast<A> {
         };
         let home = self.homes[place];
         let target = turn_of(&mut self.slots[home], place, program, entry)?;
-        confirm(&mut self.core, entry)?;
         match (target, entry.answer) {
             (Some(target), Answer::Split(strands)) => {
                 match self.begin(program, place, target, strands.first) {

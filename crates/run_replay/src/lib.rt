@@ -2,11 +2,11 @@
 //!
 //! [`replay`] carries the theorem in its contract: it is Ok only on a finished run, and otherwise says how far the entries are one. One
 //! frame for each spawned function asks, and a fresh core of the gate answers, which keeps no entries; an entry is strange where it is
-//! another request, or has another answer.
+//! another request, or has another answer. [`follow`] says the same of entries that are known to be judged, by the frames alone.
 #![tactic(auto)]
 
 mod cast;
 mod replays;
 mod turn;
 
-pub use replays::{ReplayFault, replay};
+pub use replays::{ReplayFault, follow, replay};

@@ -1,17 +1,21 @@
 //! Replays.
 
-ghost use Rattle.std.specs.Prelude.{◌≡◌, ◌+◌, ◌≤◌, ℕ, length, reverse, OnOk, Err};
+ghost use Rattle.std.specs.Prelude.{◌≡◌, ◌↔◌, ◌+◌, ◌≤◌, ℕ, length, reverse, IsTrue, IfOk, OnOk, Err};
+ghost use Rattle.model_histories.specs.Extensions.{IsFinished};
 ghost use Rattle.model_histories.specs.Shapes.{most_entries};
-ghost use Rattle.model_histories.specs.States.{opening};
+ghost use Rattle.model_histories.specs.States.{State as GateState, opening};
+ghost use Rattle.model_races.specs.Judged.{IsJudged};
 ghost use Rattle.race_gate.specs.Cores.{IsCoreOf};
 ghost use Rattle.program_text.specs.Shapes.{shape_in};
 ghost use Rattle.model_runs.specs.Runs.{IsFinishedRun};
-ghost use Rattle.run_replay.specs.Slots.{OpensIn};
+ghost use Rattle.run_replay.specs.Casts.{IsPlayed, IsMisfit};
+ghost use Rattle.run_replay.specs.Slots.{OpensIn, PlaysIn};
 ghost use Rattle.run_replay.specs.Replays.{IsUnfinishedRun, IsStrange};
 ghost use Rattle.run_replay.specs.declared.replays.ReplayFault.{ReplayFault};
+ghost use Rattle.run_replay.specs.declared.turn.Misfit.{Misfit};
 
 use crate::cast::Cast;
-use crate::turn::Misfit;
+use crate::turn::{Misfit, confirm};
 use program_text::Program;
 use race_gate::{Answer, Core, Entry};
 use std::alloc::{AllocError, Allocator};
@@ -51,13 +55,46 @@ fn next_number<A: Allocator + Clone>(core: &Core<A>) -> u32
     core.entries() + 1
 }
 
-/// Plays the entries, the oldest first, on what has been opened.
+/// A core of the program's shape, before any entry.
+fn core_of<A: Allocator + Copy, B: Allocator>(
+    alloc: A,
+    program: &Program<B>,
+) -> Result<Core<A>, AllocError>
+    ensures { IfOk result (λ core. IsCoreOf core (opening (shape_in program.now) most_entries)) }
+{
+    let shape = program.shape(alloc)?;
+    Core::new(alloc, &shape, 1_000_000)
+}
+
+/// Has a core judge an entry, and plays it.
+fn played<A: Allocator + Copy, B: Allocator>(
+    core: &mut Core<A>,
+    cast: &mut Cast<A>,
+    program: &Program<B>,
+    entry: Entry,
+) -> Result<(), Misfit>
+    requires plays { (state : GateState) × PlaysIn program.now.functions (shape_in program.now) state
+        cast.old.slots.items cast.old.homes.items cast.old.places.items }
+    ensures ok { (state : GateState) → IsCoreOf core.old state → PlaysIn program.now.functions (shape_in program.now) state
+        cast.old.slots.items cast.old.homes.items cast.old.places.items →
+        OnOk result ((next : GateState) × IsCoreOf core.new next × PlaysIn program.now.functions (shape_in program.now) next
+        cast.new.slots.items cast.new.homes.items cast.new.places.items × IsPlayed entry state next) }
+    ensures strange { (state : GateState) → IsCoreOf core.old state → PlaysIn program.now.functions (shape_in program.now) state
+        cast.old.slots.items cast.old.homes.items cast.old.places.items →
+        result ≡ Err Misfit.Strange → IsMisfit program.now.functions (shape_in program.now) entry state }
+{
+    confirm(core, entry)?;
+    cast.play(program, entry)
+}
+
+/// Plays the entries, the oldest first, on what has been opened, before a fresh core.
 fn play_all<A: Allocator + Copy, B: Allocator>(
+    core: &mut Core<A>,
     cast: &mut Cast<A>,
     program: &Program<B>,
     entries: &[Entry],
 ) -> Result<(), ReplayFault>
-    requires core { IsCoreOf cast.old.core (opening (shape_in program.now) most_entries) }
+    requires core { IsCoreOf core.old (opening (shape_in program.now) most_entries) }
     requires opens { OpensIn program.now.functions (shape_in program.now)
         (opening (shape_in program.now) most_entries) cast.old.slots.items cast.old.homes.items cast.old.places.items }
     ensures finished { OnOk result (IsFinishedRun program.now.functions (shape_in program.now) (reverse entries.now)) }
@@ -67,14 +104,56 @@ fn play_all<A: Allocator + Copy, B: Allocator>(
         IsStrange program.now.functions (shape_in program.now) entries.now number }
 {
     for entry in entries {
-        let number = next_number(&cast.core);
+        let number = next_number(core);
+        match played(core, cast, program, *entry) {
+            Ok(()) => {}
+            Err(Misfit::Strange) => return Err(ReplayFault::Strange(number)),
+            Err(Misfit::Memory) => return Err(ReplayFault::Memory),
+        }
+    }
+    if core.is_finished() {
+        Ok(())
+    } else {
+        Err(ReplayFault::Unfinished)
+    }
+}
+
+/// Whether the last entry is the return of the root function.
+fn is_finished(entries: &[Entry]) -> bool
+    ensures { IsTrue result ↔ IsFinished (reverse entries.now) }
+{
+    if entries.is_empty() {
+        return false;
+    }
+    matches!(entries[entries.len() - 1].answer, Answer::Finished)
+}
+
+/// Plays entries that are judged, the oldest first, on what has been opened.
+fn follow_all<A: Allocator + Copy, B: Allocator>(
+    cast: &mut Cast<A>,
+    program: &Program<B>,
+    entries: &[Entry],
+) -> Result<(), ReplayFault>
+    requires judged { IsJudged (shape_in program.now) (reverse entries.now) }
+    requires within { length entries.now ≤ most_entries }
+    requires opens { OpensIn program.now.functions (shape_in program.now)
+        (opening (shape_in program.now) most_entries) cast.old.slots.items cast.old.homes.items cast.old.places.items }
+    ensures finished { OnOk result (IsFinishedRun program.now.functions (shape_in program.now) (reverse entries.now)) }
+    ensures unfinished { result ≡ Err ReplayFault.Unfinished →
+        IsUnfinishedRun program.now.functions (shape_in program.now) (reverse entries.now) }
+    ensures strange { (number : ℕ) → result ≡ Err (ReplayFault.Strange number) →
+        IsStrange program.now.functions (shape_in program.now) entries.now number }
+{
+    let mut number: u32 = 0;
+    for entry in entries {
+        number += 1;
         match cast.play(program, *entry) {
             Ok(()) => {}
             Err(Misfit::Strange) => return Err(ReplayFault::Strange(number)),
             Err(Misfit::Memory) => return Err(ReplayFault::Memory),
         }
     }
-    if cast.core.is_finished() {
+    if is_finished(entries) {
         Ok(())
     } else {
         Err(ReplayFault::Unfinished)
@@ -112,9 +191,35 @@ pub fn replay<A: Allocator + Copy, B: Allocator>(
         IsStrange program.now.functions (shape_in program.now) entries.now number }
 {
     let mut cast = Cast::open(alloc, program)?;
+    let mut core = core_of(alloc, program)?;
     let spawns = spawns_of(entries);
     if spawns >= MANY_SPAWNS {
-        cast.make_room(spawns.saturating_add(MORE_SPAWNS));
+        core.make_room(spawns.saturating_add(MORE_SPAWNS));
+        cast.make_room(spawns);
     }
-    play_all(&mut cast, program, entries)
+    play_all(&mut core, &mut cast, program, entries)
+}
+
+/// What [`replay`] says of these entries, where it is known that they are judged, as those of a gate are: no core judges them again.
+pub fn follow<A: Allocator + Copy, B: Allocator>(
+    alloc: A,
+    program: &Program<B>,
+    entries: &[Entry],
+) -> Result<(), ReplayFault>
+    requires { IsJudged (shape_in program.now) (reverse entries.now) }
+    ensures finished { OnOk result (IsFinishedRun program.now.functions (shape_in program.now) (reverse entries.now)) }
+    ensures unfinished { result ≡ Err ReplayFault.Unfinished →
+        IsUnfinishedRun program.now.functions (shape_in program.now) (reverse entries.now) }
+    ensures strange { (number : ℕ) → result ≡ Err (ReplayFault.Strange number) →
+        IsStrange program.now.functions (shape_in program.now) entries.now number }
+{
+    if entries.len() > 1_000_000 {
+        return replay(alloc, program, entries);
+    }
+    let mut cast = Cast::open(alloc, program)?;
+    let spawns = spawns_of(entries);
+    if spawns >= MANY_SPAWNS {
+        cast.make_room(spawns);
+    }
+    follow_all(&mut cast, program, entries)
 }

@@ -20,7 +20,7 @@ returns-then-marks-place-clause-marks c met receipt is are =
     elim c.then-marks-place.branch [
       | then-marks-place-via-then-marks-place w ↦ astray_twice c.args.marks.now c.args.entries.now met receipt (c.number-number.result - 1) _ (omega (arith, number, c.if-number-eq0.false)) (omega (arith, c.if-number-eq0.false, c.if-number-entries.false)) w.if-marks-place.true are
       | then-marks-place-via-else-marks-place+then-not-is_at w ↦ astray_other c.args.entries.now met receipt (c.number-number.result - 1) _ (omega (arith, number, c.if-number-eq0.false))
-        (not_told c.args.receipts.now.items c.args.at receipt w.receipt_of.result c.number-number.result _ is number w.receipt_of.ensures (λ here. let told = w.is_at.ensures.1 here in search rules))
+          (not_told c.args.receipts.now.items c.args.at receipt w.receipt_of.result c.number-number.result _ is number w.receipt_of.ensures (λ here. let told = w.is_at.ensures.1 here in search rules))
     ]
 
 pub returns-clause-marks : goal.returns-clause-marks

@@ -1,5 +1,4 @@
-use Rattle.std.proofs.Common.{rules, inl, inr, ◌++◌, ◌∷◌, [], take, get_or, Some, sym, subst, ◌∙◌}
-use Rattle.std.specs.List.{slice_get}
+use Rattle.std.proofs.Common.{rules, inl, inr, ◌++◌, ◌∷◌, [], take, sym, subst, ◌∙◌}
 use Rattle.std.proofs.lemmas.Option.{get_or_from_slice_get}
 use Rattle.short_receipts.specs.Lists.{Listed}
 use Rattle.model_histories.specs.declared.reply.Receipt.{Receipt}

@@ -1,4 +1,4 @@
-use Rattle.std.proofs.Common.{rules, ap, Err, ◌∙◌}
+use Rattle.std.proofs.Common.{rules, ap, Err}
 use Rattle.locked_replay.proofs.Reversed.{told_strange}
 use Rattle.run_replay.specs.declared.replays.ReplayFault.{ReplayFault}
 use Rattle.locked_replay.proofs.whole.parts_of.Goals as goal

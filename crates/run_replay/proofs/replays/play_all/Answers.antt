@@ -26,10 +26,10 @@ next_number-number-requires g c =
     let kept = c.loop-entry.invariant.plays in
     omega (arith, kept.1.counted, kept.2.2.within)
 
-pub play-requires : goal.play-requires
-play-requires g c =
+pub played-requires : goal.played-requires
+played-requires g c =
     let kept = c.loop-entry.invariant.plays in
-    record { plays = (kept.0, kept.1, kept.2) }
+    record { plays = (kept.0, kept.2) }
 
 pub returns-in-Err-Strange-clause-strange : goal.returns-in-Err-Strange-clause-strange
 returns-in-Err-Strange-clause-strange g c = λ number e.

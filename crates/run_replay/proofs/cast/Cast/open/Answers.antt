@@ -3,8 +3,8 @@ use Rattle.run_replay.specs.Slots.{AreHeld}
 use Rattle.run_replay.proofs.Slots.{held_alone}
 use Rattle.run_replay.proofs.cast.Cast.open.Goals as goal
 
-pub returns-clause-opens : goal.returns-clause-opens
-returns-clause-opens g c =
+pub returns : goal.returns
+returns g c =
     let frame = c.new-frame.result in (
       frame ∷ [],
       subst (λ slots. AreHeld slots c.in_ok-homes.homes.items (frame ∷ [])) (sym c.in_ok-slots.ensures)
