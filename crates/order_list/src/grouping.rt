@@ -3,23 +3,16 @@ ghost use Rattle.std.specs.Prelude.{◌+◌, ◌*◌, ◌≤◌, length, vec_len
 ghost use Rattle.order_list.specs.Order.{most_items};
 ghost use Rattle.order_list.specs.Places.{items_along, IsGrouped};
 
+use crate::MOST_ITEMS;
 use crate::groups::Groups;
 use crate::place::{Place, count_from, item_ahead, place_at, spread, tie};
 use std::alloc::{AllocError, Allocator};
 
-/// So many items at most are moved to a new group at once, where one behind which there is no room has more behind it in its group:
-/// half of them are moved then.
+/// Of so many items at most all are moved to a new group; of a larger group it is half.
 const MANY: u32 = 64;
 
-/// So many items a group has on average at least, where groups are made as items are.
-const LEAST: u32 = 16;
-
-/// For how many groups there is room where there are so many items.
-fn most_groups(items: u32) -> u32
-    ensures { result * 16 ≤ items + 16 }
-{
-    items / LEAST + 1
-}
+/// So many items that were made last are new.
+const NEW: u32 = 8;
 
 /// Items in groups, numbered as they were made.
 #[derive(Drop)]
@@ -77,17 +70,15 @@ impl<A: Allocator> Grouping<A> {
         self.reserved
     }
 
-    /// Makes room for all groups that so many items make.
-    fn reserve_groups(&mut self, items: u32) -> Result<(), AllocError>
-        requires { items ≤ most_items }
+    /// Makes room for the groups that `count` more items make: one each at most.
+    fn reserve_groups(&mut self, count: u32) -> Result<(), AllocError>
         ensures places { self.new.places ≡ self.old.places }
         ensures reserved { self.new.reserved ≡ self.old.reserved }
     {
-        let most = most_groups(items);
-        let groups = self.groups.len() as u32;
-        if most > groups && most - groups > self.groups.reserved() {
-            self.firsts.reserve((most - groups) as usize)?;
-            self.groups.reserve(most - groups)?;
+        let count = count.min(MOST_ITEMS - self.groups.len() as u32);
+        if self.groups.reserved() < count {
+            self.firsts.reserve(count as usize)?;
+            self.groups.reserve(count)?;
         }
         Ok(())
     }
@@ -99,8 +90,7 @@ impl<A: Allocator> Grouping<A> {
         ensures ok { OnOk result (self.new.reserved ≡ count) }
         ensures err { OnErr result (self.new.reserved ≡ self.old.reserved) }
     {
-        let items = self.places.len() as u32 + count;
-        self.reserve_groups(items)?;
+        self.reserve_groups(count)?;
         self.places.reserve(count as usize)?;
         self.reserved = count;
         Ok(())
@@ -112,9 +102,7 @@ impl<A: Allocator> Grouping<A> {
         ensures items { items_along self.new.places.items ≡ items_along self.old.places.items }
         ensures reserved { self.new.reserved ≡ self.old.reserved }
     {
-        let items = self.places.len() as u32 + count;
         // What is refused here is asked for again when it is needed.
-        let _ = self.reserve_groups(items);
         let _ = self.places.reserve(count as usize);
     }
 
@@ -133,36 +121,57 @@ impl<A: Allocator> Grouping<A> {
         u32::MAX - here.local
     }
 
-    /// The item that follows in the same group, or this one where it is the last of its group.
-    fn follower(&self, item: u32) -> u32
+    /// The first item of an item's group.
+    fn first_of(&self, item: u32) -> u32
         requires { item < length (items_along self.now.places.items) }
         ensures known { result < length (items_along self.now.places.items) }
         ensures group { slice_index (groups_of self.now.places.items) result ≡ slice_index (groups_of self.now.places.items) item }
     {
+        self.firsts[place_at(&self.places, item).group as usize]
+    }
+
+    /// Where the items of a group begin that are to be moved where there is no room behind this one. Behind a new item more are likely
+    /// to come, and it is not worth while to look at what stands before it: that is the item which follows in its group, or itself where
+    /// it is the last one or has no room before the end of the places. Behind an old item they are less likely, so that is the group's
+    /// first item, and a small group stays whole.
+    fn tail_begin(&self, item: u32) -> u32
+        requires { item < length (items_along self.now.places.items) }
+        ensures known { result < length (items_along self.now.places.items) }
+        ensures group { slice_index (groups_of self.now.places.items) result ≡ slice_index (groups_of self.now.places.items) item }
+    {
+        if item + NEW < self.places.len() as u32 {
+            return self.first_of(item);
+        }
         let here = place_at(&self.places, item);
-        if here.next != 0 && place_at(&self.places, here.next).group == here.group {
+        if here.next != 0
+            && here.local <= u32::MAX - 4
+            && place_at(&self.places, here.next).group == here.group
+        {
             return here.next;
         }
         item
     }
 
-    /// The items to be moved where there is no room behind this one: all behind it in its group, or half of them where they are
-    /// many, or it alone where it is the last. It gives the first of them, and their number.
+    /// The items to be moved where there is no room behind this one: from there on all of its group, or the second half of the group
+    /// where they are many. So what is walked over is halved where it is more than a few, and no group is walked over again and again.
+    /// It gives the first of them, and their number.
     fn tail(&self, item: u32) -> (u32, u32)
         requires { item < length (items_along self.now.places.items) }
         ensures group { slice_index (groups_of self.now.places.items) result.0 ≡ slice_index (groups_of self.now.places.items) item }
         ensures row { IsGroupRow self.now.places.items (items_along self.now.places.items) result.0 result.1 }
     {
-        let begin = self.follower(item);
+        let begin = self.tail_begin(item);
         let count = count_from(&self.places, begin);
         if count <= MANY {
             return (begin, count);
         }
-        let half = count / 2;
-        (item_ahead(&self.places, begin, half), count - half)
+        let first = self.first_of(item);
+        let whole = count_from(&self.places, first);
+        let half = whole / 2;
+        (item_ahead(&self.places, first, half), whole - half)
     }
 
-    /// Moves what follows an item in its group to a new group behind it.
+    /// Moves a part of an item's group to a new group behind it, but for a whole group.
     fn part(&mut self, item: u32)
         requires { item < length (items_along self.old.places.items) }
         ensures items { items_along self.new.places.items ≡ items_along self.old.places.items }

@@ -6,12 +6,13 @@ ghost use Rattle.order_list.specs.Places.{group_width, groups_of, locals_of, nex
 
 use std::alloc::Allocator;
 
-/// Where an item stands: its group, its place in the group, and the item that follows it among all.
+/// Where an item stands: its group, its place in the group, and the item that follows it among all, which is written by itself where
+/// another is tied in and so stands first.
 #[derive(Debug, Clone, Copy)]
 pub struct Place {
+    pub next: u32,
     pub local: u32,
     pub group: u32,
-    pub next: u32,
 }
 
 /// The place of an item.
@@ -32,8 +33,9 @@ fn put(places: &mut [Place], item: u32, group: u32, local: u32)
     ensures groups { groups_of places.new ≡ set (groups_of places.old) item group }
     ensures nexts { nexts_of places.new ≡ nexts_of places.old }
 {
-    let next = places[item as usize].next;
-    places[item as usize] = Place { local, group, next };
+    let place = &mut places[item as usize];
+    place.local = local;
+    place.group = group;
 }
 
 /// Ties in a new item directly behind `after`, in its group and `ahead` places behind it, and gives its number.
@@ -58,11 +60,7 @@ pub fn tie<A: Allocator>(places: &mut Vec<Place, A>, after: u32, ahead: u32) -> 
         group: here.group,
         next: here.next,
     });
-    places[after as usize] = Place {
-        local: here.local,
-        group: here.group,
-        next: item,
-    };
+    places[after as usize].next = item;
     item
 }
 
