@@ -1,6 +1,6 @@
 //! Where tasks wait for their joins.
 
-ghost use Rattle.std.specs.Prelude.{◌≡◌, ◌≢◌, ◌<◌, ◌↔◌, ℕ, get_or, length, IfOk, IfSome, IsOk, IsTrue, OnOk, is_some};
+ghost use Rattle.std.specs.Prelude.{◌≡◌, ◌≢◌, ◌<◌, ℕ, get_or, length, IfOk, IfSome, IsOk, OnOk, is_some};
 ghost use Rattle.slab.specs.Slab.{get};
 ghost use Rattle.steal_workers.specs.Places.{Parks, Wakes, place_at, task_in, OthersStay};
 ghost use Rattle.steal_workers.specs.Tasks.{IsOn};
