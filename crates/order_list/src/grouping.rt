@@ -84,6 +84,8 @@ impl<A: Allocator> Grouping<A> {
     }
 
     /// Makes room for `count` more items, which the caller knows to be within the limit.
+    #[cold]
+    #[inline(never)]
     pub fn reserve(&mut self, count: u32) -> Result<(), AllocError>
         requires { length (items_along self.old.places.items) + count ≤ most_items }
         ensures items { items_along self.new.places.items ≡ items_along self.old.places.items }

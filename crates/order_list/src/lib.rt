@@ -102,6 +102,7 @@ impl<A: Allocator> OrderList<A> {
 
     /// Makes room for `count` more items at least. A refusal changes nothing: `Full` where there would be more than
     /// `MOST_ITEMS` items, and else `Memory` where there is none.
+    #[inline(always)]
     pub fn reserve(&mut self, count: u32) -> Result<(), OrderFault>
         ensures items { self.new.items ≡ self.old.items }
         ensures ok { OnOk result (self.new.reserved ≡ max self.old.reserved count) }

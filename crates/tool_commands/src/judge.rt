@@ -157,8 +157,8 @@ fn answer_text<A: Allocator + Copy, W: Write>(
     finish(output, verdicts)
 }
 
-/// The greatest block but a page that teaches the C library's heap anything when it is let go.
-const GREAT: usize = 33_550_336;
+/// 32 MiB less two pages. With its head this is a page less than 32 MiB, and no greater block teaches the C library's heap anything.
+const GREAT: usize = 33_546_240;
 
 /// Takes and lets go a great block, of which no page is touched. From then on the C library's heap maps no list of its own that is
 /// smaller, but grows: a list at its end grows in place, and the pages of a text that is let go serve the lists behind it. Elsewhere,
