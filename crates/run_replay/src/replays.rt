@@ -163,9 +163,6 @@ fn follow_all<A: Allocator + Copy, B: Allocator>(
 /// From how many spawns on a replay asks for their room at once.
 const MANY_SPAWNS: usize = 1_000;
 
-/// For how many spawns more it asks, since the orders of strands take room for some at once.
-const MORE_SPAWNS: usize = 64;
-
 /// How many entries are spawns.
 fn spawns_of(entries: &[Entry]) -> usize {
     let mut spawns = 0usize;
@@ -194,7 +191,7 @@ pub fn replay<A: Allocator + Copy, B: Allocator>(
     let mut core = core_of(alloc, program)?;
     let spawns = spawns_of(entries);
     if spawns >= MANY_SPAWNS {
-        core.make_room(spawns.saturating_add(MORE_SPAWNS));
+        core.make_room(spawns.saturating_mul(3));
         cast.make_room(spawns);
     }
     play_all(&mut core, &mut cast, program, entries)
