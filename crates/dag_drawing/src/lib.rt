@@ -8,8 +8,6 @@
 
 mod drawing;
 pub mod laws;
-#[cfg(test)]
-mod tests;
 mod text;
 mod walk;
 

@@ -14,6 +14,8 @@ mod frames;
 mod gathered;
 #[cfg(test)]
 mod locks;
+#[cfg(test)]
+mod meeting;
 pub mod openings;
 #[cfg(test)]
 mod replays;
@@ -21,3 +23,5 @@ mod replays;
 mod reports;
 #[cfg(test)]
 mod steps;
+#[cfg(test)]
+mod workers;

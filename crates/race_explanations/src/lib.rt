@@ -10,8 +10,6 @@ mod advice;
 mod message;
 mod paths;
 mod scene;
-#[cfg(test)]
-mod tests;
 mod title;
 mod told;
 mod words;

@@ -12,8 +12,6 @@ mod onward;
 mod place_list;
 mod refusal;
 mod tally;
-#[cfg(test)]
-mod tests;
 
 pub use encounter::{Encounter, strand_at};
 pub use place_list::places;

@@ -10,8 +10,6 @@ mod fault;
 mod hint;
 mod look;
 mod source;
-#[cfg(test)]
-mod tests;
 
 pub use fault::fault_message;
 pub use look::{

@@ -8,8 +8,6 @@
 
 mod frames;
 mod lineage;
-#[cfg(test)]
-mod tests;
 
 pub use frames::chain;
 pub use lineage::{Lineage, OpenSpawn, Parting};

@@ -22,8 +22,3 @@ mod worker;
 pub use lot::{Lot, LotFault};
 pub use pool::run;
 pub use task::Task;
-
-#[cfg(test)]
-mod meeting;
-#[cfg(test)]
-mod tests;

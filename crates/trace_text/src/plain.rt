@@ -5,6 +5,7 @@
 ghost use Rattle.std.specs.Prelude.{◌≡◌, ◌++◌, ◌+◌, ◌≤◌, [], Some, length};
 ghost use Rattle.std.specs.Option.{IfSome};
 ghost use Rattle.model_accesses.specs.Limits.{most_cells};
+ghost use Rattle.text_words.specs.declared.value.Version.{Version as SpecVersion};
 ghost use Rattle.text_words.specs.Values.{Known};
 ghost use Rattle.trace_text.specs.declared.keyword.Keyword.TheVariants.{Access};
 ghost use Rattle.trace_text.specs.Lines.{Cell, ReducerName, Mark, a_strand, a_value, OfNumber, if_there, spelling, HasKeyword};
@@ -185,16 +186,26 @@ fn reducer<'b, A: Allocator + Copy>(
     }
 }
 
-/// The keyword of a request at the head of the bytes.
+/// The keyword at the head of the bytes of a request that spawns, calls, waits or returns.
 #[inline(always)]
-fn keyword(version: Version, bytes: &[u8]) -> Option<(Keyword, &[u8])>
-    ensures { IfSome result (λ r. HasKeyword version r.0 × (bytes.now ≡ spelling r.0 ++ r.1.now)) }
+fn control_keyword(bytes: &[u8]) -> Option<(Keyword, &[u8])>
+    ensures { (version : SpecVersion) → IfSome result (λ r. HasKeyword version r.0 × (bytes.now ≡ spelling r.0 ++ r.1.now)) }
 {
     match bytes {
         [b's', b'p', b'a', b'w', b'n', rest @ ..] => Some((Keyword::Spawn, rest)),
         [b's', b'y', b'n', b'c', rest @ ..] => Some((Keyword::Sync, rest)),
         [b'c', b'a', b'l', b'l', rest @ ..] => Some((Keyword::Call, rest)),
         [b'r', b'e', b't', b'u', b'r', b'n', rest @ ..] => Some((Keyword::Return, rest)),
+        _ => None,
+    }
+}
+
+/// The kind at the head of the bytes of a request that is an access, and its keyword.
+#[inline(always)]
+fn access_keyword(version: Version, bytes: &[u8]) -> Option<(Keyword, &[u8])>
+    ensures { IfSome result (λ r. HasKeyword version r.0 × (bytes.now ≡ spelling r.0 ++ r.1.now)) }
+{
+    match bytes {
         [b'r', b'e', b'a', b'd', rest @ ..] => Some((Keyword::Access(Kind::Read), rest)),
         [b'w', b'r', b'i', b't', b'e', rest @ ..] => Some((Keyword::Access(Kind::Write), rest)),
         [b'u', b'p', b'd', b'a', b't', b'e', rest @ ..] => {
@@ -206,6 +217,17 @@ fn keyword(version: Version, bytes: &[u8]) -> Option<(Keyword, &[u8])>
             Some((Keyword::Access(Kind::Bump), rest))
         }
         _ => None,
+    }
+}
+
+/// The keyword of a request at the head of the bytes.
+#[inline(always)]
+fn keyword(version: Version, bytes: &[u8]) -> Option<(Keyword, &[u8])>
+    ensures { IfSome result (λ r. HasKeyword version r.0 × (bytes.now ≡ spelling r.0 ++ r.1.now)) }
+{
+    match control_keyword(bytes) {
+        Some(found) => Some(found),
+        None => access_keyword(version, bytes),
     }
 }
 

@@ -1,4 +1,0 @@
-use Rattle.steal_workers.proofs.tests.two_at_once.Given as goal
-
-abbrev pub ghosts-meet : goal.ghosts-meet
-ghosts-meet g a = record { name = a.blank.name; parts = a.blank.parts }
