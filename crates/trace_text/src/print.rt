@@ -67,6 +67,34 @@ fn reducer_name(reducers: &[Reducer], number: u32) -> &str
     }
 }
 
+/// Appends a space and the name of a cell, and a value.
+fn put_cell_and_value<A: Allocator>(
+    out: &mut String<A>,
+    mems: &[Mem],
+    location: u32,
+    value: u64,
+) -> Result<(), AllocError>
+    requires numbered { IsTrue (is_numbered 0 mems.now) }
+    ensures { OnOk result (string_bytes out.new ≡ string_bytes out.old ++ 32 ∷ (name_of_cell mems.now location ++ 32 ∷ decimal value)) }
+{
+    put_cell(out, mems, location)?;
+    put_number(out, value)
+}
+
+/// Appends a space and the name of a reducer, and a value.
+fn put_reducer_and_value<A: Allocator>(
+    out: &mut String<A>,
+    reducers: &[Reducer],
+    reducer: u32,
+    value: u64,
+) -> Result<(), AllocError>
+    ensures { OnOk result
+        (string_bytes out.new ≡ string_bytes out.old ++ 32 ∷ (name_of_reducer reducers.now reducer ++ 32 ∷ decimal value)) }
+{
+    put_word(out, reducer_name(reducers, reducer))?;
+    put_number(out, value)
+}
+
 /// Appends what stands between the strand and the mark.
 fn put_operands<A: Allocator>(
     out: &mut String<A>,
@@ -79,26 +107,13 @@ fn put_operands<A: Allocator>(
         OnOk result (string_bytes out.new ≡ string_bytes out.old ++ operand_text (known_of version mems.now reducers.now) act) }
 {
     match act {
-        Act::Spawn => Ok(()),
-        Act::Sync => Ok(()),
-        Act::Call => Ok(()),
-        Act::Return => Ok(()),
+        Act::Spawn | Act::Sync | Act::Call | Act::Return => Ok(()),
         Act::Read(location) => put_cell(out, mems, location),
-        Act::Write(location, value) => {
-            put_cell(out, mems, location)?;
-            put_number(out, value)
+        Act::Write(location, value) | Act::Bump(location, value) => {
+            put_cell_and_value(out, mems, location, value)
         }
-        Act::Bump(location, value) => {
-            put_cell(out, mems, location)?;
-            put_number(out, value)
-        }
-        Act::Update(reducer, value) => {
-            put_word(out, reducer_name(reducers, reducer))?;
-            put_number(out, value)
-        }
-        Act::Put(reducer, value) => {
-            put_word(out, reducer_name(reducers, reducer))?;
-            put_number(out, value)
+        Act::Update(reducer, value) | Act::Put(reducer, value) => {
+            put_reducer_and_value(out, reducers, reducer, value)
         }
         Act::Get(reducer) => put_word(out, reducer_name(reducers, reducer)),
     }
