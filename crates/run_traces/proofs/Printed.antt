@@ -161,24 +161,6 @@ text_is program entries begun named headed first second whole a b c d e f =
     parts ∙ (regroup (codes "cilk") version mems reducers requests
     ∙ ap (λ (text : List ℕ). ((codes "cilk" ++ 32 ∷ (version ++ [])) ++ 10 ∷ []) ++ text) (sym (body_is program entries)))
 
--- ---- a request
-
-turned : (old word number operands mark : List ℕ) → (((old ++ word) ++ 32 ∷ number) ++ operands) ++ mark ≡ old ++ (word ++ 32 ∷ (number ++ (operands ++ mark)))
-turned old word number operands mark = simp append_assoc
-
--- what is appended in turn is the request's line
-pub request_steps : (known : Known) (request : Request) (strand : ℕ) (word old first second third new : List ℕ) → word ≡ spelling (asks request.act) → strand ≡ request.strand
-    → first ≡ old ++ word → second ≡ first ++ 32 ∷ decimal strand → third ≡ second ++ operand_text known request.act → new ≡ third ++ 32 ∷ 64 ∷ decimal request.line
-    → new ≡ old ++ entry_text known (line_of_request request)
-request_steps known request strand word old first second third new e f g h i j =
-    let mark : List ℕ = 32 ∷ 64 ∷ decimal request.line in
-    let parts : new ≡ (((old ++ spelling (asks request.act)) ++ 32 ∷ decimal request.strand) ++ operand_text known request.act) ++ mark =
-    j ∙ ap (λ (t : List ℕ). t ++ mark)
-    (i ∙ ap (λ (t : List ℕ). t ++ operand_text known request.act)
-    (h ∙ (ap (λ (n : ℕ). first ++ 32 ∷ decimal n) f ∙ ap (λ (t : List ℕ). t ++ 32 ∷ decimal request.strand) (g ∙ ap (λ (w : List ℕ). old ++ w) e)))) in
-    parts ∙ (turned old (spelling (asks request.act)) (decimal request.strand) (operand_text known request.act) mark
-    ∙ ap (λ (t : List ℕ). old ++ t) (sym (request_text known (record { at = 0; request = request; marked = true }))))
-
 -- ---- the entries of a slice
 
 abbrev pub no_entry : Entry

@@ -25,7 +25,8 @@ pub use cell::{cell_name, memory_at};
 pub use laws::{meaning_excludes_fault, meaning_or_fault, one_fault, one_meaning, plain_meaning};
 pub use place::{CELLS, end, length, monoid, reducer};
 pub use print::{
-    put_cell, put_declarations, put_feeds, put_memory, put_number, put_reducer, put_word,
+    put_cell, put_declarations, put_feeds, put_memory, put_number, put_reducer, put_request,
+    put_word,
 };
 pub use text_words::{
     Act, Cause, Items, Mem, Mems, Monoid, Monoids, NAME_LEN, Name, Named, Names, Reducer, Reducers,

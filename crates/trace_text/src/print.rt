@@ -131,8 +131,8 @@ fn put_mark<A: Allocator>(out: &mut String<A>, line: &TraceLine) -> Result<(), A
     Ok(())
 }
 
-/// Appends a request.
-fn put_request<A: Allocator>(
+/// Appends a request. The memories and reducers are those of a trace or a program.
+pub fn put_request<A: Allocator>(
     out: &mut String<A>,
     mems: &[Mem],
     reducers: &[Reducer],
