@@ -1,8 +1,8 @@
-//! What an act that is an access asks for.
+//! What is asked of a cell or a reducer.
 
 use crate::kind::Kind;
 
-/// What an act asks for that is an access.
+/// What an act that is an access asks of a cell or a reducer.
 #[derive(Clone, Copy, Debug, PartialEq, Eq)]
 pub struct Asked {
     /// What is done there.

@@ -1,8 +1,8 @@
-//! What strands ask for, and which accesses conflict.
+//! What strands ask, and which accesses conflict.
 //!
-//! The types are those of requests: the [`Act`] of a strand, the [`Request`] that it makes, the [`Kind`] of an access with the cell or
-//! reducer that is [`Asked`] for, the [`Rule`] that two kinds come under, and the [`Witness`] that a refusal names. `specs/` has, in this
-//! order:
+//! The types are those of requests: the [`Act`] of a strand, the [`Request`] that it makes, the [`Kind`] of an access and the
+//! cell or reducer that it is of ([`Asked`]), the [`Rule`] that two kinds come under, and the [`Witness`] that a refusal names. `specs/`
+//! has, in this order:
 //!
 //! - `Table`: the kinds that conflict and their rules, as a list and by cases, and the words of both. Bumps do not conflict with bumps.
 //! - `Asking`: which access an act is.

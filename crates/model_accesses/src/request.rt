@@ -1,11 +1,11 @@
-//! What strands ask for.
+//! What strands ask.
 
-/// What a strand asks for. A location is the number of a cell, and a reducer is given by its number.
+/// What a strand asks. A location is the number of a cell, and a reducer is given by its number.
 #[derive(Clone, Copy, Debug, PartialEq, Eq)]
 pub enum Act {
     /// Begins a child.
     Spawn,
-    /// Waits for the children.
+    /// Waits until the children have returned.
     Sync,
     /// Calls a function.
     Call,
@@ -25,13 +25,13 @@ pub enum Act {
     Get(u32),
 }
 
-/// An act of a strand, and the line of the program text that it stands for.
+/// An act of a strand, and the line of the program text on which it stands.
 #[derive(Clone, Copy, Debug, PartialEq, Eq)]
 pub struct Request {
     /// The strand's number.
     pub strand: u32,
     /// The line of the program, from 1 on.
     pub line: u32,
-    /// What it asks for.
+    /// What the strand asks.
     pub act: Act,
 }

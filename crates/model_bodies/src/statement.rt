@@ -1,4 +1,4 @@
-//! Statements of functions, one for each line of a body.
+//! Statements of functions, one on each line of a body.
 
 ghost use Rattle.std.specs.Prelude.{◌<◌};
 
@@ -22,7 +22,7 @@ pub enum Operand {
     Held(Register),
 }
 
-/// What a `let` assigns. Sums, differences and products are modulo 2^64; `Less` is 1 or 0.
+/// What is assigned to a register. Sums, differences and products are modulo 2^64; `Less` is 1 or 0.
 #[derive(Clone, Copy, Debug, PartialEq, Eq)]
 pub enum Expression {
     /// An operand alone.
@@ -57,7 +57,7 @@ pub enum Location {
 /// where the part behind them is left out.
 #[derive(Clone, Copy, Debug, PartialEq, Eq)]
 pub enum Statement {
-    /// `let r = ..`: the register takes the value.
+    /// The register takes the value of the expression.
     Let {
         /// The line in the text.
         line: u32,
@@ -143,7 +143,7 @@ pub enum Statement {
         /// The line in the text.
         line: u32,
     },
-    /// `pfor r o f`: a spawn of the function for each number below the operand, and then a sync. Version 2 alone has it.
+    /// `pfor r o f`: a spawn of the function with each number below the operand, and then a sync. Version 2 alone has it.
     ParallelFor {
         /// The line in the text.
         line: u32,
@@ -154,7 +154,7 @@ pub enum Statement {
         /// The function's number.
         function: u32,
     },
-    /// `if r`.
+    /// The begin of a part that is left out where the register is 0.
     If {
         /// The line in the text.
         line: u32,
@@ -170,7 +170,7 @@ pub enum Statement {
         /// Where what follows the second part begins.
         after: u32,
     },
-    /// The `end` of an `if`.
+    /// The `end` of such a part.
     End {
         /// The line in the text.
         line: u32,

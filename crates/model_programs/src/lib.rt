@@ -1,6 +1,6 @@
 //! What a program does: what its functions may ask and be answered, and the serial elision.
 //!
-//! `specs/Dialogue` is the semantics of programs: a relation, with a case for each statement, between what is left of a function and the
+//! `specs/Dialogue` is the semantics of programs: a relation, with a case to each statement, between what is left of a function and the
 //! requests that it makes with their answers. It does not say who runs the function or when. `specs/Evaluation` is the serial elision, in
 //! which a spawn is a call and a sync changes nothing (Feng and Leiserson 1997). The one type is the [`Target`] of a spawn. In this order:
 //!

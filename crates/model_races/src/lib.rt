@@ -14,7 +14,7 @@
 //! - `ViewReads`: the right answer to a put or a get, in the dag of each finished extension.
 //! - `ReducerVerdicts`: the value of a get, and that puts and gets are judged.
 //! - `Judged`: the three together.
-//! - `Laws`: that verdicts given while the strands ran are those of the finished dag, which `race_gate` proves.
+//! - `Laws`: that verdicts given as the strands ran are those of the finished dag, which `race_gate` proves.
 #![tactic(auto)]
 
 mod access;

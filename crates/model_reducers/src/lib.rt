@@ -3,7 +3,7 @@
 //! Updates of a reducer may be done in parallel and still give one value, that of a serial run, where they are combined by a monoid (Lee
 //! and Schardl 2015). The types are the [`Monoid`] of a reducer and the [`View`] that a strand has gathered. `specs/` says what a get
 //! gives: the last put before it, combined in serial order with the updates since then that the put's strand reaches and that reach the
-//! get's. How a value keeps views while strands run is no part of it. In this order:
+//! get's. How a value keeps views as strands run is no part of it. In this order:
 //!
 //! - `Items`: a history as one reducer sees it: events of control, its updates and puts, and other accesses.
 //! - `Steps`: the same of all reducers, and what one of them sees of it.

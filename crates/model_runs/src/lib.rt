@@ -7,6 +7,6 @@
 //! - `Runs`: what a run is.
 //! - `Serial`: the entries of a history in serial order, and what they did.
 //! - `Coordinates`: what was done at an address, which is the same place in every schedule.
-//! - `Laws`: that a finished run in which nothing was refused is the serial elision, which `law_elision` proves, and that it speaks for every
-//!   run of the program, which `law_schedules` proves.
+//! - `Laws`: that a finished run in which nothing was refused is the serial elision, which `law_elision` proves, and that what it shows
+//!   holds of every run of the program, which `law_schedules` proves.
 #![tactic(auto)]
