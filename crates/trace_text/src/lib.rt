@@ -16,6 +16,7 @@ mod keyword;
 mod laws;
 mod line;
 pub mod number;
+mod pieces;
 mod place;
 mod plain;
 mod print;
@@ -23,6 +24,7 @@ mod trace;
 
 pub use cell::{cell_name, memory_at};
 pub use laws::{meaning_excludes_fault, meaning_or_fault, one_fault, one_meaning, plain_meaning};
+pub use pieces::BegunTrace;
 pub use place::{CELLS, end, length, monoid, reducer};
 pub use print::{
     put_cell, put_declarations, put_feeds, put_memory, put_number, put_reducer, put_word,
