@@ -25,10 +25,16 @@ fn whole_lines(text: &[u8]) -> usize
 
 /// What was read of a trace so far: whole lines, a request among them. The names of the trace stand in the piece that it began with,
 /// since behind a request nothing is declared; the other pieces can be let go.
-#[derive(Drop)]
 pub struct BegunTrace<'a, A: Allocator> {
     draft: Draft<'a, A>,
     at: u32,
+}
+
+/// Written out, so that what lets it go calls one function.
+impl<'a, A: Allocator> Drop for BegunTrace<'a, A> {
+    fn drop(self) {
+        let BegunTrace { draft: _, at: _ } = self;
+    }
 }
 
 impl<'a, A: Allocator + Copy> BegunTrace<'a, A> {
