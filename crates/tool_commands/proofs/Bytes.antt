@@ -137,8 +137,8 @@ module _ (first between last : Option (List ℕ)) (done : ℕ) (old now : List �
     taken.pieces ++ stops.0,
     consumes-more first between last taken.pieces stops.0 taken.taken stops.1,
     (let whole : now ++ stops.0 ≡ old ++ (taken.pieces ++ stops.0) =
-          ap (λ (bytes : List ℕ). bytes ++ stops.0) taken.added ∙ append_assoc old taken.pieces stops.0 in
-      subst (λ (bytes : List ℕ). most_bytes < done + length bytes) whole stops.2),
+        ap (λ (bytes : List ℕ). bytes ++ stops.0) taken.added ∙ append_assoc old taken.pieces stops.0 in
+        subst (λ (bytes : List ℕ). most_bytes < done + length bytes) whole stops.2),
   )
   pieces_stop fault taken stops = absurd stops
 

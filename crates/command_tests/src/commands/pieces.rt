@@ -93,13 +93,7 @@ fn a_fault_behind_the_first_piece(rt: HostRuntime) -> Result<(), Fail> {
     let text = long.as_bytes();
     for most in [1usize, 131_072] {
         let outcome = judged(alloc, Giving { text, most }, Vec::new(alloc), MOST);
-        check_fault(
-            &rt,
-            alloc,
-            &outcome,
-            2,
-            "trace line 20003: BadNesting",
-        )?;
+        check_fault(&rt, alloc, &outcome, 2, "trace line 20003: BadNesting")?;
     }
     Ok(())
 }

@@ -47,8 +47,8 @@ loop-text-preserved g c =
     let left = ap length c.remove_front.ensures in
     let dropped = length-drop c.in-Ok.taken new in
     let on : (bytes : List ℕ) → length bytes ≡ c.args.done → IsBegun bytes c.args.begun → IsReadOn (bytes ++ c.args.text.items) before next c.loop-text.count c.loop-text.begun new =
-        λ bytes counted is.
-        on_read (bytes ++ c.args.text.items) before now next c.loop-text.count c.loop-text.size c.loop-text.begun c.loop-text.text.items new _ pieces (inv.read bytes counted is) in
+    λ bytes counted is.
+    on_read (bytes ++ c.args.text.items) before now next c.loop-text.count c.loop-text.size c.loop-text.begun c.loop-text.text.items new _ pieces (inv.read bytes counted is) in
     let first = on c.requires.begun.0 c.requires.begun.1 c.requires.begun.2 in
     let within = (rw slice at (c.in-Ok.ensures first.bytes first.begun_with)).0 in
     record {
@@ -73,8 +73,8 @@ returns-in-Err-clause-fault g c bytes counted is =
     let new : List ℕ = c.read_until.new.text.items in
     let slice : c.as_slice.result.now ≡ new = c.as_slice.ensures.value in
     let on : IsReadOn (bytes ++ c.args.text.items) before next c.loop-text.count c.loop-text.begun new =
-        on_read (bytes ++ c.args.text.items) before now next c.loop-text.count c.loop-text.size c.loop-text.begun c.loop-text.text.items new _
-        c.in_ok-read_until.ensures.taken (c.loop-text.invariant.read bytes counted is) in
+    on_read (bytes ++ c.args.text.items) before now next c.loop-text.count c.loop-text.size c.loop-text.begun c.loop-text.text.items new _
+    c.in_ok-read_until.ensures.taken (c.loop-text.invariant.read bytes counted is) in
     on_away (bytes ++ c.args.text.items) before next c.loop-text.count c.loop-text.begun new on
     (g.R.Read.remaining (held c.read_away.new.input)) c.in-Err.fault c.read_away.result
     (rw slice at (c.in-Err.ensures on.bytes on.begun_with))
@@ -101,8 +101,8 @@ returns-in-Ok-end-clause-ok g c bytes counted is =
     let slice : c.as_slice-2.result.now ≡ new = c.as_slice-2.ensures.value in
     let pieces = c.in_ok-read_until.ensures.taken in
     let on : IsReadOn (bytes ++ c.args.text.items) before next c.loop-text.count c.loop-text.begun new =
-        on_read (bytes ++ c.args.text.items) before now next c.loop-text.count c.loop-text.size c.loop-text.begun c.loop-text.text.items new _
-        pieces (c.loop-text.invariant.read bytes counted is) in
+    on_read (bytes ++ c.args.text.items) before now next c.loop-text.count c.loop-text.size c.loop-text.begun c.loop-text.text.items new _
+    pieces (c.loop-text.invariant.read bytes counted is) in
     on_end (bytes ++ c.args.text.items) before next c.loop-text.count c.loop-text.begun new on _ pieces.short (pieces.end (search rules))
     (rw slice at (c.in-Ok-end.ensures on.bytes on.begun_with))
 
@@ -121,8 +121,8 @@ returns-clause-fault g c bytes counted is =
     let slice : c.as_slice-2.result.now ≡ new = c.as_slice-2.ensures.value in
     let pieces = c.in_ok-read_until.ensures.taken in
     let on : IsReadOn (bytes ++ c.args.text.items) before next c.loop-text.count c.loop-text.begun new =
-        on_read (bytes ++ c.args.text.items) before now next c.loop-text.count c.loop-text.size c.loop-text.begun c.loop-text.text.items new _
-        pieces (c.loop-text.invariant.read bytes counted is) in
+    on_read (bytes ++ c.args.text.items) before now next c.loop-text.count c.loop-text.size c.loop-text.begun c.loop-text.text.items new _
+    pieces (c.loop-text.invariant.read bytes counted is) in
     rw c.from.ensures
     (on_fault (bytes ++ c.args.text.items) before next c.loop-text.count c.loop-text.begun new on _ pieces.short (pieces.end (search rules))
     (rw slice at (c.in-Err-end.ensures on.bytes on.begun_with)))
