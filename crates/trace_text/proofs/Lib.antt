@@ -19,3 +19,4 @@ pub mod PlainLines
 pub mod Printed
 pub mod Readings
 pub mod Totality
+pub mod WholeLines

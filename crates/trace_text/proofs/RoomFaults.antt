@@ -1,5 +1,5 @@
 -- A line that says something, and has no room or no right place.
-use Rattle.std.proofs.Common.{◌≡◌, ◌≢◌, ℕ, ◌<◌, ◌∷◌, [], List, length, true, false, arith, refl, sym, ◌∙◌, subst, ap, ◌+◌, inl, inr}
+use Rattle.std.proofs.Common.{◌≡◌, ◌≢◌, ℕ, ◌<◌, ◌≤◌, ◌∷◌, [], List, length, true, false, arith, refl, sym, ◌∙◌, subst, ap, ◌+◌, inl, inr}
 use Rattle.std.specs.Prelude.{◌⊎◌, Result, Ok, Err, MatchResult, map}
 use Rattle.text_words.specs.declared.fault.Cause.{Cause}
 use Rattle.text_words.specs.declared.fault.Cause.TheVariants.{NotText, BadNesting, NoMain, TooMany}
@@ -175,10 +175,11 @@ text_means version text first rest contents e h m =
     subst (λ (t : List (List ℕ)). LinesOfTrace t contents) (sym e) (lines_of_trace version first (lines rest) contents h m)
 
 -- what the lines behind the header come to, the text comes to
-pub whole_read : {D : Type 0} (view : D → Contents) (version : Version) (text first rest : List ℕ) (r : Result D TextFault) → lines text ≡ first ∷ lines rest → IsHeader first version
-    → MatchResult r (λ d. LinesMean 2 (nothing version) (lines rest) (view d)) (IsBodyFault version rest) → MatchResult r (λ d. TextMeans text (view d)) (IsTextFault text)
-whole_read view version text first rest (Ok d) e h m = text_means version text first rest (view d) e h m
-whole_read view version text first rest (Err fault) e h f = body_fault version text first rest fault e h f
+pub whole_read : {D : Type 0} (view : D → Contents) (number : D → ℕ) (version : Version) (text first rest : List ℕ) (r : Result D TextFault) → lines text ≡ first ∷ lines rest → IsHeader first version
+    → MatchResult r (λ d. LinesMean 2 (nothing version) (lines rest) (view d) × (number d ≡ 1 + length (lines rest)) × (number d ≤ 4000000)) (IsBodyFault version rest)
+    → MatchResult r (λ d. TextMeans text (view d) × (number d ≡ length (lines text)) × (number d ≤ 4000000)) (IsTextFault text)
+whole_read view number version text first rest (Ok d) e h m = (text_means version text first rest (view d) e h m.0, omega (arith, m.1, ap length e), m.2)
+whole_read view number version text first rest (Err fault) e h f = body_fault version text first rest fault e h f
 
 -- what is read, in the parts of a trace
 pub assembled : (text : List ℕ) (known : Known) (requests : List TraceLine) (version : Version) (ms mems : List Mem) (rs reducers : List Reducer)

@@ -53,6 +53,11 @@ IsStopped at before text fault = (line : List ℕ) × (rest : List ℕ) × (line
 abbrev pub IsHeaderFault : List ℕ → TextFault → Type 0
 IsHeaderFault line fault = IsFaultOf (IsLowest (HeaderFault line)) 1 fault
 
+-- The fault is the first of the lines from the number `at` on; or memory ran out.
+abbrev pub IsLinesFault : ℕ → Contents → List (List ℕ) → TextFault → Type 0
+IsLinesFault at before lines (At line why) = LinesFault at before lines line why
+IsLinesFault at before lines Memory = Unit {0}
+
 -- The fault is the first of the lines behind the header.
 abbrev pub IsBodyFault : Version → List ℕ → TextFault → Type 0
 IsBodyFault version text (At line why) = LinesFault 2 (nothing version) (lines text) line why

@@ -10,3 +10,4 @@ pub mod Laws
 pub mod Shapes
 pub mod Printing
 pub mod Plain
+pub mod Pieces

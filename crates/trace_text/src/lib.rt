@@ -6,9 +6,11 @@
 //! meets it: an answer `Ok` is what the text means, and a fault `At` is the first faulty line with the lowest cause in it. `Memory` is
 //! the answer to a refused growth; no clause says when it comes. The laws [`one_meaning`], [`one_fault`], [`meaning_or_fault`] and
 //! [`meaning_excludes_fault`] say that each list of bytes has one meaning or one fault, and not both. [`Trace::print`] gives the plain
-//! text, which means the trace and, by these laws, no other; [`plain_meaning`] says the same over the definitions alone. A [`Trace`]
-//! keeps that some text means it, that its cells are numbered without a gap, and that its requests name cells and reducers that there
-//! are. [`Trace::shape`] and [`cell_name`] are exact, and [`memory_at`] finds the memory of a cell by halving.
+//! text, which means the trace and, by these laws, no other; [`plain_meaning`] says the same over the definitions alone.
+//! [`BegunTrace`] reads a text in pieces: at the end the trace is what all the pieces mean together, and a fault is the first of all,
+//! whatever stands behind it. A [`Trace`] keeps that some text means it, that its cells are numbered without a gap, and that its requests
+//! name cells and reducers that there are. [`Trace::shape`] and [`cell_name`] are exact, and [`memory_at`] finds the memory of a cell by
+//! halving.
 #![tactic(auto)]
 
 mod cell;
@@ -16,6 +18,7 @@ mod keyword;
 mod laws;
 mod line;
 pub mod number;
+mod pieces;
 mod place;
 mod plain;
 mod print;
@@ -23,6 +26,7 @@ mod trace;
 
 pub use cell::{cell_name, memory_at};
 pub use laws::{meaning_excludes_fault, meaning_or_fault, one_fault, one_meaning, plain_meaning};
+pub use pieces::BegunTrace;
 pub use place::{CELLS, end, length, monoid, reducer};
 pub use print::{
     put_cell, put_declarations, put_feeds, put_memory, put_number, put_reducer, put_request,

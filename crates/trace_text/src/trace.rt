@@ -1,18 +1,18 @@
 //! A trace from its text.
 
-ghost use Rattle.std.specs.Prelude.{◌≡◌, ◌<◌, ◌≤◌, ℕ, List, length, IsTrue, IfOk, map, MatchOption, MatchResult};
+ghost use Rattle.std.specs.Prelude.{◌≡◌, ◌≢◌, ◌<◌, ◌≤◌, ◌+◌, ℕ, List, [], length, IsTrue, IfOk, map, MatchOption, MatchResult};
 ghost use Rattle.std.specs.List.{All};
 ghost use Rattle.model_accesses.specs.Limits.{most_cells};
 ghost use Rattle.model_reducers.specs.Limits.{most_reducers};
-ghost use Rattle.text_words.specs.Limits.{most_requests};
+ghost use Rattle.text_words.specs.Limits.{most_requests, most_lines};
 ghost use Rattle.trace_text.specs.Shapes.{is_numbered, IsWithin};
-ghost use Rattle.text_words.specs.Text.{lines};
+ghost use Rattle.text_words.specs.Text.{lines, words, IsTextLine};
 ghost use Rattle.text_words.specs.Declarations.{cells_of};
-ghost use Rattle.trace_text.specs.Grammar.{Item as SpecItem, Declared, Reduces, Asked, LineMeans};
+ghost use Rattle.trace_text.specs.Grammar.{Item as SpecItem, Declared, Reduces, Asked, LineMeans, ItemMeans};
 ghost use Rattle.trace_text.specs.Grammar.{LinesMean, TextMeans, extended, nothing, IsHeader};
 ghost use Rattle.trace_text.specs.Items.{item_of};
 ghost use Rattle.trace_text.specs.Drafts.{so_far, Extends, IsRoomFault, IsLineFault, IsHeaderFault};
-ghost use Rattle.trace_text.specs.Drafts.{IsBodyFault, IsTextFault, IsTaken, IsStopped, SaysSo};
+ghost use Rattle.trace_text.specs.Drafts.{IsLinesFault, IsBodyFault, IsTextFault, IsTaken, IsStopped, SaysSo};
 
 use crate::line::{Item, read_line, request_on};
 use crate::place::CELLS;
@@ -33,9 +33,9 @@ pub const REDUCERS: usize = 256;
 
 /// What was read so far.
 #[derive(Drop)]
-struct Draft<'a, A: Allocator> {
-    names: Names<'a, A>,
-    lines: TraceLines<A>,
+pub(crate) struct Draft<'a, A: Allocator> {
+    pub(crate) names: Names<'a, A>,
+    pub(crate) lines: TraceLines<A>,
 }
 
 fn fault(line: u32, why: Cause) -> TextFault
@@ -114,6 +114,42 @@ impl<'a, A: Allocator + Copy> Draft<'a, A> {
         }
     }
 
+    /// Adds what the line with the number `at` says, behind a request.
+    fn add_behind(&mut self, at: u32, item: Item<'_>) -> Result<(), TextFault>
+        requires some { self.old.lines ≢ [] }
+        ensures { MatchResult result
+            (λ _. Extends at (so_far self.old.names self.old.lines) (item_of item.entry) (so_far self.new.names self.new.lines))
+            (IsRoomFault at (so_far self.old.names self.old.lines) (item_of item.entry)) }
+    {
+        match item {
+            Item::Blank => {
+                if at > LINES {
+                    Err(fault(at, Cause::TooMany))
+                } else {
+                    Ok(())
+                }
+            }
+            Item::Declared { name: _, length: _ } => Err(fault(at, Cause::BadNesting)),
+            Item::Reduces { name: _, monoid: _ } => Err(fault(at, Cause::BadNesting)),
+            Item::Asked(line) => self.ask(at, line),
+        }
+    }
+
+    /// What the line with the number `at` says, in its place or not.
+    fn said<'b>(&self, at: u32, line: &'b [u8]) -> Result<Item<'b>, TextFault>
+        ensures { MatchResult result
+            (λ item. IsTextLine line.now × ItemMeans at self.now.names (words line.now) (item_of item))
+            (IsLineFault at (so_far self.now.names self.now.lines) line.now) }
+    {
+        let Some(text) = as_text(line) else {
+            return Err(fault(at, Cause::NotText));
+        };
+        match read_line(at, &self.names, &mut Words::of_line(text)) {
+            Ok(item) => Ok(item),
+            Err(why) => Err(fault(at, why)),
+        }
+    }
+
     /// Reads the line with the number `at`.
     fn take(&mut self, at: u32, line: &'a [u8]) -> Result<(), TextFault>
         ensures { MatchResult result
@@ -121,19 +157,45 @@ impl<'a, A: Allocator + Copy> Draft<'a, A> {
             × (so_far self.new.names self.new.lines ≡ extended at (so_far self.old.names self.old.lines) item))
             (IsLineFault at (so_far self.old.names self.old.lines) line.now) }
     {
-        let Some(text) = as_text(line) else {
-            return Err(fault(at, Cause::NotText));
-        };
-        match read_line(at, &self.names, &mut Words::of_line(text)) {
+        match self.said(at, line) {
             Ok(item) => self.add(at, item),
-            Err(why) => Err(fault(at, why)),
+            Err(fault) => Err(fault),
+        }
+    }
+
+    /// Reads the line with the number `at`, behind a request.
+    fn take_behind(&mut self, at: u32, line: &[u8]) -> Result<(), TextFault>
+        requires some { self.old.lines ≢ [] }
+        ensures { MatchResult result
+            (λ _. (item : SpecItem) × LineMeans at (so_far self.old.names self.old.lines) line.now item
+            × (so_far self.new.names self.new.lines ≡ extended at (so_far self.old.names self.old.lines) item))
+            (IsLineFault at (so_far self.old.names self.old.lines) line.now) }
+    {
+        match self.said(at, line) {
+            Ok(item) => self.add_behind(at, item),
+            Err(fault) => Err(fault),
         }
     }
 
     /// Reads the first line of the text, which has the number `at`, and gives what stands behind it, or the fault of the line.
-    #[inline(always)]
     fn take_first(&mut self, at: u32, text: &'a [u8]) -> (&'a [u8], Option<TextFault>)
         requires { 0 < length text.now }
+        ensures { MatchOption result.1
+            (IsTaken at (so_far self.old.names self.old.lines) text.now result.0.now (so_far self.new.names self.new.lines))
+            (IsStopped at (so_far self.old.names self.old.lines) text.now) }
+    {
+        let (line, rest) = split_line(text);
+        match self.take(at, without_return(line)) {
+            Ok(()) => (rest, None),
+            Err(fault) => (rest, Some(fault)),
+        }
+    }
+
+    /// The same behind a request, where a name that the line declares need not last.
+    #[inline(always)]
+    fn take_next<'b>(&mut self, at: u32, text: &'b [u8]) -> (&'b [u8], Option<TextFault>)
+        requires text { 0 < length text.now }
+        requires some { self.old.lines ≢ [] }
         ensures { MatchOption result.1
             (IsTaken at (so_far self.old.names self.old.lines) text.now result.0.now (so_far self.new.names self.new.lines))
             (IsStopped at (so_far self.old.names self.old.lines) text.now) }
@@ -146,10 +208,32 @@ impl<'a, A: Allocator + Copy> Draft<'a, A> {
             };
         }
         let (line, rest) = split_line(text);
-        match self.take(at, without_return(line)) {
+        match self.take_behind(at, without_return(line)) {
             Ok(()) => (rest, None),
             Err(fault) => (rest, Some(fault)),
         }
+    }
+
+    /// Reads the lines of a text that stands behind a request and the line with the number `at`. It gives the number of the last line.
+    pub(crate) fn take_lines(&mut self, at: u32, text: &[u8]) -> Result<u32, TextFault>
+        requires few { at ≤ most_lines }
+        requires some { self.old.lines ≢ [] }
+        ensures { MatchResult result
+            (λ last. LinesMean (at + 1) (so_far self.old.names self.old.lines) (lines text.now) (so_far self.new.names self.new.lines)
+            × (last ≡ at + length (lines text.now)) × (last ≤ most_lines) × (self.new.lines ≢ []))
+            (IsLinesFault (at + 1) (so_far self.old.names self.old.lines) (lines text.now)) }
+    {
+        let mut rest = text;
+        let mut last = at;
+        while !rest.is_empty() {
+            last += 1;
+            let (after, fault) = self.take_next(last, rest);
+            if let Some(fault) = fault {
+                return Err(fault);
+            }
+            rest = after;
+        }
+        Ok(last)
     }
 }
 
@@ -168,14 +252,15 @@ pub fn header(line: &[u8]) -> Result<Version, TextFault>
     }
 }
 
-/// Reads the lines behind the first.
+/// Reads the lines behind the first. It gives the number of the last line too.
 fn body<'a, A: Allocator + Copy>(
     alloc: A,
     version: Version,
     text: &'a [u8],
-) -> Result<Draft<'a, A>, TextFault>
+) -> Result<(Draft<'a, A>, u32), TextFault>
     ensures { MatchResult result
-        (λ draft. LinesMean 2 (nothing version) (lines text.now) (so_far draft.names draft.lines))
+        (λ r. LinesMean 2 (nothing version) (lines text.now) (so_far r.0.names r.0.lines)
+        × (r.1 ≡ 1 + length (lines text.now)) × (r.1 ≤ most_lines))
         (IsBodyFault version text.now) }
 {
     let mut draft = Draft {
@@ -185,6 +270,12 @@ fn body<'a, A: Allocator + Copy>(
     let mut rest = text;
     let mut at = 1;
     while !rest.is_empty() {
+        if !draft.lines.is_empty() {
+            return match draft.take_lines(at, rest) {
+                Ok(last) => Ok((draft, last)),
+                Err(fault) => Err(fault),
+            };
+        }
         at += 1;
         let (after, fault) = draft.take_first(at, rest);
         if let Some(fault) = fault {
@@ -192,12 +283,17 @@ fn body<'a, A: Allocator + Copy>(
         }
         rest = after;
     }
-    Ok(draft)
+    Ok((draft, at))
 }
 
-/// Reads a text.
-fn whole<'a, A: Allocator + Copy>(alloc: A, bytes: &'a [u8]) -> Result<Draft<'a, A>, TextFault>
-    ensures { MatchResult result (λ draft. TextMeans bytes.now (so_far draft.names draft.lines)) (IsTextFault bytes.now) }
+/// Reads a text. It gives the number of its last line too.
+pub(crate) fn whole<'a, A: Allocator + Copy>(
+    alloc: A,
+    bytes: &'a [u8],
+) -> Result<(Draft<'a, A>, u32), TextFault>
+    ensures { MatchResult result
+        (λ r. TextMeans bytes.now (so_far r.0.names r.0.lines) × (r.1 ≡ length (lines bytes.now)) × (r.1 ≤ most_lines))
+        (IsTextFault bytes.now) }
 {
     if bytes.is_empty() {
         return Err(fault(1, Cause::BadHeader));
@@ -210,7 +306,7 @@ fn whole<'a, A: Allocator + Copy>(alloc: A, bytes: &'a [u8]) -> Result<Draft<'a,
     body(alloc, version, rest)
 }
 
-/// The meaning of a text, made by [`Trace::parse`] alone. Some text means it, its cells are numbered without a gap, and its requests
+/// The meaning of a text, made by [`Trace::parse`] and [`BegunTrace::end`] alone. Some text means it, its cells are numbered without a gap, and its requests
 /// name cells and reducers that there are.
 pub struct Trace<A: Allocator> {
     /// The version that the first line names.
@@ -245,21 +341,28 @@ impl<A: Allocator> Drop for Trace<A> {
 impl<A: Allocator + Copy> Trace<A> {
     ghost use Rattle.trace_text.specs.Traces.{contents};
 
+    /// The trace that was read.
+    pub(crate) fn of_draft(draft: Draft<'_, A>) -> Trace<A>
+        requires { (text : List ℕ) × TextMeans text (so_far draft.names draft.lines) }
+        ensures { contents result ≡ so_far draft.entry.names draft.entry.lines }
+    {
+        let Draft { names, lines } = draft;
+        let (version, mems, reducers) = names.into_parts();
+        Trace {
+            version,
+            mems: Mems::new(mems),
+            reducers: Reducers::new(reducers),
+            lines,
+        }
+    }
+
     /// The trace that the bytes mean. Otherwise it answers the first faulty line with the lowest cause in it, or
     /// [`TextFault::Memory`] where a growth was refused.
     pub fn parse(alloc: A, bytes: &[u8]) -> Result<Trace<A>, TextFault>
         ensures { MatchResult result (λ trace. TextMeans bytes.now (contents trace)) (IsTextFault bytes.now) }
     {
         match whole(alloc, bytes) {
-            Ok(Draft { names, lines }) => {
-                let (version, mems, reducers) = names.into_parts();
-                Ok(Trace {
-                    version,
-                    mems: Mems::new(mems),
-                    reducers: Reducers::new(reducers),
-                    lines,
-                })
-            }
+            Ok((draft, _)) => Ok(Trace::of_draft(draft)),
             Err(fault) => Err(fault),
         }
     }

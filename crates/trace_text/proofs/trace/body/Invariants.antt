@@ -1,5 +1,6 @@
-use Rattle.std.proofs.Common.{ℕ, ◌+◌, ◌≤◌, length}
+use Rattle.std.proofs.Common.{◌≡◌, ℕ, ◌+◌, ◌≤◌, length}
 use Rattle.text_words.specs.declared.fault.Cause.{Cause}
+use Rattle.text_words.specs.Limits.{most_lines}
 use Rattle.text_words.specs.Values.{Contents}
 use Rattle.text_words.specs.Text.{lines}
 use Rattle.trace_text.specs.Grammar.{LinesMean, nothing}
@@ -10,7 +11,8 @@ use Rattle.trace_text.proofs.trace.body.Given as goal
 -- What the lines that are left mean, the whole means; and their first fault is that of the whole.
 abbrev pub invariant-loop-rest : goal.invariant-loop-rest
 invariant-loop-rest g l = record {
-  few : l.at ≤ 4000000;
+  few : l.at ≤ most_lines;
+  count : l.at + length (lines l.rest) ≡ 1 + length (lines l.text);
   means : (contents : Contents) → LinesMean (l.at + 1) (so_far l.draft.names l.draft.lines) (lines l.rest) contents → LinesMean 2 (nothing l.fn.version) (lines l.text) contents;
   faults : (bad : ℕ) (cause : Cause) → LinesFault (l.at + 1) (so_far l.draft.names l.draft.lines) (lines l.rest) bad cause → LinesFault 2 (nothing l.fn.version) (lines l.text) bad cause;
 }

@@ -10,4 +10,4 @@ returns g c =
     let first = c.without_return.result.now in
     let rest = c.split_line.result.1.now in
     let split : lines text ≡ first ∷ lines rest = rw c.without_return.ensures (lines_split text c.split_line.result.0.now rest c.split_line.ensures.pieces) in
-    whole_read (λ draft. so_far draft.names draft.lines) c.in-Ok.version text first rest c.body.result split c.in-Ok.ensures c.body.ensures
+    whole_read (λ r. so_far r.0.names r.0.lines) (λ r. r.1) c.in-Ok.version text first rest c.body.result split c.in-Ok.ensures c.body.ensures
