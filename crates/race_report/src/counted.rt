@@ -56,9 +56,10 @@ impl Counted {
         self.above = above;
     }
 
-    /// Puts a number at a place, and answers the place behind it. Some bytes behind that are lost.
+    /// Puts a number at a place of a slice, and answers the place behind it. What stands before the place stays, and some bytes behind the
+    /// number are lost.
     #[inline(always)]
-    pub(crate) fn put(&mut self, out: &mut [u8], at: usize, number: u64) -> usize
+    pub fn put(&mut self, out: &mut [u8], at: usize, number: u64) -> usize
         requires room { at + 24 ≤ length out.old }
         ensures end { result ≤ at + 21 }
         ensures len { length out.new ≡ length out.old }

@@ -15,4 +15,5 @@ mod verdict;
 
 pub use counted::Counted;
 pub use json_report::report;
-pub use verdict::{LINE_ROOM, push_number, push_words, put_verdict, verdict_lines};
+pub use placed::put_word;
+pub use verdict::{LINE_ROOM, push_number, push_words, put_told, put_verdict, verdict_lines};

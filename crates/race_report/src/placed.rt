@@ -8,9 +8,9 @@ use itoa::Buffer;
 static PAIRS: [u8; 200] =
     *b"00010203040506070809101112131415161718192021222324252627282930313233343536373839404142434445464748495051525354555657585960616263646566676869707172737475767778798081828384858687888990919293949596979899";
 
-/// Puts a word at a place, and answers the place behind it.
+/// Puts a word at a place of a slice, and answers the place behind it. What stands before the place stays.
 #[inline(always)]
-pub(crate) fn put_word(out: &mut [u8], at: usize, word: &str) -> usize
+pub fn put_word(out: &mut [u8], at: usize, word: &str) -> usize
     requires room { at + length word.now ≤ length out.old }
     ensures end { result ≡ at + length word.now }
     ensures len { length out.new ≡ length out.old }

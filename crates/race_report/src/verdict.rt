@@ -58,9 +58,9 @@ pub fn push_number<A: Allocator>(
     push_words(text, Buffer::new().format(number))
 }
 
-/// Puts a word, a number and a line feed.
+/// Puts a word, a number and a line feed at a place of a slice, and answers the place behind them. What stands before the place stays.
 #[inline(always)]
-fn put_told(out: &mut [u8], at: usize, word: &str, number: u64) -> usize
+pub fn put_told(out: &mut [u8], at: usize, word: &str, number: u64) -> usize
     requires room { at + length word.now + 21 ≤ length out.old }
     ensures len { length out.new ≡ length out.old }
     ensures put { take result out.new ≡ take at out.old ++ (word.now ++ decimal number ++ codes "\n") }

@@ -6,6 +6,8 @@ mod ExplanationCauses
 mod Pairs
 mod Answering
 mod Meeting
+mod Buffering
+mod ShortNames
 mod DrawingCauses
 mod ReplayCauses
 mod RunCauses

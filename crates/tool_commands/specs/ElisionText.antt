@@ -1,5 +1,5 @@
 -- The text of an elision.
-use Rattle.std.specs.Prelude.{ℕ, ◌+◌, List, [], ◌∷◌, ◌++◌, take, drop, codes, decimal}
+use Rattle.std.specs.Prelude.{ℕ, ◌+◌, ◌≤◌, List, [], ◌∷◌, ◌++◌, length, take, drop, codes, decimal}
 use Rattle.text_words.specs.declared.value.Mem.{Mem}
 use Rattle.trace_text.specs.Shapes.{name_in}
 
@@ -17,5 +17,13 @@ abbrev pub memory_text : List Mem → List ℕ → List ℕ
 memory_text [] values = []
 memory_text (mem ∷ mems) values = cell_lines mem 0 (take mem.cells values) ++ memory_text mems (drop mem.cells values)
 
+-- the line of the number of requests
+abbrev pub requests_line : (requests : ℕ) → List ℕ
+requests_line requests = codes "requests " ++ decimal requests ++ codes "\n"
+
 abbrev pub elision_text : List Mem → List ℕ → (requests : ℕ) → List ℕ
-elision_text mems memory requests = memory_text mems memory ++ codes "requests " ++ decimal requests ++ codes "\n"
+elision_text mems memory requests = memory_text mems memory ++ requests_line requests
+
+-- the name is no longer than a name may be
+abbrev pub HasShortName : Mem → Type 0
+HasShortName mem = length mem.name ≤ 32

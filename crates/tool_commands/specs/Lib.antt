@@ -6,6 +6,7 @@ pub mod Waiting
 pub mod Meetings
 pub mod Jobs
 pub mod ElisionText
+pub mod CellBuffers
 pub mod Elided
 pub mod Declarations
 pub mod Outcomes

@@ -1,6 +1,8 @@
 //! Writing the elision of the program that a reader gives.
 
 ghost use Rattle.std.specs.Prelude.{◌≡◌, ◌↔◌, ◌≤◌, ◌≢◌, ◌++◌, ◌+◌, ℕ, List, [], true, false, IfOk, IfErr, OnOk, IsErrOf, IsTrue};
+ghost use Rattle.std.specs.List.{All};
+ghost use Rattle.std.specs.Io.KnownBytes.{Appends};
 ghost use Rattle.text_words.specs.declared.fault.TextFault.{TextFault as SpecFault};
 ghost use Rattle.trace_text.specs.Shapes.{name_in};
 ghost use Rattle.program_text.specs.Grammar.{TextMeans};
@@ -8,16 +10,18 @@ ghost use Rattle.program_text.specs.Programs.{contents};
 ghost use Rattle.model_histories.specs.Shapes.{most_entries};
 ghost use Rattle.tool_commands.specs.Watched.{held, has_failed, is_delivered, calls_of, IsCalledAtMost};
 ghost use Rattle.tool_commands.specs.Faults.{fault_of_program};
-ghost use Rattle.tool_commands.specs.Streams.{most_reads};
-ghost use Rattle.tool_commands.specs.ElisionText.{cell_line, cell_lines, memory_text, elision_text};
+ghost use Rattle.tool_commands.specs.Streams.{most_reads, StopsWriting};
+ghost use Rattle.tool_commands.specs.ElisionText.{cell_line, cell_lines, memory_text, elision_text, HasShortName};
+ghost use Rattle.tool_commands.specs.CellBuffers.{TellsMore};
 ghost use Rattle.tool_commands.specs.Elided.{ElidesContents, StopsElision, IsElided, IsProgramFault, HasElisionCause};
 
+use crate::cell_buffer::CellBuffer;
 use crate::fault::CliFault;
-use crate::streams::{parse_program, read_text, write_text};
+use crate::streams::{deliver, parse_program, read_text};
 use crate::watched::Watched;
 use program_text::Program;
 use race_report::{push_number, push_words};
-use serial_elision::{ElideFault, elide};
+use serial_elision::{ElideFault, Elided, elide};
 use std::alloc::{AllocError, Allocator};
 use std::io::{Read, Write};
 use text_words::{Mem, TextFault};
@@ -79,46 +83,100 @@ pub(crate) fn push_memory<A: Allocator>(
     Ok(())
 }
 
-/// A line for each cell, and one for the number of requests.
-fn elision_lines<A: Allocator>(
-    alloc: A,
-    mems: &[Mem],
-    values: &[u64],
-    requests: u32,
-) -> Result<Vec<u8, A>, AllocError>
-    ensures { IfOk result (λ text. text.items ≡ elision_text mems.now values.now requests) }
-{
-    let mut text = Vec::new(alloc);
-    push_memory(&mut text, mems, values)?;
-    push_number(&mut text, "requests ", u64::from(requests))?;
-    push_words(&mut text, "\n")?;
-    Ok(text)
-}
-
-/// The lines of a program's elision.
+/// The elision of a program.
 fn elided<A: Allocator + Copy>(
     alloc: A,
     program: &Program<A>,
     limit: u32,
-) -> Result<Vec<u8, A>, CliFault>
-    ensures ok { IfOk result (λ lines. ElidesContents (contents program.now) limit lines.items) }
+) -> Result<Elided<A>, CliFault>
+    ensures ok { IfOk result (λ elided.
+        ElidesContents (contents program.now) limit (elision_text program.now.mems elided.memory.items elided.requests)) }
     ensures fault { IfErr result (StopsElision (contents program.now) limit) }
 {
     match elide(alloc, program, limit) {
-        Ok(elided) => {
-            match elision_lines(
-                alloc,
-                program.mems.as_slice(),
-                elided.memory.as_slice(),
-                elided.requests,
-            ) {
-                Ok(lines) => Ok(lines),
-                Err(_) => Err(CliFault::Memory),
-            }
-        }
+        Ok(elided) => Ok(elided),
         Err(ElideFault::Limit) => Err(CliFault::Limit),
         Err(ElideFault::Memory) => Err(CliFault::Memory),
     }
+}
+
+/// Tells the lines of a memory's cells.
+fn tell_cells<A: Allocator, W: Write>(
+    output: &mut Watched<W>,
+    lines: &mut CellBuffer<A>,
+    mem: &Mem,
+    values: &[u64],
+)
+    requires { HasShortName mem.now }
+    ensures { TellsMore (W.contents (held output.old)) (has_failed output.old) lines.old.text
+        (W.contents (held output.new)) (has_failed output.new) lines.new.text (cell_lines mem.now 0 values.now) }
+{
+    for (index, value) in values.iter().enumerate() {
+        lines.tell_cell(output, mem, index, *value);
+    }
+}
+
+/// Tells the lines of all cells.
+fn tell_memory<A: Allocator, W: Write>(
+    output: &mut Watched<W>,
+    lines: &mut CellBuffer<A>,
+    mems: &[Mem],
+    values: &[u64],
+)
+    requires { All HasShortName mems.now }
+    ensures { TellsMore (W.contents (held output.old)) (has_failed output.old) lines.old.text
+        (W.contents (held output.new)) (has_failed output.new) lines.new.text (memory_text mems.now values.now) }
+{
+    let mut rest = values;
+    for mem in mems {
+        let (own, others) = rest.split_at(rest.len().min(mem.cells as usize));
+        tell_cells(output, lines, mem, own);
+        rest = others;
+    }
+}
+
+/// Tells a line for each cell and one for the number of requests, and writes those that wait.
+fn tell_elision<A: Allocator, W: Write>(
+    output: &mut Watched<W>,
+    lines: &mut CellBuffer<A>,
+    mems: &[Mem],
+    values: &[u64],
+    requests: u32,
+)
+    requires { All HasShortName mems.now }
+    ensures told { TellsMore (W.contents (held output.old)) (has_failed output.old) lines.old.text
+        (W.contents (held output.new)) (has_failed output.new) lines.new.text (elision_text mems.now values.now requests) }
+    ensures none { lines.new.text ≡ [] }
+{
+    tell_memory(output, lines, mems, values);
+    lines.tell_requests(output, requests);
+    lines.give(output);
+}
+
+/// Writes a line for each cell and one for the number of requests, through the room for lines that wait, and sees to it that all are
+/// delivered.
+fn write_elision<A: Allocator, W: Write>(
+    output: &mut Watched<W>,
+    mut lines: CellBuffer<A>,
+    mems: &[Mem],
+    values: &[u64],
+    requests: u32,
+) -> Result<(), CliFault>
+    requires fresh { has_failed output.old ≡ false }
+    requires none { lines.text ≡ [] }
+    requires short { All HasShortName mems.now }
+    ensures ok { OnOk result (Appends (W.contents (held output.old)) (W.contents (held output.new))
+        (elision_text mems.now values.now requests)) }
+    ensures fault { IfErr result (StopsWriting (W.contents (held output.old)) (W.contents (held output.new))
+        (elision_text mems.now values.now requests)) }
+    ensures delivered { OnOk result (is_delivered output.new ≡ true) }
+    ensures failed { IsErrOf result CliFault.Write ↔ IsTrue (has_failed output.new) }
+{
+    tell_elision(output, &mut lines, mems, values, requests);
+    if output.failed() {
+        return Err(CliFault::Write);
+    }
+    deliver(output)
 }
 
 /// Reads a program to its end and writes what its serial elision leaves: a line with the name and the value of each cell, in order, and
@@ -151,7 +209,14 @@ pub fn elide_text<A: Allocator + Copy, R: Read, W: Write>(
 {
     let text = read_text(alloc, program)?;
     let program = parse_program(alloc, text)?;
-    let lines = elided(alloc, &program, limit)?;
-    write_text(output, lines.as_slice())?;
+    let elided = elided(alloc, &program, limit)?;
+    let lines = CellBuffer::new(alloc)?;
+    write_elision(
+        output,
+        lines,
+        program.mems.as_slice(),
+        elided.memory.as_slice(),
+        elided.requests,
+    )?;
     Ok(0)
 }

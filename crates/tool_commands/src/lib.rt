@@ -24,6 +24,7 @@
 //! numbers in their ranges; which words give which job is shown by tests.
 #![tactic(auto)]
 
+mod cell_buffer;
 mod declarations;
 mod draw;
 mod elide;

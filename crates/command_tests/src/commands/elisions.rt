@@ -9,7 +9,7 @@ use super::{
     lined,
 };
 use crate::devices::{Breaking, Filling, Interrupted, Spaces};
-use std::alloc::Global;
+use std::alloc::{AllocError, Global};
 use std::io::{Read, Write};
 use std::process::Abort;
 use std::test::Fail;
@@ -125,6 +125,11 @@ fn elisions(rt: HostRuntime) -> Result<(), Fail> {
                 "x 0 / a[0] 0 / a[1] 5 / y 6 / requests 4",
             ),
             ("cilk 1; func main z; end", 2, "requests 2"),
+            (
+                "cilk 1; mem abcdefghijklmnopqrstuvwxyz_12345 2; func main z; write abcdefghijklmnopqrstuvwxyz_12345[1] 18446744073709551615; end",
+                MOST,
+                "abcdefghijklmnopqrstuvwxyz_12345[0] 0 / abcdefghijklmnopqrstuvwxyz_12345[1] 18446744073709551615 / requests 3",
+            ),
         ],
     )
 }
@@ -201,18 +206,23 @@ fn a_program_that_never_ends(rt: HostRuntime) {
     has_no_end(&rt, &outcome);
 }
 
-fn elided_filling(alloc: Global, left: u32, answers_an_error: bool) -> Outcome<Filling> {
+fn elided_filling(
+    alloc: Global,
+    program: &str,
+    left: u32,
+    answers_an_error: bool,
+) -> Outcome<Filling> {
     let filling = Filling {
         held: Vec::new(alloc),
         left,
         answers_an_error,
     };
-    elided(alloc, SHORT.as_bytes(), filling, MOST)
+    elided(alloc, program.as_bytes(), filling, MOST)
 }
 
 /// A writer that goes along with so many calls fails just where they are too few.
 fn check_filling(rt: &impl Abort, alloc: Global, left: u32, answers_an_error: bool) {
-    let outcome = elided_filling(alloc, left, answers_an_error);
+    let outcome = elided_filling(alloc, SHORT, left, answers_an_error);
     has_filled(rt, &outcome, left, 16, LEFT_BY_SHORT);
 }
 
@@ -222,4 +232,47 @@ fn an_elision_that_cannot_be_written(rt: HostRuntime) {
         check_filling(&rt, rt.alloc(), left, false);
         check_filling(&rt, rt.alloc(), left, true);
     }
+}
+
+/// A program of 20,001 cells.
+const WIDE: &str = "cilk 1\nmem a 20000\nmem x\nfunc main z\nwrite a[19999] 5\nwrite x 6\nend\n";
+
+/// What it leaves: 10 lines of 7 bytes, 90 of 8, 900 of 9, 9,000 of 10 and 10,000 of 11, and two of 4 and 11. These are 208,905 bytes, more
+/// than wait to be written at any time.
+fn left_by_wide(alloc: Global) -> Result<String, AllocError> {
+    let mut lines = String::new(alloc);
+    for index in 0..19_999u32 {
+        lines.push_str(format!(in alloc; "a[{index}] 0\n")?.as_str())?;
+    }
+    lines.push_str("a[19999] 5\nx 6\nrequests 4\n")?;
+    Ok(lines)
+}
+
+#[test]
+fn an_elision_of_many_cells(rt: HostRuntime) -> Result<(), Fail> {
+    let lines = left_by_wide(rt.alloc())?;
+    check_text(&rt, rt.alloc(), WIDE, MOST, lines.as_str());
+    Ok(())
+}
+
+/// A writer that takes a byte at each call fails just where it goes along with too few.
+fn check_fillings(rt: &impl Abort, alloc: Global, text: &str, lefts: &[u32]) {
+    for left in lefts {
+        let outcome = elided_filling(alloc, WIDE, *left, *left % 2 == 0);
+        has_filled(rt, &outcome, *left, 208_906, text);
+    }
+}
+
+#[test]
+fn an_elision_of_many_cells_that_cannot_be_written(rt: HostRuntime) -> Result<(), Fail> {
+    let lines = left_by_wide(rt.alloc())?;
+    check_fillings(
+        &rt,
+        rt.alloc(),
+        lines.as_str(),
+        &[
+            0, 1, 65_000, 65_536, 100_001, 150_000, 208_904, 208_905, 208_906, 300_001,
+        ],
+    );
+    Ok(())
 }
