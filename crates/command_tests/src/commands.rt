@@ -8,6 +8,7 @@ mod elisions;
 mod explanations;
 mod failures;
 mod hosts;
+mod pieces;
 mod recorded;
 mod replays;
 mod runs;

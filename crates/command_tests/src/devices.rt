@@ -26,6 +26,24 @@ impl Read for Breaking<'_> {
     }
 }
 
+/// Gives so many bytes at each read at most.
+#[derive(Drop)]
+pub struct Giving<'a> {
+    /// What it gives.
+    pub text: &'a [u8],
+    /// How many bytes it gives at most.
+    pub most: usize,
+}
+
+impl Read for Giving<'_> {
+    fn read(&mut self, buf: &mut [u8]) -> Result<usize> {
+        let most = self.most.min(buf.len());
+        let (mut front, rest) = self.text.split_at(self.text.len().min(most));
+        self.text = rest;
+        front.read(buf)
+    }
+}
+
 /// Answers at the first read that it was interrupted, and then gives its text.
 #[derive(Drop)]
 pub struct Interrupted<'a> {

@@ -1,4 +1,5 @@
 mod Bytes
+mod Reading
 mod Causes
 mod ElisionCauses
 mod ExplanationCauses

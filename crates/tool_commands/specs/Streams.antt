@@ -1,5 +1,5 @@
 -- What is read, and what is written for it.
-use Rattle.std.specs.Prelude.{ℕ, ◌≡◌, ◌<◌, ◌≤◌, Bool, true, false, Option, List, ◌++◌, length, map}
+use Rattle.std.specs.Prelude.{ℕ, ◌≡◌, ◌<◌, ◌≤◌, ◌+◌, Bool, true, false, Option, List, ◌++◌, length, map}
 use Rattle.std.specs.Io.KnownBytes.{Consumes, Appends, IsAtEnd}
 use Rattle.model_accesses.specs.declared.request.Request.{Request}
 use Rattle.text_words.specs.declared.fault.TextFault.TheVariants.{At}
@@ -96,6 +96,20 @@ pub record IsFaulty (before behind : Option (List ℕ)) (fault : CliFault) : Typ
   pub read : IsRead before behind text
   pub faulty : IsFaultOf text fault
 
+-- A text was read, and it means this.
+pub record IsMeant (before behind : Option (List ℕ)) (contents : Contents) : Type 0 where
+  pub text : List ℕ
+  pub read : IsRead before behind text
+  pub means : TextMeans text contents
+
+-- Why no trace is read: reading stopped before the end, or the fault is that of the text.
+abbrev pub StopsTrace : (before behind : Option (List ℕ)) → CliFault → Type 0
+StopsTrace before behind Read = Unit {0}
+StopsTrace before behind TooLong = IsReadTooLong before behind
+StopsTrace before behind Memory = Unit {0}
+StopsTrace before behind (Trace fault) = IsFaulty before behind (Trace fault)
+StopsTrace before behind fault = ⊥
+
 -- Why a stream is not answered, or not wholly: each fault has its cause.
 abbrev pub HasCause : (before behind wrote writes : Option (List ℕ)) → (limit : ℕ) → CliFault → Type 0
 HasCause before behind wrote writes limit (Usage text) = ⊥
@@ -105,21 +119,31 @@ HasCause before behind wrote writes limit TooLong = IsReadTooLong before behind
 HasCause before behind wrote writes limit Memory = Unit {0}
 HasCause before behind wrote writes limit fault = IsFaulty before behind fault
 
--- One more piece was read and stands behind the text, where there was one; else the end was reached.
-pub record TakesPiece (before behind : Option (List ℕ)) (old new : List ℕ) (more : Bool) : Type 0 where
+-- One more piece was read and stands behind the text, where there was one; else the end was reached. So many bytes were read before
+-- the text.
+pub record TakesPiece (before behind : Option (List ℕ)) (done : ℕ) (old new : List ℕ) (more : Bool) : Type 0 where
   pub piece : List ℕ
   pub taken : Consumes before behind piece
   pub added : new ≡ old ++ piece
-  pub short : length new ≤ most_bytes
+  pub short : done + length new ≤ most_bytes
   pub some : more ≡ true → 0 < length piece
   pub end : more ≡ false → IsAtEnd behind
 
+-- Pieces were read and stand behind the text, which has so many bytes then; else the end was reached.
+pub record TakesPieces (before behind : Option (List ℕ)) (done size : ℕ) (old new : List ℕ) (more : Bool) : Type 0 where
+  pub pieces : List ℕ
+  pub taken : Consumes before behind pieces
+  pub added : new ≡ old ++ pieces
+  pub short : done + length new ≤ most_bytes
+  pub reached : more ≡ true → size ≤ length new
+  pub end : more ≡ false → IsAtEnd behind
+
 -- Why a piece is not added: with it the text would be too long, or a device or memory failed.
-abbrev pub StopsPiece : Option (List ℕ) → Option (List ℕ) → List ℕ → CliFault → Type 0
-StopsPiece before behind old Read = Unit {0}
-StopsPiece before behind old TooLong = (piece : List ℕ) × Consumes before behind piece × (most_bytes < length (old ++ piece))
-StopsPiece before behind old Memory = Unit {0}
-StopsPiece before behind old fault = ⊥
+abbrev pub StopsPiece : Option (List ℕ) → Option (List ℕ) → (done : ℕ) → List ℕ → CliFault → Type 0
+StopsPiece before behind done old Read = Unit {0}
+StopsPiece before behind done old TooLong = (piece : List ℕ) × Consumes before behind piece × (most_bytes < done + length (old ++ piece))
+StopsPiece before behind done old Memory = Unit {0}
+StopsPiece before behind done old fault = ⊥
 
 -- Why reading stops before the end.
 abbrev pub StopsReading : (before behind : Option (List ℕ)) → CliFault → Type 0
@@ -128,13 +152,22 @@ StopsReading before behind TooLong = IsReadTooLong before behind
 StopsReading before behind Memory = Unit {0}
 StopsReading before behind fault = ⊥
 
+-- Why no trace is read behind these bytes.
+abbrev pub StopsBehind : (bytes : List ℕ) → (before behind : Option (List ℕ)) → CliFault → Type 0
+StopsBehind bytes before behind fault = (first : Option (List ℕ)) → Consumes first before bytes → StopsTrace first behind fault
+
+-- A text that begins with these bytes was read, and it means this.
+abbrev pub IsMeantBehind : (bytes : List ℕ) → (before behind : Option (List ℕ)) → Contents → Type 0
+IsMeantBehind bytes before behind contents = (first : Option (List ℕ)) → Consumes first before bytes → IsMeant first behind contents
+
 -- A part of the text was written, and a call failed.
 abbrev pub StopsWriting : Option (List ℕ) → Option (List ℕ) → List ℕ → CliFault → Type 0
 StopsWriting wrote writes text Write = (part : List ℕ) × (rest : List ℕ) × Appends wrote writes part × (part ++ rest ≡ text)
 StopsWriting wrote writes text fault = ⊥
 
--- Why a text is not answered, or not wholly: a write failed, or the fault is that of the text.
-abbrev pub StopsAnswer : List ℕ → (limit : ℕ) → (wrote writes : Option (List ℕ)) → CliFault → Type 0
-StopsAnswer text limit wrote writes Write =
-    (replies : List Reply) × AnswersText text limit replies × StopsWriting wrote writes (verdict_text replies) Write
-StopsAnswer text limit wrote writes fault = IsFaultOf text fault
+-- Why the replies to a trace are not told, or not wholly: a write or memory failed.
+abbrev pub StopsAnswer : Contents → (limit : ℕ) → (wrote writes : Option (List ℕ)) → CliFault → Type 0
+StopsAnswer contents limit wrote writes Write =
+    (replies : List Reply) × AreReplies contents limit replies × StopsWriting wrote writes (verdict_text replies) Write
+StopsAnswer contents limit wrote writes Memory = Unit {0}
+StopsAnswer contents limit wrote writes fault = ⊥

@@ -20,11 +20,11 @@ ghost use Rattle.tool_commands.specs.Meetings.{IsTold, HasJudged, Tells, TellsTr
 ghost use Rattle.race_report.specs.VerdictText.{HasWords, line_of_reply, verdict_text};
 ghost use Rattle.tool_commands.specs.Statuses.{status_of_replies};
 ghost use Rattle.tool_commands.specs.Streams.{most_reads, declared_shape, requests_of, IsJudgedBy, JudgesTrace};
-ghost use Rattle.tool_commands.specs.Streams.{AreReplies, AnswersText, IsAnswered, StopsWriting, StopsAnswer, HasCause};
+ghost use Rattle.tool_commands.specs.Streams.{AreReplies, IsAnswered, StopsWriting, StopsAnswer, HasCause};
 
 use crate::fault::CliFault;
 use crate::status::Met;
-use crate::streams::{deliver, parse_trace, read_text, write_bytes};
+use crate::streams::{deliver, read_trace, write_bytes};
 use crate::waiting::Waiting;
 use crate::watched::Watched;
 use race_gate::{Core, Reply};
@@ -135,25 +135,24 @@ fn finish<A: Allocator, W: Write>(
     Ok(verdicts.met.status())
 }
 
-/// Tells what is to be told of the requests of the trace that a text means; the text is let go.
-fn answer_text<A: Allocator + Copy, W: Write>(
+/// Tells what is to be told of the requests of a trace.
+fn answer_trace<A: Allocator + Copy, W: Write>(
     alloc: A,
-    text: Vec<u8, A>,
+    trace: &Trace<A>,
     output: &mut Watched<W>,
     limit: u32,
 ) -> Result<u8, CliFault>
     requires writer { has_failed output.old ≡ false }
     requires limit { limit ≤ most_entries }
     ensures answered { IfOk result (λ status. (replies : List SpecReply) × (status ≡ status_of_replies replies)
-        × AnswersText text.items limit replies
+        × AreReplies (contents trace.now) limit replies
         × Appends (W.contents (held output.old)) (W.contents (held output.new)) (verdict_text replies)) }
-    ensures fault { IfErr result (StopsAnswer text.items limit (W.contents (held output.old)) (W.contents (held output.new))) }
+    ensures fault { IfErr result (StopsAnswer (contents trace.now) limit (W.contents (held output.old)) (W.contents (held output.new))) }
     ensures delivered { OnOk result (is_delivered output.new ≡ true) }
     ensures write_failed { IsErrOf result CliFault.Write ↔ IsTrue (has_failed output.new) }
     ensures unwritten { IfErr result (λ fault. fault ≢ CliFault.Write → output.new ≡ output.old) }
 {
-    let trace = parse_trace(alloc, text)?;
-    let verdicts = judge(alloc, &trace, output, limit)?;
+    let verdicts = judge(alloc, trace, output, limit)?;
     finish(output, verdicts)
 }
 
@@ -196,6 +195,6 @@ pub fn judge_stream<A: Allocator + Copy, R: Read, W: Write>(
     ensures unwritten { IfErr result (λ fault. fault ≢ CliFault.Write → output.new ≡ output.old) }
 {
     keep_pages(alloc);
-    let text = read_text(alloc, input)?;
-    answer_text(alloc, text, output, limit)
+    let trace = read_trace(alloc, input)?;
+    answer_trace(alloc, &trace, output, limit)
 }

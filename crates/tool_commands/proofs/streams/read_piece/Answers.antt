@@ -8,14 +8,8 @@ returns-in-Err-clause-calls g c = c.read.ensures.calls
 pub returns-then-is_err-clause-calls : goal.returns-then-is_err-clause-calls
 returns-then-is_err-clause-calls g c = c.read.ensures.calls
 
-pub returns-then-len-gt-MOST_BYTES-clause-calls : goal.returns-then-len-gt-MOST_BYTES-clause-calls
-returns-then-len-gt-MOST_BYTES-clause-calls g c = c.read.ensures.calls
-
 pub returns-clause-calls : goal.returns-clause-calls
 returns-clause-calls g c = c.read.ensures.calls
-
-pub returns-then-len-gt-MOST_BYTES-clause-fault : goal.returns-then-len-gt-MOST_BYTES-clause-fault
-returns-then-len-gt-MOST_BYTES-clause-fault g c = first_of (search rules, grind (arith, common_steps))
 
 pub returns-clause-taken : goal.returns-clause-taken
 returns-clause-taken g c = first_of (search rules, grind (arith, common_steps))
@@ -25,6 +19,3 @@ returns-clause-fresh g c = first_of (search rules, grind (arith, common_steps))
 
 pub returns-clause-failed : goal.returns-clause-failed
 returns-clause-failed g c = first_of (search rules, grind (arith, common_steps))
-
-pub returns-then-len-gt-MOST_BYTES-clause-failed : goal.returns-then-len-gt-MOST_BYTES-clause-failed
-returns-then-len-gt-MOST_BYTES-clause-failed g c = first_of (search rules, grind (arith, common_steps))

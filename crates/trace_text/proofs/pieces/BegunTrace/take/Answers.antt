@@ -12,7 +12,7 @@ returns-in-Ok g c done read =
     let end = c.whole_lines-end.ensures in
     let front = take c.whole_lines-end.result c.args.text.now in
     let lines_mean : LinesMean (begun.at + 1) (so_far begun.draft.names begun.draft.lines) (lines front) (so_far after.names after.lines) =
-        rw c.split_at.ensures.front at c.in-Ok.ensures.0 in
+    rw c.split_at.ensures.front at c.in-Ok.ensures.0 in
     let last : c.in-Ok.last ≡ begun.at + length (lines front) = rw c.split_at.ensures.front at c.in-Ok.ensures.1 in (
       end.within,
       record {
