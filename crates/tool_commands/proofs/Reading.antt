@@ -1,5 +1,5 @@
 -- A text that is read in pieces, of which the first bytes were taken.
-use Rattle.std.proofs.Common.{◌≡◌, ◌≤◌, ◌<◌, ℕ, ◌+◌, List, [], ◌++◌, Option, Bool, take, drop, length, refl, ap, sym, subst, ◌∙◌, append-nil, append_assoc, length-append, length-take, arith}
+use Rattle.std.proofs.Common.{◌≡◌, ◌≤◌, ℕ, ◌+◌, List, [], ◌++◌, Option, Bool, take, drop, length, refl, ap, sym, subst, ◌∙◌, append-nil, append_assoc, length-append, length-take, arith}
 use Rattle.std.specs.Prelude.{true, false, Result, Ok, Err, IfOk, IfErr}
 use Rattle.std.proofs.lemmas.List.{take-append-drop}
 use Rattle.std.specs.Io.KnownBytes.{Consumes, IsAtEnd}

@@ -1,4 +1,4 @@
-use Rattle.std.proofs.Common.{◌≡◌, ◌-◌, ◌+◌, min, ℕ, List, true, false, length}
+use Rattle.std.proofs.Common.{◌≡◌, ◌-◌, ◌+◌, min, ℕ, List, false, length}
 use Rattle.std.specs.Io.KnownBytes.{Consumes}
 use Rattle.tool_commands.specs.Watched.{held, has_failed, calls_of, IsCalledAtMost}
 use Rattle.tool_commands.specs.Streams.{most_bytes, most_reads}

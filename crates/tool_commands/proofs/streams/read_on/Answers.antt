@@ -1,7 +1,6 @@
-use Rattle.std.proofs.Common.{◌≡◌, ◌+◌, ◌-◌, ◌++◌, List, ℕ, length, take, refl, sym, ap, rules, arith, length-drop, length-append}
+use Rattle.std.proofs.Common.{◌≡◌, ◌+◌, ◌-◌, ◌++◌, List, ℕ, length, take, refl, ap, rules, arith, length-drop, length-append}
 use Rattle.std.proofs.lemmas.Result.{err_from_is_err_and}
 use Rattle.trace_text.specs.Pieces.{IsBegun}
-use Rattle.tool_commands.specs.Streams.{most_reads}
 use Rattle.tool_commands.specs.Watched.{held, calls_of}
 use Rattle.tool_commands.proofs.Bytes.{uncalled, called_both}
 use Rattle.tool_commands.proofs.Reading.{IsReadOn, on_first, on_read, on_taken, on_end, on_fault, on_stop, on_away}
