@@ -15,7 +15,7 @@ enum Begins {
     NoMemory,
 }
 
-fn begins(alloc: Global, head: &[u8]) -> Begins {
+fn begun_by(alloc: Global, head: &[u8]) -> Begins {
     match BegunTrace::begin(alloc, head) {
         Ok(Some((_, end))) => Begins::Request(end),
         Ok(None) => Begins::NoRequest,
@@ -36,7 +36,7 @@ fn heads(rt: HostRuntime) {
         (b"cilk 1\nspawn\nmem", Begins::Fault(2, Cause::BadWord)),
     ];
     for (head, wanted) in &cases {
-        equal(&rt, head, &begins(rt.alloc(), head), wanted);
+        equal(&rt, head, &begun_by(rt.alloc(), head), wanted);
     }
 }
 

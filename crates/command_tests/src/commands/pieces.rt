@@ -104,7 +104,7 @@ fn a_failure_behind_a_fault(rt: HostRuntime) -> Result<(), Fail> {
     let alloc = rt.alloc();
     let long = FAULTY.text(alloc)?;
     let text = long.as_bytes();
-    let left = text.len() as u32;
+    let left = u32::try_from(text.len()).unwrap_or(0);
     let outcome = judged(alloc, Breaking { text, left }, Vec::new(alloc), MOST);
     is_unread(&rt, &outcome, left);
     Ok(())
