@@ -5,20 +5,24 @@ use Rattle.std.specs.Io.KnownBytes.{Appends, Keeps}
 use Rattle.tool_commands.specs.declared.fault.CliFault.{CliFault}
 use Rattle.tool_commands.specs.declared.fault.CliFault.TheVariants.{Write}
 use Rattle.tool_commands.specs.Streams.{StopsWriting}
-use Rattle.tool_commands.specs.Meetings.{IsTold}
-use Rattle.tool_commands.specs.CellBuffers.{TellsMore}
+use Rattle.tool_commands.specs.Tellings.{IsTold, TellsMore}
 use Rattle.tool_commands.proofs.Meeting.{none_told, told_more, told_whole, told_cut}
 
 -- nothing more is told
 pub tells_none : (known : Option (List ℕ)) (failed : Bool) (waiting : List ℕ) → TellsMore known failed waiting known failed waiting []
 tells_none known failed waiting wrote text told = subst (λ (t : List ℕ). IsTold wrote known failed waiting t) (sym (append-nil text)) told
 
+-- what was told before is told still, where nothing more is
+pub told_still : (before behind : Option (List ℕ)) (failed fails : Bool) (waiting waits : List ℕ) → TellsMore before failed waiting behind fails waits [] →
+    (wrote : Option (List ℕ)) (text : List ℕ) → IsTold wrote before failed waiting text → IsTold wrote behind fails waits text
+told_still before behind failed fails waiting waits tells wrote text told =
+    subst (λ (t : List ℕ). IsTold wrote behind fails waits t) (append-nil text) (tells wrote text told)
+
 -- these bytes wait behind the others
 pub tells_added : (before behind : Option (List ℕ)) (failed fails : Bool) (waiting waits longer bytes : List ℕ) →
     TellsMore before failed waiting behind fails waits [] → longer ≡ waits ++ bytes → TellsMore before failed waiting behind fails longer bytes
 tells_added before behind failed fails waiting waits longer bytes tells is wrote text told =
-    told_more wrote behind fails waits longer text bytes is
-    (subst (λ (t : List ℕ). IsTold wrote behind fails waits t) (append-nil text) (tells wrote text told))
+    told_more wrote behind fails waits longer text bytes is (told_still before behind failed fails waiting waits tells wrote text told)
 
 -- some bytes, and some more
 pub tells_next : (before between behind : Option (List ℕ)) (failed fails failing : Bool) (waiting waits left bytes more : List ℕ) →

@@ -22,7 +22,8 @@ use Rattle.std.specs.Prelude.{◌↔◌, Result, Ok, Err, IsTrue, IsErrOf, OnOk,
 use Rattle.std.specs.Io.KnownBytes.{Appends, Keeps}
 use Rattle.tool_commands.specs.declared.fault.CliFault.{CliFault}
 use Rattle.tool_commands.specs.declared.fault.CliFault.TheVariants.{Write}
-use Rattle.tool_commands.specs.Meetings.{HasMet, IsTold, HasJudged, TellsTrace}
+use Rattle.tool_commands.specs.Meetings.{HasMet, HasJudged, TellsTrace}
+use Rattle.tool_commands.specs.Tellings.{IsTold}
 use Rattle.tool_commands.proofs.Bytes.{appends-none, appends-kept, appends-more}
 
 or_none : (b : Bool) → (b || false) ≡ b

@@ -2,11 +2,11 @@ pub mod Watched
 pub mod Faults
 pub mod Statuses
 pub mod Streams
-pub mod Waiting
+pub mod LineBuffers
+pub mod Tellings
 pub mod Meetings
 pub mod Jobs
 pub mod ElisionText
-pub mod CellBuffers
 pub mod Elided
 pub mod Declarations
 pub mod Outcomes

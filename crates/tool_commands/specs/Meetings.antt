@@ -1,6 +1,5 @@
 -- What was made of the replies to requests while they were judged.
-use Rattle.std.specs.Prelude.{◌≡◌, ◌++◌, ℕ, Bool, false, List, Option}
-use Rattle.std.specs.Io.KnownBytes.{Appends}
+use Rattle.std.specs.Prelude.{◌≡◌, ℕ, Bool, List, Option}
 use Rattle.std.specs.List.{list_any}
 use Rattle.model_accesses.specs.declared.request.Request.{Request}
 use Rattle.text_words.specs.Values.{Contents}
@@ -11,6 +10,7 @@ use Rattle.model_histories.specs.Replies.{JudgesAll}
 use Rattle.race_report.specs.VerdictText.{verdict_text}
 use Rattle.tool_commands.specs.declared.status.Met.{Met}
 use Rattle.tool_commands.specs.declared.judge.Verdicts.{Verdicts}
+use Rattle.tool_commands.specs.Tellings.{IsTold}
 use Rattle.tool_commands.specs.Statuses.{is_memory, is_limit, is_illegal, is_refusal}
 use Rattle.tool_commands.specs.Streams.{AreReplies}
 
@@ -20,14 +20,6 @@ pub record HasMet (replies : List Reply) (met : Met) : Type 0 where
   pub limit : met.limit ≡ list_any is_limit replies
   pub illegal : met.illegal ≡ list_any is_illegal replies
   pub refusal : met.refusal ≡ list_any is_refusal replies
-
--- A text was told so far: a part of it was written, and where no write has failed the rest waits.
-pub record IsTold (wrote writes : Option (List ℕ)) (failed : Bool) (waiting text : List ℕ) : Type 0 where
-  pub part : List ℕ
-  pub rest : List ℕ
-  pub written : Appends wrote writes part
-  pub whole : part ++ rest ≡ text
-  pub waits : failed ≡ false → rest ≡ waiting
 
 module _ {A : Type 0} where
   -- the verdict lines of the replies were told, and what was met among them

@@ -12,11 +12,11 @@ ghost use Rattle.tool_commands.specs.Watched.{held, has_failed, is_delivered, ca
 ghost use Rattle.tool_commands.specs.Faults.{fault_of_program};
 ghost use Rattle.tool_commands.specs.Streams.{most_reads, StopsWriting};
 ghost use Rattle.tool_commands.specs.ElisionText.{cell_line, cell_lines, memory_text, elision_text, HasShortName};
-ghost use Rattle.tool_commands.specs.CellBuffers.{TellsMore};
+ghost use Rattle.tool_commands.specs.Tellings.{TellsMore};
 ghost use Rattle.tool_commands.specs.Elided.{ElidesContents, StopsElision, IsElided, IsProgramFault, HasElisionCause};
 
-use crate::cell_buffer::CellBuffer;
 use crate::fault::CliFault;
+use crate::line_buffer::LineBuffer;
 use crate::streams::{deliver, parse_program, read_text};
 use crate::watched::Watched;
 use program_text::Program;
@@ -103,7 +103,7 @@ fn elided<A: Allocator + Copy>(
 /// Tells the lines of a memory's cells.
 fn tell_cells<A: Allocator, W: Write>(
     output: &mut Watched<W>,
-    lines: &mut CellBuffer<A>,
+    lines: &mut LineBuffer<A>,
     mem: &Mem,
     values: &[u64],
 )
@@ -119,7 +119,7 @@ fn tell_cells<A: Allocator, W: Write>(
 /// Tells the lines of all cells.
 fn tell_memory<A: Allocator, W: Write>(
     output: &mut Watched<W>,
-    lines: &mut CellBuffer<A>,
+    lines: &mut LineBuffer<A>,
     mems: &[Mem],
     values: &[u64],
 )
@@ -138,7 +138,7 @@ fn tell_memory<A: Allocator, W: Write>(
 /// Tells a line for each cell and one for the number of requests, and writes those that wait.
 fn tell_elision<A: Allocator, W: Write>(
     output: &mut Watched<W>,
-    lines: &mut CellBuffer<A>,
+    lines: &mut LineBuffer<A>,
     mems: &[Mem],
     values: &[u64],
     requests: u32,
@@ -157,7 +157,7 @@ fn tell_elision<A: Allocator, W: Write>(
 /// delivered.
 fn write_elision<A: Allocator, W: Write>(
     output: &mut Watched<W>,
-    mut lines: CellBuffer<A>,
+    mut lines: LineBuffer<A>,
     mems: &[Mem],
     values: &[u64],
     requests: u32,
@@ -210,7 +210,7 @@ pub fn elide_text<A: Allocator + Copy, R: Read, W: Write>(
     let text = read_text(alloc, program)?;
     let program = parse_program(alloc, text)?;
     let elided = elided(alloc, &program, limit)?;
-    let lines = CellBuffer::new(alloc)?;
+    let lines = LineBuffer::new(alloc)?;
     write_elision(
         output,
         lines,

@@ -15,17 +15,16 @@ ghost use Rattle.model_histories.specs.States.{State};
 ghost use Rattle.model_histories.specs.declared.reply.Reply.{Reply as SpecReply};
 ghost use Rattle.model_accesses.specs.declared.request.Request.{Request as SpecRequest};
 ghost use Rattle.tool_commands.specs.Watched.{held, has_failed, is_delivered, calls_of, IsCalledAtMost};
-ghost use Rattle.tool_commands.specs.Waiting.{most_filled};
-ghost use Rattle.tool_commands.specs.Meetings.{IsTold, HasJudged, Tells, TellsTrace};
-ghost use Rattle.race_report.specs.VerdictText.{HasWords, line_of_reply, verdict_text};
+ghost use Rattle.tool_commands.specs.Meetings.{HasJudged, Tells, TellsTrace};
+ghost use Rattle.race_report.specs.VerdictText.{verdict_text};
 ghost use Rattle.tool_commands.specs.Statuses.{status_of_replies};
 ghost use Rattle.tool_commands.specs.Streams.{most_reads, declared_shape, requests_of, IsJudgedBy, JudgesTrace};
 ghost use Rattle.tool_commands.specs.Streams.{AreReplies, IsAnswered, StopsWriting, StopsAnswer, HasCause};
 
 use crate::fault::CliFault;
+use crate::line_buffer::LineBuffer;
 use crate::status::Met;
-use crate::streams::{deliver, read_trace, write_bytes};
-use crate::waiting::Waiting;
+use crate::streams::{deliver, read_trace};
 use crate::watched::Watched;
 use race_gate::{Core, Reply};
 use std::alloc::{AllocError, Allocator};
@@ -36,36 +35,8 @@ use trace_text::Trace;
 /// What is told of the replies to requests: the verdict lines that wait to be written, and what the exit status wants to know of all.
 #[derive(Drop)]
 struct Verdicts<A: Allocator> {
-    lines: Waiting<A>,
+    lines: LineBuffer<A>,
     met: Met,
-}
-
-/// Writes the lines that wait, where no write has failed, and lets them go.
-fn give<A: Allocator, W: Write>(output: &mut Watched<W>, lines: &mut Waiting<A>)
-    ensures told { (wrote : Option (List ℕ)) (text : List ℕ) →
-        IsTold wrote (W.contents (held output.old)) (has_failed output.old) lines.old.text text →
-        IsTold wrote (W.contents (held output.new)) (has_failed output.new) lines.new.text text }
-    ensures none { lines.new.text ≡ [] }
-    ensures room { lines.new.filled ≤ most_filled }
-{
-    if !output.failed() {
-        // The writer notes where this fails.
-        let _ = write_bytes(output, lines.as_slice());
-    }
-    lines.clear();
-}
-
-/// Adds the verdict line of a reply to those that wait, which are written first where it might not fit.
-fn put<A: Allocator, W: Write>(output: &mut Watched<W>, lines: &mut Waiting<A>, reply: &Reply)
-    requires { HasWords reply.now }
-    ensures { (wrote : Option (List ℕ)) (text : List ℕ) →
-        IsTold wrote (W.contents (held output.old)) (has_failed output.old) lines.old.text text →
-        IsTold wrote (W.contents (held output.new)) (has_failed output.new) lines.new.text (text ++ line_of_reply reply.now) }
-{
-    if !lines.has_room() {
-        give(output, lines);
-    }
-    lines.add(reply);
 }
 
 /// Judges a request and tells the reply.
@@ -82,7 +53,7 @@ fn tell<A: Allocator + Clone, W: Write>(
         wrote (W.contents (held output.new)) (has_failed output.new) }
 {
     let reply = core.reply(request);
-    put(output, &mut verdicts.lines, &reply);
+    verdicts.lines.tell_verdict(output, &reply);
     verdicts.met.meet(&reply);
 }
 
@@ -102,7 +73,7 @@ fn judge<A: Allocator + Copy, W: Write>(
     let shape = trace.shape(alloc)?;
     let mut core = Core::new(alloc, &shape, limit)?;
     let mut verdicts = Verdicts {
-        lines: Waiting::new(alloc)?,
+        lines: LineBuffer::new(alloc)?,
         met: Met::new(),
     };
     core.make_room(trace.lines.likely_strands());
@@ -127,7 +98,7 @@ fn finish<A: Allocator, W: Write>(
     ensures delivered { OnOk result (is_delivered output.new ≡ true) }
     ensures failed { IsErrOf result CliFault.Write ↔ IsTrue (has_failed output.new) }
 {
-    give(output, &mut verdicts.lines);
+    verdicts.lines.give(output);
     if output.failed() {
         return Err(CliFault::Write);
     }

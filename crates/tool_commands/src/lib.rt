@@ -24,7 +24,6 @@
 //! numbers in their ranges; which words give which job is shown by tests.
 #![tactic(auto)]
 
-mod cell_buffer;
 mod declarations;
 mod draw;
 mod elide;
@@ -34,6 +33,7 @@ mod help;
 mod host;
 mod judge;
 pub mod laws;
+mod line_buffer;
 mod names;
 mod outcome;
 mod performing;
@@ -42,7 +42,6 @@ mod run;
 mod status;
 mod streams;
 mod traced;
-mod waiting;
 mod watched;
 mod words;
 

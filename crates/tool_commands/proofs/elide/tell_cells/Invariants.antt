@@ -1,7 +1,7 @@
 use Rattle.std.proofs.Common.{◌≡◌, ◌++◌, ℕ, List, drop}
 use Rattle.tool_commands.specs.Watched.{held, has_failed}
 use Rattle.tool_commands.specs.ElisionText.{cell_lines}
-use Rattle.tool_commands.specs.CellBuffers.{TellsMore}
+use Rattle.tool_commands.specs.Tellings.{TellsMore}
 use Rattle.tool_commands.proofs.elide.tell_cells.Given as goal
 
 -- some lines are told, and with those of the cells that are left they are all lines

@@ -1,14 +1,17 @@
-//! Lines of an elision that wait to be written.
+//! Lines that wait to be written: verdicts of a trace, or the cells of an elision.
 
 ghost use Rattle.std.specs.Prelude.{◌≡◌, ◌↔◌, ◌+◌, ◌≤◌, ◌++◌, [], length, take, IfOk, IsTrue};
 ghost use Rattle.trace_text.specs.Shapes.{name_in};
+ghost use Rattle.race_report.specs.VerdictText.{HasWords, line_of_reply};
 ghost use Rattle.tool_commands.specs.ElisionText.{cell_line, requests_line, HasShortName};
 ghost use Rattle.tool_commands.specs.Watched.{held, has_failed};
-ghost use Rattle.tool_commands.specs.CellBuffers.{TellsMore, most_filled};
+ghost use Rattle.tool_commands.specs.LineBuffers.{most_filled};
+ghost use Rattle.tool_commands.specs.Tellings.{TellsMore};
 
 use crate::streams::write_bytes;
 use crate::watched::Watched;
-use race_report::{Counted, put_told, put_word};
+use race_gate::Reply;
+use race_report::{Counted, LINE_ROOM, put_told, put_verdict, put_word};
 use std::alloc::{AllocError, Allocator};
 use std::io::Write;
 use std::marker::Model;
@@ -16,21 +19,18 @@ use text_words::Mem;
 
 /// How many bytes of lines wait at most before they are written.
 const MOST_HELD: usize = 65_536;
-/// Room for each line, in bytes: a name has 32 at most, and each of two numbers 20.
-const LINE_ROOM: usize = 80;
 
 /// Lines that wait to be written, in room that is taken once.
 #[derive(Drop)]
-pub struct CellBuffer<A: Allocator> {
+pub struct LineBuffer<A: Allocator> {
     bytes: Vec<u8, A>,
     filled: usize,
     counted: Counted,
 }
 
-impl<A: Allocator> Model for CellBuffer<A> {
+impl<A: Allocator> Model for LineBuffer<A> {
     ghost use Rattle.std.specs.Prelude.{◌≡◌, length, take};
-    ghost use Rattle.tool_commands.specs.Waiting.{Lines};
-    ghost use Rattle.tool_commands.specs.CellBuffers.{most_held};
+    ghost use Rattle.tool_commands.specs.LineBuffers.{Lines, most_held};
 
     ghost Value = { Lines };
 
@@ -76,12 +76,12 @@ fn put_cell(
     put_told(out, end, " ", value)
 }
 
-impl<A: Allocator> CellBuffer<A> {
+impl<A: Allocator> LineBuffer<A> {
     /// No lines. It takes memory here and at no other call.
-    pub fn new(alloc: A) -> Result<CellBuffer<A>, AllocError>
+    pub fn new(alloc: A) -> Result<LineBuffer<A>, AllocError>
         ensures { IfOk result (λ buffer. buffer.text ≡ []) }
     {
-        Ok(CellBuffer {
+        Ok(LineBuffer {
             bytes: vec![in alloc; 0; MOST_HELD]?,
             filled: 0,
             counted: Counted::new(),
@@ -94,6 +94,21 @@ impl<A: Allocator> CellBuffer<A> {
         ensures { IsTrue result ↔ (self.now.filled ≤ most_filled) }
     {
         self.filled <= MOST_HELD - LINE_ROOM
+    }
+
+    /// Adds the verdict line of a reply.
+    #[inline(always)]
+    fn add_verdict(&mut self, reply: &Reply)
+        requires words { HasWords reply.now }
+        requires room { self.old.filled ≤ most_filled }
+        ensures { self.new.text ≡ self.old.text ++ line_of_reply reply.now }
+    {
+        self.filled = put_verdict(
+            self.bytes.as_mut_slice(),
+            self.filled,
+            reply,
+            &mut self.counted,
+        );
     }
 
     /// Adds the line of a memory's cell with this index.
@@ -165,6 +180,17 @@ impl<A: Allocator> CellBuffer<A> {
         if !self.has_room() {
             self.give(output);
         }
+    }
+
+    /// Tells the verdict line of a reply.
+    #[inline(always)]
+    pub fn tell_verdict<W: Write>(&mut self, output: &mut Watched<W>, reply: &Reply)
+        requires { HasWords reply.now }
+        ensures { TellsMore (W.contents (held output.old)) (has_failed output.old) self.old.text
+            (W.contents (held output.new)) (has_failed output.new) self.new.text (line_of_reply reply.now) }
+    {
+        self.make_room(output);
+        self.add_verdict(reply);
     }
 
     /// Tells the line of a memory's cell with this index.

@@ -1,7 +1,7 @@
 use Rattle.tool_commands.specs.ElisionText.{cell_line}
 use Rattle.tool_commands.specs.Watched.{held, has_failed}
 use Rattle.tool_commands.proofs.Buffering.{tells_added}
-use Rattle.tool_commands.proofs.cell_buffer.CellBuffer.tell_cell.Goals as goal
+use Rattle.tool_commands.proofs.line_buffer.LineBuffer.tell_cell.Goals as goal
 
 pub returns : goal.returns
 returns g c =

@@ -1,4 +1,4 @@
--- Verdict lines that wait to be written.
+-- Lines that wait to be written.
 use Rattle.std.specs.Prelude.{ℕ, List}
 
 -- what waits, and how much of the room it takes
@@ -6,7 +6,7 @@ pub record Lines : Type 0 where
   pub text : List ℕ
   pub filled : ℕ
 
--- so many bytes of verdict lines wait at most before they are written
+-- so many bytes of lines wait at most before they are written
 abbrev pub most_held : ℕ
 most_held = 65_536
 
