@@ -3,6 +3,7 @@
 ghost use Rattle.std.specs.Prelude.{◌≡◌, ◌↔◌, ◌≤◌, ◌^◌, [], true, length, reverse, IsTrue, IfOk, OnOk, MatchOption, Err};
 ghost use Rattle.std.specs.Bool.{MatchBool};
 ghost use Rattle.std.specs.List.{All, sum_by};
+ghost use Rattle.model_histories.specs.Extensions.{IsCleanAnswer};
 ghost use Rattle.locked_replay.specs.Receipts.{Rises, AreMarked};
 ghost use Rattle.locked_replay.specs.Logs.{all_receipts, all_asked, AreTheirs, AreWhole};
 
@@ -58,6 +59,18 @@ fn are_theirs<L: Ledger>(
     }
     let mut marks = vec![in alloc; false; entries.len()]?;
     Ok(mark_logs(marks.as_mut_slice(), entries, logs))
+}
+
+/// Whether it is known that no receipt of the logs is a refusal.
+pub(crate) fn are_clean<L: Ledger>(logs: &[WorkerLog<L>]) -> bool
+    ensures { IsTrue result → All (λ receipt. IsCleanAnswer receipt.answer) (all_receipts logs.now) }
+{
+    for log in logs {
+        if !log.receipts.are_clean() {
+            return false;
+        }
+    }
+    true
 }
 
 /// What was asked on all seats, or None where no u64 holds it.

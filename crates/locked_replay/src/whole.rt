@@ -14,7 +14,7 @@ ghost use Rattle.locked_replay.specs.Strange.{run_fault_of, IsStrangeGate};
 
 use crate::fault::RunFault;
 use crate::locked::LockedGate;
-use crate::logs::check_logs;
+use crate::logs::{are_clean, check_logs};
 use crate::same::is_same_shape;
 use crate::worker::WorkerLog;
 use program_text::Program;
@@ -51,6 +51,14 @@ fn is_clean(entries: &[Entry]) -> bool
         }
     }
     true
+}
+
+/// Whether no answer is a refusal. Where the receipts of the entries tell it, the entries are not looked at.
+fn is_clean_as_told(told: bool, entries: &[Entry]) -> bool
+    requires { IsTrue told → IsClean entries.now }
+    ensures { IsTrue result ↔ IsClean entries.now }
+{
+    told || is_clean(entries)
 }
 
 /// The fault of a history that is no finished run.
@@ -129,10 +137,11 @@ fn whole_of<L: Ledger, B: Allocator>(
     ensures faults { IfErr result (HasFault program.now.functions (shape_in program.now) gate logs.items) }
 {
     check_logs(alloc, &gate, logs.as_slice())?;
+    let told_clean = are_clean(logs.as_slice());
     // The replay may have the room of the receipts.
     drop(logs);
     let (entries, memory) = parts_of(alloc, program, gate)?;
-    let clean = is_clean(entries.as_slice());
+    let clean = is_clean_as_told(told_clean, entries.as_slice());
     Ok(Whole {
         entries,
         memory,

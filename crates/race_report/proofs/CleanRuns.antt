@@ -54,3 +54,11 @@ same_test false true first second = let e = first.1 (second.0 refl) in cc
 
 pub told_clean : (known : Known) (entries : List Entry) (clean : Bool) → IsTrue clean ↔ IsClean (reverse entries) → clean ≡ is_clean (refusals_told known entries)
 told_clean known entries clean tells = same_test clean (is_clean (refusals_told known entries)) tells (clean_told known entries)
+
+none_in : (refusals : List Data) → is_clean refusals ≡ true → [] ≡ refusals
+none_in [] none = refl
+none_in (refusal ∷ refusals) none = absurd cc
+
+-- the run is clean, so it has no refusals to tell
+pub none_told : (known : Known) (entries : List Entry) (clean : Bool) → IsTrue clean ↔ IsClean (reverse entries) → clean ≡ true → [] ≡ refusals_told known entries
+none_told known entries clean tells is = none_in (refusals_told known entries) ((clean_told known entries).1 (tells.0 is))

@@ -143,6 +143,22 @@ fn refusal_values<A: Allocator>(
     Ok(told)
 }
 
+/// The refusals of a run. Where it is known that there are none, no entry is looked at.
+fn refusals_of<A: Allocator>(
+    alloc: Global,
+    program: &Program<A>,
+    whole: &Whole,
+) -> Result<Vec<Value>, AllocError>
+    requires entries { AreTellable (shape_known (contents program.now).known) whole.now.entries.items }
+    requires clean { IsTrue whole.now.clean ↔ IsClean (reverse whole.now.entries.items) }
+    ensures { IfOk result (λ told. map view told.items ≡ refusals_told (contents program.now).known whole.now.entries.items) }
+{
+    if whole.clean {
+        return Ok(Vec::new(alloc));
+    }
+    refusal_values(alloc, program, whole.entries.as_slice())
+}
+
 /// Numbers as values.
 fn number_values(alloc: Global, numbers: &[u64]) -> Result<Vec<Value>, AllocError>
     ensures { IfOk result (λ values. map view values.items ≡ map (λ value. number (unsigned value)) numbers.now) }
@@ -249,7 +265,7 @@ pub fn report<A: Allocator>(
     ensures { IfOk result (λ text. text.items ≡ report_text (contents program.now).known whole.now.entries.items whole.now.memory.items) }
 {
     let entries = whole.entries.as_slice();
-    let refusals = refusal_values(alloc, program, entries)?;
+    let refusals = refusals_of(alloc, program, whole)?;
     let memory = memory_value(alloc, program.mems.as_slice(), whole.memory.as_slice())?;
     let report = report_value(alloc, whole.clean, entries.len(), memory, refusals)?;
     report.to_vec(alloc)

@@ -59,6 +59,15 @@ asked_fits (Some (End line)) registers act target e f = absurd (cc)
 wants_fit : (functions : List Code) (frame : State) (x : Exchange) → Wants functions frame x → (other : Target) → target_of x.act (target_or x.target other) ≡ x.target
 wants_fit functions frame x w = asked_fits _ _ x.act x.target w.follows.act w.follows.target
 
+no_target : (act : Act) (target : Target) → (act ≡ Act.Spawn → ⊥) → None ≡ target_of act target
+no_target Act.Spawn target other = absurd (other refl)
+no_target act target other = refl
+
+-- a frame that wants another act spawns nothing
+pub none_spawned : (functions : List Code) (frame : State) (x : Exchange) → Wants functions frame x → (x.act ≡ Act.Spawn → ⊥) → None ≡ x.target
+none_spawned functions frame x w other =
+    let some : Target = record { function = 0; argument = 0 } in no_target x.act (target_or x.target some) other ∙ wants_fit functions frame x w some
+
 module _ (functions : List Code) (entry : Entry) (before middle : State)
     (sought : (function argument : ℕ) (history : List Exchange) → IsAfter functions function argument history before → IsAfter functions function argument history middle)
     (only : (function argument : ℕ) (history : List Exchange) (x : Exchange) → IsAfter functions function argument history before →

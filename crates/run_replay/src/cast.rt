@@ -34,8 +34,8 @@ pub struct Slot<A: Allocator> {
 pub struct Cast<A: Allocator + Copy> {
     alloc: A,
     slots: Vec<Slot<A>, A>,
-    homes: Vec<usize, A>,
-    places: Vec<usize, A>,
+    homes: Vec<u32, A>,
+    places: Vec<u32, A>,
     free: Vec<usize, A>,
 }
 
@@ -48,11 +48,21 @@ fn alone<T: Drop, A: Allocator>(alloc: A, item: T) -> Result<Vec<T, A>, AllocErr
     Ok(list)
 }
 
+/// The number in four bytes, of which there are as many as strands.
+fn small(number: usize) -> Result<u32, AllocError>
+    ensures { IfOk result (λ small. small ≡ number) }
+{
+    if number > 4_294_967_295 {
+        return Err(AllocError);
+    }
+    Ok(number as u32)
+}
+
 /// Seats the strands of a split.
 fn add_places<A: Allocator>(
-    places: &mut Vec<usize, A>,
-    child: usize,
-    spawner: usize,
+    places: &mut Vec<u32, A>,
+    child: u32,
+    spawner: u32,
     first: bool,
 ) -> Result<(), AllocError>
     ensures { OnOk result (places.new.items ≡ places.old.items ++ new_places first child spawner) }
@@ -171,7 +181,7 @@ impl<A: Allocator + Copy> Cast<A> {
     fn begin<B: Allocator>(
         &mut self,
         program: &Program<B>,
-        place: usize,
+        place: u32,
         target: Target,
         first: bool,
     ) -> Result<(), AllocError>
@@ -184,8 +194,8 @@ impl<A: Allocator + Copy> Cast<A> {
     {
         let child = self.homes.len();
         let home = self.house(program, child, target)?;
-        self.homes.push(home)?;
-        add_places(&mut self.places, child, place, first)
+        self.homes.push(small(home)?)?;
+        add_places(&mut self.places, small(child)?, place, first)
     }
 
     /// Keeps a slot for another frame where its frame has ended by this answer.
@@ -219,8 +229,13 @@ impl<A: Allocator + Copy> Cast<A> {
             Some(place) => *place,
             None => return Err(Misfit::Strange),
         };
-        let home = self.homes[place];
-        let target = turn_of(&mut self.slots[home], place, program, entry)?;
+        let home = self.homes[place as usize];
+        let target = turn_of(
+            &mut self.slots[home as usize],
+            place as usize,
+            program,
+            entry,
+        )?;
         match (target, entry.answer) {
             (Some(target), Answer::Split(strands)) => {
                 match self.begin(program, place, target, strands.first) {
@@ -228,7 +243,7 @@ impl<A: Allocator + Copy> Cast<A> {
                     Err(_) => Err(Misfit::Memory),
                 }
             }
-            _ => self.vacate(home, entry.answer),
+            _ => self.vacate(home as usize, entry.answer),
         }
     }
 }

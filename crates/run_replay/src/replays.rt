@@ -163,6 +163,9 @@ fn follow_all<A: Allocator + Copy, B: Allocator>(
 /// From how many spawns on a replay asks for their room at once.
 const MANY_SPAWNS: usize = 1_000;
 
+/// Few programs spawn more often than at every so many entries.
+const ENTRIES_OF_SPAWN: usize = 4;
+
 /// How many entries are spawns.
 fn spawns_of(entries: &[Entry]) -> usize {
     let mut spawns = 0usize;
@@ -197,7 +200,8 @@ pub fn replay<A: Allocator + Copy, B: Allocator>(
     play_all(&mut core, &mut cast, program, entries)
 }
 
-/// What [`replay`] says of these entries, where it is known that they are judged, as those of a gate are: no core judges them again.
+/// What [`replay`] says of these entries, where it is known that they are judged, as those of a gate are: no core judges them again. Room
+/// for spawns is asked for by the number of entries, since what is not used of it costs less than to look at all entries once more.
 pub fn follow<A: Allocator + Copy, B: Allocator>(
     alloc: A,
     program: &Program<B>,
@@ -214,7 +218,7 @@ pub fn follow<A: Allocator + Copy, B: Allocator>(
         return replay(alloc, program, entries);
     }
     let mut cast = Cast::open(alloc, program)?;
-    let spawns = spawns_of(entries);
+    let spawns = entries.len() / ENTRIES_OF_SPAWN;
     if spawns >= MANY_SPAWNS {
         cast.make_room(spawns);
     }

@@ -1,15 +1,17 @@
 //! One entry: the turn of its frame, and the gate's answer.
 
-ghost use Rattle.std.specs.Prelude.{◌≡◌, ◌≢◌, ◌↔◌, IsTrue, IfOk, OnOk, Err};
+ghost use Rattle.std.specs.Prelude.{◌≡◌, ◌≢◌, ◌↔◌, ◌<◌, length, IsTrue, IfOk, IfSome, OnOk, Err};
 ghost use Rattle.model_histories.specs.States.{State};
 ghost use Rattle.model_histories.specs.Faults.{HasCause};
 ghost use Rattle.race_gate.specs.Cores.{IsCoreOf};
-ghost use Rattle.frame_steps.specs.Frames.{Stands};
+ghost use Rattle.model_programs.specs.Exchanges.{Exchange};
+ghost use Rattle.frame_steps.specs.Frames.{Stands, Wants};
 ghost use Rattle.run_replay.specs.Turns.{IsTurn, HasNoTurn, IsEntered, IsOdd};
 ghost use Rattle.run_replay.specs.declared.turn.Misfit.{Misfit};
 
 use frame_steps::{Frame, FrameFault};
 use function_steps::Target;
+use model_accesses::Act;
 use program_text::Program;
 use race_gate::{Answer, Core, Entry, GateFault};
 use std::alloc::Allocator;
@@ -21,6 +23,29 @@ pub enum Misfit {
     Strange,
     /// There is no memory.
     Memory,
+}
+
+fn is_spawn(act: Act) -> bool
+    ensures { IsTrue result ↔ act ≡ Act.Spawn }
+{
+    matches!(act, Act::Spawn)
+}
+
+/// The function that a frame spawns, which wants this act. The frame is not asked where it can be none.
+fn spawned<A: Allocator, B: Allocator>(
+    frame: &Frame<A>,
+    program: &Program<B>,
+    act: Act,
+) -> Option<Target>
+    requires { Stands program.now.functions frame.now }
+    ensures target { (x : Exchange) → Wants program.now.functions frame.now x → x.act ≡ act → result ≡ x.target }
+    ensures there { IfSome result (λ target. target.function < length program.now.functions) }
+{
+    if is_spawn(act) {
+        frame.spawns(program)
+    } else {
+        None
+    }
 }
 
 /// Goes on with a frame by an entry, and gives the function that it spawns.
@@ -40,7 +65,7 @@ pub fn turn<A: Allocator, B: Allocator>(
     if want.act != entry.request.act || want.line != entry.request.line {
         return Err(Misfit::Strange);
     }
-    let target = frame.spawns(program);
+    let target = spawned(frame, program, want.act);
     match frame.answer(program, &entry.answer) {
         Ok(()) => Ok(target),
         Err(FrameFault::Strange) => Err(Misfit::Strange),

@@ -1,7 +1,9 @@
 //! A list of receipts.
 
 ghost use Rattle.std.specs.Prelude.{◌≡◌, ◌↔◌, ◌<◌, ◌++◌, ◌∷◌, [], true, get_or, length, slice_get, Some, IsTrue, OnOk, OnErr};
+ghost use Rattle.std.specs.List.{All};
 ghost use Rattle.model_histories.specs.declared.reply.Receipt.{Receipt as OneReceipt};
+ghost use Rattle.model_histories.specs.Extensions.{IsCleanAnswer};
 ghost use Rattle.short_receipts.specs.Shorts.{index_of as index_spec, plain as plain_spec};
 
 use crate::deed::{Short, index_of, is_long, is_plain, is_same, long_at, plain, short_of};
@@ -112,6 +114,13 @@ impl Receipts {
         ensures { result ≡ length self.now.items }
     {
         self.shorts.len()
+    }
+
+    /// Whether it is known that none of them is a refusal, since such are not kept short.
+    pub fn are_clean(&self) -> bool
+        ensures { IsTrue result → All (λ receipt. IsCleanAnswer receipt.answer) self.now.items }
+    {
+        self.longs.is_empty()
     }
 
     /// Whether there are none.

@@ -96,9 +96,36 @@ fn has_finished(receipts: &Receipts) -> bool
     false
 }
 
+/// Whether the last receipt is that of the run's end.
+fn ends_finished(receipts: &Receipts) -> bool
+    ensures { result ≡ true → list_any (λ receipt. finishes receipt.answer) receipts.now.items ≡ true }
+{
+    let count = receipts.len();
+    if count == 0 {
+        return false;
+    }
+    is_finishing(receipts.get(count - 1))
+}
+
+/// Whether some log ends with the receipt of the run's end, as that of the worker does that saw it.
+fn some_log_ends<L: Ledger>(logs: &[WorkerLog<L>]) -> bool
+    ensures { result ≡ true → some_finished logs.now ≡ true }
+{
+    for log in logs {
+        if ends_finished(&log.receipts) {
+            return true;
+        }
+    }
+    false
+}
+
+/// Whether some receipt is that of the run's end. The ends of the logs are looked at first.
 fn some_log_finished<L: Ledger>(logs: &[WorkerLog<L>]) -> bool
     ensures { result ≡ some_finished logs.now }
 {
+    if some_log_ends(logs) {
+        return true;
+    }
     logs.iter().any(|log| has_finished(&log.receipts))
 }
 

@@ -2,6 +2,7 @@
 
 ghost use Rattle.std.specs.Prelude.{◌≡◌, ◌↔◌, ◌+◌, ◌<◌, [], ◌∷◌, ◌++◌, Err, IfErr, IfOk};
 ghost use Rattle.std.specs.Prelude.{IfSome, IsTrue, MatchOption, OnOk, length, vec_len};
+ghost use Rattle.frame_steps.specs.Frames.{Stands};
 ghost use Rattle.locked_replay.specs.declared.fault.RunFault.{RunFault};
 ghost use Rattle.steal_workers.specs.Hands.{pushing};
 ghost use Rattle.steal_workers.specs.Goings.{GoesOn, HandsOut, IsAtJoin};
@@ -11,6 +12,7 @@ use crate::fault::{fault_of, meeting_of, refusal_of};
 use crate::lot::Lot;
 use crate::task::{Spare, Task};
 use crossbeam_utils::Backoff;
+use frame_steps::Frame;
 use function_steps::Target;
 use locked_replay::{Ask, RunFault, Seat, WorkerLog};
 use program_text::Program;
@@ -20,6 +22,17 @@ use std::alloc::{AllocError, Global};
 use std::sync::Wait;
 use std::sync::ledger::Ledger;
 use text_words::{Act, Request};
+
+/// The function that a frame spawns, which wants this act. The frame is not asked where it can be none.
+fn spawned(frame: &Frame<Global>, program: &Program<Global>, act: Act) -> Option<Target>
+    requires { Stands program.now.functions frame.now }
+    ensures { IfSome result (λ target. target.function < length program.now.functions) }
+{
+    match act {
+        Act::Spawn => frame.spawns(program),
+        _ => None,
+    }
+}
 
 /// What a frame knew of its request before it was answered.
 #[derive(Clone, Copy)]
@@ -171,7 +184,7 @@ impl<'p, L: Ledger> Worker<'p, L> {
         frame.reserve_call()?;
         let want = frame.next(program);
         let asked = Asked {
-            target: frame.spawns(program),
+            target: spawned(frame, program, want.act),
             join: frame.block_join(),
         };
         let request = Request {

@@ -16,14 +16,13 @@ use Rattle.race_report.proofs.json_report.report.Goals as goal
 -- the parts as they were made are those of the report
 parts_told : (known : Known) (entries listed : List Entry) (values held : List ℕ) (mems : List Mem) (clean : Bool) (memory : Data) (refusals : List Data) →
     listed ≡ entries → held ≡ values → mems ≡ known.mems → clean ≡ is_clean (refusals_told known entries) → memory ≡ memory_told mems held →
-    refusals ≡ refusals_told known listed → report_with clean (length listed) memory refusals ≡ report_told known entries values
+    refusals ≡ refusals_told known entries → report_with clean (length listed) memory refusals ≡ report_told known entries values
 parts_told known entries listed values held mems clean memory refusals same_entries same_values same_mems same_clean same_memory same_refusals =
-    let all = same_refusals ∙ ap (λ (es : List Entry). refusals_told known es) same_entries in
     let cells = same_memory ∙ ap (λ (ms : List Mem). memory_told ms held) same_mems ∙ ap (λ (vs : List ℕ). memory_told known.mems vs) same_values in
     ap (λ (c : Bool). report_with c (length listed) memory refusals) same_clean ∙
     ap (λ (es : List Entry). report_with (is_clean (refusals_told known entries)) (length es) memory refusals) same_entries ∙
     ap (λ (m : Data). report_with (is_clean (refusals_told known entries)) (length entries) m refusals) cells ∙
-    ap (λ (rs : List Data). report_with (is_clean (refusals_told known entries)) (length entries) (memory_told known.mems values) rs) all
+    ap (λ (rs : List Data). report_with (is_clean (refusals_told known entries)) (length entries) (memory_told known.mems values) rs) same_refusals
 
 pub returns : goal.returns
 returns g c =

@@ -27,7 +27,7 @@ returns-in-Ok-clause-ok g c =
     let line : c.next-want.result.line ≡ c.args.entry.request.line = search (rules, c.if-want-entry.false) in
     turned c.args.program.now.functions c.args.entry c.args.frame.now c.next-want.new.self c.next-want.ensures.after
     (λ function argument history x a. (c.next-want.ensures.only function argument history x a).0) c.answer.new.self c.next-want.result.act c.next-want.result.line
-    c.spawns-target.result c.next-want.ensures.asks act line c.spawns-target.ensures.target c.spawns-target.ensures.there c.in-Ok.ensures.belongs c.in-Ok.ensures.after
+    c.spawned-target.result c.next-want.ensures.asks act line (λ x w. c.spawned-target.ensures.target x w (c.next-want.ensures.asks x w).0) c.spawned-target.ensures.there c.in-Ok.ensures.belongs c.in-Ok.ensures.after
     c.in-Ok.ensures.stands
 
 pub returns-in-Err-Strange-clause-strange : goal.returns-in-Err-Strange-clause-strange
