@@ -9,7 +9,7 @@ ghost use Rattle.race_report.specs.Rooms.{HasRoom, number_room, line_room};
 
 use crate::counted::Counted;
 use crate::placed::{put_number, put_word};
-use access_table::{Kind, rule_word};
+use access_table::{Kind, access_table, rule_word};
 use itoa::Buffer;
 use model_accesses::Witness;
 use model_strands::Spawned;
@@ -85,7 +85,41 @@ fn put_split(out: &mut [u8], at: usize, spawned: Spawned) -> usize
     put_told(out, next, " ", u64::from(spawned.join))
 }
 
+/// Puts the word of a refusal and that of the rule that an act and an earlier access of this kind come under, each behind a space, and a
+/// space. So that no length is asked when it runs, all this is one text for each two kinds.
+#[inline(always)]
+fn put_rule(out: &mut [u8], at: usize, act: Act, witness: Kind) -> usize
+    requires word { IsSome (refusal_word act witness) }
+    requires room { at + 26 ≤ length out.old }
+    ensures end { result ≤ at + 26 }
+    ensures len { length out.new ≡ length out.old }
+    ensures put { take result out.new ≡ take at out.old ++ (codes " refused " ++ unwrap_or (refusal_word act witness) [] ++ codes " ") }
+{
+    let Some(asked) = access_asked(act) else {
+        unreachable!()
+    };
+    let new = asked.kind;
+    macro_rules! text {
+        (Race $old:literal $new:literal) => {
+            concat!(" refused ", $old, "-", $new, " ")
+        };
+        (View $old:literal $new:literal) => {
+            " refused view-read "
+        };
+    }
+    macro_rules! texts {
+        ([] $({ $kind:ident $word:literal $sort:ident $([$earlier:ident $earlier_word:literal $rule:ident])* })*) => {
+            match (witness, new) {
+                $($((Kind::$earlier, Kind::$kind) => put_word(out, at, text!($rule $earlier_word $word)),)*)*
+                _ => unreachable!(),
+            }
+        };
+    }
+    access_table!(texts [])
+}
+
 /// Puts the end of a line that tells a refusal: that, the rule and the witness.
+#[inline(always)]
 fn put_refusal(out: &mut [u8], at: usize, act: Act, witness: Witness) -> usize
     requires word { IsSome (refusal_word act witness.kind) }
     requires room { at + 48 ≤ length out.old }
@@ -93,9 +127,8 @@ fn put_refusal(out: &mut [u8], at: usize, act: Act, witness: Witness) -> usize
     ensures put { take result out.new ≡ take at out.old ++
         (codes " refused " ++ unwrap_or (refusal_word act witness.kind) [] ++ codes " " ++ decimal witness.entry ++ codes "\n") }
 {
-    let place = put_word(out, at, " refused ");
-    let end = put_word(out, place, rule_of_refusal(act, witness.kind));
-    put_told(out, end, " ", u64::from(witness.entry))
+    let end = put_rule(out, at, act, witness.kind);
+    put_told(out, end, "", u64::from(witness.entry))
 }
 
 /// Puts the end of a line behind the entry's number: what the gate answered to an act.

@@ -7,7 +7,7 @@ use Rattle.text_words.specs.Text.{words, IsTextLine, IsNumber}
 use Rattle.text_words.specs.Limits.{max_value}
 use Rattle.text_words.specs.Values.{Known}
 use Rattle.trace_text.specs.declared.keyword.Keyword.{Keyword}
-use Rattle.trace_text.specs.Lines.{Place, Placed, placed, wanted, a_value, Value, WordMeans, WordsMean, Mark, asks, operands}
+use Rattle.trace_text.specs.Lines.{Place, Placed, placed, wanted, a_value, Value, WordMeans, WordsMean, Mark, asks, operands, if_there}
 use Rattle.trace_text.specs.Grammar.{ItemMeans}
 use Rattle.trace_text.specs.Items.{line_asked}
 use Rattle.trace_text.specs.Printing.{behind_space}
@@ -66,3 +66,9 @@ abbrev pub HasRequest : Known → List ℕ → ℕ → Act → Option ℕ → Li
 HasRequest known bytes strand act mark rest =
     (line : List ℕ) × (bytes ≡ line ++ 10 ∷ rest) × IsTextLine line
     × ((at : ℕ) → ItemMeans at known (words line) (line_asked at strand act mark))
+
+-- The same but for the mark and the line feed, which are what this rest begins with.
+abbrev pub BeginsRequest : Known → List ℕ → ℕ → Act → List ℕ → Type 0
+BeginsRequest known bytes strand act rest =
+    (mark : Option ℕ) (behind : List ℕ)
+    → HasEnd known [] (Some Mark) rest (if_there mark) behind → HasRequest known bytes strand act mark behind

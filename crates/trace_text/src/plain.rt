@@ -9,7 +9,7 @@ ghost use Rattle.text_words.specs.declared.value.Version.{Version as SpecVersion
 ghost use Rattle.text_words.specs.Values.{Known};
 ghost use Rattle.trace_text.specs.declared.keyword.Keyword.TheVariants.{Access};
 ghost use Rattle.trace_text.specs.Lines.{Cell, ReducerName, Mark, a_strand, a_value, OfNumber, if_there, spelling, HasKeyword};
-ghost use Rattle.trace_text.specs.Plain.{HasNumber, HasNext, HasTwo, HasIndex, HasEnd, HasOperands, HasRequest};
+ghost use Rattle.trace_text.specs.Plain.{HasNumber, HasNext, HasTwo, HasIndex, HasEnd, HasOperands, BeginsRequest};
 
 use crate::keyword::Keyword;
 use crate::place::STRAND;
@@ -17,25 +17,23 @@ use access_table::Kind;
 use std::alloc::Allocator;
 use text_words::{Act, Named, Names, Version};
 
-/// A request in plain form.
+/// A request in plain form, but for its mark and the line feed.
 #[derive(Clone, Copy)]
 pub struct Plain<'b> {
     /// The strand's number.
     pub strand: u32,
     /// What it asks for.
     pub act: Act,
-    /// The line that the mark names, if there is one.
-    pub mark: Option<u32>,
-    /// What stands behind the line.
+    /// What stands behind the operands.
     pub rest: &'b [u8],
 }
 
 /// The value of a digit, and more than 9 of any other byte.
 #[inline(always)]
-fn digit_of(byte: u8) -> u8
+fn digit_of(byte: u8) -> u64
     ensures { result ≤ 9 → result + 48 ≡ byte }
 {
-    byte.wrapping_sub(b'0')
+    u64::from(byte).wrapping_sub(48)
 }
 
 /// So many digits are a number of 64 bits, whichever they are.
@@ -55,7 +53,7 @@ fn number_within(bytes: &[u8], most: usize) -> Option<(u64, &[u8])>
         if digit > 9 {
             break;
         }
-        value = value * 10 + u64::from(digit);
+        value = value * 10 + digit;
         length += 1;
     }
     if length == 0 {
@@ -104,23 +102,32 @@ fn value(bytes: &[u8]) -> Option<(u64, &[u8])>
     Some((value, rest))
 }
 
-/// The mark behind a space, if there is one, and the line feed.
-#[inline(always)]
-fn mark(bytes: &[u8]) -> Option<(Option<u32>, &[u8])>
-    ensures { (known : Known) → IfSome result (λ r. HasEnd known [] (Some Mark) bytes.now (if_there r.0) r.1.now) }
+/// The mark behind a space, and the line feed. Few lines have one, and the code of those that have none stays small.
+#[inline(never)]
+fn marked(bytes: &[u8]) -> Option<(u32, &[u8])>
+    ensures { (known : Known) → IfSome result (λ r. HasEnd known [] (Some Mark) bytes.now (if_there (Some r.0)) r.1.now) }
 {
-    if let [b'\n', rest @ ..] = bytes {
-        return Some((None, rest));
-    }
     let [b' ', b'@', digits @ ..] = bytes else {
         return None;
     };
     match head_number(digits) {
         Some((line, [b'\n', rest @ ..])) if 1 <= line && line <= STRAND => {
-            Some((Some(line as u32), rest))
+            Some((line as u32, rest))
         }
         _ => None,
     }
+}
+
+/// The mark behind a space, if there is one, and the line feed.
+#[inline(always)]
+pub fn mark(bytes: &[u8]) -> Option<(Option<u32>, &[u8])>
+    ensures { (known : Known) → IfSome result (λ r. HasEnd known [] (Some Mark) bytes.now (if_there r.0) r.1.now) }
+{
+    if let [b'\n', rest @ ..] = bytes {
+        return Some((None, rest));
+    }
+    let (line, rest) = marked(bytes)?;
+    Some((Some(line), rest))
 }
 
 /// What stands before the first space, bracket or line feed, and the rest. It need not be a name.
@@ -314,22 +321,16 @@ fn act<'b, A: Allocator + Copy>(
     }
 }
 
-/// The request that the first line asks for, where it stands in plain form.
+/// The request that the first line asks for, where it stands in plain form up to its operands.
 #[inline(always)]
 pub fn plain_request<'b, A: Allocator + Copy>(
     names: &Names<'_, A>,
     bytes: &'b [u8],
 ) -> Option<Plain<'b>>
-    ensures { IfSome result (λ plain. HasRequest names.now bytes.now plain.strand plain.act plain.mark plain.rest.now) }
+    ensures { IfSome result (λ plain. BeginsRequest names.now bytes.now plain.strand plain.act plain.rest.now) }
 {
     let (keyword, rest) = keyword(names.version(), bytes)?;
     let (strand, rest) = strand(rest)?;
     let (act, rest) = act(names, keyword, rest)?;
-    let (mark, rest) = mark(rest)?;
-    Some(Plain {
-        strand,
-        act,
-        mark,
-        rest,
-    })
+    Some(Plain { strand, act, rest })
 }

@@ -1,6 +1,7 @@
 //! A trace from its text.
 
-ghost use Rattle.std.specs.Prelude.{◌≡◌, ◌≢◌, ◌<◌, ◌≤◌, ◌+◌, ℕ, List, [], length, IsTrue, IfOk, map, MatchOption, MatchResult};
+ghost use Rattle.std.specs.Prelude.{◌≡◌, ◌≢◌, ◌<◌, ◌≤◌, ◌+◌, ℕ, List, [], length, IsTrue, IfOk, map, IsNone, MatchOption, MatchResult};
+ghost use Rattle.std.specs.Option.{IfSome};
 ghost use Rattle.std.specs.List.{All};
 ghost use Rattle.model_accesses.specs.Limits.{most_cells};
 ghost use Rattle.model_reducers.specs.Limits.{most_reducers};
@@ -11,16 +12,17 @@ ghost use Rattle.text_words.specs.Declarations.{cells_of};
 ghost use Rattle.trace_text.specs.Grammar.{Item as SpecItem, Declared, Reduces, Asked, LineMeans, ItemMeans};
 ghost use Rattle.trace_text.specs.Grammar.{LinesMean, TextMeans, extended, nothing, IsHeader};
 ghost use Rattle.trace_text.specs.Items.{item_of};
+ghost use Rattle.trace_text.specs.Plain.{BeginsRequest};
 ghost use Rattle.trace_text.specs.Drafts.{so_far, Extends, IsRoomFault, IsLineFault, IsHeaderFault};
 ghost use Rattle.trace_text.specs.Drafts.{IsLinesFault, IsBodyFault, IsTextFault, IsTaken, IsStopped, SaysSo};
 
 use crate::line::{Item, read_line, request_on};
 use crate::place::CELLS;
-use crate::plain::plain_request;
+use crate::plain::{Plain, mark, plain_request};
 use std::alloc::{AllocError, Allocator};
 use text_words::{
-    Cause, Mems, Monoid, Monoids, Names, Reducers, Shape, TextFault, TraceLine, Version, Words,
-    as_text, split_line, without_return,
+    Act, Cause, Mems, Monoid, Monoids, Names, Reducers, Shape, TextFault, TraceLine, Version,
+    Words, as_text, split_line, without_return,
 };
 use trace_lines::TraceLines;
 
@@ -191,7 +193,68 @@ impl<'a, A: Allocator + Copy> Draft<'a, A> {
         }
     }
 
+    /// Adds a request in plain form, and gives what stands behind its line, or the fault of the line too. None, which changes nothing,
+    /// where the line does not end in plain form.
+    #[inline(always)]
+    fn ask_plain<'b>(&mut self, at: u32, plain: Plain<'b>) -> Option<(&'b [u8], Option<TextFault>)>
+        ensures asked { IfSome result (λ r. (text : List ℕ) →
+            BeginsRequest self.old.names text plain.entry.strand plain.entry.act plain.entry.rest.now → MatchOption r.1
+            (IsTaken at (so_far self.old.names self.old.lines) text r.0.now (so_far self.new.names self.new.lines))
+            (IsStopped at (so_far self.old.names self.old.lines) text)) }
+        ensures unchanged { IsNone result → self.new ≡ self.old }
+    {
+        let (mark, rest) = mark(plain.rest)?;
+        let line = request_on(at, plain.strand, plain.act, mark);
+        match self.ask(at, line) {
+            Ok(()) => Some((rest, None)),
+            Err(fault) => Some((rest, Some(fault))),
+        }
+    }
+
+    /// The same, by code of its own for each kind of act. So the kind is told apart here, and nowhere below.
+    #[inline(always)]
+    fn ask_by_kind<'b>(
+        &mut self,
+        at: u32,
+        plain: Plain<'b>,
+    ) -> Option<(&'b [u8], Option<TextFault>)>
+        ensures asked { IfSome result (λ r. (text : List ℕ) →
+            BeginsRequest self.old.names text plain.entry.strand plain.entry.act plain.entry.rest.now → MatchOption r.1
+            (IsTaken at (so_far self.old.names self.old.lines) text r.0.now (so_far self.new.names self.new.lines))
+            (IsStopped at (so_far self.old.names self.old.lines) text)) }
+        ensures unchanged { IsNone result → self.new ≡ self.old }
+    {
+        match plain.act {
+            Act::Spawn => self.ask_plain(at, plain),
+            Act::Sync => self.ask_plain(at, plain),
+            Act::Call => self.ask_plain(at, plain),
+            Act::Return => self.ask_plain(at, plain),
+            Act::Read(_) => self.ask_plain(at, plain),
+            Act::Write(_, _) => self.ask_plain(at, plain),
+            Act::Bump(_, _) => self.ask_plain(at, plain),
+            Act::Update(_, _) => self.ask_plain(at, plain),
+            Act::Put(_, _) => self.ask_plain(at, plain),
+            Act::Get(_) => self.ask_plain(at, plain),
+        }
+    }
+
     /// The same behind a request, where a name that the line declares need not last.
+    #[inline(never)]
+    fn take_other<'b>(&mut self, at: u32, text: &'b [u8]) -> (&'b [u8], Option<TextFault>)
+        requires text { 0 < length text.now }
+        requires some { self.old.lines ≢ [] }
+        ensures { MatchOption result.1
+            (IsTaken at (so_far self.old.names self.old.lines) text.now result.0.now (so_far self.new.names self.new.lines))
+            (IsStopped at (so_far self.old.names self.old.lines) text.now) }
+    {
+        let (line, rest) = split_line(text);
+        match self.take_behind(at, without_return(line)) {
+            Ok(()) => (rest, None),
+            Err(fault) => (rest, Some(fault)),
+        }
+    }
+
+    /// The same, sooner where the line is a request in plain form.
     #[inline(always)]
     fn take_next<'b>(&mut self, at: u32, text: &'b [u8]) -> (&'b [u8], Option<TextFault>)
         requires text { 0 < length text.now }
@@ -200,18 +263,13 @@ impl<'a, A: Allocator + Copy> Draft<'a, A> {
             (IsTaken at (so_far self.old.names self.old.lines) text.now result.0.now (so_far self.new.names self.new.lines))
             (IsStopped at (so_far self.old.names self.old.lines) text.now) }
     {
-        if let Some(plain) = plain_request(&self.names, text) {
-            let line = request_on(at, plain.strand, plain.act, plain.mark);
-            return match self.ask(at, line) {
-                Ok(()) => (plain.rest, None),
-                Err(fault) => (plain.rest, Some(fault)),
-            };
+        if let Some(plain) = plain_request(&self.names, text)
+            && let Some((rest, fault)) = self.ask_by_kind(at, plain)
+        {
+            return (rest, fault);
         }
-        let (line, rest) = split_line(text);
-        match self.take_behind(at, without_return(line)) {
-            Ok(()) => (rest, None),
-            Err(fault) => (rest, Some(fault)),
-        }
+        let (rest, fault) = self.take_other(at, text);
+        (rest, fault)
     }
 
     /// Reads the lines of a text that stands behind a request and the line with the number `at`. It gives the number of the last line.

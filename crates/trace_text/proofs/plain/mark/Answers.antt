@@ -1,17 +1,8 @@
 use Rattle.std.proofs.Common.{◌≡◌, slice_index_or, arith}
-use Rattle.trace_text.proofs.PlainRequests.{ends_plain, ends_marked}
+use Rattle.trace_text.proofs.PlainRequests.{ends_plain}
 use Rattle.trace_text.proofs.plain.mark.Goals as goal
 
 pub returns-in-10 : goal.returns-in-10
 returns-in-10 c =
     let feed : slice_index_or c.args.bytes.now 0 0 ≡ 10 = omega arith in
     λ known. ends_plain known c.args.bytes.now c.in-10.len_at_least feed
-
-pub returns-in-Some-default-eq10 : goal.returns-in-Some-default-eq10
-returns-in-Some-default-eq10 c =
-    let behind = c.in-Some-default-eq10.field-0-1.now in
-    let space : slice_index_or c.args.bytes.now 0 0 ≡ 32 = omega arith in
-    let at : slice_index_or c.args.bytes.now 1 0 ≡ 64 = omega arith in
-    let feed : slice_index_or behind 0 0 ≡ 10 = omega arith in
-    λ known. ends_marked known c.args.bytes.now behind c.in-Some-default-eq10.line c.in-32.len_at_least space at
-    c.in-Some-default-eq10.ensures c.if-line-ge1.true c.if-line-le-STRAND.true c.in-Some-default-eq10.len_at_least feed

@@ -16,7 +16,7 @@ pub loop-length-preserved : goal.loop-length-preserved
 loop-length-preserved c =
     let was = c.loop-length.invariant in
     let read = c.digit_of-digit.ensures c.if-digit-gt9.false in
-    let step = one_more_digit c.args.bytes.now c.loop-length.length c.loop-length.value c.from.result (omega arith) was.1 was.2 was.3
-    (omega (arith, read)) (omega (arith, read)) (omega (arith, read, c.from.ensures)) in
+    let step = one_more_digit c.args.bytes.now c.loop-length.length c.loop-length.value c.digit_of-digit.result (omega arith) was.1 was.2 was.3
+    (omega (arith, read)) (omega (arith, read)) (omega (arith, read)) in
     let more : c.loop-length.length + 1 ≤ c.args.most = omega arith in
     (more, step.0, step.1, step.2)
