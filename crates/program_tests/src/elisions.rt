@@ -37,8 +37,13 @@ type Left<'a> = (&'a [u64], u32);
 /// Whether the elision of a program leaves this, or passes the limit where nothing is given.
 fn leaves(alloc: Global, program: &Program<Global>, limit: u32, wanted: Option<Left<'_>>) -> bool {
     match elide(alloc, program, limit) {
-        Ok(elided) => wanted == Some((elided.memory.as_slice(), elided.requests)),
-        Err(fault) => wanted.is_none() && fault == ElideFault::Limit,
+        Ok(elided) => match wanted {
+            Some((memory, requests)) => {
+                elided.requests == requests && elided.memory.as_slice() == memory
+            }
+            None => false,
+        },
+        Err(fault) => wanted.is_none() && matches!(fault, ElideFault::Limit),
     }
 }
 

@@ -20,22 +20,34 @@ const PAIR: &[u8] =
 
 const UNSET: &[u8] = b"cilk 1\nreducer h sum\nfunc main z\nget r h\nend\n";
 
-fn request(strand: u32, act: Act, line: u32) -> Request {
-    Request { strand, act, line }
+/// What a strand asks on a line.
+macro_rules! request {
+    ($strand:literal, $act:expr, $line:literal) => {
+        Request {
+            strand: $strand,
+            act: $act,
+            line: $line,
+        }
+    };
 }
 
 /// What PAIR's functions ask, where the child writes before the spawner reads.
-fn pair_requests() -> [Request; 7] {
-    [
-        request(0, Act::Spawn, 5),
-        request(1, Act::Write(0, 7), 9),
-        request(2, Act::Read(0), 6),
-        request(1, Act::Sync, 10),
-        request(1, Act::Return, 10),
-        request(2, Act::Sync, 7),
-        request(3, Act::Return, 7),
-    ]
-}
+const PAIR_REQUESTS: [Request; 7] = [
+    request!(0, Act::Spawn, 5),
+    request!(1, Act::Write(0, 7), 9),
+    request!(2, Act::Read(0), 6),
+    request!(1, Act::Sync, 10),
+    request!(1, Act::Return, 10),
+    request!(2, Act::Sync, 7),
+    request!(3, Act::Return, 7),
+];
+
+/// What UNSET's function asks.
+const UNSET_REQUESTS: [Request; 3] = [
+    request!(0, Act::Get(0), 4),
+    request!(0, Act::Sync, 5),
+    request!(0, Act::Return, 5),
+];
 
 /// What is asked and gathered. Of the requests those at the places `second` are asked on a second seat. The first log keeps the receipts
 /// at the places `kept`, in that order.
@@ -116,7 +128,7 @@ fn stop<L: Ledger, R: Wait>(
     log: &mut WorkerLog<L>,
 ) -> Result<(), RunFault> {
     locked.stop(rt);
-    if ask(rt, locked, log, request(0, Act::Sync, 1)) != Err(RunFault::Stopped) {
+    if ask(rt, locked, log, request!(0, Act::Sync, 1)) != Err(RunFault::Stopped) {
         return Err(RunFault::Limit);
     }
     Ok(())
@@ -217,64 +229,103 @@ fn outcome<R: Wait>(
     gathered::<Brand, _>(rt, alloc, Blank::new(2), case, cells, stopped)
 }
 
-#[test]
-fn a_run_with_a_race_is_gathered(rt: HostRuntime) {
-    let requests = pair_requests();
-    let whole = Case {
-        text: PAIR,
-        requests: &requests,
-        second: &[],
-        kept: &[0, 1, 2, 3, 4, 5, 6],
-    };
-    assert!(rt; outcome(&rt, rt.alloc(), whole, None, false) == Ok((7, false)));
-    let shared = Case {
-        second: &[1, 3, 4],
-        kept: &[0, 1, 2, 3],
-        ..whole
-    };
-    assert!(rt; outcome(&rt, rt.alloc(), shared, None, false) == Ok((7, false)));
-    assert!(rt; outcome(&rt, rt.alloc(), whole, Some(3), false) == Err(RunFault::Strange));
-    assert!(rt; outcome(&rt, rt.alloc(), whole, None, true) == Err(RunFault::Stopped));
+/// What is gathered of the case: how much was asked, and whether the run is clean, or why there is none.
+fn check<R: Abort + Wait>(
+    rt: &R,
+    alloc: Global,
+    case: Case<'_>,
+    cells: Option<u32>,
+    stopped: bool,
+    wanted: Result<(u64, bool), RunFault>,
+)
+    requires { IfSome cells (λ count. count ≤ most_cells) }
+{
+    assert!(rt; outcome(rt, alloc, case, cells, stopped) == wanted);
 }
 
 #[test]
-fn receipts_that_are_not_the_history(rt: HostRuntime) {
-    let requests = pair_requests();
-    let cases: [&[usize]; 4] = [
-        &[],
-        &[0, 1, 2, 4, 5, 6],
-        &[0, 2, 1, 3, 4, 5, 6],
-        &[0, 1, 1, 2, 3, 4, 5, 6],
-    ];
-    for kept in cases {
+fn a_run_with_a_race_is_gathered(rt: HostRuntime) {
+    let whole = Case {
+        text: PAIR,
+        requests: &PAIR_REQUESTS,
+        second: &[],
+        kept: &[0, 1, 2, 3, 4, 5, 6],
+    };
+    check(&rt, rt.alloc(), whole, None, false, Ok((7, false)));
+    check(
+        &rt,
+        rt.alloc(),
+        whole,
+        Some(3),
+        false,
+        Err(RunFault::Strange),
+    );
+    check(&rt, rt.alloc(), whole, None, true, Err(RunFault::Stopped));
+}
+
+#[test]
+fn a_run_on_two_seats_is_gathered(rt: HostRuntime) {
+    let shared = Case {
+        text: PAIR,
+        requests: &PAIR_REQUESTS,
+        second: &[1, 3, 4],
+        kept: &[0, 1, 2, 3],
+    };
+    check(&rt, rt.alloc(), shared, None, false, Ok((7, false)));
+}
+
+/// Logs that keep the receipts at these places are not those of the history.
+fn are_torn<R: Abort + Wait>(rt: &R, alloc: Global, kept: &[&[usize]]) {
+    for places in kept {
         let torn = Case {
             text: PAIR,
-            requests: &requests,
+            requests: &PAIR_REQUESTS,
             second: &[],
-            kept,
+            kept: places,
         };
-        assert!(rt; outcome(&rt, rt.alloc(), torn, None, false) == Err(RunFault::Torn));
+        check(rt, alloc, torn, None, false, Err(RunFault::Torn));
     }
 }
 
 #[test]
+fn receipts_that_are_not_the_history(rt: HostRuntime) {
+    are_torn(
+        &rt,
+        rt.alloc(),
+        &[
+            &[],
+            &[0, 1, 2, 4, 5, 6],
+            &[0, 2, 1, 3, 4, 5, 6],
+            &[0, 1, 1, 2, 3, 4, 5, 6],
+        ],
+    );
+}
+
+#[test]
 fn an_unset_get_is_not_clean(rt: HostRuntime) {
-    let requests = [
-        request(0, Act::Get(0), 4),
-        request(0, Act::Sync, 5),
-        request(0, Act::Return, 5),
-    ];
     let unset = Case {
         text: UNSET,
-        requests: &requests,
+        requests: &UNSET_REQUESTS,
         second: &[],
         kept: &[0, 1, 2],
     };
-    assert!(rt; outcome(&rt, rt.alloc(), unset, None, false) == Ok((3, false)));
+    check(&rt, rt.alloc(), unset, None, false, Ok((3, false)));
+}
+
+#[test]
+fn a_run_that_breaks_off_is_strange(rt: HostRuntime) {
     let unfinished = Case {
-        requests: &requests[..2],
+        text: UNSET,
+        requests: &UNSET_REQUESTS[..2],
+        second: &[],
         kept: &[0, 1],
-        ..unset
     };
-    assert!(rt; outcome(&rt, rt.alloc(), unfinished, None, false) == Err(RunFault::Strange));
+    check(
+        &rt,
+        rt.alloc(),
+        unfinished,
+        None,
+        false,
+        Err(RunFault::Strange),
+    );
 }

@@ -6,6 +6,7 @@ use program_text::Program;
 use race_gate::{Answer, Entry};
 use run_replay::{ReplayFault, replay};
 use std::alloc::Global;
+use std::process::Abort;
 use std::test::Fail;
 use text_words::{Act, Request};
 
@@ -73,19 +74,29 @@ fn gives(alloc: Global, text: &[u8], entries: &[Entry], wanted: Result<(), Repla
     }
 }
 
+// Checks that the replay of these entries of a text's program is so.
+fn check(
+    rt: &impl Abort,
+    alloc: Global,
+    text: &[u8],
+    entries: &[Entry],
+    wanted: Result<(), ReplayFault>,
+) {
+    assert!(rt; gives(alloc, text, entries, wanted), "{wanted:?}");
+}
+
 #[test]
 fn a_run_is_replayed(rt: HostRuntime) -> Result<(), Fail> {
     let entries = pair();
-    assert!(rt; gives(rt.alloc(), PAIR, &entries, Ok(())));
-    assert!(rt;
-        gives(
-            rt.alloc(),
-            PAIR,
-            &entries[..6],
-            Err(ReplayFault::Unfinished)
-        )
+    check(&rt, rt.alloc(), PAIR, &entries, Ok(()));
+    check(
+        &rt,
+        rt.alloc(),
+        PAIR,
+        &entries[..6],
+        Err(ReplayFault::Unfinished),
     );
-    assert!(rt; gives(rt.alloc(), PAIR, &[], Err(ReplayFault::Unfinished)));
+    check(&rt, rt.alloc(), PAIR, &[], Err(ReplayFault::Unfinished));
     Ok(())
 }
 
@@ -93,7 +104,13 @@ fn a_run_is_replayed(rt: HostRuntime) -> Result<(), Fail> {
 fn another_answer_is_strange(rt: HostRuntime) -> Result<(), Fail> {
     let mut entries = pair();
     entries[1].answer = refused();
-    assert!(rt; gives(rt.alloc(), PAIR, &entries, Err(ReplayFault::Strange(2))));
+    check(
+        &rt,
+        rt.alloc(),
+        PAIR,
+        &entries,
+        Err(ReplayFault::Strange(2)),
+    );
     Ok(())
 }
 
@@ -103,13 +120,12 @@ fn each_answer_is_compared(rt: HostRuntime) -> Result<(), Fail> {
     for place in 0..7 {
         let mut entries = pair();
         entries[place].answer = Answer::Unset;
-        assert!(rt;
-            gives(
-                rt.alloc(),
-                PAIR,
-                &entries,
-                Err(ReplayFault::Strange(place as u32 + 1))
-            )
+        check(
+            &rt,
+            rt.alloc(),
+            PAIR,
+            &entries,
+            Err(ReplayFault::Strange(place as u32 + 1)),
         );
     }
     Ok(())
@@ -120,7 +136,7 @@ fn nothing_follows_the_end(rt: HostRuntime) -> Result<(), Fail> {
     let entries = pair();
     let mut more = Vec::from_slice(rt.alloc(), &entries)?;
     more.push(entries[6])?;
-    assert!(rt; gives(rt.alloc(), PAIR, &more, Err(ReplayFault::Strange(8))));
+    check(&rt, rt.alloc(), PAIR, &more, Err(ReplayFault::Strange(8)));
     Ok(())
 }
 
@@ -128,16 +144,34 @@ fn nothing_follows_the_end(rt: HostRuntime) -> Result<(), Fail> {
 fn another_request_is_strange(rt: HostRuntime) -> Result<(), Fail> {
     let mut entries = pair();
     entries[2].request.act = Act::Read(1);
-    assert!(rt; gives(rt.alloc(), PAIR, &entries, Err(ReplayFault::Strange(3))));
+    check(
+        &rt,
+        rt.alloc(),
+        PAIR,
+        &entries,
+        Err(ReplayFault::Strange(3)),
+    );
     let mut entries = pair();
     entries[3].request.strand = 9;
-    assert!(rt; gives(rt.alloc(), PAIR, &entries, Err(ReplayFault::Strange(4))));
+    check(
+        &rt,
+        rt.alloc(),
+        PAIR,
+        &entries,
+        Err(ReplayFault::Strange(4)),
+    );
     Ok(())
 }
 
 #[test]
 fn calls_need_not_end(rt: HostRuntime) -> Result<(), Fail> {
     let entries = [entry(0, Act::Call, 3, Answer::Same); 5];
-    assert!(rt; gives(rt.alloc(), ENDLESS, &entries, Err(ReplayFault::Unfinished)));
+    check(
+        &rt,
+        rt.alloc(),
+        ENDLESS,
+        &entries,
+        Err(ReplayFault::Unfinished),
+    );
     Ok(())
 }

@@ -1,10 +1,12 @@
 //! Reports of what a gate answered.
 
 ghost use Rattle.std.specs.Prelude.{◌≡◌, ◌↔◌, IsTrue, IfOk, OnOk, length, reverse};
+ghost use Rattle.std.specs.List.{All};
 ghost use Rattle.text_words.specs.Declarations.{cells_of};
 ghost use Rattle.program_text.specs.Programs.{contents};
 ghost use Rattle.model_histories.specs.Extensions.{IsCleanAnswer, IsClean};
 ghost use Rattle.race_report.specs.Conditions.{shape_known, AreTellable};
+ghost use Rattle.race_report.specs.VerdictText.{HasWords};
 
 use crate::checks::equal;
 use crate::openings::gate_for;
@@ -132,13 +134,19 @@ fn reducers(rt: HostRuntime) -> Result<(), Fail> {
     check(&rt, rt.alloc(), text, &other_peers, wanted)
 }
 
-#[test]
-fn a_clean_run(rt: HostRuntime) -> Result<(), Fail> {
-    let mut requests = Vec::new(rt.alloc());
-    requests.push(asked(0, Act::Write(0, 55), 4))?;
-    for _ in 0..712 {
+/// The request, and so many calls behind it.
+fn calls_behind(alloc: Global, first: Request, count: u32) -> Result<Vec<Request>, AllocError> {
+    let mut requests = Vec::new(alloc);
+    requests.push(first)?;
+    for _ in 0..count {
         requests.push(asked(0, Act::Call, 5))?;
     }
+    Ok(requests)
+}
+
+#[test]
+fn a_clean_run(rt: HostRuntime) -> Result<(), Fail> {
+    let requests = calls_behind(rt.alloc(), asked(0, Act::Write(0, 55), 4), 712)?;
     let wanted =
         "{\"clean\":true,\"entries\":713,\"memory\":{\"x\":55},\"refusals\":[],\"schedules\":\"clean for every schedule\"}";
     check(
@@ -166,44 +174,48 @@ fn arrays(rt: HostRuntime) -> Result<(), Fail> {
     check(&rt, rt.alloc(), text, &requests, wanted)
 }
 
-#[test]
-fn lines_of_replies(rt: HostRuntime) -> Result<(), Fail> {
-    let unset = Receipt {
-        number: 1,
-        request: asked(0, Act::Get(0), 1),
-        answer: Answer::Unset,
-    };
-    let replies = [
-        Reply::Done(unset),
-        Reply::Illegal(GateFault::Stopped),
-        Reply::Illegal(GateFault::BadName),
-        Reply::Illegal(GateFault::Memory),
-    ];
-    let lines = verdict_lines(rt.alloc(), &replies)?;
-    let wanted = "1 refused unset\nillegal stopped\nillegal bad-name\nillegal memory\n";
-    assert_eq!(rt; lines.as_slice(), wanted.as_bytes());
-    Ok(())
-}
-
 /// The reply to a get that finds nothing, with this number.
 macro_rules! unset {
     ($number:literal) => {
         Reply::Done(Receipt {
             number: $number,
-            request: asked(0, Act::Get(0), 1),
+            request: Request {
+                strand: 0,
+                act: Act::Get(0),
+                line: 1,
+            },
             answer: Answer::Unset,
         })
     };
 }
 
+/// The verdict lines of these replies are these.
+fn check_lines(rt: &impl Abort, alloc: Global, replies: &[Reply], wanted: &str) -> Result<(), Fail>
+    requires { All HasWords replies.now }
+{
+    let lines = verdict_lines(alloc, replies)?;
+    equal(rt, &wanted, &lines.as_slice(), &wanted.as_bytes());
+    Ok(())
+}
+
+#[test]
+fn lines_of_replies(rt: HostRuntime) -> Result<(), Fail> {
+    let replies = [
+        unset!(1),
+        Reply::Illegal(GateFault::Stopped),
+        Reply::Illegal(GateFault::BadName),
+        Reply::Illegal(GateFault::Memory),
+    ];
+    let wanted = "1 refused unset\nillegal stopped\nillegal bad-name\nillegal memory\n";
+    check_lines(&rt, rt.alloc(), &replies, wanted)
+}
+
 #[test]
 fn lines_count_up(rt: HostRuntime) -> Result<(), Fail> {
     let replies = [unset!(9), unset!(10), unset!(11), unset!(99), unset!(100)];
-    let lines = verdict_lines(rt.alloc(), &replies)?;
     let wanted =
         "9 refused unset\n10 refused unset\n11 refused unset\n99 refused unset\n100 refused unset\n";
-    assert_eq!(rt; lines.as_slice(), wanted.as_bytes());
-    Ok(())
+    check_lines(&rt, rt.alloc(), &replies, wanted)
 }
 
 #[test]
@@ -215,9 +227,7 @@ fn lines_of_distant_numbers(rt: HostRuntime) -> Result<(), Fail> {
         unset!(4_294_967_295),
         unset!(7),
     ];
-    let lines = verdict_lines(rt.alloc(), &replies)?;
     let wanted =
         "1000000 refused unset\n10 refused unset\n0 refused unset\n4294967295 refused unset\n7 refused unset\n";
-    assert_eq!(rt; lines.as_slice(), wanted.as_bytes());
-    Ok(())
+    check_lines(&rt, rt.alloc(), &replies, wanted)
 }

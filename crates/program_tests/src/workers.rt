@@ -4,9 +4,10 @@ ghost use Rattle.std.specs.Prelude.{◌≡◌, ◌<◌, ◌≤◌, [], IfOk};
 
 use crate::meeting::Meeting;
 use frame_steps::Frame;
-use locked_replay::LockedGate;
+use locked_replay::{LockedGate, WorkerLog};
 use program_text::Program;
 use race_gate::{Answer, Gate};
+use short_receipts::Receipts;
 use std::alloc::{AllocError, Global};
 use std::marker::Brand;
 use std::process::Abort;
@@ -37,7 +38,29 @@ fn gate(alloc: Global) -> Result<Gate<Global>, Fail>
     Ok(Gate::new(alloc, &shape, 1000)?)
 }
 
-// How many receipts the workers brought back, and how many of them are answered Finished.
+// How many of the receipts are answered Finished.
+fn finished_in(receipts: &Receipts) -> usize {
+    let mut finished = 0usize;
+    for at in 0..receipts.len() {
+        if receipts.get(at).answer == Answer::Finished {
+            finished = finished.wrapping_add(1);
+        }
+    }
+    finished
+}
+
+// How many receipts the logs hold, and how many of them are answered Finished.
+fn counted<L: Ledger>(logs: &[WorkerLog<L>]) -> (usize, usize) {
+    let mut receipts = 0usize;
+    let mut finished = 0usize;
+    for log in logs {
+        receipts = receipts.wrapping_add(log.receipts.len());
+        finished = finished.wrapping_add(finished_in(&log.receipts));
+    }
+    (receipts, finished)
+}
+
+// The same of those that the workers bring back.
 fn received<L: Ledger + Send + Sync, R: Threads + Wait + Sync>(
     rt: &R,
     alloc: Global,
@@ -52,17 +75,7 @@ fn received<L: Ledger + Send + Sync, R: Threads + Wait + Sync>(
 {
     let (locked, seat) = LockedGate::<L>::new(gate(alloc)?, blank, PARTS);
     let logs = run(rt, alloc, program, workers, &locked, seat)?;
-    let mut answers = Vec::new(alloc);
-    for log in logs.iter() {
-        for at in 0..log.receipts.len() {
-            answers.push(log.receipts.get(at).answer)?;
-        }
-    }
-    let finished = answers
-        .iter()
-        .filter(|answer| **answer == Answer::Finished)
-        .count();
-    Ok((answers.len(), finished))
+    Ok(counted(logs.as_slice()))
 }
 
 #[test]
@@ -110,33 +123,91 @@ fn root<'p>(alloc: Global, program: &'p Program<Global>) -> Result<Task<'p>, All
     })
 }
 
-// The row of a lot: who comes second for a join gets the task.
-fn come_for_joins<R: Wait + Abort>(
+// Who comes for a join.
+#[derive(Clone, Copy, Debug)]
+enum Comes {
+    Child(u32),
+    Task(u32),
+}
+
+// What a lot answers: nobody waits, there is the task of a join, or the same call came before.
+#[derive(Clone, Copy)]
+enum Finds {
+    Nobody,
+    TaskOf(u32),
+    Torn,
+}
+
+// Whether a lot's answer is this.
+fn is_found(found: &Result<Option<Task<'_>>, LotFault>, wanted: Finds) -> bool {
+    match (found, wanted) {
+        (Ok(None), Finds::Nobody) => true,
+        (Ok(Some(task)), Finds::TaskOf(join)) => task.strand == join,
+        (Err(LotFault::Torn), Finds::Torn) => true,
+        _ => false,
+    }
+}
+
+// Comes for a join.
+fn come<'p, R: Wait>(
     rt: &R,
     alloc: Global,
-    program: &Program<Global>,
+    program: &'p Program<Global>,
+    lot: &Lot<'p>,
+    comes: Comes,
+) -> Result<Result<Option<Task<'p>>, LotFault>, AllocError> {
+    match comes {
+        Comes::Child(join) => Ok(lot.wake(rt, join)),
+        Comes::Task(join) => {
+            let task = root(alloc, program)?;
+            Ok(lot.park(rt, join, task))
+        }
+    }
+}
+
+// The row of a lot: each that comes finds what stands beside it.
+fn come_for_joins<'p, R: Wait + Abort>(
+    rt: &R,
+    alloc: Global,
+    program: &'p Program<Global>,
+    lot: &Lot<'p>,
+    row: &[(Comes, Finds)],
 ) -> Result<(), Fail> {
-    let lot = Lot::new(alloc);
-    assert!(rt; lot.wake(rt, 3)?.is_none());
-    let parked = lot.park(rt, 3, root(alloc, program)?)?;
-    assert!(rt; parked.map(|task| task.strand) == Some(3));
-    assert!(rt; matches!(lot.wake(rt, 3), Err(LotFault::Torn)));
-    assert!(rt; lot.wake(rt, 6)?.is_none());
-    assert!(rt; matches!(lot.wake(rt, 6), Err(LotFault::Torn)));
-    assert!(rt; lot.park(rt, 4, root(alloc, program)?)?.is_none());
-    assert!(rt; lot.wake(rt, 4)?.map(|task| task.strand) == Some(4));
-    assert!(rt; lot.park(rt, 5, root(alloc, program)?)?.is_none());
-    let again = lot.park(rt, 5, root(alloc, program)?);
-    assert!(rt; matches!(again, Err(LotFault::Torn)));
+    for (comes, finds) in row {
+        let found = come(rt, alloc, program, lot, *comes)?;
+        assert!(rt; is_found(&found, *finds), "{comes:?}");
+    }
+    Ok(())
+}
+
+// A lot is closed once it is told to be.
+fn is_closed_at_last<R: Wait + Abort>(rt: &R, lot: &Lot<'_>) {
     assert!(rt; !lot.look(rt));
     lot.close(rt);
     assert!(rt; lot.look(rt));
-    Ok(())
 }
 
 #[test]
 fn second_comer_gets_the_task(rt: HostRuntime) -> Result<(), Fail> {
-    let alloc = rt.alloc();
-    let program = Program::parse(alloc, PAIR)?;
-    come_for_joins(&rt, alloc, &program)
+    let program = Program::parse(rt.alloc(), PAIR)?;
+    let lot = Lot::new(rt.alloc());
+    come_for_joins(
+        &rt,
+        rt.alloc(),
+        &program,
+        &lot,
+        &[
+            (Comes::Child(3), Finds::Nobody),
+            (Comes::Task(3), Finds::TaskOf(3)),
+            (Comes::Child(3), Finds::Torn),
+            (Comes::Child(6), Finds::Nobody),
+            (Comes::Child(6), Finds::Torn),
+            (Comes::Task(4), Finds::Nobody),
+            (Comes::Child(4), Finds::TaskOf(4)),
+            (Comes::Task(5), Finds::Nobody),
+            (Comes::Task(5), Finds::Torn),
+        ],
+    )?;
+    is_closed_at_last(&rt, &lot);
+    Ok(())
 }
