@@ -78,6 +78,7 @@ pub fn control<A: Allocator + Clone>(
 }
 
 /// The same in a program with reducers. Room for their part is made first.
+#[inline(always)]
 fn control_with<A: Allocator + Clone>(
     strands: &mut Strands<A>,
     reducers: &mut ReducerTracks<A>,

@@ -144,6 +144,7 @@ impl<A: Allocator + Clone> Views<A> {
     }
 
     /// The strand updated the reducer.
+    #[inline(always)]
     pub fn update(&mut self, strand: u32, reducer: u32, number: u64)
         requires room { IsTrue self.old.has_room }
         requires there { strand < length self.old.strands }
