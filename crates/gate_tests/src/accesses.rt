@@ -85,12 +85,15 @@ fn step<A: Allocator>(
     }
 }
 
-fn witness(entry: u32, strand: u32, kind: Kind) -> Option<Witness> {
-    Some(Witness {
-        entry,
-        strand,
-        kind,
-    })
+/// The witness of this entry.
+macro_rules! witness {
+    ($entry:literal, $strand:literal, $kind:expr) => {
+        Some(Witness {
+            entry: $entry,
+            strand: $strand,
+            kind: $kind,
+        })
+    };
 }
 
 /// An act by a strand, and the witness that it finds.
@@ -139,18 +142,18 @@ fn a_write_races_with_the_child_that_read(rt: HostRuntime) -> Result<(), Fail> {
                 (0, Spawn, None),
                 (1, Access(Kind::Read, 0), None),
                 (2, Access(Kind::Read, 0), None),
-                (2, Access(Kind::Write, 0), witness(2, 1, Kind::Read)),
+                (2, Access(Kind::Write, 0), witness!(2, 1, Kind::Read)),
             ],
             &[
                 (0, Spawn, None),
                 (2, Access(Kind::Read, 0), None),
-                (1, Access(Kind::Write, 0), witness(2, 2, Kind::Read)),
+                (1, Access(Kind::Write, 0), witness!(2, 2, Kind::Read)),
             ],
             &[
                 (0, Spawn, None),
                 (2, Access(Kind::Read, 0), None),
                 (1, Access(Kind::Read, 0), None),
-                (1, Access(Kind::Write, 0), witness(2, 2, Kind::Read)),
+                (1, Access(Kind::Write, 0), witness!(2, 2, Kind::Read)),
             ],
         ],
     )
@@ -164,7 +167,7 @@ fn a_refused_write_is_not_kept(rt: HostRuntime) -> Result<(), Fail> {
         &[&[
             (0, Spawn, None),
             (1, Access(Kind::Write, 0), None),
-            (2, Access(Kind::Write, 0), witness(2, 1, Kind::Write)),
+            (2, Access(Kind::Write, 0), witness!(2, 1, Kind::Write)),
             (1, Access(Kind::Read, 0), None),
         ]],
     )
@@ -193,7 +196,7 @@ fn check_pair(
     new: Kind,
     races: bool,
 ) -> Result<(), Fail> {
-    let found = if races { witness(2, 1, earlier) } else { None };
+    let found = if races { witness!(2, 1, earlier) } else { None };
     check(
         rt,
         alloc,
@@ -240,9 +243,9 @@ fn the_first_kind_and_its_earliest_entry_count(rt: HostRuntime) -> Result<(), Fa
             (1, Access(Kind::Read, 0), None),
             (1, Access(Kind::Bump, 0), None),
             (1, Access(Kind::Bump, 0), None),
-            (2, Access(Kind::Write, 0), witness(3, 1, Kind::Bump)),
-            (2, Access(Kind::Bump, 0), witness(2, 1, Kind::Read)),
-            (2, Access(Kind::Read, 0), witness(3, 1, Kind::Bump)),
+            (2, Access(Kind::Write, 0), witness!(3, 1, Kind::Bump)),
+            (2, Access(Kind::Bump, 0), witness!(2, 1, Kind::Read)),
+            (2, Access(Kind::Read, 0), witness!(3, 1, Kind::Bump)),
         ]],
     )
 }

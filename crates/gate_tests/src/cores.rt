@@ -37,23 +37,30 @@ fn judges(rt: &impl Abort, core: &mut Core<Global>, outcomes: &[Outcome]) {
 }
 
 /// How many entries there were, whether the root function has returned, whether the core was stopped, and its limit.
-fn shown(core: &Core<Global>) -> (u32, bool, bool, u32) {
-    (
-        core.entries(),
-        core.is_finished(),
-        core.is_stopped(),
-        core.limit(),
-    )
+type Shown = (u32, bool, bool, u32);
+
+/// The core shows this, and its only cell holds this number.
+fn shows(rt: &impl Abort, core: &Core<Global>, shown: Shown, cell: u64) {
+    assert!(rt; core.entries() == shown.0 && core.limit() == shown.3);
+    assert!(rt; core.is_finished() == shown.1 && core.is_stopped() == shown.2);
+    assert!(rt; core.memory().first() == Some(&cell));
 }
 
-/// What the only cell holds.
-fn cell(core: &Core<Global>) -> Option<u64> {
-    core.memory().first().copied()
+/// The core makes of each act what stands beside it, and then shows this.
+fn judges_then_shows(
+    rt: &impl Abort,
+    core: &mut Core<Global>,
+    outcomes: &[Outcome],
+    shown: Shown,
+    cell: u64,
+) {
+    judges(rt, core, outcomes);
+    shows(rt, core, shown, cell);
 }
 
 /// A core with the limit 4 runs a program to its end.
 fn runs(rt: &impl Abort, core: &mut Core<Global>) {
-    judges(
+    judges_then_shows(
         rt,
         core,
         &[
@@ -62,27 +69,27 @@ fn runs(rt: &impl Abort, core: &mut Core<Global>) {
             (Act::Bump(0, 2), Ok(Answer::Granted)),
             (Act::Read(0), Ok(Answer::Value(7))),
         ],
+        (3, false, false, 4),
+        7,
     );
-    assert_eq!(rt; shown(core), (3, false, false, 4));
-    judges(
+    judges_then_shows(
         rt,
         core,
         &[
             (Act::Return, Ok(Answer::Finished)),
             (Act::Read(0), Err(GateFault::Limit)),
         ],
+        (4, true, false, 4),
+        7,
     );
-    assert_eq!(rt; shown(core), (4, true, false, 4));
-    assert_eq!(rt; cell(core), Some(7));
 }
 
 /// A stopped core judges nothing, and keeps what it had.
 fn stops(rt: &impl Abort, core: &mut Core<Global>) {
     judges(rt, core, &[(Act::Write(0, 5), Ok(Answer::Granted))]);
     core.stop();
-    judges(rt, core, &[(Act::Read(0), Err(GateFault::Stopped))]);
-    assert_eq!(rt; shown(core), (1, false, true, 2));
-    assert_eq!(rt; cell(core), Some(5));
+    let stopped = [(Act::Read(0), Err(GateFault::Stopped))];
+    judges_then_shows(rt, core, &stopped, (1, false, true, 2), 5);
 }
 
 #[test]

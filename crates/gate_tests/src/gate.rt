@@ -4,6 +4,32 @@ ghost use Rattle.std.specs.Prelude.{◌≤◌, length};
 ghost use Rattle.model_reducers.specs.Limits.{most_reducers};
 ghost use Rattle.model_histories.specs.Shapes.{most_entries};
 
+/// The split into these strands, the first of its block or not.
+macro_rules! split {
+    ($child:expr, $next:expr, $join:literal, $first:expr) => {
+        Answer::Split(Spawned {
+            child: $child,
+            next: $next,
+            join: $join,
+            first: $first,
+        })
+    };
+}
+
+/// The answer that an access is refused by this rule, with its witness.
+macro_rules! refused {
+    ($rule:expr, $entry:literal, $strand:literal, $kind:expr) => {
+        Answer::Refused {
+            rule: $rule,
+            witness: Witness {
+                entry: $entry,
+                strand: $strand,
+                kind: $kind,
+            },
+        }
+    };
+}
+
 mod random;
 mod reducers;
 mod reference;
@@ -31,26 +57,6 @@ fn opening_with(alloc: Global, monoids: &[Monoid], limit: u32) -> Result<Gate<Gl
         monoids: Monoids::new(monoids.to_vec(alloc)?),
     };
     Gate::new(alloc, &shape, limit)
-}
-
-fn split(child: u32, next: u32, join: u32, first: bool) -> Answer {
-    Answer::Split(Spawned {
-        child,
-        next,
-        join,
-        first,
-    })
-}
-
-fn refused(entry: u32, strand: u32, kind: Kind) -> Answer {
-    Answer::Refused {
-        rule: Rule::Race,
-        witness: Witness {
-            entry,
-            strand,
-            kind,
-        },
-    }
 }
 
 /// The gate answers the request so under this number.
@@ -205,16 +211,10 @@ fn holds(gate: &Gate<Global>, memory: &[u64]) -> bool {
     gate.memory() == memory
 }
 
-/// The gate's limit, and how many cells it has.
-fn limit_and_cells(gate: &Gate<Global>) -> (u32, u32) {
-    (gate.limit(), gate.shape().cells)
-}
-
 /// The gate has one cell and the limit 7, and was asked nothing.
 fn is_new(rt: &impl Abort, gate: &Gate<Global>) {
-    assert!(rt; stands(gate, 0, false, false));
-    assert!(rt; holds(gate, &[0]));
-    assert_eq!(rt; limit_and_cells(gate), (7, 1));
+    ends(rt, gate, (0, false, 0));
+    assert!(rt; gate.limit() == 7 && gate.shape().cells == 1);
 }
 
 #[test]
@@ -238,21 +238,21 @@ fn parallel_reads_are_granted_and_a_parallel_write_is_refused(rt: HostRuntime) -
         rt.alloc(),
         &[
             &[
-                (0, Spawn, split(1, 2, 3, true)),
+                (0, Spawn, split!(1, 2, 3, true)),
                 (1, Read(0), Value(0)),
                 (2, Read(0), Value(0)),
-                (2, Write(0, 9), refused(2, 1, Kind::Read)),
+                (2, Write(0, 9), refused!(Rule::Race, 2, 1, Kind::Read)),
             ],
             &[
-                (0, Spawn, split(1, 2, 3, true)),
+                (0, Spawn, split!(1, 2, 3, true)),
                 (2, Read(0), Value(0)),
-                (1, Write(0, 9), refused(2, 2, Kind::Read)),
+                (1, Write(0, 9), refused!(Rule::Race, 2, 2, Kind::Read)),
             ],
             &[
-                (0, Spawn, split(1, 2, 3, true)),
+                (0, Spawn, split!(1, 2, 3, true)),
                 (2, Read(0), Value(0)),
                 (1, Read(0), Value(0)),
-                (1, Write(0, 9), refused(2, 2, Kind::Read)),
+                (1, Write(0, 9), refused!(Rule::Race, 2, 2, Kind::Read)),
             ],
         ],
     )
@@ -264,7 +264,7 @@ fn a_write_behind_the_join_is_granted(rt: HostRuntime) -> Result<(), Fail> {
         &rt,
         rt.alloc(),
         &[&[
-            (0, Spawn, split(1, 2, 3, true)),
+            (0, Spawn, split!(1, 2, 3, true)),
             (1, Read(0), Value(0)),
             (2, Sync, Waits),
             (1, Return, EndedJoined(3)),
@@ -279,9 +279,9 @@ fn a_refused_write_is_not_done(rt: HostRuntime) -> Result<(), Fail> {
         &rt,
         rt.alloc(),
         &[&[
-            (0, Spawn, split(1, 2, 3, true)),
+            (0, Spawn, split!(1, 2, 3, true)),
             (1, Write(0, 5), Granted),
-            (2, Write(0, 6), refused(2, 1, Kind::Write)),
+            (2, Write(0, 6), refused!(Rule::Race, 2, 1, Kind::Write)),
             (1, Read(0), Value(5)),
         ]],
     )
@@ -293,9 +293,9 @@ fn a_called_function_syncs_its_own_children(rt: HostRuntime) -> Result<(), Fail>
         &rt,
         rt.alloc(),
         &[&[
-            (0, Spawn, split(1, 2, 3, true)),
+            (0, Spawn, split!(1, 2, 3, true)),
             (2, Call, Same),
-            (2, Spawn, split(4, 5, 6, true)),
+            (2, Spawn, split!(4, 5, 6, true)),
             (4, Return, Ended),
             (5, Sync, Joined(6)),
             (6, Return, Resumed),
@@ -313,10 +313,10 @@ fn bumps_are_added_and_race_with_reads_and_writes(rt: HostRuntime) -> Result<(),
         &[
             &[
                 (0, Write(0, 1), Granted),
-                (0, Spawn, split(1, 2, 3, true)),
+                (0, Spawn, split!(1, 2, 3, true)),
                 (1, Bump(0, 2), Granted),
                 (2, Bump(0, 3), Granted),
-                (2, Read(0), refused(3, 1, Kind::Bump)),
+                (2, Read(0), refused!(Rule::Race, 3, 1, Kind::Bump)),
                 (2, Sync, Waits),
                 (1, Return, EndedJoined(3)),
                 (3, Read(0), Value(6)),
@@ -327,19 +327,19 @@ fn bumps_are_added_and_race_with_reads_and_writes(rt: HostRuntime) -> Result<(),
                 (0, Read(0), Value(1)),
             ],
             &[
-                (0, Spawn, split(1, 2, 3, true)),
+                (0, Spawn, split!(1, 2, 3, true)),
                 (1, Bump(0, 2), Granted),
-                (2, Write(0, 9), refused(2, 1, Kind::Bump)),
+                (2, Write(0, 9), refused!(Rule::Race, 2, 1, Kind::Bump)),
             ],
             &[
-                (0, Spawn, split(1, 2, 3, true)),
+                (0, Spawn, split!(1, 2, 3, true)),
                 (1, Write(0, 9), Granted),
-                (2, Bump(0, 2), refused(2, 1, Kind::Write)),
+                (2, Bump(0, 2), refused!(Rule::Race, 2, 1, Kind::Write)),
             ],
             &[
-                (0, Spawn, split(1, 2, 3, true)),
+                (0, Spawn, split!(1, 2, 3, true)),
                 (1, Read(0), Value(0)),
-                (2, Bump(0, 1), refused(2, 1, Kind::Read)),
+                (2, Bump(0, 1), refused!(Rule::Race, 2, 1, Kind::Read)),
             ],
         ],
     )
@@ -350,7 +350,7 @@ fn answers_faults(rt: &impl Abort, gate: &mut Gate<Global>) {
     check_fault(rt, gate, 0, Read(1), GateFault::BadName);
     check_fault(rt, gate, 9, Read(1), GateFault::NotRunning);
     check_fault(rt, gate, 0, Get(0), GateFault::BadName);
-    answers(rt, gate, 1, request(0, Spawn, 1), split(1, 2, 3, true));
+    answers(rt, gate, 1, request(0, Spawn, 1), split!(1, 2, 3, true));
     check_fault(rt, gate, 2, Return, GateFault::Unsynced);
     answers(rt, gate, 2, request(2, Read(0), 3), Value(0));
     check_fault(rt, gate, 9, Read(1), GateFault::Limit);
@@ -457,7 +457,7 @@ fn entered(rt: &impl Abort, gate: &mut Gate<Global>, strand: u32, act: Act, answ
 
 /// The strand spawns a child, which returns at once. The first spawn is that of strand 0.
 fn spawn_and_return(rt: &impl Abort, gate: &mut Gate<Global>, strand: u32, child: u32, next: u32) {
-    let answer = split(child, next, 3, strand == 0);
+    let answer = split!(child, next, 3, strand == 0);
     entered(rt, gate, strand, Spawn, answer);
     entered(rt, gate, child, Return, Ended);
 }

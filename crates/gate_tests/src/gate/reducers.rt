@@ -1,25 +1,15 @@
 //! Worked rows with one reducer.
 
-use super::{check_reducers, check_with, split};
+use super::{check_reducers, check_with};
 use Act::{Get, Put, Return, Spawn, Sync, Update};
 use Answer::{Ended, EndedJoined, Granted, Joined, Unset, Value, Waits};
 use Monoid::{Digits, Last, Max, Min, Sum};
 use access_table::{Kind, Rule};
 use race_gate::Answer;
 use shadow_history::Witness;
+use sp_labels::Spawned;
 use std::test::Fail;
 use text_words::{Act, Monoid};
-
-fn refused(entry: u32, strand: u32, kind: Kind) -> Answer {
-    Answer::Refused {
-        rule: Rule::View,
-        witness: Witness {
-            entry,
-            strand,
-            kind,
-        },
-    }
-}
 
 #[test]
 fn a_get_by_the_continuation_is_refused_by_the_first_put(rt: HostRuntime) -> Result<(), Fail> {
@@ -30,9 +20,9 @@ fn a_get_by_the_continuation_is_refused_by_the_first_put(rt: HostRuntime) -> Res
             Sum,
             &[
                 (0, Put(0, 0), Granted),
-                (0, Spawn, split(1, 2, 3, true)),
+                (0, Spawn, split!(1, 2, 3, true)),
                 (1, Update(0, 5), Granted),
-                (2, Get(0), refused(1, 0, Kind::Put)),
+                (2, Get(0), refused!(Rule::View, 1, 0, Kind::Put)),
                 (1, Return, Ended),
                 (2, Sync, Joined(3)),
                 (3, Get(0), Value(5)),
@@ -51,7 +41,7 @@ fn views_are_combined_in_serial_order(rt: HostRuntime) -> Result<(), Fail> {
                 Last,
                 &[
                     (0, Put(0, 1), Granted),
-                    (0, Spawn, split(1, 2, 3, true)),
+                    (0, Spawn, split!(1, 2, 3, true)),
                     (2, Update(0, 7), Granted),
                     (1, Update(0, 5), Granted),
                     (1, Return, Ended),
@@ -63,8 +53,8 @@ fn views_are_combined_in_serial_order(rt: HostRuntime) -> Result<(), Fail> {
                 Last,
                 &[
                     (0, Put(0, 1), Granted),
-                    (0, Spawn, split(1, 2, 3, true)),
-                    (2, Spawn, split(4, 5, 3, false)),
+                    (0, Spawn, split!(1, 2, 3, true)),
+                    (2, Spawn, split!(4, 5, 3, false)),
                     (1, Update(0, 5), Granted),
                     (4, Update(0, 7), Granted),
                     (4, Return, Ended),
@@ -77,7 +67,7 @@ fn views_are_combined_in_serial_order(rt: HostRuntime) -> Result<(), Fail> {
                 Digits,
                 &[
                     (0, Put(0, 0), Granted),
-                    (0, Spawn, split(1, 2, 3, true)),
+                    (0, Spawn, split!(1, 2, 3, true)),
                     (2, Update(0, 2), Granted),
                     (1, Update(0, 1), Granted),
                     (1, Return, Ended),
@@ -114,14 +104,14 @@ fn a_join_has_the_peers_of_its_opener(rt: HostRuntime) -> Result<(), Fail> {
         &[(
             Sum,
             &[
-                (0, Spawn, split(1, 2, 3, true)),
+                (0, Spawn, split!(1, 2, 3, true)),
                 (1, Put(0, 5), Granted),
-                (1, Spawn, split(4, 5, 6, true)),
+                (1, Spawn, split!(4, 5, 6, true)),
                 (4, Update(0, 1), Granted),
                 (4, Return, Ended),
                 (5, Sync, Joined(6)),
                 (6, Get(0), Value(6)),
-                (2, Get(0), refused(2, 1, Kind::Put)),
+                (2, Get(0), refused!(Rule::View, 2, 1, Kind::Put)),
             ],
         )],
     )
@@ -136,8 +126,8 @@ fn a_refused_put_is_neither_done_nor_remembered(rt: HostRuntime) -> Result<(), F
             Sum,
             &[
                 (0, Put(0, 1), Granted),
-                (0, Spawn, split(1, 2, 3, true)),
-                (1, Put(0, 9), refused(1, 0, Kind::Put)),
+                (0, Spawn, split!(1, 2, 3, true)),
+                (1, Put(0, 9), refused!(Rule::View, 1, 0, Kind::Put)),
                 (2, Sync, Waits),
                 (1, Return, EndedJoined(3)),
                 (3, Get(0), Value(1)),
@@ -164,7 +154,7 @@ fn monoids_combine_modulo_the_word(rt: HostRuntime) -> Result<(), Fail> {
                 Min,
                 &[
                     (0, Put(0, 9), Granted),
-                    (0, Spawn, split(1, 2, 3, true)),
+                    (0, Spawn, split!(1, 2, 3, true)),
                     (1, Update(0, 4), Granted),
                     (2, Update(0, 6), Granted),
                     (1, Return, Ended),
@@ -195,18 +185,18 @@ fn peers_are_those_of_the_whole_dag(rt: HostRuntime) -> Result<(), Fail> {
             (
                 Sum,
                 &[
-                    (0, Spawn, split(1, 2, 3, true)),
+                    (0, Spawn, split!(1, 2, 3, true)),
                     (1, Put(0, 5), Granted),
-                    (2, Spawn, split(4, 5, 3, false)),
+                    (2, Spawn, split!(4, 5, 3, false)),
                     (1, Get(0), Value(5)),
                 ],
             ),
             (
                 Sum,
                 &[
-                    (0, Spawn, split(1, 2, 3, true)),
+                    (0, Spawn, split!(1, 2, 3, true)),
                     (1, Put(0, 5), Granted),
-                    (2, Get(0), refused(2, 1, Kind::Put)),
+                    (2, Get(0), refused!(Rule::View, 2, 1, Kind::Put)),
                 ],
             ),
         ],
