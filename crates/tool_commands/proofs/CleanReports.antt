@@ -3,7 +3,7 @@ use Rattle.std.proofs.Common.{◌≡◌, ◌≤◌, ℕ, Bool, true, false, Some
 use Rattle.std.specs.Prelude.{◌↔◌}
 use Rattle.std.specs.List.{list_any}
 use Rattle.std.proofs.lemmas.List.{length-map, length-reverse}
-use Rattle.std.proofs.lemmas.List.Elements.{All-nil, All-cons}
+use Rattle.std.proofs.lemmas.List.Elements.{All-nil, All-cons, All-head, All-tail}
 use Rattle.serde_json.specs.Data.{Data, string}
 use Rattle.serde_json.specs.Find.{get}
 use Rattle.text_words.specs.Declarations.{cells_of}
@@ -27,7 +27,7 @@ use Rattle.race_report.specs.Refusals.{refusals_told}
 use Rattle.race_report.specs.ReportText.{is_clean, memory_told, report_with}
 use Rattle.race_report.specs.Laws.{TellsSchedules}
 use Rattle.race_report.proofs.CleanRuns.{clean_told}
-use Rattle.race_report.proofs.Reversed.{all_reverses}
+use Rattle.race_report.proofs.Reversed.{all_reversed, all_reverses}
 use Rattle.trace_text.specs.Grammar.{TextMeans as TraceMeans}
 use Rattle.trace_text.specs.Printing.{plain_text}
 use Rattle.run_traces.specs.Traces.{trace_contents}
@@ -102,6 +102,28 @@ clean_status : (entries : List Entry) → refusal_status entries ≡ 0 → IsCle
 clean_status entries status =
     all_reverses (λ (one : Entry). IsCleanAnswer one.answer) entries
     (all_clean entries (none_refused (list_any (λ (entry : Entry). is_refused entry.answer) entries) entries refl status))
+
+refused_none : (answer : Answer) → IsCleanAnswer answer → is_refused answer ≡ false
+refused_none (Refused rule witness) clean = absurd clean
+refused_none Unset clean = absurd clean
+refused_none answer clean = refl
+
+none_any : (entries : List Entry) → IsClean entries → list_any (λ (entry : Entry). is_refused entry.answer) entries ≡ false
+none_any [] clean = refl
+none_any (entry ∷ entries) clean =
+    rw (refused_none entry.answer (All-head (λ (one : Entry). IsCleanAnswer one.answer) entry entries clean))
+    (none_any entries (All-tail (λ (one : Entry). IsCleanAnswer one.answer) entry entries clean))
+
+-- the status of a run in which nothing was refused, and that of any other
+pub status_clean : (entries : List Entry) → IsClean (reverse entries) → 0 ≡ refusal_status entries
+status_clean entries clean = rw (none_any entries (all_reversed (λ (entry : Entry). IsCleanAnswer entry.answer) entries clean)) refl
+
+pub status_refused : (entries : List Entry) → (IsClean (reverse entries) → ⊥) → 1 ≡ refusal_status entries
+status_refused entries refused = by (list_any (λ (entry : Entry). is_refused entry.answer) entries) refl
+  where
+    by : (some : Bool) → list_any (λ (entry : Entry). is_refused entry.answer) entries ≡ some → 1 ≡ refusal_status entries
+    by true is = rw is refl
+    by false is = absurd (refused (all_reverses (λ (entry : Entry). IsCleanAnswer entry.answer) entries (all_clean entries is)))
 
 module _ (program : Contents) (limit : ℕ) (line : List ℕ) (status : ℕ) (t : TellsRun program limit line status) (clean : IsClean (reverse t.entries)) where
   speaks : SpeaksForAll program.functions (shape_of_program program) (reverse t.entries)

@@ -1,12 +1,14 @@
 //! What a replay tells.
 
-ghost use Rattle.std.specs.Prelude.{◌≡◌, IfOk, IfErr};
+ghost use Rattle.std.specs.Prelude.{◌≡◌, ◌↔◌, IfOk, IfErr, IsTrue, reverse};
 ghost use Rattle.std.specs.List.{list_any};
+ghost use Rattle.model_histories.specs.Extensions.{IsClean};
 ghost use Rattle.program_text.specs.Shapes.{shape_in};
 ghost use Rattle.tool_commands.specs.Statuses.{is_refused as refused_spec};
 ghost use Rattle.tool_commands.specs.Outcomes.{IsSo, line_of_outcome as line_spec, refusal_status as status_of_run, status_of};
 
 use crate::fault::CliFault;
+use locked_replay::Whole;
 use program_text::Program;
 use race_gate::{Answer, Entry};
 use race_report::{push_number, push_words};
@@ -72,6 +74,14 @@ pub fn refusal_status(entries: &[Entry]) -> u8
     ensures { result ≡ status_of_run entries.now }
 {
     if any_refused(entries) { 1 } else { 0 }
+}
+
+/// As [`refusal_status`], of a run of which it is known whether something was refused, so that no entry is looked at.
+pub fn whole_status(whole: &Whole) -> u8
+    requires { IsTrue whole.now.clean ↔ IsClean (reverse whole.now.entries.items) }
+    ensures { result ≡ status_of_run whole.now.entries.items }
+{
+    if whole.clean { 0 } else { 1 }
 }
 
 /// The exit status of an outcome: 4 where the entries are no finished run, else 1 where one is refused or unset, else 0.

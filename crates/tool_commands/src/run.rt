@@ -14,7 +14,7 @@ ghost use Rattle.tool_commands.specs.Replays.{reading};
 ghost use Rattle.tool_commands.specs.Runs.{fault_of_run, run_line, IsRunFault, TellsRun, IsRan, HasRunCause};
 
 use crate::fault::CliFault;
-use crate::outcome::{Outcome, outcome_of, refusal_status};
+use crate::outcome::{Outcome, outcome_of, whole_status};
 use crate::streams::{parse_program, read_text, write_text};
 use crate::watched::Watched;
 use locked_replay::{
@@ -314,7 +314,7 @@ fn ran<D: Door + Sync, R: Threads + Wait + Sync>(
         Err(fault) => return Err(fault_of(fault)),
     };
     let line = report_line(alloc, program, &whole)?;
-    Ok((line, refusal_status(whole.entries.as_slice())))
+    Ok((line, whole_status(&whole)))
 }
 
 /// Reads a program to its end, runs it by so many workers, which ask a gate with this limit on the entries of its history, and writes the

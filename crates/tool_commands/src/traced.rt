@@ -11,7 +11,7 @@ ghost use Rattle.tool_commands.specs.Runs.{IsRunFault};
 ghost use Rattle.tool_commands.specs.Traced.{TellsTraced, IsReadTraced, IsTraced, StopsRun, StopsTrace, StopsTelling, HasTracedCause};
 
 use crate::fault::CliFault;
-use crate::outcome::refusal_status;
+use crate::outcome::whole_status;
 use crate::run::{Door, PARTS, fault_of, report_line, whole_run};
 use crate::streams::{parse_program, read_text, write_text};
 use crate::watched::Watched;
@@ -64,7 +64,7 @@ pub fn traced_run<D: Door + Sync, R: Threads + Wait + Sync>(
     };
     let line = report_line(alloc, program, &whole)?;
     let trace = trace_of(alloc, program, whole.entries.as_slice())?;
-    let status = refusal_status(whole.entries.as_slice());
+    let status = whole_status(&whole);
     Ok(Traced {
         line,
         trace,
