@@ -76,6 +76,7 @@ impl<A: Allocator> Branches<A> {
     }
 
     /// Makes room for one event that begins strands. A refused growth answers `AllocError` and changes nothing.
+    #[inline(always)]
     pub fn reserve_event(&mut self) -> Result<(), AllocError>
         ensures ok { OnOk result (self.new ≡ record self.old { has_room = true }) }
         ensures err { OnErr result (self.new ≡ self.old) }

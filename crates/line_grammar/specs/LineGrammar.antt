@@ -1,6 +1,7 @@
 -- The grammar of a line: a keyword, and words in their places behind it. A kind of text has its own keywords and places, and says what a
 -- word means in its place, and what is wrong with one that means nothing. How these make up a line stands here, for each kind of text.
-use Rattle.std.specs.Prelude.{◌≡◌, ℕ, ◌<◌, ◌⊎◌, Option, Some, None, Result, Err, List, [], ◌∷◌, length, option_map, MatchOption, MatchResult}
+use Rattle.std.specs.Prelude.{◌≡◌, ℕ, ◌<◌, ◌⊎◌, Option, Some, None, Result, Err, List, [], ◌∷◌, length}
+use Rattle.std.specs.Prelude.{option_map, MatchOption, MatchResult}
 use Rattle.text_words.specs.declared.fault.Cause.{Cause}
 use Rattle.text_words.specs.declared.fault.Cause.TheVariants.{BadWord}
 use Rattle.text_words.specs.declared.value.Version.{Version}

@@ -111,6 +111,7 @@ impl<A: Allocator + Clone> ReducerTracks<A> {
     }
 
     /// Takes in the event of control that the strand's act was answered by. Takes no memory.
+    #[inline(always)]
     pub fn follow(&mut self, strand: u32, answer: Answer)
         requires room { HasRoom self.old }
         requires takes { TakesEvent self.old strand answer }

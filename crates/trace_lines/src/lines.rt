@@ -11,6 +11,9 @@ use std::alloc::{AllocError, Allocator};
 use std::marker::Model;
 use text_words::TraceLine;
 
+/// One request of so many is looked at for a guess. It is a prime, which few patterns of requests repeat themselves by.
+const SAMPLED: usize = 31;
+
 /// The lines of a trace that ask for something, in their order.
 #[derive(Drop)]
 pub struct TraceLines<A: Allocator> {
@@ -92,16 +95,21 @@ impl<A: Allocator> TraceLines<A> {
     }
 
     /// About how many strands the requests make, if all are granted: two a spawn, and a third at each that opens a block, of which there
-    /// are about as many as syncs. It is a guess, by which room is asked for in advance.
+    /// are about as many as syncs. It is a guess from one request of so many, and an eighth more, by which room is asked for in advance.
     pub fn likely_strands(&self) -> usize
         ensures { result ≤ length self.now * 3 }
     {
+        let heads = self.heads.as_slice();
         let (mut spawns, mut syncs) = (0, 0);
-        for head in self.heads.as_slice() {
-            spawns += usize::from(is_spawn(*head));
-            syncs += usize::from(is_sync(*head));
+        for part in 0..heads.len() / SAMPLED {
+            let head = heads[part * SAMPLED];
+            spawns += usize::from(is_spawn(head));
+            syncs += usize::from(is_sync(head));
         }
-        spawns * 2 + spawns.min(syncs + 1)
+        let sampled = spawns * 2 + spawns.min(syncs + 1);
+        (sampled + sampled / 8)
+            .saturating_mul(SAMPLED)
+            .min(self.heads.len() * 3)
     }
 
     /// Whether there are none.
