@@ -219,7 +219,7 @@ impl<A: Allocator + Clone> Core<A> {
         if !is_in_range(&self.shape, request.act) {
             return Err(GateFault::BadName);
         }
-        if request.act == Act::Return && !self.tracks.strands.is_synced(request.strand) {
+        if matches!(request.act, Act::Return) && !self.tracks.strands.is_synced(request.strand) {
             return Err(GateFault::Unsynced);
         }
         Ok(())
