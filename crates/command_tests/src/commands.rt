@@ -1,7 +1,8 @@
 //! The commands, from texts that are read to texts that are written.
 
-ghost use Rattle.std.specs.Prelude.{◌≤◌};
+ghost use Rattle.std.specs.Prelude.{◌≡◌, ◌<◌, ◌≤◌, false};
 ghost use Rattle.model_histories.specs.Shapes.{most_entries};
+ghost use Rattle.tool_commands.specs.Watched.{has_failed};
 
 mod drawings;
 mod elisions;
@@ -13,44 +14,258 @@ mod recorded;
 mod replays;
 mod runs;
 mod schedules;
+mod verdicts;
 mod words;
 mod worked;
 
 use crate::checks::equal;
 use crate::devices::Filling;
-use model_histories::{Answer, GateFault, Receipt, Reply};
 use std::alloc::{AllocError, Global};
-use std::io::{Read, Write};
+use std::io::Read;
 use std::process::Abort;
+use std::sync::Wait;
 use std::test::Fail;
-use text_words::{Act, Request, TextFault};
-use tool_commands::{CliFault, Watched, judge_stream, status_of};
+use std::thread::Threads;
+use tool_commands::{
+    CliFault, Manner, OpenDoor, Watched, draw_text, elide_text, explain_text, judge_stream,
+    replay_text, run_text,
+};
 
 const MOST: u32 = 1_000_000;
 
-/// What a command answers, and how its reader and its writer have fared.
-#[derive(Drop)]
-struct Outcome<W> {
+/// A command over a text that is read. The other text that it may want has its lines between semicolons.
+#[derive(Clone, Copy)]
+enum Command<'a> {
+    /// Judges the trace that is read, with this limit.
+    Judge(u32),
+    /// Writes the elision of the program that is read, with this limit.
+    Elide(u32),
+    /// Runs the program that is read by so many workers, with this limit.
+    Run(usize, u32),
+    /// The same, told to a person.
+    Explain(usize, u32),
+    /// Replays this trace as a run of the program that is read.
+    Replay(&'a str),
+    /// Replays the trace that is read as a run of this program.
+    Follow(&'a str),
+    /// Draws the trace that is read.
+    Draw,
+}
+
+use Command::{Draw, Elide, Explain, Follow, Judge, Replay, Run};
+
+/// A limit that commands take.
+fn limited(rt: &impl Abort, limit: u32) -> u32
+    ensures { result ≤ most_entries }
+{
+    assert!(rt; limit <= MOST);
+    limit
+}
+
+/// A number of workers that commands take.
+fn manned(rt: &impl Abort, workers: usize) -> usize
+    ensures { (0 < result) × (result ≤ 64) }
+{
+    assert!(rt; 0 < workers);
+    assert!(rt; workers <= 64);
+    workers
+}
+
+/// Replays this trace as a run of the program that is read. The trace stands in memory, so it can be read.
+fn replayed<P: Read>(
+    rt: &impl Abort,
+    alloc: Global,
+    program: &mut Watched<P>,
+    trace: &str,
+    output: &mut Watched<Filling>,
+) -> Result<u8, CliFault>
+    requires reader { has_failed program.old ≡ false }
+    requires writer { has_failed output.old ≡ false }
+{
+    let trace = lined(alloc, trace, "; ")?;
+    let mut other = Watched::new(trace.as_bytes());
+    let answer = replay_text(alloc, program, &mut other, output);
+    assert!(rt; !other.failed());
+    answer
+}
+
+/// Replays the trace that is read as a run of this program, which stands in memory.
+fn followed<P: Read>(
+    rt: &impl Abort,
+    alloc: Global,
+    trace: &mut Watched<P>,
+    program: &str,
+    output: &mut Watched<Filling>,
+) -> Result<u8, CliFault>
+    requires reader { has_failed trace.old ≡ false }
+    requires writer { has_failed output.old ≡ false }
+{
+    let program = lined(alloc, program, "; ")?;
+    let mut other = Watched::new(program.as_bytes());
+    let answer = replay_text(alloc, &mut other, trace, output);
+    assert!(rt; !other.failed());
+    answer
+}
+
+/// Tells a person, on paper, of a run of the program that is read.
+fn explained<P: Read, R: Abort + Threads + Wait + Sync>(
+    rt: &R,
+    alloc: Global,
+    program: &mut Watched<P>,
+    workers: usize,
+    output: &mut Watched<Filling>,
+    limit: u32,
+) -> Result<u8, CliFault>
+    requires reader { has_failed program.old ≡ false }
+    requires writer { has_failed output.old ≡ false }
+{
+    let (workers, limit) = (manned(rt, workers), limited(rt, limit));
+    let manner = Manner {
+        is_painted: false,
+        file: "p.cilk",
+    };
+    explain_text(
+        rt, alloc, &manner, program, workers, &OpenDoor, output, limit,
+    )
+}
+
+/// What the command answers.
+fn answered<P: Read, R: Abort + Threads + Wait + Sync>(
+    rt: &R,
+    alloc: Global,
+    command: Command<'_>,
+    input: &mut Watched<P>,
+    output: &mut Watched<Filling>,
+) -> Result<u8, CliFault>
+    requires reader { has_failed input.old ≡ false }
+    requires writer { has_failed output.old ≡ false }
+{
+    match command {
+        Judge(limit) => {
+            let limit = limited(rt, limit);
+            judge_stream(alloc, input, output, limit)
+        }
+        Elide(limit) => {
+            let limit = limited(rt, limit);
+            elide_text(alloc, input, output, limit)
+        }
+        Run(workers, limit) => {
+            let (workers, limit) = (manned(rt, workers), limited(rt, limit));
+            run_text(rt, alloc, input, workers, &OpenDoor, output, limit)
+        }
+        Explain(workers, limit) => explained(rt, alloc, input, workers, output, limit),
+        Replay(trace) => replayed(rt, alloc, input, trace, output),
+        Follow(program) => followed(rt, alloc, input, program, output),
+        Draw => draw_text(alloc, input, output),
+    }
+}
+
+/// What a command answers and writes, and how what it reads and its writer have fared.
+struct Outcome {
     answer: Result<u8, CliFault>,
-    output: W,
+    output: Filling,
     reads: u64,
     read_failed: bool,
     write_failed: bool,
 }
 
-/// Judges what a reader gives.
-fn judged<R: Read + Drop, W: Write>(alloc: Global, reader: R, writer: W, limit: u32) -> Outcome<W>
-    requires { limit ≤ most_entries }
-{
-    let mut input = Watched::new(reader);
-    let mut output = Watched::new(writer);
-    let answer = judge_stream(alloc, &mut input, &mut output, limit);
+impl Drop for Outcome {
+    fn drop(self) {
+        let Outcome {
+            answer: _,
+            output: _,
+            reads: _,
+            read_failed: _,
+            write_failed: _,
+        } = self;
+    }
+}
+
+/// The outcome of a command that has answered so.
+fn outcome_of<T>(
+    answer: Result<u8, CliFault>,
+    input: &Watched<T>,
+    output: Watched<Filling>,
+) -> Outcome {
     Outcome {
         answer,
         reads: input.calls(),
         read_failed: input.failed(),
         write_failed: output.failed(),
         output: output.into_inner(),
+    }
+}
+
+/// How a writer takes what is written.
+#[derive(Clone, Copy)]
+enum Takes {
+    /// All that there is, at each call.
+    All,
+    /// A byte at each of so many calls, and then nothing.
+    Calls(u32),
+    /// The same, and then it answers errors.
+    CallsThenErrors(u32),
+}
+
+impl Takes {
+    /// How many calls it goes along with.
+    fn calls(self) -> u32 {
+        match self {
+            Takes::All => u32::MAX,
+            Takes::Calls(left) | Takes::CallsThenErrors(left) => left,
+        }
+    }
+
+    /// A writer that takes so.
+    fn writer(self, alloc: Global) -> Filling {
+        Filling {
+            held: Vec::new(alloc),
+            most: if matches!(self, Takes::All) {
+                usize::MAX
+            } else {
+                1
+            },
+            left: self.calls(),
+            answers_an_error: matches!(self, Takes::CallsThenErrors(_)),
+        }
+    }
+}
+
+/// What is wanted of a command.
+#[derive(Clone, Copy)]
+enum Wanted<'a> {
+    /// It ends with this status.
+    Status(u8),
+    /// It ends with this status and writes this text.
+    Text(u8, &'a str),
+    /// The same, of lines between slashes.
+    Lines(u8, &'a str),
+    /// It ends with this status and writes one of these texts.
+    Among(u8, &'a [&'a str]),
+    /// It writes nothing, and answers a fault with this status and text.
+    Fault(u8, &'a str),
+    /// It wants a file that is not there: that can't be read, and nothing is written.
+    Lacking,
+    /// Its reader fails behind so many reads, which is told, and nothing is written.
+    Unread(u32),
+    /// Its reader is interrupted at once, which is told as a failure, and nothing is written.
+    Interrupted,
+    /// What it reads is too long, which is told after so many reads at least and so many at most, and nothing is written.
+    TooLong(u64, u64),
+    /// It writes this text to a writer that takes it so: it fails just where those are fewer calls than this many, and the writer holds
+    /// what they wrote.
+    Filled(Takes, u32, &'a str),
+}
+
+use Wanted::{Among, Fault, Filled, Interrupted, Lacking, Lines, Status, Text, TooLong, Unread};
+
+impl Wanted<'_> {
+    /// The writer for which this is wanted.
+    fn writer(self, alloc: Global) -> Filling {
+        match self {
+            Filled(takes, ..) => takes.writer(alloc),
+            _ => Takes::All.writer(alloc),
+        }
     }
 }
 
@@ -62,20 +277,44 @@ fn has_ended(answer: &Result<u8, CliFault>, status: u8) -> bool {
     }
 }
 
-/// The command has ended with this status and has written this text.
-fn check_written(
-    rt: &impl Abort,
-    outcome: &Outcome<Vec<u8>>,
-    status: u8,
-    wanted: &str,
-    what: &str,
-) {
+/// The command has ended with this status, and neither its reader nor its writer has failed.
+fn is_ended(rt: &impl Abort, outcome: &Outcome, status: u8, what: &str) {
     assert!(rt; !outcome.read_failed && !outcome.write_failed, "{what}");
     assert!(rt; has_ended(&outcome.answer, status), "{what}");
-    equal(rt, &what, &outcome.output.as_slice(), &wanted.as_bytes());
 }
 
-/// The fault has this text and status.
+/// It has, and has written this text.
+fn is_written(rt: &impl Abort, outcome: &Outcome, status: u8, text: &str) {
+    is_ended(rt, outcome, status, text);
+    equal(
+        rt,
+        &"text",
+        &outcome.output.held.as_slice(),
+        &text.as_bytes(),
+    );
+}
+
+/// It has, and has written these lines.
+fn has_lines(
+    rt: &impl Abort,
+    alloc: Global,
+    outcome: &Outcome,
+    status: u8,
+    lines: &str,
+) -> Result<(), Fail> {
+    let text = lined(alloc, lines, " / ")?;
+    is_written(rt, outcome, status, text.as_str());
+    Ok(())
+}
+
+/// It has, and has written one of these texts.
+fn is_among(rt: &impl Abort, outcome: &Outcome, status: u8, texts: &[&str]) {
+    is_ended(rt, outcome, status, "one of several texts");
+    let written = outcome.output.held.as_slice();
+    assert!(rt; texts.iter().any(|text| text.as_bytes() == written));
+}
+
+/// The fault has this status and text.
 fn is_fault(
     rt: &impl Abort,
     alloc: Global,
@@ -89,15 +328,15 @@ fn is_fault(
     Ok(())
 }
 
-/// The command has written nothing, and answers a fault with this text and status.
-fn check_fault(
+/// The command has written nothing, and answers a fault with this status and text.
+fn has_fault(
     rt: &impl Abort,
     alloc: Global,
-    outcome: &Outcome<Vec<u8>>,
+    outcome: &Outcome,
     status: u8,
     wanted: &str,
 ) -> Result<(), Fail> {
-    assert!(rt; outcome.output.is_empty());
+    assert!(rt; outcome.output.held.is_empty(), "{wanted}");
     match &outcome.answer {
         Ok(_) => assert!(rt; false, "{wanted} is not answered"),
         Err(fault) => is_fault(rt, alloc, fault, status, wanted)?,
@@ -106,37 +345,40 @@ fn check_fault(
 }
 
 /// The reader has failed behind so many reads, which is told, and nothing is written.
-fn is_unread(rt: &impl Abort, outcome: &Outcome<Vec<u8>>, left: u32) {
+fn is_unread(rt: &impl Abort, outcome: &Outcome, left: u32) {
     assert!(rt;
         matches!(outcome.answer, Err(CliFault::Read)),
         "at read {left}"
     );
     assert!(rt;
-        outcome.read_failed && outcome.output.is_empty(),
+        outcome.read_failed && outcome.output.held.is_empty(),
         "at read {left}"
     );
 }
 
+/// A file was not there, which is told, and nothing is written.
+fn is_lacking(rt: &impl Abort, alloc: Global, outcome: &Outcome) -> Result<(), Fail> {
+    is_unread(rt, outcome, 0);
+    assert!(rt; !outcome.write_failed);
+    has_fault(rt, alloc, outcome, 2, "read")
+}
+
 /// The reader was interrupted, which is told as a failure, and nothing is written.
-fn is_interrupted(rt: &impl Abort, outcome: &Outcome<Vec<u8>>) {
+fn is_interrupted(rt: &impl Abort, outcome: &Outcome) {
     is_unread(rt, outcome, 0);
     equal(rt, &"reads", &outcome.reads, &1);
 }
 
-/// The text was too long, and nothing is written.
-fn check_too_long(rt: &impl Abort, outcome: &Outcome<Vec<u8>>) {
+/// The text was too long, which was told after so many reads, and nothing is written.
+fn is_too_long(rt: &impl Abort, outcome: &Outcome, least: u64, most: u64) {
+    let reads = outcome.reads;
     assert!(rt; matches!(outcome.answer, Err(CliFault::TooLong)));
-    assert!(rt; !outcome.read_failed && outcome.output.is_empty());
-}
-
-/// The reader, which gave a byte at each read, was asked as often as a reader may be.
-fn has_no_end(rt: &impl Abort, outcome: &Outcome<Vec<u8>>) {
-    check_too_long(rt, outcome);
-    equal(rt, &"reads", &outcome.reads, &67_108_865);
+    assert!(rt; !outcome.read_failed && outcome.output.held.is_empty());
+    assert!(rt; least <= reads && reads <= most, "{reads} reads");
 }
 
 /// The writer, which went along with so many calls, has failed just where they are fewer than the text takes, and holds what they wrote.
-fn has_filled(rt: &impl Abort, outcome: &Outcome<Filling>, left: u32, calls: u32, text: &str) {
+fn has_filled(rt: &impl Abort, outcome: &Outcome, left: u32, calls: u32, text: &str) {
     let has_failed = matches!(outcome.answer, Err(CliFault::Write));
     let held = outcome.output.held.as_slice();
     let found = (
@@ -152,6 +394,54 @@ fn has_filled(rt: &impl Abort, outcome: &Outcome<Filling>, left: u32, calls: u32
     );
     assert!(rt; text.as_bytes().starts_with(held), "{left} writes");
     equal(rt, &left, &held.len(), &(left as usize).min(text.len()));
+}
+
+/// The outcome is what is wanted.
+fn is_met(
+    rt: &impl Abort,
+    alloc: Global,
+    outcome: &Outcome,
+    wanted: Wanted<'_>,
+) -> Result<(), Fail> {
+    match wanted {
+        Status(status) => is_ended(rt, outcome, status, "a status"),
+        Text(status, text) => is_written(rt, outcome, status, text),
+        Lines(status, lines) => has_lines(rt, alloc, outcome, status, lines)?,
+        Among(status, texts) => is_among(rt, outcome, status, texts),
+        Fault(status, text) => has_fault(rt, alloc, outcome, status, text)?,
+        Lacking => is_lacking(rt, alloc, outcome)?,
+        Unread(left) => is_unread(rt, outcome, left),
+        Interrupted => is_interrupted(rt, outcome),
+        TooLong(least, most) => is_too_long(rt, outcome, least, most),
+        Filled(takes, calls, text) => has_filled(rt, outcome, takes.calls(), calls, text),
+    }
+    Ok(())
+}
+
+/// What comes of the command over this reader and writer.
+fn done<P: Read + Drop, R: Abort + Threads + Wait + Sync>(
+    rt: &R,
+    alloc: Global,
+    command: Command<'_>,
+    reader: P,
+    writer: Filling,
+) -> Outcome {
+    let mut input = Watched::new(reader);
+    let mut output = Watched::new(writer);
+    let answer = answered(rt, alloc, command, &mut input, &mut output);
+    outcome_of(answer, &input, output)
+}
+
+/// The command over this reader does what is wanted.
+fn check<P: Read + Drop, R: Abort + Threads + Wait + Sync>(
+    rt: &R,
+    alloc: Global,
+    command: Command<'_>,
+    reader: P,
+    wanted: Wanted<'_>,
+) -> Result<(), Fail> {
+    let outcome = done(rt, alloc, command, reader, wanted.writer(alloc));
+    is_met(rt, alloc, &outcome, wanted)
 }
 
 /// Appends the text with a line feed in place of each separator, and one behind it.
@@ -172,368 +462,29 @@ fn lined(alloc: Global, text: &str, separator: &str) -> Result<String, AllocErro
     Ok(lines)
 }
 
-/// The text is judged with this status, and these verdict lines are written.
-fn check_text(rt: &impl Abort, alloc: Global, text: &str, limit: u32, wanted: &str, status: u8)
-    requires { limit ≤ most_entries }
-{
-    let outcome = judged(alloc, text.as_bytes(), Vec::new(alloc), limit);
-    check_written(rt, &outcome, status, wanted, text);
-}
-
-/// The trace is judged with this status and these verdict lines, which stand between slashes.
-fn check(
-    rt: &impl Abort,
+/// The command over this text, whose lines stand between semicolons, does what is wanted.
+fn check_text<R: Abort + Threads + Wait + Sync>(
+    rt: &R,
     alloc: Global,
-    trace: &str,
-    limit: u32,
-    verdicts: &str,
-    status: u8,
-) -> Result<(), Fail>
-    requires { limit ≤ most_entries }
-{
-    let text = lined(alloc, trace, "; ")?;
-    let wanted = lined(alloc, verdicts, " / ")?;
-    check_text(rt, alloc, text.as_str(), limit, wanted.as_str(), status);
-    Ok(())
-}
-
-/// The same of the requests behind a head.
-fn check_behind(
-    rt: &impl Abort,
-    alloc: Global,
-    head: &str,
-    requests: &str,
-    verdicts: &str,
-    status: u8,
+    command: Command<'_>,
+    text: &str,
+    wanted: Wanted<'_>,
 ) -> Result<(), Fail> {
-    let trace = format!(in alloc; "{head}{requests}")?;
-    check(rt, alloc, trace.as_str(), MOST, verdicts, status)
+    let text = lined(alloc, text, "; ")?;
+    check(rt, alloc, command, text.as_bytes(), wanted)
 }
 
-/// The head of a trace of one cell.
-const ONE_CELL: &str = "cilk 1; mem x; ";
+/// A command, the text that it reads, and what is wanted of it.
+type Case<'a> = (Command<'a>, &'a str, Wanted<'a>);
 
-/// The same of each list of requests, with its verdict lines and its status.
-fn check_each(
-    rt: &impl Abort,
+/// Each command over the text beside it does what is wanted.
+fn check_all<R: Abort + Threads + Wait + Sync>(
+    rt: &R,
     alloc: Global,
-    head: &str,
-    cases: &[(&str, &str, u8)],
+    cases: &[Case<'_>],
 ) -> Result<(), Fail> {
-    for (requests, verdicts, status) in cases {
-        check_behind(rt, alloc, head, requests, verdicts, *status)?;
+    for (command, text, wanted) in cases {
+        check_text(rt, alloc, *command, text, *wanted)?;
     }
     Ok(())
-}
-
-#[test]
-fn control_and_values(rt: HostRuntime) -> Result<(), Fail> {
-    check(&rt, rt.alloc(), "cilk 1; mem x", MOST, "", 0)?;
-    check_each(
-        &rt,
-        rt.alloc(),
-        ONE_CELL,
-        &[
-            ("write 0 x 5; read 0 x", "1 granted / 2 value 5", 0),
-            (
-                "spawn 0; read 1 x; read 2 x",
-                "1 split 1 2 3 / 2 value 0 / 3 value 0",
-                0,
-            ),
-            (
-                "spawn 0; read 1 x; sync 2; return 1; write 3 x 4",
-                "1 split 1 2 3 / 2 value 0 / 3 waits / 4 ended-joined 3 / 5 granted",
-                0,
-            ),
-            (
-                "sync 0; return 0; read 0 x",
-                "1 same / 2 finished / illegal not-running",
-                2,
-            ),
-            (
-                "spawn 0; call 2; spawn 2; return 4; sync 5; return 6; sync 6; return 1",
-                "1 split 1 2 3 / 2 same / 3 split 4 5 6 / 4 ended / 5 joined 6 / 6 resumed / 7 waits / 8 ended-joined 3",
-                0,
-            ),
-            (
-                "spawn 0; return 2; read 2 x",
-                "1 split 1 2 3 / illegal unsynced / 2 value 0",
-                2,
-            ),
-            ("read 4294967295 x", "illegal not-running", 2),
-        ],
-    )
-}
-
-#[test]
-fn races(rt: HostRuntime) -> Result<(), Fail> {
-    check_each(
-        &rt,
-        rt.alloc(),
-        ONE_CELL,
-        &[
-            (
-                "spawn 0; read 1 x; read 2 x; write 2 x 9",
-                "1 split 1 2 3 / 2 value 0 / 3 value 0 / 4 refused read-write 2",
-                1,
-            ),
-            (
-                "spawn 0; read 2 x; write 1 x 9",
-                "1 split 1 2 3 / 2 value 0 / 3 refused read-write 2",
-                1,
-            ),
-            (
-                "spawn 0; write 1 x 5; write 2 x 6; read 1 x",
-                "1 split 1 2 3 / 2 granted / 3 refused write-write 2 / 4 value 5",
-                1,
-            ),
-        ],
-    )
-}
-
-#[test]
-fn bumps(rt: HostRuntime) -> Result<(), Fail> {
-    check_each(
-        &rt,
-        rt.alloc(),
-        "cilk 2; mem x; ",
-        &[
-            (
-                "write 0 x 1; spawn 0; bump 1 x 2; bump 2 x 3; read 2 x; sync 2; return 1; read 3 x",
-                "1 granted / 2 split 1 2 3 / 3 granted / 4 granted / 5 refused bump-read 3 / 6 waits / 7 ended-joined 3 / 8 value 6",
-                1,
-            ),
-            (
-                "write 0 x 18446744073709551615; bump 0 x 2; read 0 x",
-                "1 granted / 2 granted / 3 value 1",
-                0,
-            ),
-            (
-                "spawn 0; bump 1 x 2; write 2 x 9",
-                "1 split 1 2 3 / 2 granted / 3 refused bump-write 2",
-                1,
-            ),
-            (
-                "spawn 0; write 1 x 9; bump 2 x 2",
-                "1 split 1 2 3 / 2 granted / 3 refused write-bump 2",
-                1,
-            ),
-            (
-                "spawn 0; read 1 x; bump 2 x 1",
-                "1 split 1 2 3 / 2 value 0 / 3 refused read-bump 2",
-                1,
-            ),
-        ],
-    )
-}
-
-#[test]
-fn reducers(rt: HostRuntime) -> Result<(), Fail> {
-    check_each(
-        &rt,
-        rt.alloc(),
-        "",
-        &[
-            (
-                "cilk 1; reducer h sum; put 0 h 0; spawn 0; update 1 h 5; get 2 h; return 1; sync 2; get 3 h",
-                "1 granted / 2 split 1 2 3 / 3 granted / 4 refused view-read 1 / 5 ended / 6 joined 3 / 7 value 5",
-                1,
-            ),
-            (
-                "cilk 1; reducer h last; put 0 h 1; spawn 0; update 2 h 7; update 1 h 5; return 1; sync 2; get 3 h",
-                "1 granted / 2 split 1 2 3 / 3 granted / 4 granted / 5 ended / 6 joined 3 / 7 value 7",
-                0,
-            ),
-            (
-                "cilk 1; reducer h last; put 0 h 1; spawn 0; spawn 2; update 1 h 5; update 4 h 7; return 4; return 1; sync 5; get 3 h",
-                "1 granted / 2 split 1 2 3 / 3 split 4 5 3 / 4 granted / 5 granted / 6 ended / 7 ended / 8 joined 3 / 9 value 7",
-                0,
-            ),
-            ("cilk 1; reducer h last; get 0 h", "1 refused unset", 1),
-            (
-                "cilk 1; reducer h sum; spawn 0; put 1 h 5; get 2 h",
-                "1 split 1 2 3 / 2 granted / 3 refused view-read 2",
-                1,
-            ),
-            (
-                "cilk 2; reducer h digits; put 0 h 0; spawn 0; update 2 h 2; update 1 h 1; return 1; sync 2; get 3 h",
-                "1 granted / 2 split 1 2 3 / 3 granted / 4 granted / 5 ended / 6 joined 3 / 7 value 33",
-                0,
-            ),
-        ],
-    )
-}
-
-#[test]
-fn reducers_in_blocks(rt: HostRuntime) -> Result<(), Fail> {
-    check_each(
-        &rt,
-        rt.alloc(),
-        "cilk 1; reducer h ",
-        &[
-            (
-                "sum; spawn 0; put 1 h 5; spawn 1; update 4 h 1; return 4; sync 5; get 6 h; get 2 h",
-                "1 split 1 2 3 / 2 granted / 3 split 4 5 6 / 4 granted / 5 ended / 6 joined 6 / 7 value 6 / 8 refused view-read 2",
-                1,
-            ),
-            (
-                "sum; put 0 h 1; spawn 0; put 1 h 9; return 1; sync 2; get 3 h",
-                "1 granted / 2 split 1 2 3 / 3 refused view-read 1 / 4 ended / 5 joined 3 / 6 value 1",
-                1,
-            ),
-            (
-                "sum; put 0 h 18446744073709551615; update 0 h 2; get 0 h",
-                "1 granted / 2 granted / 3 value 1",
-                0,
-            ),
-            (
-                "min; put 0 h 9; spawn 0; update 1 h 4; update 2 h 6; return 1; sync 2; get 3 h",
-                "1 granted / 2 split 1 2 3 / 3 granted / 4 granted / 5 ended / 6 joined 3 / 7 value 4",
-                0,
-            ),
-            (
-                "max; put 0 h 3; update 0 h 9; update 0 h 4; get 0 h",
-                "1 granted / 2 granted / 3 granted / 4 value 9",
-                0,
-            ),
-            (
-                "sum; spawn 0; put 1 h 5; spawn 2; get 1 h",
-                "1 split 1 2 3 / 2 granted / 3 split 4 5 3 / 4 value 5",
-                0,
-            ),
-        ],
-    )
-}
-
-#[test]
-fn a_limit_ends_the_history(rt: HostRuntime) -> Result<(), Fail> {
-    check(
-        &rt,
-        rt.alloc(),
-        "cilk 1; mem x; write 0 x 1; write 0 x 2; write 0 x 3; write 0 x 4",
-        3,
-        "1 granted / 2 granted / 3 granted / illegal limit",
-        4,
-    )?;
-    check(
-        &rt,
-        rt.alloc(),
-        "cilk 1; mem x; return 5",
-        0,
-        "illegal limit",
-        4,
-    )
-}
-
-/// A long loop that is written: the trace, its verdict lines, the strand that spawns next, and the last entry.
-#[derive(Drop)]
-struct SpawnLoop {
-    text: String,
-    wanted: String,
-    newest: u32,
-    entry: u32,
-}
-
-impl SpawnLoop {
-    /// Spawns a child, which ends.
-    fn spawn(&mut self, child: u32) -> Result<(), Fail> {
-        write!(self.text, "spawn {}\nreturn {child}\n", self.newest)?;
-        self.newest = child.wrapping_add(1);
-        let (spawn, end) = (self.entry.wrapping_add(1), self.entry.wrapping_add(2));
-        write!(
-            self.wanted,
-            "{spawn} split {child} {} 3\n{end} ended\n",
-            self.newest
-        )?;
-        self.entry = end;
-        Ok(())
-    }
-
-    fn access(&mut self, value: u32) -> Result<(), Fail> {
-        self.entry = self.entry.wrapping_add(1);
-        write!(self.text, "write {} x {value}\n", self.newest)?;
-        write!(self.wanted, "{} granted\n", self.entry)?;
-        Ok(())
-    }
-}
-
-/// 10,000 spawns with a write behind each hundredth, and the end.
-fn spawn_all(made: &mut SpawnLoop) -> Result<(), Fail> {
-    for k in 1..10_001u32 {
-        made.spawn(if k == 1 { 1 } else { 2 * k })?;
-        if k % 100 == 0 {
-            made.access(k)?;
-        }
-    }
-    made.text.push_str("sync 20001\nreturn 3\n")?;
-    made.wanted.push_str("20101 joined 3\n20102 finished\n")?;
-    Ok(())
-}
-
-/// The long loop that is written so is judged so.
-fn check_loop(rt: &impl Abort, alloc: Global, made: &mut SpawnLoop) -> Result<(), Fail> {
-    spawn_all(made)?;
-    check_text(rt, alloc, made.text.as_str(), MOST, made.wanted.as_str(), 0);
-    Ok(())
-}
-
-#[test]
-fn spawns_in_a_long_loop(rt: HostRuntime) -> Result<(), Fail> {
-    let mut made = SpawnLoop {
-        text: String::from_str(rt.alloc(), "cilk 1\nmem x\n")?,
-        wanted: String::new(rt.alloc()),
-        newest: 0,
-        entry: 0,
-    };
-    check_loop(&rt, rt.alloc(), &mut made)
-}
-
-/// The text is no trace, for a fault with this text.
-fn check_no_trace(rt: &impl Abort, alloc: Global, text: &str, wanted: &str) -> Result<(), Fail> {
-    let outcome = judged(alloc, text.as_bytes(), Vec::new(alloc), MOST);
-    check_fault(rt, alloc, &outcome, 2, wanted)
-}
-
-/// The same of each text.
-fn check_no_traces(rt: &impl Abort, alloc: Global, cases: &[(&str, &str)]) -> Result<(), Fail> {
-    for (text, wanted) in cases {
-        check_no_trace(rt, alloc, text, wanted)?;
-    }
-    Ok(())
-}
-
-#[test]
-fn faults_of_the_text(rt: HostRuntime) -> Result<(), Fail> {
-    check_no_traces(
-        &rt,
-        rt.alloc(),
-        &[
-            ("", "trace line 1: BadHeader"),
-            ("cilk 1\nmem x\nmem x\n", "trace line 3: TwiceNamed"),
-            ("cilk 1\nmem a 2\nread 0 a[2]\n", "trace line 3: BadNumber"),
-        ],
-    )
-}
-
-#[test]
-fn want_of_memory_for_a_text(rt: HostRuntime) -> Result<(), Fail> {
-    let fault = CliFault::from(TextFault::Memory);
-    is_fault(&rt, rt.alloc(), &fault, 3, "memory")
-}
-
-#[test]
-fn statuses_of_replies(rt: HostRuntime) {
-    let unset = Reply::Done(Receipt {
-        number: 1,
-        request: Request {
-            strand: 0,
-            act: Act::Get(0),
-            line: 1,
-        },
-        answer: Answer::Unset,
-    });
-    let stopped = Reply::Illegal(GateFault::Stopped);
-    let memory = Reply::Illegal(GateFault::Memory);
-    assert_eq!(rt; status_of(&[unset, stopped, memory]), 3);
-    assert_eq!(rt; status_of(&[unset]), 1);
 }

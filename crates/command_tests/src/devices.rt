@@ -63,12 +63,14 @@ impl Read for Interrupted<'_> {
     }
 }
 
-/// Takes a byte at each write. Behind `left` more it takes none, or answers an error.
+/// Takes so many bytes at each write at most. Behind `left` more calls it takes none, or answers an error.
 #[derive(Drop)]
 pub struct Filling {
     /// What it has taken.
     pub held: Vec<u8>,
-    /// How many writes it takes.
+    /// How many bytes it takes at a write.
+    pub most: usize,
+    /// How many calls it goes along with.
     pub left: u32,
     /// Whether it answers an error behind them.
     pub answers_an_error: bool,
@@ -84,13 +86,10 @@ impl Write for Filling {
             };
         }
         self.left -= 1;
-        match buf.first() {
-            Some(byte) => {
-                self.held.push(*byte)?;
-                Ok(1)
-            }
-            None => Ok(0),
-        }
+        let count = buf.len().min(self.most);
+        let (taken, _) = buf.split_at(count);
+        self.held.extend_from_slice(taken)?;
+        Ok(count)
     }
 
     fn flush(&mut self) -> Result<()> {

@@ -1,17 +1,10 @@
 //! Explanations of runs, from programs that are read to texts that are written.
 
-ghost use Rattle.std.specs.Prelude.{◌<◌, ◌≤◌};
-ghost use Rattle.model_histories.specs.Shapes.{most_entries};
-
+use super::Command::Explain;
+use super::Wanted::Text;
 use super::worked::{ENDLESS, FIB};
-use super::{Outcome, check_written, lined};
-use std::alloc::Global;
-use std::io::{Read, Write};
-use std::process::Abort;
-use std::sync::Wait;
+use super::{Case, check_all};
 use std::test::Fail;
-use std::thread::Threads;
-use tool_commands::{Manner, OpenDoor, Watched, explain_text};
 
 /// A write beside a spawned function that writes the same cell, and then no end. One worker goes on with `main` first.
 const RACE_AND_NO_END: &str =
@@ -50,84 +43,23 @@ const NO_PROGRAM_TOLD: &str = "error: a name is not declared as what its place w
 const FIB_TOLD: &str =
     "clean for every schedule: no run of this program has a race, and each leaves this memory\nx 55\n";
 
-/// Explains the program that a reader gives.
-fn explained_from<P: Read + Drop, W: Write, R: Threads + Wait + Sync>(
-    rt: &R,
-    alloc: Global,
-    reader: P,
-    workers: usize,
-    writer: W,
-    limit: u32,
-) -> Outcome<W>
-    requires workers { (0 < workers) × (workers ≤ 64) }
-    requires limit { limit ≤ most_entries }
-{
-    let mut program = Watched::new(reader);
-    let mut output = Watched::new(writer);
-    let manner = Manner {
-        is_painted: false,
-        file: "p.cilk",
-    };
-    let answer = explain_text(
-        rt,
-        alloc,
-        &manner,
-        &mut program,
-        workers,
-        &OpenDoor,
-        &mut output,
-        limit,
-    );
-    Outcome {
-        answer,
-        reads: program.calls(),
-        read_failed: program.failed(),
-        write_failed: output.failed(),
-        output: output.into_inner(),
-    }
-}
+const CUT_TOLD: &str =
+    "0 refusals at 0 pairs of lines, among 9 requests\nthis is no whole run: the limit ended it after 9 requests, and there may be more to tell\n";
 
-/// The program of a text, with lines between semicolons, is explained so by so many workers.
-fn check_explained<R: Abort + Threads + Wait + Sync>(
-    rt: &R,
-    alloc: Global,
-    program: &str,
-    workers: usize,
-    limit: u32,
-    wanted: &str,
-    status: u8,
-) -> Result<(), Fail>
-    requires workers { (0 < workers) × (workers ≤ 64) }
-    requires limit { limit ≤ most_entries }
-{
-    let text = lined(alloc, program, "; ")?;
-    let output = Vec::new(alloc);
-    let outcome = explained_from(rt, alloc, text.as_bytes(), workers, output, limit);
-    check_written(rt, &outcome, status, wanted, program);
-    Ok(())
-}
+/// Programs and what is told of them.
+const EXPLAINED: &[Case<'static>] = &[
+    (Explain(1, 713), FIB, Text(0, FIB_TOLD)),
+    (Explain(2, 713), FIB, Text(0, FIB_TOLD)),
+    (Explain(8, 713), FIB, Text(0, FIB_TOLD)),
+    (Explain(64, 713), FIB, Text(0, FIB_TOLD)),
+    (Explain(1, 6), RACE_AND_NO_END, Text(4, RACE_TOLD)),
+    (Explain(2, 9), ENDLESS, Text(4, CUT_TOLD)),
+    (Explain(2, 9), NO_PROGRAM, Text(2, NO_PROGRAM_TOLD)),
+];
 
+/// A clean run is told with its memory, a race that comes before the limit, a run without an end as cut, and what is wrong with a text
+/// that is no program.
 #[test]
-fn a_clean_run_is_explained_with_its_memory(rt: HostRuntime) -> Result<(), Fail> {
-    for workers in [1usize, 2, 8, 64] {
-        check_explained(&rt, rt.alloc(), FIB, workers, 713, FIB_TOLD, 0)?;
-    }
-    Ok(())
-}
-
-#[test]
-fn a_race_before_the_limit_is_explained(rt: HostRuntime) -> Result<(), Fail> {
-    check_explained(&rt, rt.alloc(), RACE_AND_NO_END, 1, 6, RACE_TOLD, 4)
-}
-
-#[test]
-fn a_run_without_an_end_is_explained_as_cut(rt: HostRuntime) -> Result<(), Fail> {
-    let wanted = "0 refusals at 0 pairs of lines, among 9 requests\n\
-        this is no whole run: the limit ended it after 9 requests, and there may be more to tell\n";
-    check_explained(&rt, rt.alloc(), ENDLESS, 2, 9, wanted, 4)
-}
-
-#[test]
-fn a_text_that_means_nothing_is_explained(rt: HostRuntime) -> Result<(), Fail> {
-    check_explained(&rt, rt.alloc(), NO_PROGRAM, 2, 9, NO_PROGRAM_TOLD, 2)
+fn clean_racy_cut_and_meaningless_programs_are_explained(rt: HostRuntime) -> Result<(), Fail> {
+    check_all(&rt, rt.alloc(), EXPLAINED)
 }

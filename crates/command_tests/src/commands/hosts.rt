@@ -5,10 +5,10 @@ ghost use Rattle.tool_commands.specs.Jobs.{IsInRange};
 ghost use Rattle.tool_commands.specs.Performed.{IsAlone};
 ghost use Rattle.tool_commands.specs.Sources.{unknown_sources};
 
-use super::worked::FIB;
-use super::{MOST, Outcome, check_fault, check_written, lined};
+use super::Wanted::{Lacking, Text};
+use super::{MOST, Outcome, Wanted, is_met, manned, outcome_of};
 use crate::devices::{Breaking, Filling};
-use std::alloc::Global;
+use std::alloc::{AllocError, Global};
 use std::io::{self, Error, ErrorKind};
 use std::process::Abort;
 use std::sync::Wait;
@@ -17,17 +17,19 @@ use std::thread::Threads;
 use tool_commands::{Host, Job, Watched, perform, perform_alone};
 
 /// A trace in which a join begins, and its verdict lines.
-const JOINED: &str = "cilk 1; mem x; spawn 0; read 1 x; sync 2; return 1; write 3 x 4";
+const JOINED: &str = "cilk 1\nmem x\nspawn 0\nread 1 x\nsync 2\nreturn 1\nwrite 3 x 4\n";
 
-const VERDICTS: &str = "1 split 1 2 3 / 2 value 0 / 3 waits / 4 ended-joined 3 / 5 granted";
+const VERDICTS: &str = "1 split 1 2 3\n2 value 0\n3 waits\n4 ended-joined 3\n5 granted\n";
 
-const FIB_LINES: &str = "x 55 / requests 713";
+/// FIB, a line for each of its lines.
+const FIB: &str =
+    "cilk 1\nmem x\nreducer h sum\nfunc main z\nput h 0\ncall fib 10\nget r h\nwrite x r\nend\nfunc fib n\nlet t = n < 2\nif t\nupdate h n\nelse\nlet a = n - 1\nlet b = n - 2\nspawn fib a\ncall fib b\nsync\nend\nend\n";
 
 const FIB_REPORT: &str =
-    "{\"clean\":true,\"entries\":713,\"memory\":{\"x\":55},\"refusals\":[],\"schedules\":\"clean for every schedule\"}";
+    "{\"clean\":true,\"entries\":713,\"memory\":{\"x\":55},\"refusals\":[],\"schedules\":\"clean for every schedule\"}\n";
 
 /// PAIR, a line for each of its lines.
-const PAIR_LINES: &str =
+const PAIR: &str =
     "cilk 1\nmem x\nmem y\nfunc main z\nspawn f 7\nread r x\nend\nfunc f v\nwrite x v\nend\n";
 
 /// A run of PAIR in which the write comes first, and the read is refused.
@@ -97,119 +99,124 @@ impl<'a> Host for Texts<'a> {
     fn close(&mut self, _name: &str, _file: Filling) {}
 }
 
-/// Does a job over these texts.
+/// What is to be done, with these files.
+#[derive(Clone, Copy)]
+enum Deed {
+    JudgeInput,
+    Elide(&'static str),
+    Replay(&'static str, &'static str),
+    Draw(&'static str),
+    /// To show this text.
+    Show(&'static str),
+}
+
+/// The job that starts no thread and does this.
+fn job_alone(alloc: Global, deed: Deed) -> Result<Job, AllocError>
+    ensures ranges { IfOk result IsInRange }
+    ensures alone { IfOk result IsAlone }
+{
+    let (first, second) = match deed {
+        Deed::JudgeInput => ("", ""),
+        Deed::Elide(name) | Deed::Draw(name) | Deed::Show(name) => (name, ""),
+        Deed::Replay(program, trace) => (program, trace),
+    };
+    let file = String::from_str(alloc, first)?;
+    let trace = String::from_str(alloc, second)?;
+    match deed {
+        Deed::JudgeInput => Ok(Job::Judge {
+            file: None,
+            limit: MOST,
+        }),
+        Deed::Elide(_) => Ok(Job::Elide { file, limit: MOST }),
+        Deed::Replay(..) => Ok(Job::Replay { file, trace }),
+        Deed::Draw(_) => Ok(Job::Draw { file }),
+        Deed::Show(_) => Ok(Job::Show { text: file }),
+    }
+}
+
+/// What comes of a job over these texts.
 fn performed<R: Threads + Wait + Sync>(
     rt: &R,
     alloc: Global,
     texts: Texts<'_>,
     job: &Job,
-) -> Outcome<Vec<u8>>
+    wanted: Wanted<'_>,
+) -> Outcome
     requires { IsInRange job.now }
 {
     let mut host = Watched::new(texts);
-    let mut output = Watched::new(Vec::new(alloc));
+    let mut output = Watched::new(wanted.writer(alloc));
     let answer = perform(rt, alloc, &mut host, job, &mut output);
-    Outcome {
-        answer,
-        reads: host.calls(),
-        read_failed: host.failed(),
-        write_failed: output.failed(),
-        output: output.into_inner(),
-    }
+    outcome_of(answer, &host, output)
 }
 
-/// Does a job that starts no thread.
-fn performed_alone(alloc: Global, texts: Texts<'_>, job: &Job) -> Outcome<Vec<u8>>
+/// What comes of a job that starts no thread.
+fn performed_alone(alloc: Global, texts: Texts<'_>, job: &Job, wanted: Wanted<'_>) -> Outcome
     requires ranges { IsInRange job.now }
     requires alone { IsAlone job.now }
 {
     let mut host = Watched::new(texts);
-    let mut output = Watched::new(Vec::new(alloc));
+    let mut output = Watched::new(wanted.writer(alloc));
     let answer = perform_alone(alloc, &mut host, job, &mut output);
-    Outcome {
-        answer,
-        reads: host.calls(),
-        read_failed: host.failed(),
-        write_failed: output.failed(),
-        output: output.into_inner(),
-    }
+    outcome_of(answer, &host, output)
 }
 
-/// The job is done with this status, and writes these lines, which stand between slashes.
+/// Of the job comes what is wanted.
 fn check_job<R: Abort + Threads + Wait + Sync>(
     rt: &R,
     alloc: Global,
     texts: Texts<'_>,
     job: &Job,
-    wanted: &str,
-    status: u8,
+    wanted: Wanted<'_>,
 ) -> Result<(), Fail>
     requires { IsInRange job.now }
 {
-    let wanted = lined(alloc, wanted, " / ")?;
-    let outcome = performed(rt, alloc, texts, job);
-    check_written(rt, &outcome, status, wanted.as_str(), "a job");
-    Ok(())
+    let outcome = performed(rt, alloc, texts, job, wanted);
+    is_met(rt, alloc, &outcome, wanted)
 }
 
-/// The same of a job that starts no thread, by either call.
+/// The same of a job that starts no thread, by the call for such jobs.
+fn check_job_alone(
+    rt: &impl Abort,
+    alloc: Global,
+    texts: Texts<'_>,
+    job: &Job,
+    wanted: Wanted<'_>,
+) -> Result<(), Fail>
+    requires ranges { IsInRange job.now }
+    requires alone { IsAlone job.now }
+{
+    let outcome = performed_alone(alloc, texts, job, wanted);
+    is_met(rt, alloc, &outcome, wanted)
+}
+
+/// Of the deed comes what is wanted, by either call.
 fn check_either<R: Abort + Threads + Wait + Sync>(
     rt: &R,
     alloc: Global,
     texts: Texts<'_>,
-    job: &Job,
-    wanted: &str,
-    status: u8,
-) -> Result<(), Fail>
-    requires ranges { IsInRange job.now }
-    requires alone { IsAlone job.now }
-{
-    check_job(rt, alloc, texts, job, wanted, status)?;
-    let wanted = lined(alloc, wanted, " / ")?;
-    let outcome = performed_alone(alloc, texts, job);
-    check_written(rt, &outcome, status, wanted.as_str(), "a job alone");
+    deed: Deed,
+    wanted: Wanted<'_>,
+) -> Result<(), Fail> {
+    let job = job_alone(alloc, deed)?;
+    check_job(rt, alloc, texts, &job, wanted)?;
+    check_job_alone(rt, alloc, texts, &job, wanted)
+}
+
+/// The same of each deed, over the texts beside it.
+fn check_all<R: Abort + Threads + Wait + Sync>(
+    rt: &R,
+    alloc: Global,
+    cases: &[(Texts<'_>, Deed, Wanted<'_>)],
+) -> Result<(), Fail> {
+    for (texts, deed, wanted) in cases {
+        check_either(rt, alloc, *texts, *deed, *wanted)?;
+    }
     Ok(())
 }
 
-/// The job wants a file that is not there: it can't be read, and nothing is written.
-fn check_lacking<R: Abort + Threads + Wait + Sync>(
-    rt: &R,
-    alloc: Global,
-    texts: Texts<'_>,
-    job: &Job,
-) -> Result<(), Fail>
-    requires { IsInRange job.now }
-{
-    let outcome = performed(rt, alloc, texts, job);
-    assert!(rt; outcome.read_failed && !outcome.write_failed);
-    check_fault(rt, alloc, &outcome, 2, "read")
-}
-
-/// The same of a job that starts no thread, by either call.
-fn check_lacking_either<R: Abort + Threads + Wait + Sync>(
-    rt: &R,
-    alloc: Global,
-    texts: Texts<'_>,
-    job: &Job,
-) -> Result<(), Fail>
-    requires ranges { IsInRange job.now }
-    requires alone { IsAlone job.now }
-{
-    check_lacking(rt, alloc, texts, job)?;
-    let outcome = performed_alone(alloc, texts, job);
-    assert!(rt; outcome.read_failed && !outcome.write_failed);
-    check_fault(rt, alloc, &outcome, 2, "read")
-}
-
-fn elide_job(alloc: Global, file: &str) -> Result<Job, Fail>
-    ensures ranges { IfOk result IsInRange }
-    ensures alone { IfOk result IsAlone }
-{
-    let file = String::from_str(alloc, file)?;
-    Ok(Job::Elide { file, limit: MOST })
-}
-
-fn run_job(alloc: Global, file: &str, workers: usize) -> Result<Job, Fail>
+/// The job that runs the program in this file.
+fn run_job(alloc: Global, file: &str, workers: usize) -> Result<Job, AllocError>
     requires { (0 < workers) × (workers ≤ 64) }
     ensures { IfOk result IsInRange }
 {
@@ -221,100 +228,97 @@ fn run_job(alloc: Global, file: &str, workers: usize) -> Result<Job, Fail>
     })
 }
 
-fn replay_job(alloc: Global, file: &str, trace: &str) -> Result<Job, Fail>
-    ensures ranges { IfOk result IsInRange }
-    ensures alone { IfOk result IsAlone }
-{
-    let file = String::from_str(alloc, file)?;
-    let trace = String::from_str(alloc, trace)?;
-    Ok(Job::Replay { file, trace })
+/// Of a run of the program in this file by so many workers comes what is wanted.
+fn check_run<R: Abort + Threads + Wait + Sync>(
+    rt: &R,
+    alloc: Global,
+    texts: Texts<'_>,
+    file: &str,
+    workers: usize,
+    wanted: Wanted<'_>,
+) -> Result<(), Fail> {
+    let job = run_job(alloc, file, manned(rt, workers))?;
+    check_job(rt, alloc, texts, &job, wanted)
 }
 
-fn draw_job(alloc: Global, trace: &str) -> Result<Job, Fail>
-    ensures ranges { IfOk result IsInRange }
-    ensures alone { IfOk result IsAlone }
-{
-    let file = String::from_str(alloc, trace)?;
-    Ok(Job::Draw { file })
-}
+/// FIB in a file.
+const PROGRAM: Texts<'static> = Texts {
+    input: "",
+    files: &[("other", "cilk 1\n"), ("program", FIB)],
+};
 
+/// A trace on standard input, and a short program in a file.
+const THERE: Texts<'static> = Texts {
+    input: "cilk 1\n",
+    files: &[("there", "cilk 1\nfunc main z\nend\n")],
+};
+
+/// What is done with texts that are there.
+const DEEDS: &[(Texts<'static>, Deed, Wanted<'static>)] = &[
+    (
+        Texts {
+            input: JOINED,
+            files: &[],
+        },
+        Deed::JudgeInput,
+        Text(0, VERDICTS),
+    ),
+    (
+        PROGRAM,
+        Deed::Elide("program"),
+        Text(0, "x 55\nrequests 713\n"),
+    ),
+    (
+        Texts {
+            input: "",
+            files: &[("trace", PAIR_TRACE), ("program", PAIR)],
+        },
+        Deed::Replay("program", "trace"),
+        Text(1, "replayed 7\n"),
+    ),
+    (
+        Texts {
+            input: "",
+            files: &[("other", PAIR), ("trace", "cilk 1\nmem x\nread 0 x\n")],
+        },
+        Deed::Draw("trace"),
+        Text(0, "digraph trace {\n  0 [label=\"0\\l1 read x\\l\"];\n}\n"),
+    ),
+    (
+        Texts {
+            input: "",
+            files: &[],
+        },
+        Deed::Show("one\ntwo\n"),
+        Text(0, "one\ntwo\n"),
+    ),
+];
+
+/// A trace on standard input, a program in a file, both in two files, a trace in a file, and a text that is shown.
 #[test]
-fn a_trace_on_standard_input(rt: HostRuntime) -> Result<(), Fail> {
-    let text = lined(rt.alloc(), JOINED, "; ")?;
-    let texts = Texts {
-        input: text.as_str(),
-        files: &[],
-    };
-    let job = Job::Judge {
-        file: None,
-        limit: MOST,
-    };
-    check_either(&rt, rt.alloc(), texts, &job, VERDICTS, 0)
+fn texts_that_are_there(rt: HostRuntime) -> Result<(), Fail> {
+    check_all(&rt, rt.alloc(), DEEDS)
 }
 
-#[test]
-fn a_program_in_a_file(rt: HostRuntime) -> Result<(), Fail> {
-    let text = lined(rt.alloc(), FIB, "; ")?;
-    let files = [("other", "cilk 1\n"), ("program", text.as_str())];
-    let texts = Texts {
-        input: "",
-        files: &files,
-    };
-    let job = elide_job(rt.alloc(), "program")?;
-    check_either(&rt, rt.alloc(), texts, &job, FIB_LINES, 0)?;
-    for workers in [1usize, 2] {
-        let job = run_job(rt.alloc(), "program", workers)?;
-        check_job(&rt, rt.alloc(), texts, &job, FIB_REPORT, 0)?;
-    }
-    Ok(())
-}
-
-#[test]
-fn a_program_and_a_trace_in_two_files(rt: HostRuntime) -> Result<(), Fail> {
-    let texts = Texts {
-        input: "",
-        files: &[("trace", PAIR_TRACE), ("program", PAIR_LINES)],
-    };
-    let job = replay_job(rt.alloc(), "program", "trace")?;
-    check_either(&rt, rt.alloc(), texts, &job, "replayed 7", 1)
-}
-
-#[test]
-fn a_trace_in_a_file(rt: HostRuntime) -> Result<(), Fail> {
-    let texts = Texts {
-        input: "",
-        files: &[
-            ("other", PAIR_LINES),
-            ("trace", "cilk 1\nmem x\nread 0 x\n"),
-        ],
-    };
-    let job = draw_job(rt.alloc(), "trace")?;
-    let wanted = "digraph trace { /   0 [label=\"0\\l1 read x\\l\"]; / }";
-    check_either(&rt, rt.alloc(), texts, &job, wanted, 0)
-}
-
-#[test]
-fn a_text_that_is_shown(rt: HostRuntime) -> Result<(), Fail> {
-    let texts = Texts {
-        input: "",
-        files: &[],
-    };
-    let text = String::from_str(rt.alloc(), "one\ntwo\n")?;
-    check_either(&rt, rt.alloc(), texts, &Job::Show { text }, "one / two", 0)
-}
+/// What can't be done with a file that is not there.
+const GONE: &[(Texts<'static>, Deed, Wanted<'static>)] = &[
+    (THERE, Deed::Elide("gone"), Lacking),
+    (THERE, Deed::Draw("gone"), Lacking),
+    (THERE, Deed::Replay("gone", "there"), Lacking),
+    (THERE, Deed::Replay("there", "gone"), Lacking),
+];
 
 #[test]
 fn files_that_are_not_there(rt: HostRuntime) -> Result<(), Fail> {
-    let texts = Texts {
-        input: "cilk 1\n",
-        files: &[("there", "cilk 1\nfunc main z\nend\n")],
-    };
-    check_lacking_either(&rt, rt.alloc(), texts, &elide_job(rt.alloc(), "gone")?)?;
-    check_lacking(&rt, rt.alloc(), texts, &run_job(rt.alloc(), "gone", 1)?)?;
-    check_lacking(&rt, rt.alloc(), texts, &run_job(rt.alloc(), "gone", 2)?)?;
-    check_lacking_either(&rt, rt.alloc(), texts, &draw_job(rt.alloc(), "gone")?)?;
-    let job = replay_job(rt.alloc(), "gone", "there")?;
-    check_lacking_either(&rt, rt.alloc(), texts, &job)?;
-    let job = replay_job(rt.alloc(), "there", "gone")?;
-    check_lacking_either(&rt, rt.alloc(), texts, &job)
+    check_all(&rt, rt.alloc(), GONE)
+}
+
+#[test]
+fn a_run_of_a_program_that_is_there_or_not(rt: HostRuntime) -> Result<(), Fail> {
+    for workers in [1usize, 2] {
+        let wanted = Text(0, FIB_REPORT);
+        check_run(&rt, rt.alloc(), PROGRAM, "program", workers, wanted)?;
+        check_run(&rt, rt.alloc(), THERE, "gone", workers, Lacking)?;
+    }
+    Ok(())
 }

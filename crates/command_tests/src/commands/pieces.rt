@@ -1,10 +1,14 @@
 //! Traces that are longer than the pieces in which they are read.
 
-use super::{MOST, check_fault, check_written, is_unread, judged};
+use super::Command::Judge;
+use super::Wanted::{Fault, Text, Unread};
+use super::{MOST, Wanted, check};
 use crate::devices::{Breaking, Giving};
 use std::alloc::{AllocError, Global};
 use std::process::Abort;
+use std::sync::Wait;
 use std::test::Fail;
+use std::thread::Threads;
 
 /// A head, lines that are repeated, and a tail.
 #[derive(Clone, Copy)]
@@ -39,43 +43,70 @@ fn zeros(alloc: Global, reads: u32) -> Result<String, AllocError> {
     Ok(lines)
 }
 
-/// The text asks for so many reads, in whatever pieces it comes.
-fn check_zeros(rt: &impl Abort, alloc: Global, long: Long, reads: u32) -> Result<(), Fail> {
-    let text = long.text(alloc)?;
-    let wanted = zeros(alloc, reads)?;
+/// Of this text the judge does what is wanted, in whatever pieces it comes.
+fn check_pieces<R: Abort + Threads + Wait + Sync>(
+    rt: &R,
+    alloc: Global,
+    text: &[u8],
+    wanted: Wanted<'_>,
+) -> Result<(), Fail> {
     for most in [1usize, 7, 131_072] {
-        let text = text.as_bytes();
-        let outcome = judged(alloc, Giving { text, most }, Vec::new(alloc), MOST);
-        check_written(rt, &outcome, 0, wanted.as_str(), long.head);
+        check(rt, alloc, Judge(MOST), Giving { text, most }, wanted)?;
     }
     Ok(())
 }
 
-/// Declarations that go on behind the first piece; a line longer than a piece; and lines of which one ends with its carriage return in
-/// one piece and its line feed in the next.
+/// The text asks for so many reads.
+fn check_zeros<R: Abort + Threads + Wait + Sync>(
+    rt: &R,
+    alloc: Global,
+    long: Long,
+    reads: u32,
+) -> Result<(), Fail> {
+    let text = long.text(alloc)?;
+    let wanted = zeros(alloc, reads)?;
+    check_pieces(rt, alloc, text.as_bytes(), Text(0, wanted.as_str()))
+}
+
+/// Declarations that go on behind the first piece.
+const LATE: Long = Long {
+    head: "cilk 1\nmem a\n",
+    repeated: "# no request yet\n",
+    times: 10_000,
+    tail: "mem x\nread 0 x\n",
+};
+
+/// A line longer than a piece.
+const WIDE: Long = Long {
+    head: "cilk 1\nmem x\nread 0 x\n#",
+    repeated: " a remark without an end",
+    times: 20_000,
+    tail: "\nread 0 x\n",
+};
+
+/// Lines of which one ends with its carriage return in one piece and its line feed in the next.
+const RETURNS: Long = Long {
+    head: "cilk 1\r\nmem x\r\n#12345\r\n",
+    repeated: "read 0 x\r\n",
+    times: 20_000,
+    tail: "read 0 x",
+};
+
+/// Each text asks for so many reads.
+fn check_each<R: Abort + Threads + Wait + Sync>(
+    rt: &R,
+    alloc: Global,
+    cases: &[(Long, u32)],
+) -> Result<(), Fail> {
+    for (long, reads) in cases {
+        check_zeros(rt, alloc, *long, *reads)?;
+    }
+    Ok(())
+}
+
 #[test]
 fn long_traces(rt: HostRuntime) -> Result<(), Fail> {
-    let late = Long {
-        head: "cilk 1\nmem a\n",
-        repeated: "# no request yet\n",
-        times: 10_000,
-        tail: "mem x\nread 0 x\n",
-    };
-    let wide = Long {
-        head: "cilk 1\nmem x\nread 0 x\n#",
-        repeated: " a remark without an end",
-        times: 20_000,
-        tail: "\nread 0 x\n",
-    };
-    let returns = Long {
-        head: "cilk 1\r\nmem x\r\n#12345\r\n",
-        repeated: "read 0 x\r\n",
-        times: 20_000,
-        tail: "read 0 x",
-    };
-    check_zeros(&rt, rt.alloc(), late, 1)?;
-    check_zeros(&rt, rt.alloc(), wide, 2)?;
-    check_zeros(&rt, rt.alloc(), returns, 20_001)
+    check_each(&rt, rt.alloc(), &[(LATE, 1), (WIDE, 2), (RETURNS, 20_001)])
 }
 
 const FAULTY: Long = Long {
@@ -88,24 +119,17 @@ const FAULTY: Long = Long {
 /// The first fault is told, with the number of its line among all.
 #[test]
 fn a_fault_behind_the_first_piece(rt: HostRuntime) -> Result<(), Fail> {
-    let alloc = rt.alloc();
-    let long = FAULTY.text(alloc)?;
-    let text = long.as_bytes();
-    for most in [1usize, 131_072] {
-        let outcome = judged(alloc, Giving { text, most }, Vec::new(alloc), MOST);
-        check_fault(&rt, alloc, &outcome, 2, "trace line 20003: BadNesting")?;
-    }
-    Ok(())
+    let text = FAULTY.text(rt.alloc())?;
+    let wanted = Fault(2, "trace line 20003: BadNesting");
+    check_pieces(&rt, rt.alloc(), text.as_bytes(), wanted)
 }
 
 /// A reader that fails behind the faulty lines is told in place of their fault.
 #[test]
 fn a_failure_behind_a_fault(rt: HostRuntime) -> Result<(), Fail> {
-    let alloc = rt.alloc();
-    let long = FAULTY.text(alloc)?;
+    let long = FAULTY.text(rt.alloc())?;
     let text = long.as_bytes();
     let left = u32::try_from(text.len()).unwrap_or(0);
-    let outcome = judged(alloc, Breaking { text, left }, Vec::new(alloc), MOST);
-    is_unread(&rt, &outcome, left);
-    Ok(())
+    let reader = Breaking { text, left };
+    check(&rt, rt.alloc(), Judge(MOST), reader, Unread(left))
 }

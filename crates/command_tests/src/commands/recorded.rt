@@ -1,27 +1,27 @@
 //! Runs whose trace is written.
 
-ghost use Rattle.std.specs.Prelude.{◌<◌, ◌≤◌, ⊤, [], Some, IfOk};
-ghost use Rattle.model_histories.specs.Shapes.{most_entries};
+ghost use Rattle.std.specs.Prelude.{⊤, [], Some, IfOk};
 ghost use Rattle.tool_commands.specs.Jobs.{IsInRange};
 ghost use Rattle.tool_commands.specs.Sources.{unknown_sources};
 
+use super::Command::{Follow, Judge};
+use super::Wanted::{Status, Text};
 use super::worked::{FIB, LASTS, PAIR, SERIES, TURNS};
-use super::{MOST, has_ended, lined};
+use super::{MOST, Takes, check, has_ended, is_fault, limited, lined, manned};
 use crate::checks::equal;
 use crate::devices::{Breaking, Filling};
-use std::alloc::Global;
-use std::io::{self, Error, ErrorKind, Write};
+use std::alloc::{AllocError, Global};
+use std::io::{self, Error, ErrorKind};
 use std::process::Abort;
 use std::sync::Wait;
 use std::test::Fail;
 use std::thread::Threads;
 use tool_commands::{
-    CliFault, Host, Job, OpenDoor, Watched, check_names, judge_stream, perform, replay_text,
-    run_traced_text,
+    CliFault, Host, Job, OpenDoor, Watched, check_names, perform, run_traced_text,
 };
 
 /// A program of two requests, the text of the trace of its one run, and the report of it.
-const SHORT: &str = "cilk 1\nfunc main z\nend\n";
+const SHORT: &str = "cilk 1; func main z; end";
 
 const SHORT_TRACE: &str = "cilk 1\nsync 0 @3\nreturn 0 @3\n";
 
@@ -33,44 +33,93 @@ const SERIAL: &str =
     "cilk 2; mem a 2; reducer h digits; func main z; write a[1] 7; bump a[0] 3; read r a[1]; put h r; update h 2; call f 5; get t h; sync; end; func f v; write a[0] v; end";
 
 const SERIAL_TRACE: &str =
-    "cilk 2; mem a 2; reducer h digits; write 0 a[1] 7 @5; bump 0 a[0] 3 @6; read 0 a[1] @7; put 0 h 7 @8; update 0 h 2 @9; call 0 @10; write 0 a[0] 5 @15; sync 0 @16; return 0 @16; get 0 h @11; sync 0 @12; sync 0 @13; return 0 @13";
+    "cilk 2\nmem a 2\nreducer h digits\nwrite 0 a[1] 7 @5\nbump 0 a[0] 3 @6\nread 0 a[1] @7\nput 0 h 7 @8\nupdate 0 h 2 @9\ncall 0 @10\nwrite 0 a[0] 5 @15\nsync 0 @16\nreturn 0 @16\nget 0 h @11\nsync 0 @12\nsync 0 @13\nreturn 0 @13\n";
+
+/// What is wanted of a run that is recorded.
+#[derive(Clone, Copy)]
+enum Told<'a> {
+    /// It ends with this status, and the text of its trace is this.
+    Traced(u8, &'a str),
+    /// It ends with this status, and its trace is replayed with it as a run of this program, which is told so.
+    Replays(u8, &'a str, &'a str),
+    /// The writer of its trace takes so many calls: where they are too few that is told, and no report is written.
+    TraceTaken(Takes),
+    /// The writer of its report takes so many calls, which are too few: that is told, and the trace stands.
+    ReportTaken(Takes),
+    /// The limit of one request ends it, and nothing is written.
+    Unfinished,
+}
+
+use Told::{Replays, ReportTaken, TraceTaken, Traced, Unfinished};
+
+impl Told<'_> {
+    /// How the writer of the trace takes what is written.
+    fn trace_takes(self) -> Takes {
+        match self {
+            TraceTaken(takes) => takes,
+            _ => Takes::All,
+        }
+    }
+
+    /// How that of the report does.
+    fn report_takes(self) -> Takes {
+        match self {
+            ReportTaken(takes) => takes,
+            _ => Takes::All,
+        }
+    }
+
+    fn limit(self) -> u32 {
+        match self {
+            Unfinished => 1,
+            _ => MOST,
+        }
+    }
+}
 
 /// What a run that is recorded answers, what it wrote, and how its writers fared.
-#[derive(Drop)]
-struct Recorded<T, W> {
+struct Recorded {
     answer: Result<u8, CliFault>,
-    trace: T,
+    trace: Filling,
     trace_failed: bool,
     trace_delivered: bool,
-    output: W,
+    output: Filling,
     output_failed: bool,
 }
 
+impl Drop for Recorded {
+    fn drop(self) {
+        let Recorded {
+            answer: _,
+            trace: _,
+            trace_failed: _,
+            trace_delivered: _,
+            output: _,
+            output_failed: _,
+        } = self;
+    }
+}
+
 /// Runs a program, and writes the trace of the run and its report.
-fn ran_recorded<T: Write, W: Write, R: Threads + Wait + Sync>(
+fn ran_recorded<R: Abort + Threads + Wait + Sync>(
     rt: &R,
     alloc: Global,
     program: &str,
     workers: usize,
-    trace: T,
-    output: W,
-    limit: u32,
-) -> Recorded<T, W>
-    requires workers { (0 < workers) × (workers ≤ 64) }
-    requires limit { limit ≤ most_entries }
-{
+    told: Told<'_>,
+) -> Recorded {
     let mut program = Watched::new(program.as_bytes());
-    let mut trace = Watched::new(trace);
-    let mut output = Watched::new(output);
+    let mut trace = Watched::new(told.trace_takes().writer(alloc));
+    let mut output = Watched::new(told.report_takes().writer(alloc));
     let answer = run_traced_text(
         rt,
         alloc,
         &mut program,
-        workers,
+        manned(rt, workers),
         &OpenDoor,
         &mut trace,
         &mut output,
-        limit,
+        limited(rt, told.limit()),
     );
     Recorded {
         answer,
@@ -82,179 +131,182 @@ fn ran_recorded<T: Write, W: Write, R: Threads + Wait + Sync>(
     }
 }
 
-/// The run of this program by each number of workers has this trace, whose text has its lines between semicolons.
-fn check_trace<R: Abort + Threads + Wait + Sync>(
-    rt: &R,
-    alloc: Global,
-    program: &str,
-    wanted: &str,
-    status: u8,
-) -> Result<(), Fail> {
-    let program = lined(alloc, program, "; ")?;
-    let wanted = lined(alloc, wanted, "; ")?;
-    for workers in [1usize, 2, 8, 64] {
-        let (trace, output) = (Vec::new(alloc), Vec::new(alloc));
-        let told = ran_recorded(rt, alloc, program.as_str(), workers, trace, output, MOST);
-        assert!(rt; has_ended(&told.answer, status));
-        assert!(rt; told.trace_delivered && !told.trace_failed && !told.output_failed);
-        equal(
-            rt,
-            &"trace",
-            &told.trace.as_slice(),
-            &wanted.as_str().as_bytes(),
-        );
-    }
-    Ok(())
+/// It has ended with this status, and no writer has failed.
+fn is_delivered(rt: &impl Abort, run: &Recorded, status: u8) {
+    assert!(rt; has_ended(&run.answer, status));
+    assert!(rt; run.trace_delivered && !run.trace_failed && !run.output_failed);
 }
 
-#[test]
-fn traces_of_programs_of_one_strand(rt: HostRuntime) -> Result<(), Fail> {
-    check_trace(
-        &rt,
-        rt.alloc(),
-        "cilk 1; func main z; end",
-        "cilk 1; sync 0 @3; return 0 @3",
-        0,
-    )?;
-    check_trace(&rt, rt.alloc(), SERIAL, SERIAL_TRACE, 0)
+/// Its trace is this text.
+fn is_traced(rt: &impl Abort, run: &Recorded, wanted: &str) {
+    equal(rt, &"trace", &run.trace.held.as_slice(), &wanted.as_bytes());
 }
 
-/// The trace is one of a run of the program of so many entries with this status.
-fn check_replayed(
-    rt: &impl Abort,
-    alloc: Global,
-    program: &str,
-    trace: &[u8],
-    wanted: &str,
-    status: u8,
-) {
-    let mut program = Watched::new(program.as_bytes());
-    let mut reader = Watched::new(trace);
-    let mut output = Watched::new(Vec::new(alloc));
-    let answer = replay_text(alloc, &mut program, &mut reader, &mut output);
-    assert!(rt; has_ended(&answer, status), "{wanted}");
+/// Its report is this text.
+fn is_reported(rt: &impl Abort, run: &Recorded, wanted: &str) {
     equal(
         rt,
-        &"replay",
-        &output.into_inner().as_slice(),
+        &"report",
+        &run.output.held.as_slice(),
         &wanted.as_bytes(),
     );
-    let mut reader = Watched::new(trace);
-    let mut output = Watched::new(Vec::new(alloc));
-    let answer = judge_stream(alloc, &mut reader, &mut output, MOST);
-    assert!(rt; has_ended(&answer, status), "{wanted}");
 }
 
-/// By each number of workers the trace of a run of the program is one of so many entries with this status.
-fn check_again<R: Abort + Threads + Wait + Sync>(
+/// Its trace is one of a run of the program, with this status, which is told so.
+fn is_replayed<R: Abort + Threads + Wait + Sync>(
     rt: &R,
     alloc: Global,
+    run: &Recorded,
+    status: u8,
     program: &str,
     wanted: &str,
-    status: u8,
 ) -> Result<(), Fail> {
-    let program = lined(alloc, program, "; ")?;
-    for workers in [1usize, 2, 8] {
-        let (trace, output) = (Vec::new(alloc), Vec::new(alloc));
-        let told = ran_recorded(rt, alloc, program.as_str(), workers, trace, output, MOST);
-        assert!(rt; has_ended(&told.answer, status), "{wanted}");
-        check_replayed(
-            rt,
-            alloc,
-            program.as_str(),
-            told.trace.as_slice(),
-            wanted,
-            status,
-        );
-    }
-    Ok(())
+    let trace = run.trace.held.as_slice();
+    check(rt, alloc, Follow(program), trace, Text(status, wanted))?;
+    check(rt, alloc, Judge(MOST), trace, Status(status))
 }
 
-#[test]
-fn each_trace_replays(rt: HostRuntime) -> Result<(), Fail> {
-    check_again(&rt, rt.alloc(), FIB, "replayed 713\n", 0)?;
-    check_again(&rt, rt.alloc(), SERIES, "replayed 9\n", 0)?;
-    check_again(&rt, rt.alloc(), LASTS, "replayed 11\n", 0)?;
-    check_again(&rt, rt.alloc(), TURNS, "replayed 19\n", 0)?;
-    check_again(&rt, rt.alloc(), PAIR, "replayed 7\n", 1)
-}
-
-fn filling(alloc: Global, left: u32, answers_an_error: bool) -> Filling {
-    Filling {
-        held: Vec::new(alloc),
-        left,
-        answers_an_error,
-    }
-}
-
-/// A trace whose writer goes along with so many calls, which are one for each byte and the flush.
-fn check_filled<R: Abort + Threads + Wait + Sync>(
-    rt: &R,
-    alloc: Global,
-    left: u32,
-    answers_an_error: bool,
-) {
-    let trace = filling(alloc, left, answers_an_error);
-    let told = ran_recorded(rt, alloc, SHORT, 2, trace, Vec::new(alloc), MOST);
-    let held = told.trace.held.as_slice();
+/// A trace of SHORT whose writer goes along with so many calls, of which it takes 30: one for each byte, and the flush.
+fn is_trace_taken(rt: &impl Abort, run: &Recorded, left: u32) {
+    let held = run.trace.held.as_slice();
     assert!(rt; SHORT_TRACE.as_bytes().starts_with(held), "{left} writes");
     if left < 30 {
+        let is_told = matches!(run.answer, Err(CliFault::Unwritten));
         assert!(rt;
-            matches!(told.answer, Err(CliFault::Unwritten)),
+            is_told && run.trace_failed && !run.trace_delivered,
             "{left} writes"
         );
-        assert!(rt; told.trace_failed && !told.trace_delivered, "{left} writes");
         assert!(rt;
-            told.output.is_empty() && !told.output_failed,
+            run.output.held.is_empty() && !run.output_failed,
             "{left} writes"
         );
     } else {
         assert!(rt;
-            has_ended(&told.answer, 0) && told.trace_delivered,
+            has_ended(&run.answer, 0) && run.trace_delivered,
             "{left} writes"
         );
-        equal(rt, &left, &told.output.as_slice(), &SHORT_REPORT.as_bytes());
+        is_reported(rt, run, SHORT_REPORT);
     }
 }
 
+/// A report of SHORT whose writer goes along with too few calls.
+fn is_report_cut(rt: &impl Abort, run: &Recorded, left: u32) {
+    let is_told = matches!(run.answer, Err(CliFault::Write));
+    assert!(rt;
+        is_told && run.trace_delivered && run.output_failed,
+        "{left} writes"
+    );
+    is_traced(rt, run, SHORT_TRACE);
+}
+
+/// It is what is wanted.
+fn is_told<R: Abort + Threads + Wait + Sync>(
+    rt: &R,
+    alloc: Global,
+    run: &Recorded,
+    told: Told<'_>,
+) -> Result<(), Fail> {
+    match told {
+        Traced(status, trace) => {
+            is_delivered(rt, run, status);
+            is_traced(rt, run, trace);
+        }
+        Replays(status, program, wanted) => {
+            is_delivered(rt, run, status);
+            is_replayed(rt, alloc, run, status, program, wanted)?;
+        }
+        TraceTaken(takes) => is_trace_taken(rt, run, takes.calls()),
+        ReportTaken(takes) => is_report_cut(rt, run, takes.calls()),
+        Unfinished => {
+            assert!(rt; matches!(run.answer, Err(CliFault::Limit)));
+            assert!(rt; run.trace.held.is_empty() && run.output.held.is_empty());
+        }
+    }
+    Ok(())
+}
+
+/// Recorded by so many workers, the run of the program, whose lines stand between semicolons, is what is wanted.
+fn check_recorded<R: Abort + Threads + Wait + Sync>(
+    rt: &R,
+    alloc: Global,
+    program: &str,
+    workers: usize,
+    told: Told<'_>,
+) -> Result<(), Fail> {
+    let program = lined(alloc, program, "; ")?;
+    let run = ran_recorded(rt, alloc, program.as_str(), workers, told);
+    is_told(rt, alloc, &run, told)
+}
+
+/// The same of each program by each of these numbers of workers.
+fn check_by_each<R: Abort + Threads + Wait + Sync>(
+    rt: &R,
+    alloc: Global,
+    cases: &[(&[usize], &str, Told<'_>)],
+) -> Result<(), Fail> {
+    for (numbers, program, told) in cases {
+        check_by(rt, alloc, numbers, program, *told)?;
+    }
+    Ok(())
+}
+
+fn check_by<R: Abort + Threads + Wait + Sync>(
+    rt: &R,
+    alloc: Global,
+    numbers: &[usize],
+    program: &str,
+    told: Told<'_>,
+) -> Result<(), Fail> {
+    for workers in numbers {
+        check_recorded(rt, alloc, program, *workers, told)?;
+    }
+    Ok(())
+}
+
+/// Runs whose one trace is known, by these numbers of workers, and runs that the limit ends.
+const SERIAL_RUNS: &[(&[usize], &str, Told<'static>)] = &[
+    (&[1, 2, 8, 64], SHORT, Traced(0, SHORT_TRACE)),
+    (&[1, 2, 8, 64], SERIAL, Traced(0, SERIAL_TRACE)),
+    (&[1, 2], SHORT, Unfinished),
+];
+
 #[test]
-fn a_trace_that_cannot_be_written(rt: HostRuntime) {
+fn traces_of_programs_of_one_strand(rt: HostRuntime) -> Result<(), Fail> {
+    check_by_each(&rt, rt.alloc(), SERIAL_RUNS)
+}
+
+/// Runs whose trace is one of several.
+const PARALLEL_RUNS: &[(&[usize], &str, Told<'static>)] = &[
+    (&[1, 2, 8], FIB, Replays(0, FIB, "replayed 713\n")),
+    (&[1, 2, 8], SERIES, Replays(0, SERIES, "replayed 9\n")),
+    (&[1, 2, 8], LASTS, Replays(0, LASTS, "replayed 11\n")),
+    (&[1, 2, 8], TURNS, Replays(0, TURNS, "replayed 19\n")),
+    (&[1, 2, 8], PAIR, Replays(1, PAIR, "replayed 7\n")),
+];
+
+#[test]
+fn each_trace_replays(rt: HostRuntime) -> Result<(), Fail> {
+    check_by_each(&rt, rt.alloc(), PARALLEL_RUNS)
+}
+
+#[test]
+fn a_trace_that_cannot_be_written(rt: HostRuntime) -> Result<(), Fail> {
     for left in 0..32u32 {
-        check_filled(&rt, rt.alloc(), left, true);
-        check_filled(&rt, rt.alloc(), left, false);
+        let told = TraceTaken(Takes::CallsThenErrors(left));
+        check_recorded(&rt, rt.alloc(), SHORT, 2, told)?;
+        let told = TraceTaken(Takes::Calls(left));
+        check_recorded(&rt, rt.alloc(), SHORT, 2, told)?;
     }
+    Ok(())
 }
 
 #[test]
-fn a_report_that_cannot_be_written_behind_its_trace(rt: HostRuntime) {
+fn a_report_that_cannot_be_written_behind_its_trace(rt: HostRuntime) -> Result<(), Fail> {
     for left in 0..93u32 {
-        let output = filling(rt.alloc(), left, true);
-        let told = ran_recorded(
-            &rt,
-            rt.alloc(),
-            SHORT,
-            2,
-            Vec::new(rt.alloc()),
-            output,
-            MOST,
-        );
-        assert!(&rt;
-            matches!(told.answer, Err(CliFault::Write)),
-            "{left} writes"
-        );
-        assert!(&rt; told.trace_delivered && told.output_failed, "{left} writes");
-        equal(&rt, &left, &told.trace.as_slice(), &SHORT_TRACE.as_bytes());
+        let told = ReportTaken(Takes::CallsThenErrors(left));
+        check_recorded(&rt, rt.alloc(), SHORT, 2, told)?;
     }
-}
-
-#[test]
-fn no_run_writes_no_trace(rt: HostRuntime) {
-    for workers in [1usize, 2] {
-        let (trace, output) = (Vec::new(rt.alloc()), Vec::new(rt.alloc()));
-        let told = ran_recorded(&rt, rt.alloc(), SHORT, workers, trace, output, 1);
-        assert!(&rt; matches!(told.answer, Err(CliFault::Limit)));
-        assert!(&rt; told.trace.is_empty() && told.output.is_empty());
-    }
+    Ok(())
 }
 
 /// A program in the file `program`, and what was created.
@@ -351,112 +403,219 @@ fn new_desk(alloc: Global, program: &str) -> Desk<'_> {
     }
 }
 
-fn record_job(alloc: Global, trace: &str, limit: u32) -> Result<Job, Fail>
-    requires { limit ≤ most_entries }
-    ensures { IfOk result IsInRange }
-{
-    let file = String::from_str(alloc, "program")?;
-    let trace = String::from_str(alloc, trace)?;
-    Ok(Job::Record {
-        file,
-        workers: 2,
-        limit,
-        trace,
-    })
+/// What a desk is asked: to record the run of a program, whose text it has, within this limit, into the file of this name.
+#[derive(Clone, Copy)]
+struct Asked {
+    program: &'static str,
+    limit: u32,
+    trace: &'static str,
 }
 
-/// Does the job at a desk with this program: how it ends, what is written, and the desk.
+impl Asked {
+    fn job<R: Abort>(self, rt: &R, alloc: Global) -> Result<Job, AllocError>
+        ensures { IfOk result IsInRange }
+    {
+        let limit = limited(rt, self.limit);
+        let file = String::from_str(alloc, "program")?;
+        let trace = String::from_str(alloc, self.trace)?;
+        Ok(Job::Record {
+            file,
+            workers: 2,
+            limit,
+            trace,
+        })
+    }
+}
+
+/// What comes of it: the answer, the report, and the desk.
+struct Left<'a> {
+    answer: Result<u8, CliFault>,
+    output: Filling,
+    desk: Desk<'a>,
+}
+
+impl Drop for Left<'_> {
+    fn drop(self) {
+        let Left {
+            answer: _,
+            output: _,
+            desk: _,
+        } = self;
+    }
+}
+
 fn done_at<'a, R: Threads + Wait + Sync>(
     rt: &R,
     alloc: Global,
     program: &'a str,
     job: &Job,
-) -> (Result<u8, CliFault>, Vec<u8>, Desk<'a>)
+) -> Left<'a>
     requires { IsInRange job.now }
 {
     let mut host = Watched::new(new_desk(alloc, program));
-    let mut output = Watched::new(Vec::new(alloc));
+    let mut output = Watched::new(Takes::All.writer(alloc));
     let answer = perform(rt, alloc, &mut host, job, &mut output);
-    (answer, output.into_inner(), host.into_inner())
+    Left {
+        answer,
+        output: output.into_inner(),
+        desk: host.into_inner(),
+    }
 }
 
-#[test]
-fn a_trace_in_a_file(rt: HostRuntime) -> Result<(), Fail> {
-    let job = record_job(rt.alloc(), "out", MOST)?;
-    let (answer, output, desk) = done_at(&rt, rt.alloc(), SHORT, &job);
-    assert!(&rt; has_ended(&answer, 0));
-    equal(&rt, &"report", &output.as_slice(), &SHORT_REPORT.as_bytes());
-    equal(
-        &rt,
-        &"trace",
-        &desk.held.as_slice(),
-        &SHORT_TRACE.as_bytes(),
-    );
-    equal(&rt, &"name", &desk.name.as_str(), &"out");
-    equal(&rt, &"created", &desk.created, &1);
-    Ok(())
+/// What a desk is left with.
+#[derive(Clone, Copy)]
+enum Leaves {
+    /// The report of SHORT, and its trace in a file of this name.
+    Trace(&'static str),
+    /// No file, since it can't be created.
+    Unwritten,
+    /// No file, since the limit ended the run.
+    Cut,
+    /// No file, since there is no program.
+    NoProgram,
 }
 
-#[test]
-fn a_file_that_cannot_be_created(rt: HostRuntime) -> Result<(), Fail> {
-    let job = record_job(rt.alloc(), "barred", MOST)?;
-    let (answer, output, desk) = done_at(&rt, rt.alloc(), SHORT, &job);
-    assert!(&rt; matches!(answer, Err(CliFault::Unwritten)));
-    assert!(&rt; output.is_empty() && desk.created == 0);
-    Ok(())
+/// SHORT is reported, and its trace is in a file of this name.
+fn is_kept(rt: &impl Abort, left: &Left<'_>, name: &str) {
+    let (report, trace) = (left.output.held.as_slice(), left.desk.held.as_slice());
+    assert!(rt; has_ended(&left.answer, 0));
+    equal(rt, &"report", &report, &SHORT_REPORT.as_bytes());
+    equal(rt, &"trace", &trace, &SHORT_TRACE.as_bytes());
+    equal(rt, &"name", &left.desk.name.as_str(), &name);
+    equal(rt, &"created", &left.desk.created, &1);
 }
 
-#[test]
-fn no_run_creates_no_file(rt: HostRuntime) -> Result<(), Fail> {
-    let job = record_job(rt.alloc(), "out", 1)?;
-    let (answer, output, desk) = done_at(&rt, rt.alloc(), SHORT, &job);
-    assert!(&rt; matches!(answer, Err(CliFault::Limit)));
-    assert!(&rt; output.is_empty() && desk.created == 0);
-    let job = record_job(rt.alloc(), "out", MOST)?;
-    let (answer, _, desk) = done_at(&rt, rt.alloc(), "cilk 1\nfoo\n", &job);
-    assert!(&rt; matches!(answer, Err(CliFault::Program(_))));
-    assert!(&rt; desk.created == 0);
-    Ok(())
+/// The desk is left so.
+fn is_left(rt: &impl Abort, left: &Left<'_>, leaves: Leaves) {
+    let answer = &left.answer;
+    match leaves {
+        Leaves::Trace(name) => return is_kept(rt, left, name),
+        Leaves::Unwritten => assert!(rt; matches!(answer, Err(CliFault::Unwritten))),
+        Leaves::Cut => assert!(rt; matches!(answer, Err(CliFault::Limit))),
+        Leaves::NoProgram => assert!(rt; matches!(answer, Err(CliFault::Program(_)))),
+    }
+    assert!(rt; left.output.held.is_empty() && left.desk.created == 0);
 }
 
-/// At a desk a run that is recorded under this name is refused with this text, or passes.
-fn check_name(
-    rt: &(impl Abort + Alloc<A = Global>),
-    trace: &str,
-    wanted: Option<&str>,
+/// The desk that is asked so is left so.
+fn check_desk<R: Abort + Threads + Wait + Sync>(
+    rt: &R,
+    alloc: Global,
+    asked: Asked,
+    leaves: Leaves,
 ) -> Result<(), Fail> {
-    let host = Watched::new(new_desk(rt.alloc(), SHORT));
-    let job = record_job(rt.alloc(), trace, MOST)?;
-    match (check_names(rt.alloc(), &host, &job), wanted) {
-        (Ok(()), None) => {}
-        (Err(fault), Some(wanted)) => {
-            assert!(rt; fault.status() == 2, "{trace}");
-            let told = format!(in rt.alloc(); "{fault}")?;
-            equal(rt, &trace, &told.as_str(), &wanted);
-        }
-        _ => assert!(rt; false, "{trace}"),
+    let job = asked.job(rt, alloc)?;
+    is_left(rt, &done_at(rt, alloc, asked.program, &job), leaves);
+    Ok(())
+}
+
+/// Each desk that is asked so is left so.
+fn check_desks<R: Abort + Threads + Wait + Sync>(
+    rt: &R,
+    alloc: Global,
+    cases: &[(Asked, Leaves)],
+) -> Result<(), Fail> {
+    for (asked, leaves) in cases {
+        check_desk(rt, alloc, *asked, *leaves)?;
     }
     Ok(())
 }
 
+/// SHORT, a line for each of its lines.
+const SHORT_LINES: &str = "cilk 1\nfunc main z\nend\n";
+
+/// What asks a desk to record a run of this program.
+macro_rules! recording {
+    ($program:expr, $limit:expr, $trace:literal) => {
+        Asked {
+            program: $program,
+            limit: $limit,
+            trace: $trace,
+        }
+    };
+}
+
+/// What desks are asked, and what they are left with.
+const DESKS: &[(Asked, Leaves)] = &[
+    (recording!(SHORT_LINES, MOST, "out"), Leaves::Trace("out")),
+    (recording!(SHORT_LINES, MOST, "barred"), Leaves::Unwritten),
+    (recording!(SHORT_LINES, 1, "out"), Leaves::Cut),
+    (recording!("cilk 1\nfoo\n", MOST, "out"), Leaves::NoProgram),
+];
+
+/// A file is created for a run alone, and where it can be.
+#[test]
+fn a_trace_in_a_file(rt: HostRuntime) -> Result<(), Fail> {
+    check_desks(&rt, rt.alloc(), DESKS)
+}
+
+/// At a desk the job is refused with this text, or passes.
+fn check_names_of(
+    rt: &impl Abort,
+    alloc: Global,
+    job: &Job,
+    wanted: Option<&str>,
+) -> Result<(), Fail> {
+    let host = Watched::new(new_desk(alloc, SHORT_LINES));
+    match (check_names(alloc, &host, job), wanted) {
+        (Ok(()), None) => {}
+        (Err(fault), Some(wanted)) => is_fault(rt, alloc, &fault, 2, wanted)?,
+        _ => assert!(rt; false, "{job:?}"),
+    }
+    Ok(())
+}
+
+/// A run that is recorded under this name is.
+fn check_name(
+    rt: &impl Abort,
+    alloc: Global,
+    trace: &'static str,
+    wanted: Option<&str>,
+) -> Result<(), Fail> {
+    let asked = Asked {
+        program: SHORT_LINES,
+        limit: MOST,
+        trace,
+    };
+    let job = asked.job(rt, alloc)?;
+    check_names_of(rt, alloc, &job, wanted)
+}
+
+const NAMED: &str =
+    "the trace would be written over the program: name another file with '--trace <OUT>'";
+
+const FILED: &str =
+    "the trace would be written over the program, whose file has both names: name another file with '--trace <OUT>'";
+
+/// The same of each name.
+fn check_each_name(
+    rt: &impl Abort,
+    alloc: Global,
+    cases: &[(&'static str, Option<&'static str>)],
+) -> Result<(), Fail> {
+    for (trace, wanted) in cases {
+        check_name(rt, alloc, trace, *wanted)?;
+    }
+    Ok(())
+}
+
+/// The names of traces, and why they are refused.
+const NAMES: &[(&'static str, Option<&'static str>)] = &[
+    ("program", Some(NAMED)),
+    ("./program", Some(FILED)),
+    ("link", Some(FILED)),
+    ("other", None),
+    ("new", None),
+];
+
 #[test]
 fn a_trace_over_its_program(rt: HostRuntime) -> Result<(), Fail> {
-    let named =
-        "the trace would be written over the program: name another file with '--trace <OUT>'";
-    let filed =
-        "the trace would be written over the program, whose file has both names: name another file with '--trace <OUT>'";
-    check_name(&rt, "program", Some(named))?;
-    check_name(&rt, "./program", Some(filed))?;
-    check_name(&rt, "link", Some(filed))?;
-    check_name(&rt, "other", None)?;
-    check_name(&rt, "new", None)
+    check_each_name(&rt, rt.alloc(), NAMES)
 }
 
 #[test]
 fn jobs_that_write_no_trace_pass(rt: HostRuntime) -> Result<(), Fail> {
-    let host = Watched::new(new_desk(rt.alloc(), SHORT));
     let file = String::from_str(rt.alloc(), "program")?;
     let trace = String::from_str(rt.alloc(), "link")?;
-    assert!(&rt; check_names(rt.alloc(), &host, &Job::Replay { file, trace }).is_ok());
-    Ok(())
+    check_names_of(&rt, rt.alloc(), &Job::Replay { file, trace }, None)
 }

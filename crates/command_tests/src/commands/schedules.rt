@@ -1,10 +1,9 @@
-//! Runs whose schedule a door decides, and the two reports that schedules give of one program.
+//! Runs whose schedule a door decides, and the reports that schedules give of one program.
 
-ghost use Rattle.std.specs.Prelude.{◌<◌, ◌≤◌};
-
-use super::runs::ran_through;
+use super::Command::Run;
+use super::Wanted::{Among, Text};
 use super::worked::PAIR;
-use super::{MOST, Outcome, check_written, has_ended, lined};
+use super::{Case, MOST, Outcome, Wanted, check_all, check_text, is_met, lined, outcome_of};
 use std::alloc::Global;
 use std::process::Abort;
 use std::sync::Wait;
@@ -12,61 +11,80 @@ use std::sync::atomic::{AtomicBool, AtomicU64, Ordering};
 use std::test::Fail;
 use std::thread;
 use std::thread::Threads;
-use tool_commands::{Door, OpenDoor};
+use tool_commands::{Door, Watched, run_text};
 
-/// What is told of PAIR where the child's write comes first. The read, which is refused, may come before the child's sync, behind it, or
-/// behind the child's return.
-const WRITE_FIRST: [&str; 3] = [
-    "{\"clean\":false,\"entries\":7,\"memory\":{\"x\":7,\"y\":0},\"refusals\":[{\"entry\":3,\"line\":6,\"name\":\"x\",\"rule\":\"write-read\",\"strand\":2,\"witness\":{\"entry\":2,\"line\":9,\"strand\":1}}]}\n",
-    "{\"clean\":false,\"entries\":7,\"memory\":{\"x\":7,\"y\":0},\"refusals\":[{\"entry\":4,\"line\":6,\"name\":\"x\",\"rule\":\"write-read\",\"strand\":2,\"witness\":{\"entry\":2,\"line\":9,\"strand\":1}}]}\n",
-    "{\"clean\":false,\"entries\":7,\"memory\":{\"x\":7,\"y\":0},\"refusals\":[{\"entry\":5,\"line\":6,\"name\":\"x\",\"rule\":\"write-read\",\"strand\":2,\"witness\":{\"entry\":2,\"line\":9,\"strand\":1}}]}\n",
+/// What is told of PAIR where the child's write comes first, and the read, which is refused, before the child's sync.
+const WRITE_READ: &str =
+    "{\"clean\":false,\"entries\":7,\"memory\":{\"x\":7,\"y\":0},\"refusals\":[{\"entry\":3,\"line\":6,\"name\":\"x\",\"rule\":\"write-read\",\"strand\":2,\"witness\":{\"entry\":2,\"line\":9,\"strand\":1}}]}\n";
+
+/// The same where the read comes behind the child's sync.
+const WRITE_SYNC_READ: &str =
+    "{\"clean\":false,\"entries\":7,\"memory\":{\"x\":7,\"y\":0},\"refusals\":[{\"entry\":4,\"line\":6,\"name\":\"x\",\"rule\":\"write-read\",\"strand\":2,\"witness\":{\"entry\":2,\"line\":9,\"strand\":1}}]}\n";
+
+/// The same where it comes behind the child's return.
+const WRITE_RETURN_READ: &str =
+    "{\"clean\":false,\"entries\":7,\"memory\":{\"x\":7,\"y\":0},\"refusals\":[{\"entry\":5,\"line\":6,\"name\":\"x\",\"rule\":\"write-read\",\"strand\":2,\"witness\":{\"entry\":2,\"line\":9,\"strand\":1}}]}\n";
+
+/// What is told where the spawner's read comes first, and the write, which is refused, before the spawner's sync.
+const READ_WRITE: &str =
+    "{\"clean\":false,\"entries\":7,\"memory\":{\"x\":0,\"y\":0},\"refusals\":[{\"entry\":3,\"line\":9,\"name\":\"x\",\"rule\":\"read-write\",\"strand\":1,\"witness\":{\"entry\":2,\"line\":6,\"strand\":2}}]}\n";
+
+/// The same where the write comes behind the spawner's sync.
+const READ_SYNC_WRITE: &str =
+    "{\"clean\":false,\"entries\":7,\"memory\":{\"x\":0,\"y\":0},\"refusals\":[{\"entry\":4,\"line\":9,\"name\":\"x\",\"rule\":\"read-write\",\"strand\":1,\"witness\":{\"entry\":2,\"line\":6,\"strand\":2}}]}\n";
+
+/// What schedules of PAIR may tell.
+const REPORTS: &[&str] = &[
+    WRITE_READ,
+    WRITE_SYNC_READ,
+    WRITE_RETURN_READ,
+    READ_WRITE,
+    READ_SYNC_WRITE,
 ];
 
-/// The same where the spawner's read comes first. The write, which is refused, may come before the spawner's sync or behind it.
-const READ_FIRST: [&str; 2] = [
-    "{\"clean\":false,\"entries\":7,\"memory\":{\"x\":0,\"y\":0},\"refusals\":[{\"entry\":3,\"line\":9,\"name\":\"x\",\"rule\":\"read-write\",\"strand\":1,\"witness\":{\"entry\":2,\"line\":6,\"strand\":2}}]}\n",
-    "{\"clean\":false,\"entries\":7,\"memory\":{\"x\":0,\"y\":0},\"refusals\":[{\"entry\":4,\"line\":9,\"name\":\"x\",\"rule\":\"read-write\",\"strand\":1,\"witness\":{\"entry\":2,\"line\":6,\"strand\":2}}]}\n",
+/// Runs of PAIR by any number of workers.
+const SCHEDULED: &[Case<'static>] = &[
+    (Run(1, MOST), PAIR, Among(1, REPORTS)),
+    (Run(2, MOST), PAIR, Among(1, REPORTS)),
+    (Run(8, MOST), PAIR, Among(1, REPORTS)),
+    (Run(64, MOST), PAIR, Among(1, REPORTS)),
 ];
-
-/// Runs PAIR by so many workers through a door.
-fn ran_pair<D: Door + Sync, R: Threads + Wait + Sync>(
-    rt: &R,
-    alloc: Global,
-    workers: usize,
-    door: &D,
-) -> Result<Outcome<Vec<u8>>, Fail>
-    requires { (0 < workers) × (workers ≤ 64) }
-{
-    let text = lined(alloc, PAIR, "; ")?;
-    let (bytes, output) = (text.as_bytes(), Vec::new(alloc));
-    Ok(ran_through(rt, alloc, bytes, workers, door, output, MOST))
-}
-
-/// Whether this is one of the texts.
-fn is_among(text: &[u8], texts: &[&str]) -> bool {
-    texts.iter().any(|told| told.as_bytes() == text)
-}
-
-/// The run has ended with status 1, and has written one of its reports.
-fn is_told(rt: &impl Abort, outcome: &Outcome<Vec<u8>>) {
-    let text = outcome.output.as_slice();
-    assert!(rt; has_ended(&outcome.answer, 1));
-    assert!(rt; is_among(text, &WRITE_FIRST) || is_among(text, &READ_FIRST));
-}
 
 #[test]
 fn each_schedule_tells_one_refusal(rt: HostRuntime) -> Result<(), Fail> {
-    for workers in [1usize, 2, 8, 64] {
-        is_told(&rt, &ran_pair(&rt, rt.alloc(), workers, &OpenDoor)?);
-    }
-    Ok(())
+    check_all(&rt, rt.alloc(), SCHEDULED)
 }
 
 #[test]
 fn one_worker_goes_on_with_the_spawner(rt: HostRuntime) -> Result<(), Fail> {
-    let outcome = ran_pair(&rt, rt.alloc(), 1, &OpenDoor)?;
-    check_written(&rt, &outcome, 1, READ_FIRST[1], "one worker");
-    Ok(())
+    let wanted = Text(1, READ_SYNC_WRITE);
+    check_text(&rt, rt.alloc(), Run(1, MOST), PAIR, wanted)
+}
+
+/// What comes of a run of PAIR by two workers through a door.
+fn ran_pair<D: Door + Sync, R: Threads + Wait + Sync>(
+    rt: &R,
+    alloc: Global,
+    text: &str,
+    door: &D,
+    wanted: Wanted<'_>,
+) -> Outcome {
+    let mut program = Watched::new(text.as_bytes());
+    let mut output = Watched::new(wanted.writer(alloc));
+    let answer = run_text(rt, alloc, &mut program, 2, door, &mut output, MOST);
+    outcome_of(answer, &program, output)
+}
+
+/// A run of PAIR by two workers through a door does what is wanted.
+fn check_pair<D: Door + Sync, R: Abort + Threads + Wait + Sync>(
+    rt: &R,
+    alloc: Global,
+    door: &D,
+    wanted: Wanted<'_>,
+) -> Result<(), Fail> {
+    let text = lined(alloc, PAIR, "; ")?;
+    let outcome = ran_pair(rt, alloc, text.as_str(), door, wanted);
+    is_met(rt, alloc, &outcome, wanted)
 }
 
 const TURNS: u32 = 1_000_000;
@@ -126,22 +144,31 @@ fn check_order<R: Abort + Threads + Wait + Sync>(
         comings_of_first: AtomicU64::new(0),
         comings_of_second: AtomicU64::new(0),
     };
-    let outcome = ran_pair(rt, alloc, 2, &order)?;
-    check_written(rt, &outcome, 1, wanted, "an order");
+    check_pair(rt, alloc, &order, Text(1, wanted))
+}
+
+/// The same of each order.
+fn check_orders<R: Abort + Threads + Wait + Sync>(
+    rt: &R,
+    alloc: Global,
+    cases: &[(u32, u32, u64, &str)],
+) -> Result<(), Fail> {
+    for (first, second, times, wanted) in cases {
+        check_order(rt, alloc, *first, *second, *times, wanted)?;
+    }
     Ok(())
 }
 
+/// Which strand comes first, which second, how often the first comes before, and the report.
+const ORDERS: &[(u32, u32, u64, &str)] = &[
+    (1, 2, 2, WRITE_READ),
+    (1, 2, 3, WRITE_SYNC_READ),
+    (2, 1, 2, READ_WRITE),
+];
+
 #[test]
 fn the_first_access_is_the_witness(rt: HostRuntime) -> Result<(), Fail> {
-    let cases = [
-        (1, 2, 2, WRITE_FIRST[0]),
-        (1, 2, 3, WRITE_FIRST[1]),
-        (2, 1, 2, READ_FIRST[0]),
-    ];
-    for (first, second, times, wanted) in cases {
-        check_order(&rt, rt.alloc(), first, second, times, wanted)?;
-    }
-    Ok(())
+    check_orders(&rt, rt.alloc(), ORDERS)
 }
 
 /// Holds whichever of strands 1 and 2 comes first until the other has come too.
@@ -190,7 +217,7 @@ fn two_at_once(rt: HostRuntime) -> Result<(), Fail> {
         given_up: AtomicBool::new(false),
         met: AtomicBool::new(false),
     };
-    is_told(&rt, &ran_pair(&rt, rt.alloc(), 2, &meeting)?);
+    check_pair(&rt, rt.alloc(), &meeting, Among(1, REPORTS))?;
     assert!(rt; meeting.met.load(Ordering::SeqCst));
     Ok(())
 }
