@@ -219,7 +219,7 @@ impl<A: Allocator + Clone> Core<A> {
         if !is_in_range(&self.shape, request.act) {
             return Err(GateFault::BadName);
         }
-        if request.act == Act::Return && !self.tracks.strands.is_synced(request.strand) {
+        if matches!(request.act, Act::Return) && !self.tracks.strands.is_synced(request.strand) {
             return Err(GateFault::Unsynced);
         }
         Ok(())
@@ -258,7 +258,7 @@ impl<A: Allocator + Clone> Core<A> {
 
     /// Answers a request as [`Core::judge`] does, and gives the reply of a gate that judged the same requests.
     #[inline(always)]
-    fn replied(&mut self, request: Request) -> Reply
+    pub fn reply(&mut self, request: Request) -> Reply
         ensures { (state : State) → IsCoreOf self.old state → (next : State) × Judges state request result next × IsCoreOf self.new next }
     {
         match self.judge(request) {
@@ -268,25 +268,6 @@ impl<A: Allocator + Clone> Core<A> {
                 answer,
             }),
             Err(fault) => Reply::Illegal(fault),
-        }
-    }
-
-    /// The same, by code of its own for each kind of act. So the kind is told apart here, and nowhere below.
-    #[inline(always)]
-    pub fn reply(&mut self, request: Request) -> Reply
-        ensures { (state : State) → IsCoreOf self.old state → (next : State) × Judges state request result next × IsCoreOf self.new next }
-    {
-        match request.act {
-            Act::Spawn => self.replied(request),
-            Act::Sync => self.replied(request),
-            Act::Call => self.replied(request),
-            Act::Return => self.replied(request),
-            Act::Read(_) => self.replied(request),
-            Act::Write(_, _) => self.replied(request),
-            Act::Bump(_, _) => self.replied(request),
-            Act::Update(_, _) => self.replied(request),
-            Act::Put(_, _) => self.replied(request),
-            Act::Get(_) => self.replied(request),
         }
     }
 }

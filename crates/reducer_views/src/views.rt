@@ -18,6 +18,9 @@ use model_strands::Spawned;
 use std::alloc::{AllocError, Allocator};
 use std::marker::Model;
 
+/// How many empty slots are kept at most, to be used again.
+const KEPT: usize = 1024;
+
 /// The views of strands, per reducer. A strand's view is kept under the number of its home. A child goes on at its spawner's
 /// home and a join at that of the strand that opened its block; a continuation has a home of its own.
 pub struct Views<A: Allocator + Clone> {
@@ -64,7 +67,7 @@ impl<A: Allocator + Clone> Views<A> {
         Ok(Views {
             monoids: Vec::from_slice(alloc.clone()?, monoids)?,
             pieces: first_piece(&alloc)?,
-            spare: Vec::new(alloc.clone()?),
+            spare: Vec::with_capacity(alloc.clone()?, KEPT)?,
             has_room: false,
             alloc,
         })

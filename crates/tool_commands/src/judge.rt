@@ -29,7 +29,7 @@ use crate::watched::Watched;
 use race_gate::{Core, Reply};
 use std::alloc::{AllocError, Allocator};
 use std::io::{Read, Write};
-use text_words::Request;
+use text_words::{Act, Request};
 use trace_text::Trace;
 
 /// What is told of the replies to requests: the verdict lines that wait to be written, and what the exit status wants to know of all.
@@ -40,7 +40,8 @@ struct Verdicts<A: Allocator> {
 }
 
 /// Judges a request and tells the reply.
-fn tell<A: Allocator + Clone, W: Write>(
+#[inline(always)]
+fn told<A: Allocator + Clone, W: Write>(
     core: &mut Core<A>,
     verdicts: &mut Verdicts<A>,
     output: &mut Watched<W>,
@@ -55,6 +56,33 @@ fn tell<A: Allocator + Clone, W: Write>(
     let reply = core.reply(request);
     verdicts.lines.tell_verdict(output, &reply);
     verdicts.met.meet(&reply);
+}
+
+/// The same, by code of its own for each kind of act. So which replies there may be is known where their lines are put.
+fn tell<A: Allocator + Clone, W: Write>(
+    core: &mut Core<A>,
+    verdicts: &mut Verdicts<A>,
+    output: &mut Watched<W>,
+    request: Request,
+)
+    requires { IsCore core.old }
+    ensures { (start : State) (wrote : Option (List ℕ)) (requests : List SpecRequest) (replies : List SpecReply) →
+        HasJudged start requests replies core.old verdicts.old wrote (W.contents (held output.old)) (has_failed output.old) →
+        (reply : SpecReply) × HasJudged start (requests ++ request ∷ []) (replies ++ reply ∷ []) core.new verdicts.new
+        wrote (W.contents (held output.new)) (has_failed output.new) }
+{
+    match request.act {
+        Act::Spawn => told(core, verdicts, output, request),
+        Act::Sync => told(core, verdicts, output, request),
+        Act::Call => told(core, verdicts, output, request),
+        Act::Return => told(core, verdicts, output, request),
+        Act::Read(_) => told(core, verdicts, output, request),
+        Act::Write(_, _) => told(core, verdicts, output, request),
+        Act::Bump(_, _) => told(core, verdicts, output, request),
+        Act::Update(_, _) => told(core, verdicts, output, request),
+        Act::Put(_, _) => told(core, verdicts, output, request),
+        Act::Get(_) => told(core, verdicts, output, request),
+    }
 }
 
 /// Judges the requests of a trace in their order, and tells the replies one by one. All memory that this may fail for is taken first, so

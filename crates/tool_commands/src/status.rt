@@ -8,24 +8,28 @@ ghost use Rattle.tool_commands.specs.Meetings.{HasMet};
 
 use race_gate::{Answer, GateFault, Reply};
 
+#[inline(always)]
 fn is_memory(reply: &Reply) -> bool
     ensures { result ≡ memory_spec reply.now }
 {
     matches!(reply, Reply::Illegal(GateFault::Memory))
 }
 
+#[inline(always)]
 fn is_limit(reply: &Reply) -> bool
     ensures { result ≡ limit_spec reply.now }
 {
     matches!(reply, Reply::Illegal(GateFault::Limit))
 }
 
+#[inline(always)]
 fn is_illegal(reply: &Reply) -> bool
     ensures { result ≡ illegal_spec reply.now }
 {
     matches!(reply, Reply::Illegal(_))
 }
 
+#[inline(always)]
 fn is_refusal(reply: &Reply) -> bool
     ensures { result ≡ refusal_spec reply.now }
 {
@@ -58,6 +62,7 @@ impl Met {
     }
 
     /// Sees one reply more.
+    #[inline(always)]
     pub(crate) fn meet(&mut self, reply: &Reply)
         ensures { (replies : List SpecReply) → HasMet replies self.old → HasMet (replies ++ reply.now ∷ []) self.new }
     {

@@ -5,7 +5,7 @@ use Rattle.race_report.proofs.GateWords.{replies_have_words}
 use Rattle.tool_commands.specs.Watched.{held, has_failed}
 use Rattle.tool_commands.specs.Tellings.{IsTold}
 use Rattle.tool_commands.proofs.Meeting.{lines_more}
-use Rattle.tool_commands.proofs.judge.tell.Goals as goal
+use Rattle.tool_commands.proofs.judge.told.Goals as goal
 
 pub tell_verdict-requires : goal.tell_verdict-requires
 tell_verdict-requires g c =
