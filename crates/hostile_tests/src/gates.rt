@@ -41,20 +41,23 @@ fn check_faults<R: Abort + Threads + Wait + Sync>(
     Ok(())
 }
 
+const STOPS: [Prank; 3] = [Prank::Stops(1), Prank::Stops(100), Prank::Stops(713)];
+
 #[test]
 fn a_gate_that_stops(rt: HostRuntime) -> Result<(), Fail> {
-    let pranks = [Prank::Stops(1), Prank::Stops(100), Prank::Stops(713)];
-    check_faults(&rt, rt.alloc(), &pranks, RunFault::Stopped)
+    check_faults(&rt, rt.alloc(), &STOPS, RunFault::Stopped)
 }
+
+const STARVES: [Prank; 3] = [Prank::Starves(1), Prank::Starves(100), Prank::Starves(713)];
 
 #[test]
 fn a_gate_that_wants_memory(rt: HostRuntime) -> Result<(), Fail> {
-    let pranks = [Prank::Starves(1), Prank::Starves(100), Prank::Starves(713)];
-    check_faults(&rt, rt.alloc(), &pranks, RunFault::Memory)
+    check_faults(&rt, rt.alloc(), &STARVES, RunFault::Memory)
 }
+
+const SWAPS: [Prank; 3] = [Prank::Swaps(1), Prank::Swaps(100), Prank::Swaps(713)];
 
 #[test]
 fn a_gate_that_answers_another_request(rt: HostRuntime) -> Result<(), Fail> {
-    let pranks = [Prank::Swaps(1), Prank::Swaps(100), Prank::Swaps(713)];
-    check_faults(&rt, rt.alloc(), &pranks, RunFault::Strange)
+    check_faults(&rt, rt.alloc(), &SWAPS, RunFault::Strange)
 }

@@ -17,17 +17,19 @@ macro_rules! entry {
 
 mod commands;
 mod gates;
+mod kept;
+mod lists;
 mod programs;
 mod strands;
 mod traces;
 
 use crate::checks::equal;
 use crate::refusing::Refusing;
-use std::alloc::Global;
+use std::alloc::{AllocError, Global};
 use std::fmt::Debug;
 use std::process::Abort;
 use std::test::Fail;
-use text_words::TextFault;
+use text_words::{Monoid, Shape, TextFault};
 
 /// A heap of which one growth is refused.
 type Heap = Refusing<Global>;
@@ -35,30 +37,13 @@ type Heap = Refusing<Global>;
 /// The calls over an allocator that can answer that there is no memory.
 #[derive(Clone, Copy)]
 enum Call {
-    NewList,
-    ReserveItems,
-    HintItems,
-    NewStrands,
-    ReserveStrands,
-    HintSpawns,
-    Spawn,
-    CallFunction,
-    NewBranches,
-    ReserveBranches,
-    NewViews,
-    ReserveViews,
-    NewReads,
-    NewShadow,
-    ParseTrace,
-    PrintTrace,
-    ShapeOfTrace,
-    NameCell,
-    NewGate,
-    Judge(gates::Way),
-    TellReplies,
-    ParseProgram,
-    Do(programs::Use),
-    Ask(commands::Command),
+    List(lists::Call),
+    Strands(strands::Call),
+    Kept(kept::Call),
+    Trace(traces::Call),
+    Gate(gates::Call),
+    Program(programs::Call),
+    Command(commands::Command),
 }
 
 /// Makes the call where its growth of this number is refused, and checks what it answers. It says whether that was Memory.
@@ -70,30 +55,13 @@ fn is_refused(
     number: u64,
 ) -> Result<bool, Fail> {
     match call {
-        Call::NewList => Ok(strands::new_list(rt, heap, number)),
-        Call::ReserveItems => strands::reserve_items(rt, heap, number),
-        Call::HintItems => strands::hint_items(rt, heap, number),
-        Call::NewStrands => Ok(strands::new_strands(rt, heap, number)),
-        Call::ReserveStrands => strands::reserve_strands(rt, heap, number),
-        Call::HintSpawns => strands::hint_spawns(rt, heap, number),
-        Call::Spawn => strands::spawn(rt, heap, number),
-        Call::CallFunction => strands::call_function(rt, heap, number),
-        Call::NewBranches => Ok(strands::new_branches(rt, heap, number)),
-        Call::ReserveBranches => strands::reserve_branches(rt, heap, number),
-        Call::NewViews => Ok(strands::new_views(rt, heap, number)),
-        Call::ReserveViews => strands::reserve_views(rt, heap, number),
-        Call::NewReads => Ok(strands::new_reads(rt, heap, number)),
-        Call::NewShadow => Ok(strands::new_shadow(rt, heap, number)),
-        Call::ParseTrace => Ok(traces::parse(rt, heap, number)),
-        Call::PrintTrace => traces::print(rt, heap, number),
-        Call::ShapeOfTrace => traces::shape(rt, heap, number),
-        Call::NameCell => traces::name_cell(rt, heap, number),
-        Call::NewGate => gates::new_gate(rt, heap, number),
-        Call::Judge(way) => gates::judge(rt, heap, number, way),
-        Call::TellReplies => Ok(gates::tell(rt, heap, number)),
-        Call::ParseProgram => Ok(programs::parse(rt, heap, number)),
-        Call::Do(done) => programs::make(rt, heap, number, done),
-        Call::Ask(command) => Ok(commands::make(rt, alloc, heap, number, command)),
+        Call::List(call) => lists::is_refused(rt, heap, number, call),
+        Call::Strands(call) => strands::is_refused(rt, heap, number, call),
+        Call::Kept(call) => kept::is_refused(rt, heap, number, call),
+        Call::Trace(call) => traces::is_refused(rt, heap, number, call),
+        Call::Gate(call) => gates::is_refused(rt, heap, number, call),
+        Call::Program(call) => programs::is_refused(rt, heap, number, call),
+        Call::Command(command) => Ok(commands::is_refused(rt, alloc, heap, number, command)),
     }
 }
 
@@ -120,105 +88,140 @@ fn wants_memory(rt: &impl Abort, heap: &Heap, fault: &TextFault) -> bool {
     true
 }
 
-/// Refuses the call's first growth, its second, and so on until none is refused. There is one at least.
-fn check(rt: &impl Abort, alloc: Global, name: &str, call: Call) -> Result<(), Fail> {
-    for number in 1..10_000u64 {
+/// Whether there was no memory for a text, which is this one where there was.
+fn lacks_text(
+    rt: &impl Abort,
+    heap: &Heap,
+    found: Result<Vec<u8, &Heap>, AllocError>,
+    wanted: &[u8],
+) -> bool {
+    match answered(rt, heap, found, AllocError) {
+        Some(text) => {
+            equal(rt, &"text", &text.as_slice(), &wanted);
+            false
+        }
+        None => true,
+    }
+}
+
+/// Whether there was no memory for a shape, which has so many cells and these reducers where there was.
+fn lacks_shape(
+    rt: &impl Abort,
+    heap: &Heap,
+    found: Result<Shape<&Heap>, AllocError>,
+    cells: u32,
+    monoids: &[Monoid],
+) -> bool {
+    match answered(rt, heap, found, AllocError) {
+        Some(shape) => {
+            assert!(rt; shape.cells == cells);
+            equal(rt, &"reducers", &shape.monoids.as_slice(), &monoids);
+            false
+        }
+        None => true,
+    }
+}
+
+/// Where the growths of a call have no end.
+const ENDLESS: u64 = 10_000;
+
+/// Refuses the call's first growth, its second, and so on until none is refused. How many were.
+fn growths_of(rt: &impl Abort, alloc: Global, call: Call) -> Result<u64, Fail> {
+    for growths in 0..ENDLESS {
         let heap = Refusing::new(alloc);
-        if !is_refused(rt, alloc, &heap, call, number)? {
-            assert!(rt; number > 1, "{name} grows nothing");
-            return Ok(());
+        if !is_refused(rt, alloc, &heap, call, growths.saturating_add(1))? {
+            return Ok(growths);
         }
     }
-    assert!(rt; false, "the growths of {name} have no end");
+    Ok(ENDLESS)
+}
+
+/// Does so with each of these calls. Each has growths, which have an end.
+fn check_all(rt: &impl Abort, alloc: Global, calls: &[(&str, Call)]) -> Result<(), Fail> {
+    for (name, call) in calls {
+        let growths = growths_of(rt, alloc, *call)?;
+        equal(rt, name, &(0 < growths && growths < ENDLESS), &true);
+    }
     Ok(())
 }
 
-/// The same of each of these calls.
-fn check_all(rt: &impl Abort, alloc: Global, calls: &[(&str, Call)]) -> Result<(), Fail> {
-    for (name, call) in calls {
-        check(rt, alloc, name, *call)?;
-    }
-    Ok(())
-}
+const OF_STRANDS: [(&str, Call); 14] = [
+    ("OrderList::new", Call::List(lists::Call::New)),
+    ("OrderList::reserve", Call::List(lists::Call::Reserve)),
+    ("OrderList::make_room", Call::List(lists::Call::Hint)),
+    ("Strands::new", Call::Strands(strands::Call::New)),
+    (
+        "Strands::reserve_event",
+        Call::Strands(strands::Call::Reserve),
+    ),
+    ("Strands::make_room", Call::Strands(strands::Call::Hint)),
+    ("Strands::spawn", Call::Strands(strands::Call::Spawn)),
+    ("Strands::call", Call::Strands(strands::Call::Function)),
+    ("Branches::new", Call::Kept(kept::Call::NewBranches)),
+    (
+        "Branches::reserve_event",
+        Call::Kept(kept::Call::ReserveBranches),
+    ),
+    ("Views::new", Call::Kept(kept::Call::NewViews)),
+    ("Views::reserve_event", Call::Kept(kept::Call::ReserveViews)),
+    ("ReadPeers::new", Call::Kept(kept::Call::NewReads)),
+    ("Shadow::new", Call::Kept(kept::Call::NewShadow)),
+];
 
 #[test]
 fn strands_and_what_is_kept_of_them(rt: HostRuntime) -> Result<(), Fail> {
-    check_all(
-        &rt,
-        rt.alloc(),
-        &[
-            ("OrderList::new", Call::NewList),
-            ("OrderList::reserve", Call::ReserveItems),
-            ("OrderList::make_room", Call::HintItems),
-            ("Strands::new", Call::NewStrands),
-            ("Strands::reserve_event", Call::ReserveStrands),
-            ("Strands::make_room", Call::HintSpawns),
-            ("Strands::spawn", Call::Spawn),
-            ("Strands::call", Call::CallFunction),
-            ("Branches::new", Call::NewBranches),
-            ("Branches::reserve_event", Call::ReserveBranches),
-            ("Views::new", Call::NewViews),
-            ("Views::reserve_event", Call::ReserveViews),
-            ("ReadPeers::new", Call::NewReads),
-            ("Shadow::new", Call::NewShadow),
-        ],
-    )
+    check_all(&rt, rt.alloc(), &OF_STRANDS)
 }
+
+const OF_TRACES: [(&str, Call); 4] = [
+    ("Trace::parse", Call::Trace(traces::Call::Parse)),
+    ("Trace::print", Call::Trace(traces::Call::Print)),
+    ("Trace::shape", Call::Trace(traces::Call::Shape)),
+    ("cell_name", Call::Trace(traces::Call::Name)),
+];
 
 #[test]
 fn traces_and_their_texts(rt: HostRuntime) -> Result<(), Fail> {
-    check_all(
-        &rt,
-        rt.alloc(),
-        &[
-            ("Trace::parse", Call::ParseTrace),
-            ("Trace::print", Call::PrintTrace),
-            ("Trace::shape", Call::ShapeOfTrace),
-            ("cell_name", Call::NameCell),
-        ],
-    )
+    check_all(&rt, rt.alloc(), &OF_TRACES)
 }
+
+const OF_GATES: [(&str, Call); 4] = [
+    ("Gate::new", Call::Gate(gates::Call::New)),
+    ("Gate::judge", Call::Gate(gates::Call::Judge)),
+    ("judge_all", Call::Gate(gates::Call::JudgeAll)),
+    ("verdict_lines", Call::Gate(gates::Call::Tell)),
+];
 
 #[test]
 fn gates_and_lists_of_requests(rt: HostRuntime) -> Result<(), Fail> {
-    check_all(
-        &rt,
-        rt.alloc(),
-        &[
-            ("Gate::new", Call::NewGate),
-            ("Gate::judge", Call::Judge(gates::Way::OneByOne)),
-            ("judge_all", Call::Judge(gates::Way::AsAList)),
-            ("verdict_lines", Call::TellReplies),
-        ],
-    )
+    check_all(&rt, rt.alloc(), &OF_GATES)
 }
+
+const OF_PROGRAMS: [(&str, Call); 7] = [
+    ("Program::parse", Call::Program(programs::Call::Parse)),
+    ("Program::print", Call::Program(programs::Call::Print)),
+    ("Program::shape", Call::Program(programs::Call::Shape)),
+    ("Frame::answer", Call::Program(programs::Call::Answer)),
+    (
+        "Frame::reserve_call",
+        Call::Program(programs::Call::Reserve),
+    ),
+    ("elide", Call::Program(programs::Call::Elide)),
+    ("replay", Call::Program(programs::Call::Replay)),
+];
 
 #[test]
 fn programs_and_what_is_done_with_them(rt: HostRuntime) -> Result<(), Fail> {
-    check_all(
-        &rt,
-        rt.alloc(),
-        &[
-            ("Program::parse", Call::ParseProgram),
-            ("Program::print", Call::Do(programs::Use::Print)),
-            ("Program::shape", Call::Do(programs::Use::Shape)),
-            ("Frame::answer", Call::Do(programs::Use::AnswerCall)),
-            ("Frame::reserve_call", Call::Do(programs::Use::ReserveCall)),
-            ("elide", Call::Do(programs::Use::Elide)),
-            ("replay", Call::Do(programs::Use::Replay)),
-        ],
-    )
+    check_all(&rt, rt.alloc(), &OF_PROGRAMS)
 }
+
+const OF_COMMANDS: [(&str, Call); 3] = [
+    ("judge_stream", Call::Command(commands::Command::Judge)),
+    ("elide_text", Call::Command(commands::Command::Elide)),
+    ("replay_text", Call::Command(commands::Command::Replay)),
+];
 
 #[test]
 fn commands_and_what_they_write(rt: HostRuntime) -> Result<(), Fail> {
-    check_all(
-        &rt,
-        rt.alloc(),
-        &[
-            ("judge_stream", Call::Ask(commands::Command::Judge)),
-            ("elide_text", Call::Ask(commands::Command::Elide)),
-            ("replay_text", Call::Ask(commands::Command::Replay)),
-        ],
-    )
+    check_all(&rt, rt.alloc(), &OF_COMMANDS)
 }

@@ -11,18 +11,7 @@ use race_gate::{Answer, Entry};
 use run_replay::{ReplayFault, replay};
 use std::alloc::{AllocError, Global};
 use std::process::Abort;
-use std::sync::Wait;
 use std::test::Fail;
-use std::thread::Threads;
-
-/// The entries of the program's run by one worker.
-fn entries_of<R: Threads + Wait + Sync>(
-    rt: &R,
-    alloc: Global,
-    program: &Program<Global>,
-) -> Result<Vec<Entry>, Fail> {
-    Ok(played(rt, alloc, program, 1, Prank::Turns)?.entries)
-}
 
 /// The first so many entries are a run that is not finished.
 fn is_unfinished(
@@ -38,16 +27,17 @@ fn is_unfinished(
     equal(rt, &count, &found, &Err(ReplayFault::Unfinished));
 }
 
-#[test]
-fn each_part_of_a_run_is_unfinished(rt: HostRuntime) -> Result<(), Fail> {
-    let program = Program::parse(rt.alloc(), FIB)?;
-    let entries = entries_of(&rt, rt.alloc(), &program)?;
-    assert!(rt; entries.len() == 713);
+/// So is each part of the entries, which are a run.
+fn parts_are_unfinished(
+    rt: &impl Abort,
+    alloc: Global,
+    program: &Program<Global>,
+    entries: &[Entry],
+) {
     for count in 0..entries.len() {
-        is_unfinished(&rt, rt.alloc(), &program, entries.as_slice(), count);
+        is_unfinished(rt, alloc, program, entries, count);
     }
-    assert_eq!(rt; replay(rt.alloc(), &program, entries.as_slice()), Ok(()));
-    Ok(())
+    assert_eq!(rt; replay(alloc, program, entries), Ok(()));
 }
 
 /// The entries are strange from the one behind this place on.
@@ -83,26 +73,54 @@ fn twice_at(alloc: Global, entries: &[Entry], place: usize) -> Result<Vec<Entry>
     Ok(changed)
 }
 
-#[test]
-fn each_answer_that_is_unset_is_strange(rt: HostRuntime) -> Result<(), Fail> {
-    let program = Program::parse(rt.alloc(), FIB)?;
-    let entries = entries_of(&rt, rt.alloc(), &program)?;
-    assert!(rt; entries.len() == 713);
+/// The entries are strange with any answer Unset.
+fn unset_are_strange(
+    rt: &impl Abort,
+    alloc: Global,
+    program: &Program<Global>,
+    entries: &[Entry],
+) -> Result<(), AllocError>
+    requires { length entries.now ≤ 713 }
+{
     for place in 0..entries.len() {
-        let changed = unset_at(rt.alloc(), entries.as_slice(), place)?;
-        is_strange_at(&rt, rt.alloc(), &program, changed.as_slice(), place);
+        let changed = unset_at(alloc, entries, place)?;
+        is_strange_at(rt, alloc, program, changed.as_slice(), place);
     }
     Ok(())
 }
 
-#[test]
-fn each_entry_that_comes_twice_is_strange(rt: HostRuntime) -> Result<(), Fail> {
-    let program = Program::parse(rt.alloc(), FIB)?;
-    let entries = entries_of(&rt, rt.alloc(), &program)?;
-    assert!(rt; entries.len() == 713);
+/// The entries are strange with any entry twice.
+fn twice_are_strange(
+    rt: &impl Abort,
+    alloc: Global,
+    program: &Program<Global>,
+    entries: &[Entry],
+) -> Result<(), AllocError>
+    requires { length entries.now ≤ 713 }
+{
     for place in 0..entries.len() {
-        let changed = twice_at(rt.alloc(), entries.as_slice(), place)?;
-        is_strange_at(&rt, rt.alloc(), &program, changed.as_slice(), place + 1);
+        let changed = twice_at(alloc, entries, place)?;
+        is_strange_at(rt, alloc, program, changed.as_slice(), place + 1);
     }
     Ok(())
+}
+
+/// The entries are a run, which breaks off wherever it is cut, and is strange wherever it is changed.
+fn check(
+    rt: &impl Abort,
+    alloc: Global,
+    program: &Program<Global>,
+    entries: &[Entry],
+) -> Result<(), AllocError> {
+    assert!(rt; entries.len() == 713);
+    parts_are_unfinished(rt, alloc, program, entries);
+    unset_are_strange(rt, alloc, program, entries)?;
+    twice_are_strange(rt, alloc, program, entries)
+}
+
+#[test]
+fn runs_that_break_off_or_are_changed(rt: HostRuntime) -> Result<(), Fail> {
+    let program = Program::parse(rt.alloc(), FIB)?;
+    let whole = played(&rt, rt.alloc(), &program, 1, Prank::Turns)?;
+    Ok(check(&rt, rt.alloc(), &program, whole.entries.as_slice())?)
 }

@@ -11,60 +11,67 @@ use std::process::Abort;
 use std::test::Fail;
 use text_words::{Act, Monoids, Request, Shape};
 
-/// A trace with so many lines behind its first.
-fn with_lines(alloc: Global, line: &str, count: u32) -> Result<String, AllocError> {
-    let mut text = String::from_str(alloc, "cilk 1\n")?;
+/// A text that begins so, with so many lines behind that.
+fn with_lines(alloc: Global, first: &str, line: &str, count: u32) -> Result<String, AllocError> {
+    let mut text = String::from_str(alloc, first)?;
     for _ in 0..count {
         text.push_str(line)?;
     }
     Ok(text)
 }
 
-/// The trace with so many of these lines means this.
-fn check_lines(
-    rt: &impl Abort,
-    alloc: Global,
-    line: &str,
+/// So many lines of one kind, and what the trace of them means.
+#[derive(Clone, Copy)]
+struct Lines {
+    line: &'static str,
     count: u32,
     wanted: Result<usize, (u32, Cause)>,
-) -> Result<(), Fail> {
-    let text = with_lines(alloc, line, count)?;
-    equal(
-        rt,
-        &(line, count),
-        &found_of(alloc, text.as_bytes()),
-        &Some(wanted),
-    );
+}
+
+const LINES: [Lines; 4] = [
+    Lines {
+        line: "sync 0\n",
+        count: 2_000_000,
+        wanted: Ok(2_000_000),
+    },
+    Lines {
+        line: "sync 0\n",
+        count: 2_000_001,
+        wanted: Err((2_000_002, Cause::TooMany)),
+    },
+    Lines {
+        line: "\n",
+        count: 3_999_999,
+        wanted: Ok(0),
+    },
+    Lines {
+        line: "\n",
+        count: 4_000_000,
+        wanted: Err((4_000_001, Cause::TooMany)),
+    },
+];
+
+fn check_lines(rt: &impl Abort, alloc: Global, lines: Lines) -> Result<(), Fail> {
+    let text = with_lines(alloc, "cilk 1\n", lines.line, lines.count)?;
+    let found = found_of(alloc, text.as_bytes());
+    equal(rt, &lines.count, &found, &Some(lines.wanted));
     Ok(())
 }
 
 #[test]
-fn requests_of_a_trace(rt: HostRuntime) -> Result<(), Fail> {
-    check_lines(&rt, rt.alloc(), "sync 0\n", 2_000_000, Ok(2_000_000))?;
-    let wanted = Err((2_000_002, Cause::TooMany));
-    check_lines(&rt, rt.alloc(), "sync 0\n", 2_000_001, wanted)
-}
-
-#[test]
-fn lines_of_a_trace(rt: HostRuntime) -> Result<(), Fail> {
-    check_lines(&rt, rt.alloc(), "\n", 3_999_999, Ok(0))?;
-    let wanted = Err((4_000_001, Cause::TooMany));
-    check_lines(&rt, rt.alloc(), "\n", 4_000_000, wanted)
-}
-
-/// A program that calls `g` on its third line, and has blank lines up to this one, on which `g` begins.
-fn with_far_function(alloc: Global, line: u32) -> Result<String, AllocError> {
-    let mut text = String::from_str(alloc, "cilk 1\nfunc main z\ncall g 0\nend\n")?;
-    for _ in 5..line {
-        text.push_str("\n")?;
+fn requests_and_lines_of_a_trace(rt: HostRuntime) -> Result<(), Fail> {
+    for lines in LINES {
+        check_lines(&rt, rt.alloc(), lines)?;
     }
-    text.push_str("func g z\nend\n")?;
-    Ok(text)
+    Ok(())
 }
 
-/// What such a text means: a program, or a fault at a line.
+/// What a program means that calls `g` on its third line, and has blank lines up to this one, on which `g` begins: nothing more, or a
+/// fault at a line.
 fn meant_far(alloc: Global, line: u32) -> Result<Option<(u32, Cause)>, AllocError> {
-    let text = with_far_function(alloc, line)?;
+    let first = "cilk 1\nfunc main z\ncall g 0\nend\n";
+    let mut text = with_lines(alloc, first, "\n", line.saturating_sub(5))?;
+    text.push_str("func g z\nend\n")?;
     match Program::parse(alloc, text.as_bytes()) {
         Ok(_) => Ok(None),
         Err(TextFault::At { line, why }) => Ok(Some((line, why))),
@@ -133,11 +140,16 @@ fn fill(gate: &mut Gate<Global>) -> Result<(), GateFault> {
     Ok(())
 }
 
+/// The gate answers as many requests as there may be, and no more.
+fn is_filled(rt: &impl Abort, gate: &mut Gate<Global>) -> Result<(), GateFault> {
+    fill(gate)?;
+    assert!(rt; gate.judge(CALL) == Err(GateFault::Limit));
+    assert!(rt; gate.history().len() == 1_000_000);
+    Ok(())
+}
+
 #[test]
 fn entries_of_a_history(rt: HostRuntime) -> Result<(), Fail> {
     let mut gate = large_gate(rt.alloc())?;
-    fill(&mut gate)?;
-    assert!(rt; gate.judge(CALL) == Err(GateFault::Limit));
-    assert_eq!(rt; gate.history().len(), 1_000_000);
-    Ok(())
+    Ok(is_filled(&rt, &mut gate)?)
 }

@@ -30,16 +30,21 @@ fn mean_one(rt: &impl Abort, alloc: Global, one: &[u8], other: &[u8]) -> Result<
     Ok(())
 }
 
+/// The text without its last byte.
+fn without_last(text: &[u8]) -> &[u8] {
+    match text.split_last() {
+        Some((_, rest)) => rest,
+        None => text,
+    }
+}
+
 /// No part of the text means a program but that which lacks the last line feed alone, and means the same.
 fn check_program(rt: &impl Abort, alloc: Global, text: &[u8]) -> Result<(), Fail> {
-    let last = text.len().saturating_sub(1);
-    for end in 0..last {
-        assert!(rt;
-            is_faulty(alloc, &text[..end.min(text.len())]),
-            "{end} bytes"
-        );
+    let cut = without_last(text);
+    for end in 0..cut.len() {
+        equal(rt, &end, &is_faulty(alloc, &cut[..end]), &true);
     }
-    mean_one(rt, alloc, &text[..last.min(text.len())], text)
+    mean_one(rt, alloc, cut, text)
 }
 
 #[test]
@@ -144,16 +149,20 @@ fn check_part(rt: &impl Abort, alloc: Global, part: Part<'_>, number: u32, start
     }
 }
 
+/// The line stands in the trace behind so many bytes.
+fn stands(rt: &impl Abort, line: &[u8], start: usize) {
+    match PAIR_TRACE.get(start..) {
+        Some(rest) => assert!(rt; rest.starts_with(line)),
+        None => assert!(rt; false),
+    }
+}
+
 #[test]
 fn parts_of_a_trace(rt: HostRuntime) {
     let mut start = 0usize;
     let mut number = 1u32;
     for part in PARTS {
-        assert!(rt;
-            PAIR_TRACE
-                .get(start..)
-                .is_some_and(|rest| rest.starts_with(part.line.as_bytes()))
-        );
+        stands(&rt, part.line.as_bytes(), start);
         check_part(&rt, rt.alloc(), part, number, start);
         start = start.saturating_add(part.line.len()).saturating_add(1);
         number = number.saturating_add(1);
@@ -168,10 +177,9 @@ fn printed_trace(alloc: Global, text: &[u8]) -> Result<Vec<u8>, Fail> {
 
 #[test]
 fn a_trace_without_its_last_line_feed(rt: HostRuntime) -> Result<(), Fail> {
-    let cut = PAIR_TRACE.split_last().map(|(_, rest)| rest).unwrap_or(&[]);
-    let printed = printed_trace(rt.alloc(), cut)?;
-    assert_eq!(rt; printed.as_slice(), PAIR_TRACE);
-    let printed = printed_trace(rt.alloc(), PAIR_TRACE)?;
-    assert_eq!(rt; printed.as_slice(), PAIR_TRACE);
+    for text in [without_last(PAIR_TRACE), PAIR_TRACE] {
+        let printed = printed_trace(rt.alloc(), text)?;
+        equal(&rt, &text, &printed.as_slice(), &PAIR_TRACE);
+    }
     Ok(())
 }

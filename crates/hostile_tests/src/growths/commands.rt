@@ -1,6 +1,7 @@
 //! Growths of commands, from texts that are read to texts that are written. What they are written to takes memory of another heap.
 
 use super::Heap;
+use crate::checks::equal;
 use crate::worked::{FIB, PAIR, PAIR_TRACE};
 use std::alloc::Global;
 use std::process::Abort;
@@ -11,33 +12,39 @@ const MOST: u32 = 1_000_000;
 /// Three requests, of which the second takes memory. The strand of the third has ended, unless the second is refused.
 const SPAWNING: &[u8] = b"cilk 1\nmem x\nreducer h sum\nwrite 0 x 5\nspawn 0\nread 0 x\n";
 
-/// The exit status of a command, and what it writes.
+/// The exit status of a command, or none where there is no memory, and what it writes.
 #[derive(Clone, Copy)]
 struct Told {
-    status: u8,
+    status: Option<u8>,
     text: &'static [u8],
 }
 
+/// Where there is no memory nothing is written.
+const NOTHING: Told = Told {
+    status: None,
+    text: b"",
+};
+
 const JUDGED: Told = Told {
-    status: 2,
+    status: Some(2),
     text: b"1 granted\n2 split 1 2 3\nillegal not-running\n",
 };
 
 /// What is told where the second request finds no memory.
 const STARVED: Told = Told {
-    status: 3,
+    status: Some(3),
     text: b"1 granted\nillegal memory\n2 value 5\n",
 };
 
 /// FIB's elision.
 const ELIDED: Told = Told {
-    status: 0,
+    status: Some(0),
     text: b"x 55\nrequests 713\n",
 };
 
 /// The replay of PAIR's trace, in which a read is refused.
 const REPLAYED: Told = Told {
-    status: 1,
+    status: Some(1),
     text: b"replayed 7\n",
 };
 
@@ -69,37 +76,41 @@ struct Ended {
 
 impl Ended {
     fn tells(&self, told: Told) -> bool {
-        matches!(self.answer, Ok(status) if status == told.status)
-            && self.output.as_slice() == told.text
+        let is_answered = match self.answer {
+            Ok(status) => told.status == Some(status),
+            Err(CliFault::Memory) => told.status.is_none(),
+            Err(_) => false,
+        };
+        is_answered && self.output.as_slice() == told.text
     }
+}
 
-    /// Whether there was no memory: nothing is written then, or `judge` tells so of the request that found none.
-    fn has_starved(&self, command: Command) -> bool {
-        matches!(self.answer, Err(CliFault::Memory)) && self.output.is_empty()
-            || matches!(command, Command::Judge) && self.tells(STARVED)
-    }
-
-    /// Whether the command has done without what it asked for: `judge` asks for room in advance, and both it and `replay` for less room
-    /// for a text that they have read.
-    fn has_done_without(&self, command: Command) -> bool {
-        matches!(command, Command::Judge | Command::Replay) && self.tells(command.told())
-    }
+/// What is found of a command: whether it tells what it tells where no growth is refused, and whether there was no memory. Nothing is
+/// written then, or `judge` tells so of the request that found none.
+#[derive(Clone, Copy)]
+struct Found {
+    tells: bool,
+    has_starved: bool,
 }
 
 fn judged(alloc: Global, heap: &Heap) -> Ended {
     let mut input = Watched::new(SPAWNING);
     let mut output = Watched::new(Vec::new(alloc));
     let answer = judge_stream(heap, &mut input, &mut output, MOST);
-    let output = output.into_inner();
-    Ended { answer, output }
+    Ended {
+        answer,
+        output: output.into_inner(),
+    }
 }
 
 fn elided(alloc: Global, heap: &Heap) -> Ended {
     let mut program = Watched::new(FIB);
     let mut output = Watched::new(Vec::new(alloc));
     let answer = elide_text(heap, &mut program, &mut output, MOST);
-    let output = output.into_inner();
-    Ended { answer, output }
+    Ended {
+        answer,
+        output: output.into_inner(),
+    }
 }
 
 fn replayed(alloc: Global, heap: &Heap) -> Ended {
@@ -107,8 +118,10 @@ fn replayed(alloc: Global, heap: &Heap) -> Ended {
     let mut trace = Watched::new(PAIR_TRACE);
     let mut output = Watched::new(Vec::new(alloc));
     let answer = replay_text(heap, &mut program, &mut trace, &mut output);
-    let output = output.into_inner();
-    Ended { answer, output }
+    Ended {
+        answer,
+        output: output.into_inner(),
+    }
 }
 
 fn perform(alloc: Global, heap: &Heap, command: Command) -> Ended {
@@ -119,15 +132,19 @@ fn perform(alloc: Global, heap: &Heap, command: Command) -> Ended {
     }
 }
 
-/// The command tells what it tells where no growth is refused.
-fn is_told(rt: &impl Abort, alloc: Global, heap: &Heap, command: Command) {
+fn found_of(alloc: Global, heap: &Heap, command: Command) -> Found {
     let ended = perform(alloc, heap, command);
-    assert!(rt; ended.tells(command.told()), "{command:?}");
+    let is_judge = matches!(command, Command::Judge);
+    Found {
+        tells: ended.tells(command.told()),
+        has_starved: ended.tells(NOTHING) || is_judge && ended.tells(STARVED),
+    }
 }
 
 /// A command of which a growth was refused tells so, where it needs what was refused, and tells what it always does where it is asked once
-/// more.
-pub(super) fn make(
+/// more. `judge` does without the room that it asks for in advance, and both it and `replay` without less room for a text that they have
+/// read.
+pub(super) fn is_refused(
     rt: &impl Abort,
     alloc: Global,
     heap: &Heap,
@@ -135,15 +152,17 @@ pub(super) fn make(
     command: Command,
 ) -> bool {
     heap.refuse(number);
-    let first = perform(alloc, heap, command);
-    if !heap.has_refused() {
-        assert!(rt; first.tells(command.told()), "{command:?}");
-        return false;
+    let first = found_of(alloc, heap, command);
+    let is_refused = heap.has_refused();
+    if is_refused {
+        let is_right = first.has_starved || first.tells && !matches!(command, Command::Elide);
+        equal(rt, &command, &is_right, &true);
     }
-    assert!(rt;
-        first.has_starved(command) || first.has_done_without(command),
-        "{command:?}"
-    );
-    is_told(rt, alloc, heap, command);
-    true
+    let last = if is_refused {
+        found_of(alloc, heap, command)
+    } else {
+        first
+    };
+    equal(rt, &command, &last.tells, &true);
+    is_refused
 }

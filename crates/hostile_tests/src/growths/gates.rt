@@ -2,7 +2,7 @@
 
 ghost use Rattle.std.specs.Prelude.{◌≡◌, length, IfOk};
 
-use super::{Heap, answered};
+use super::{Heap, answered, lacks_text};
 use crate::checks::equal;
 use model_accesses::{Kind, Rule};
 use race_gate::{Answer, Entry, Gate, GateFault, Receipt, Reply, judge_all};
@@ -13,6 +13,29 @@ use std::alloc::AllocError;
 use std::process::Abort;
 use std::test::Fail;
 use text_words::{Act, Monoid, Monoids, Request, Shape};
+
+/// A call of a gate, or what is made of its replies.
+#[derive(Clone, Copy)]
+pub(super) enum Call {
+    New,
+    Judge,
+    JudgeAll,
+    Tell,
+}
+
+pub(super) fn is_refused(
+    rt: &impl Abort,
+    heap: &Heap,
+    number: u64,
+    call: Call,
+) -> Result<bool, Fail> {
+    match call {
+        Call::New => new_gate(rt, heap, number),
+        Call::Judge => judge(rt, heap, number),
+        Call::JudgeAll => judge_list(rt, heap, number),
+        Call::Tell => Ok(tell(rt, heap, number)),
+    }
+}
 
 /// What strands ask of one cell and one reducer, which sums, and what they are answered: a put, an update by
 /// a child, a get that has other peers than the put, one that has not, and a write and a read round a call.
@@ -72,16 +95,11 @@ fn opened(heap: &Heap) -> Result<Gate<&Heap>, AllocError> {
 /// The gate has these entries, its cell holds this number, and it was not stopped.
 fn keeps(rt: &impl Abort, gate: &Gate<&Heap>, entries: &[Entry], number: u64) {
     equal(rt, &"history", &gate.history(), &entries);
-    equal(rt, &"memory", &gate.memory(), &[number].as_slice());
-    equal(
-        rt,
-        &"limit",
-        &(gate.limit(), gate.is_stopped()),
-        &(1_000, false),
-    );
+    assert!(rt; gate.memory() == [number].as_slice());
+    assert!(rt; gate.limit() == 1_000 && !gate.is_stopped());
 }
 
-pub(super) fn new_gate(rt: &impl Abort, heap: &Heap, number: u64) -> Result<bool, Fail> {
+fn new_gate(rt: &impl Abort, heap: &Heap, number: u64) -> Result<bool, Fail> {
     let shape = shape(heap)?;
     heap.refuse(number);
     match answered(rt, heap, Gate::new(heap, &shape, 1_000), AllocError) {
@@ -93,9 +111,15 @@ pub(super) fn new_gate(rt: &impl Abort, heap: &Heap, number: u64) -> Result<bool
     }
 }
 
-/// What the gate answers to the entry's request.
-fn asked(gate: &mut Gate<&Heap>, entry: Entry) -> Result<Receipt, GateFault> {
-    gate.judge(entry.request)
+/// The reply that there was no memory.
+const WANTING: Reply = Reply::Illegal(GateFault::Memory);
+
+/// What the gate replies to the request.
+fn asked(gate: &mut Gate<&Heap>, request: Request) -> Reply {
+    match gate.judge(request) {
+        Ok(receipt) => Reply::Done(receipt),
+        Err(fault) => Reply::Illegal(fault),
+    }
 }
 
 /// What the gate replies to the requests.
@@ -123,19 +147,18 @@ fn asks(
     entry: Entry,
 ) -> bool {
     let Entry { request, answer } = entry;
-    let wanted = Ok(Receipt {
+    let mut found = asked(gate, request);
+    let is_refused = found == WANTING;
+    if is_refused {
+        keeps_before(rt, gate, entries, number);
+        found = asked(gate, request);
+    }
+    let wanted = Reply::Done(Receipt {
         number,
         request,
         answer,
     });
-    let found = asked(gate, entry);
-    let is_refused = found == Err(GateFault::Memory);
-    if is_refused {
-        keeps_before(rt, gate, entries, number);
-        equal(rt, &"once more", &asked(gate, entry), &wanted);
-    } else {
-        equal(rt, &number, &found, &wanted);
-    }
+    equal(rt, &number, &found, &wanted);
     is_refused
 }
 
@@ -151,95 +174,87 @@ fn asks_all(rt: &impl Abort, gate: &mut Gate<&Heap>, entries: &[Entry]) -> bool 
     is_refused
 }
 
-/// The requests of the entries, but for the one at this place.
-fn requests_but<'a>(
+/// Asks a gate one request after another, for which no growth was refused.
+fn judge(rt: &impl Abort, heap: &Heap, number: u64) -> Result<bool, Fail> {
+    let mut gate = opened(heap)?;
+    heap.refuse(number);
+    let is_refused = asks_all(rt, &mut gate, &ENTRIES);
+    equal(rt, &"refused", &is_refused, &heap.has_refused());
+    Ok(is_refused)
+}
+
+fn requests_of<'a>(
     heap: &'a Heap,
     entries: &[Entry],
-    left_out: usize,
 ) -> Result<Vec<Request, &'a Heap>, AllocError> {
     let mut requests = Vec::new(heap);
-    for (place, entry) in entries.iter().enumerate() {
-        if place != left_out {
-            requests.push(entry.request)?;
-        }
+    for entry in entries {
+        requests.push(entry.request)?;
     }
     Ok(requests)
 }
 
-/// The first reply that there was no memory, by its place.
-fn wanting(replies: &[Reply]) -> Option<usize> {
-    replies
-        .iter()
-        .position(|reply| *reply == Reply::Illegal(GateFault::Memory))
+/// Asks a gate one request after another, but for those to which there was no memory, and it replies to each as here. How many it was not
+/// asked.
+fn replies_alike(
+    rt: &impl Abort,
+    gate: &mut Gate<&Heap>,
+    requests: &[Request],
+    replies: &[Reply],
+) -> usize {
+    let mut left_out = 0usize;
+    for (place, request) in requests.iter().enumerate() {
+        let reply = replies.get(place);
+        if reply == Some(&WANTING) {
+            left_out = left_out.saturating_add(1);
+        } else {
+            equal(rt, &place, &reply, &Some(&asked(gate, *request)));
+        }
+    }
+    left_out
 }
 
 /// The two gates keep the same.
 fn keep_the_same(rt: &impl Abort, one: &Gate<&Heap>, other: &Gate<&Heap>) {
-    equal(rt, &"history", &one.history(), &other.history());
-    equal(rt, &"memory", &one.memory(), &other.memory());
+    assert!(rt; one.history() == other.history() && one.memory() == other.memory());
 }
 
-/// Two lists of replies are the same but for the one at this place, which the second lacks.
-fn are_same_but(rt: &impl Abort, replies: &[Reply], wanted: &[Reply], left_out: usize) {
-    let (before, rest) = replies.split_at(left_out.min(replies.len()));
-    let (same, others) = wanted.split_at(left_out.min(wanted.len()));
-    equal(rt, &left_out, &before, &same);
-    equal(rt, &left_out, &rest.get(1..), &Some(others));
-}
-
-/// Without the request at this place, a new gate replies as the other has, and keeps the same.
-fn agrees(
-    rt: &impl Abort,
-    heap: &Heap,
-    gate: &mut Gate<&Heap>,
-    kept: &Gate<&Heap>,
-    entries: &[Entry],
-    replies: &[Reply],
-    left_out: usize,
-) -> Result<(), Fail> {
-    let requests = requests_but(heap, entries, left_out)?;
-    let wanted = all_asked(gate, heap, requests.as_slice())?;
-    are_same_but(rt, replies, wanted.as_slice(), left_out);
-    keep_the_same(rt, kept, gate);
-    Ok(())
-}
-
-/// What the gate replied is what it replies to all, or, where a request found no memory, what it replies to the others. Whether one found
-/// none.
+/// The gate replies to all requests, or, where one of them found no memory, as a gate that was not asked it, which keeps the same. Whether
+/// one found none.
 fn are_replies(
     rt: &impl Abort,
     heap: &Heap,
     gate: &Gate<&Heap>,
     entries: &[Entry],
+    requests: &[Request],
     replies: &[Reply],
 ) -> Result<bool, Fail> {
-    let Some(place) = wanting(replies) else {
-        keeps(rt, gate, entries, 4);
-        equal(rt, &"replies", &replies.len(), &entries.len());
-        return Ok(false);
-    };
     let mut other = opened(heap)?;
-    agrees(rt, heap, &mut other, gate, entries, replies, place)?;
-    Ok(true)
+    let left_out = replies_alike(rt, &mut other, requests, replies);
+    assert!(rt; replies.len() == requests.len() && left_out <= 1);
+    keep_the_same(rt, gate, &other);
+    if left_out == 0 {
+        keeps(rt, gate, entries, 4);
+    }
+    Ok(left_out == 1)
 }
 
 /// The gate replies to the list of requests, once more where there was no room for the replies. Whether there was no memory.
 fn replies_to_all(
     rt: &impl Abort,
     heap: &Heap,
-    number: u64,
     gate: &mut Gate<&Heap>,
     entries: &[Entry],
+    requests: &[Request],
 ) -> Result<bool, Fail> {
-    let requests = requests_but(heap, entries, entries.len())?;
-    heap.refuse(number);
-    let found = all_asked(gate, heap, requests.as_slice());
+    let found = all_asked(gate, heap, requests);
     let has_refused = heap.has_refused();
+    heap.refuse(0);
     let is_refused = match found {
-        Ok(replies) => are_replies(rt, heap, gate, entries, replies.as_slice())?,
+        Ok(replies) => are_replies(rt, heap, gate, entries, requests, replies.as_slice())?,
         Err(AllocError) => {
             keeps(rt, gate, &[], 0);
-            all_asked(gate, heap, requests.as_slice())?;
+            all_asked(gate, heap, requests)?;
             keeps(rt, gate, entries, 4);
             true
         }
@@ -248,25 +263,11 @@ fn replies_to_all(
     Ok(is_refused)
 }
 
-/// How a gate is asked.
-#[derive(Clone, Copy)]
-pub(super) enum Way {
-    OneByOne,
-    AsAList,
-}
-
-/// Asks a gate for which no growth was refused.
-pub(super) fn judge(rt: &impl Abort, heap: &Heap, number: u64, way: Way) -> Result<bool, Fail> {
+fn judge_list(rt: &impl Abort, heap: &Heap, number: u64) -> Result<bool, Fail> {
     let mut gate = opened(heap)?;
-    match way {
-        Way::OneByOne => {
-            heap.refuse(number);
-            let is_refused = asks_all(rt, &mut gate, &ENTRIES);
-            equal(rt, &"refused", &is_refused, &heap.has_refused());
-            Ok(is_refused)
-        }
-        Way::AsAList => replies_to_all(rt, heap, number, &mut gate, &ENTRIES),
-    }
+    let requests = requests_of(heap, &ENTRIES)?;
+    heap.refuse(number);
+    replies_to_all(rt, heap, &mut gate, &ENTRIES, requests.as_slice())
 }
 
 const LINES: &[u8] =
@@ -296,13 +297,7 @@ const REPLIES: [Reply; 4] = [
     Reply::Illegal(GateFault::Memory),
 ];
 
-pub(super) fn tell(rt: &impl Abort, heap: &Heap, number: u64) -> bool {
+fn tell(rt: &impl Abort, heap: &Heap, number: u64) -> bool {
     heap.refuse(number);
-    match answered(rt, heap, verdict_lines(heap, &REPLIES), AllocError) {
-        Some(lines) => {
-            equal(rt, &"lines", &lines.as_slice(), &LINES);
-            false
-        }
-        None => true,
-    }
+    lacks_text(rt, heap, verdict_lines(heap, &REPLIES), LINES)
 }

@@ -3,8 +3,7 @@
 ghost use Rattle.std.specs.Prelude.{◌≡◌};
 ghost use Rattle.frame_steps.specs.Frames.{Stands};
 
-use super::{Heap, answered, wants_memory};
-use crate::checks::equal;
+use super::{Heap, answered, lacks_shape, lacks_text, wants_memory};
 use crate::worked::{FIB, PAIR};
 use frame_steps::{Frame, FrameFault};
 use model_accesses::{Kind, Rule};
@@ -23,76 +22,80 @@ use text_words::{Act, Monoid, Request};
 const PRINTED: &[u8] =
     b"cilk 1\nmem x\nreducer h sum\nfunc main z\nput h 0\ncall fib 10\nget r h\nwrite x r\nend\nfunc fib n\nlet t = n < 2\nif t\nupdate h n\nelse\nlet a = n - 1\nlet b = n - 2\nspawn fib a\ncall fib b\nsync\nend\nend\n";
 
-pub(super) fn parse(rt: &impl Abort, heap: &Heap, number: u64) -> bool {
+/// A call of a program, or what is done with one.
+#[derive(Clone, Copy)]
+pub(super) enum Call {
+    Parse,
+    Print,
+    Shape,
+    Answer,
+    Reserve,
+    Elide,
+    Replay,
+}
+
+impl Call {
+    /// The text of its program.
+    fn text(self) -> &'static [u8] {
+        match self {
+            Call::Parse | Call::Print | Call::Shape | Call::Elide => FIB,
+            Call::Answer | Call::Reserve => CALLING,
+            Call::Replay => PAIR,
+        }
+    }
+}
+
+pub(super) fn is_refused(
+    rt: &impl Abort,
+    heap: &Heap,
+    number: u64,
+    call: Call,
+) -> Result<bool, Fail> {
+    if matches!(call, Call::Parse) {
+        return Ok(parse(rt, heap, number));
+    }
+    let program = Program::parse(heap, call.text())?;
+    Ok(does(rt, heap, number, call, &program))
+}
+
+/// Makes the call of a program for which no growth was refused.
+fn does(rt: &impl Abort, heap: &Heap, number: u64, call: Call, program: &Program<&Heap>) -> bool {
+    match call {
+        Call::Parse | Call::Print => print(rt, heap, number, program),
+        Call::Shape => shape(rt, heap, number, program),
+        Call::Answer => answer(rt, heap, number, program),
+        Call::Reserve => reserve_call(rt, heap, number, program),
+        Call::Elide => elided(rt, heap, number, program),
+        Call::Replay => replayed(rt, heap, number, program),
+    }
+}
+
+fn parse(rt: &impl Abort, heap: &Heap, number: u64) -> bool {
     heap.refuse(number);
     match Program::parse(heap, FIB) {
         Ok(program) => {
-            assert!(rt; !heap.has_refused());
-            equal(rt, &"functions", &program.functions.as_slice().len(), &2);
+            assert!(rt; !heap.has_refused() && program.functions.as_slice().len() == 2);
             false
         }
         Err(fault) => wants_memory(rt, heap, &fault),
     }
 }
 
-/// What is done with a program.
-#[derive(Clone, Copy)]
-pub(super) enum Use {
-    Print,
-    Shape,
-    Elide,
-    AnswerCall,
-    ReserveCall,
-    Replay,
-}
-
-/// Does so with a program for which no growth was refused.
-pub(super) fn make(rt: &impl Abort, heap: &Heap, number: u64, done: Use) -> Result<bool, Fail> {
-    let text = match done {
-        Use::Print | Use::Shape | Use::Elide => FIB,
-        Use::AnswerCall | Use::ReserveCall => CALLING,
-        Use::Replay => PAIR,
-    };
-    let program = Program::parse(heap, text)?;
-    match done {
-        Use::Print => Ok(print(rt, heap, number, &program)),
-        Use::Shape => Ok(shape(rt, heap, number, &program)),
-        Use::Elide => Ok(elided(rt, heap, number, &program)),
-        Use::AnswerCall => Ok(answer(rt, heap, number, &program)),
-        Use::ReserveCall => reserve_call(rt, heap, number, &program),
-        Use::Replay => Ok(replayed(rt, heap, number, &program)),
-    }
-}
-
 fn print(rt: &impl Abort, heap: &Heap, number: u64, program: &Program<&Heap>) -> bool {
     heap.refuse(number);
-    match answered(rt, heap, program.print(heap), AllocError) {
-        Some(text) => {
-            equal(rt, &"text", &text.as_slice(), &PRINTED);
-            false
-        }
-        None => true,
-    }
+    lacks_text(rt, heap, program.print(heap), PRINTED)
 }
 
 fn shape(rt: &impl Abort, heap: &Heap, number: u64, program: &Program<&Heap>) -> bool {
     heap.refuse(number);
-    match answered(rt, heap, program.shape(heap), AllocError) {
-        Some(shape) => {
-            let found = (shape.cells, shape.monoids.as_slice());
-            equal(rt, &"shape", &found, &(1, [Monoid::Sum].as_slice()));
-            false
-        }
-        None => true,
-    }
+    lacks_shape(rt, heap, program.shape(heap), 1, &[Monoid::Sum])
 }
 
 fn elided(rt: &impl Abort, heap: &Heap, number: u64, program: &Program<&Heap>) -> bool {
     heap.refuse(number);
     match answered(rt, heap, elide(heap, program, 713), ElideFault::Memory) {
         Some(elided) => {
-            let found = (elided.memory.as_slice(), elided.requests);
-            equal(rt, &"elided", &found, &([55].as_slice(), 713));
+            assert!(rt; elided.memory.as_slice() == [55].as_slice() && elided.requests == 713);
             false
         }
         None => true,
@@ -109,7 +112,7 @@ fn wants(rt: &impl Abort, program: &Program<&Heap>, frame: &mut Frame<&Heap>, ac
 {
     assert!(rt; !frame.is_over());
     let want = frame.next(program);
-    equal(rt, &"wanted", &(want.act, want.line), &(act, line));
+    assert!(rt; want.act == act && want.line == line);
 }
 
 /// The frame's call is answered, once more where there was no memory. Whether there was none.
@@ -120,12 +123,7 @@ fn calls(rt: &impl Abort, heap: &Heap, program: &Program<&Heap>, frame: &mut Fra
     let is_refused = answered(rt, heap, found, FrameFault::Memory).is_none();
     if is_refused {
         wants(rt, program, frame, Act::Call, 4);
-        equal(
-            rt,
-            &"once more",
-            &frame.answer(program, &Answer::Same),
-            &Ok(()),
-        );
+        assert!(rt; frame.answer(program, &Answer::Same).is_ok());
     }
     wants(rt, program, frame, Act::Write(0, 5), 7);
     is_refused
@@ -139,25 +137,19 @@ fn answer(rt: &impl Abort, heap: &Heap, number: u64, program: &Program<&Heap>) -
 }
 
 /// The frame gets room for a call, asked for once more where there was no memory. Whether there was none.
-fn makes_room(rt: &impl Abort, heap: &Heap, frame: &mut Frame<&Heap>) -> Result<bool, AllocError> {
+fn gets_room(rt: &impl Abort, heap: &Heap, frame: &mut Frame<&Heap>) -> bool {
     let is_refused = answered(rt, heap, frame.reserve_call(), AllocError).is_none();
     if is_refused {
-        assert!(rt; !frame.has_room());
-        frame.reserve_call()?;
+        assert!(rt; !frame.has_room() && frame.reserve_call().is_ok());
     }
     assert!(rt; frame.has_room());
-    Ok(is_refused)
+    is_refused
 }
 
-fn reserve_call(
-    rt: &impl Abort,
-    heap: &Heap,
-    number: u64,
-    program: &Program<&Heap>,
-) -> Result<bool, Fail> {
+fn reserve_call(rt: &impl Abort, heap: &Heap, number: u64, program: &Program<&Heap>) -> bool {
     let mut frame = Frame::new(heap, program, program.main(), 0);
     heap.refuse(number);
-    Ok(makes_room(rt, heap, &mut frame)?)
+    gets_room(rt, heap, &mut frame)
 }
 
 /// A run of PAIR in which the child writes first.

@@ -1,122 +1,95 @@
-//! Growths of order lists, strands, branches, views, and of the first reads and last accesses.
-
-ghost use Rattle.std.specs.Prelude.{◌<◌, length, IfOk};
+//! Growths of strands.
 
 use super::{Heap, answered};
 use crate::checks::equal;
-use branch_names::Branches;
-use order_list::{OrderFault, OrderList};
-use reducer_views::Views;
-use shadow_history::Shadow;
 use sp_labels::{Returned, SpFault, Spawned, Strands};
 use std::alloc::AllocError;
 use std::process::Abort;
 use std::test::Fail;
-use text_words::Monoid;
-use view_read_rule::ReadPeers;
 
-/// The list has so many items, and room for so many more.
-fn has_items(rt: &impl Abort, list: &OrderList<&Heap>, items: usize, room: u32) {
-    equal(rt, &"items", &(list.len(), list.reserved()), &(items, room));
+/// A call of strands.
+#[derive(Clone, Copy)]
+pub(super) enum Call {
+    New,
+    Reserve,
+    Hint,
+    Spawn,
+    Function,
 }
 
-pub(super) fn new_list(rt: &impl Abort, heap: &Heap, number: u64) -> bool {
-    heap.refuse(number);
-    match answered(rt, heap, OrderList::new(heap), AllocError) {
-        Some(list) => {
-            has_items(rt, &list, 1, 0);
-            false
-        }
-        None => true,
+pub(super) fn is_refused(
+    rt: &impl Abort,
+    heap: &Heap,
+    number: u64,
+    call: Call,
+) -> Result<bool, Fail> {
+    match call {
+        Call::New => Ok(new(rt, heap, number)),
+        Call::Reserve => reserve(rt, heap, number),
+        Call::Hint => hint(rt, heap, number),
+        Call::Spawn => spawn(rt, heap, number),
+        Call::Function => call_function(rt, heap, number),
     }
 }
 
-pub(super) fn reserve_items(rt: &impl Abort, heap: &Heap, number: u64) -> Result<bool, Fail> {
-    let mut list = OrderList::new(heap)?;
-    heap.refuse(number);
-    let found = list.reserve(20);
-    let is_refused = answered(rt, heap, found, OrderFault::Memory).is_none();
-    if is_refused {
-        has_items(rt, &list, 1, 0);
-        equal(rt, &"once more", &list.reserve(20), &Ok(()));
+/// Whether a strand has begun, and whether it runs.
+type Standing = (bool, bool);
+
+/// Strand 0 alone has begun.
+const OPENING: [Standing; 3] = [(true, true), (false, false), (false, false)];
+
+/// Strand 0 has spawned.
+const PARTED: [Standing; 3] = [(true, false), (true, true), (true, true)];
+
+/// The first strands stand so, and there is room for an event or not.
+fn stand(rt: &impl Abort, strands: &Strands<&Heap>, standings: &[Standing], has_room: bool) {
+    let mut strand = 0u32;
+    for (begun, running) in standings {
+        assert!(rt; strands.is_begun(strand) == *begun && strands.is_running(strand) == *running);
+        strand = strand.saturating_add(1);
     }
-    has_items(rt, &list, 1, 20);
-    Ok(is_refused)
+    assert!(rt; strands.has_room() == has_room);
 }
 
-/// A hint, whose refused growth is no fault.
-pub(super) fn hint_items(rt: &impl Abort, heap: &Heap, number: u64) -> Result<bool, Fail> {
-    let mut list = OrderList::new(heap)?;
-    heap.refuse(number);
-    list.make_room(20);
-    let is_refused = heap.has_refused();
-    heap.refuse(0);
-    has_items(rt, &list, 1, 0);
-    equal(rt, &"behind it", &list.reserve(20), &Ok(()));
-    has_items(rt, &list, 1, 20);
-    Ok(is_refused)
-}
-
-/// Which of the first strands have begun, which run, and whether there is room for an event.
-fn standings(strands: &Strands<&Heap>) -> ([bool; 3], [bool; 3], bool) {
-    let begun = [
-        strands.is_begun(0),
-        strands.is_begun(1),
-        strands.is_begun(2),
-    ];
-    let running = [
-        strands.is_running(0),
-        strands.is_running(1),
-        strands.is_running(2),
-    ];
-    (begun, running, strands.has_room())
-}
-
-/// Strand 0 alone has begun, and there is room for an event or not.
-fn is_opening(rt: &impl Abort, strands: &Strands<&Heap>, has_room: bool) {
-    let alone = [true, false, false];
-    equal(
-        rt,
-        &"strands",
-        &standings(strands),
-        &(alone, alone, has_room),
-    );
-}
-
-pub(super) fn new_strands(rt: &impl Abort, heap: &Heap, number: u64) -> bool {
+fn new(rt: &impl Abort, heap: &Heap, number: u64) -> bool {
     heap.refuse(number);
     match answered(rt, heap, Strands::new(heap), AllocError) {
         Some(strands) => {
-            is_opening(rt, &strands, false);
+            stand(rt, &strands, &OPENING, false);
             false
         }
         None => true,
     }
 }
 
-pub(super) fn reserve_strands(rt: &impl Abort, heap: &Heap, number: u64) -> Result<bool, Fail> {
+/// There is no room for an event, and there is where it is asked for now.
+fn gets_room(rt: &impl Abort, strands: &mut Strands<&Heap>) {
+    stand(rt, strands, &OPENING, false);
+    assert!(rt; strands.reserve_event().is_ok());
+    stand(rt, strands, &OPENING, true);
+}
+
+fn reserve(rt: &impl Abort, heap: &Heap, number: u64) -> Result<bool, Fail> {
     let mut strands = Strands::new(heap)?;
     heap.refuse(number);
     let found = strands.reserve_event();
     let is_refused = answered(rt, heap, found, SpFault::Memory).is_none();
     if is_refused {
-        is_opening(rt, &strands, false);
-        equal(rt, &"once more", &strands.reserve_event(), &Ok(()));
+        gets_room(rt, &mut strands);
+    } else {
+        stand(rt, &strands, &OPENING, true);
     }
-    is_opening(rt, &strands, true);
     Ok(is_refused)
 }
 
 /// A hint, whose refused growth is no fault.
-pub(super) fn hint_spawns(rt: &impl Abort, heap: &Heap, number: u64) -> Result<bool, Fail> {
+fn hint(rt: &impl Abort, heap: &Heap, number: u64) -> Result<bool, Fail> {
     let mut strands = Strands::new(heap)?;
     heap.refuse(number);
     strands.make_room(2);
     let is_refused = heap.has_refused();
     heap.refuse(0);
-    is_opening(rt, &strands, false);
-    equal(rt, &"behind it", &strands.reserve_event(), &Ok(()));
-    is_opening(rt, &strands, true);
+    gets_room(rt, &mut strands);
     Ok(is_refused)
 }
 
@@ -127,7 +100,13 @@ const SPLIT: Spawned = Spawned {
     first: true,
 };
 
-pub(super) fn spawn(rt: &impl Abort, heap: &Heap, number: u64) -> Result<bool, Fail> {
+/// Strand 0 spawns, where there is no room for an event yet.
+fn spawns(rt: &impl Abort, strands: &mut Strands<&Heap>) {
+    stand(rt, strands, &OPENING, false);
+    equal(rt, &"once more", &strands.spawn(0), &Ok(SPLIT));
+}
+
+fn spawn(rt: &impl Abort, heap: &Heap, number: u64) -> Result<bool, Fail> {
     let mut strands = Strands::new(heap)?;
     heap.refuse(number);
     let found = strands.spawn(0);
@@ -137,128 +116,25 @@ pub(super) fn spawn(rt: &impl Abort, heap: &Heap, number: u64) -> Result<bool, F
             false
         }
         None => {
-            is_opening(rt, &strands, false);
-            equal(rt, &"once more", &strands.spawn(0), &Ok(SPLIT));
+            spawns(rt, &mut strands);
             true
         }
     };
-    let (begun, running) = ([true, true, true], [false, true, true]);
-    equal(
-        rt,
-        &"strands",
-        &standings(&strands),
-        &(begun, running, false),
-    );
+    stand(rt, &strands, &PARTED, false);
     Ok(is_refused)
 }
 
-pub(super) fn call_function(rt: &impl Abort, heap: &Heap, number: u64) -> Result<bool, Fail> {
+fn call_function(rt: &impl Abort, heap: &Heap, number: u64) -> Result<bool, Fail> {
     let mut strands = Strands::new(heap)?;
     heap.refuse(number);
     let found = strands.call(0);
     let is_refused = answered(rt, heap, found, SpFault::Memory).is_none();
+    let found = strands.ret(0);
     if is_refused {
-        equal(rt, &"no call", &strands.ret(0), &Ok(Returned::Finished));
-        return Ok(true);
+        equal(rt, &"no call", &found, &Ok(Returned::Finished));
+    } else {
+        equal(rt, &"the call", &found, &Ok(Returned::Resumed));
+        stand(rt, &strands, &OPENING, false);
     }
-    equal(rt, &"the call", &strands.ret(0), &Ok(Returned::Resumed));
-    is_opening(rt, &strands, false);
-    Ok(false)
-}
-
-/// Strand 0 alone has a name, and there is room for an event or not.
-fn names_one(rt: &impl Abort, branches: &Branches<&Heap>, has_room: bool) {
-    let found = (
-        branches.is_named(0),
-        branches.is_named(1),
-        branches.has_room(),
-    );
-    equal(rt, &"named", &found, &(true, false, has_room));
-}
-
-pub(super) fn new_branches(rt: &impl Abort, heap: &Heap, number: u64) -> bool {
-    heap.refuse(number);
-    match answered(rt, heap, Branches::new(heap), AllocError) {
-        Some(branches) => {
-            names_one(rt, &branches, false);
-            false
-        }
-        None => true,
-    }
-}
-
-pub(super) fn reserve_branches(rt: &impl Abort, heap: &Heap, number: u64) -> Result<bool, Fail> {
-    let mut branches = Branches::new(heap)?;
-    heap.refuse(number);
-    let found = branches.reserve_event();
-    let is_refused = answered(rt, heap, found, AllocError).is_none();
-    if is_refused {
-        names_one(rt, &branches, false);
-        branches.reserve_event()?;
-    }
-    names_one(rt, &branches, true);
     Ok(is_refused)
-}
-
-/// Strand 0 sees this number in the reducer, and there is room for an event or not.
-fn sees(rt: &impl Abort, views: &Views<&Heap>, number: u64, has_room: bool)
-    requires { 0 < length views.now.monoids }
-{
-    assert!(rt; views.is_there(0) && !views.is_there(1));
-    let found = (views.get(0, 0), views.has_room());
-    equal(rt, &"view", &found, &(Some(number), has_room));
-}
-
-pub(super) fn new_views(rt: &impl Abort, heap: &Heap, number: u64) -> bool {
-    heap.refuse(number);
-    match answered(rt, heap, Views::new(heap, &[Monoid::Sum]), AllocError) {
-        Some(views) => {
-            assert!(rt; views.is_there(0) && !views.is_there(1) && !views.has_room());
-            false
-        }
-        None => true,
-    }
-}
-
-/// The views of strand 0, which has put 5.
-fn put_once<'a>(rt: &impl Abort, heap: &'a Heap) -> Result<Views<&'a Heap>, AllocError>
-    ensures { IfOk result (λ views. 0 < length views.monoids) }
-{
-    let mut views = Views::new(heap, &[Monoid::Sum])?;
-    views.reserve_event()?;
-    assert!(rt; views.is_there(0));
-    views.put(0, 0, 5);
-    Ok(views)
-}
-
-pub(super) fn reserve_views(rt: &impl Abort, heap: &Heap, number: u64) -> Result<bool, Fail> {
-    let mut views = put_once(rt, heap)?;
-    heap.refuse(number);
-    let found = views.reserve_event();
-    let is_refused = answered(rt, heap, found, AllocError).is_none();
-    if is_refused {
-        sees(rt, &views, 5, false);
-        views.reserve_event()?;
-    }
-    sees(rt, &views, 5, true);
-    assert!(rt; views.has_room() && views.is_there(0));
-    views.update(0, 0, 2);
-    sees(rt, &views, 7, false);
-    Ok(is_refused)
-}
-
-pub(super) fn new_reads(rt: &impl Abort, heap: &Heap, number: u64) -> bool {
-    heap.refuse(number);
-    match answered(rt, heap, ReadPeers::new(heap, 3), AllocError) {
-        Some(_reads) => false,
-        None => true,
-    }
-}
-
-pub(super) fn new_shadow(rt: &impl Abort, heap: &Heap, number: u64) -> bool {
-    heap.refuse(number);
-    match answered(rt, heap, Shadow::new(heap, 3), AllocError) {
-        Some(_shadow) => false,
-        None => true,
-    }
 }
