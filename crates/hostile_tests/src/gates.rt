@@ -21,8 +21,9 @@ fn check_fault<R: Abort + Threads + Wait + Sync>(
     wanted: RunFault,
 ) -> Result<(), Fail> {
     for workers in [1usize, 2, 8, 64] {
-        let found = ended(rt, alloc, program, workers, prank)?;
-        equal(rt, &(prank, workers), &found, &(Some(wanted), true));
+        let (found, is_stopped) = ended(rt, alloc, program, workers, prank)?;
+        equal(rt, &(prank, workers), &found.err(), &Some(wanted));
+        assert!(rt; is_stopped);
     }
     Ok(())
 }

@@ -1,15 +1,22 @@
 //! Each growth of a call refused in turn, over a heap of the test: the call answers that there is no memory, what it was asked on is as
 //! before, and where it is asked once more, or none is refused, it answers as ever.
 
+/// What a strand asks on a line.
+macro_rules! request {
+    ($strand:literal, $act:expr, $line:literal) => {
+        Request {
+            strand: $strand,
+            act: $act,
+            line: $line,
+        }
+    };
+}
+
 /// What a strand asks on a line, and what it is answered.
 macro_rules! entry {
     ($strand:literal, $act:expr, $line:literal, $answer:expr $(,)?) => {
         Entry {
-            request: Request {
-                strand: $strand,
-                act: $act,
-                line: $line,
-            },
+            request: request!($strand, $act, $line),
             answer: $answer,
         }
     };
@@ -26,7 +33,6 @@ mod traces;
 use crate::checks::equal;
 use crate::refusing::Refusing;
 use std::alloc::{AllocError, Global};
-use std::fmt::Debug;
 use std::process::Abort;
 use std::test::Fail;
 use text_words::{Monoid, Shape, TextFault};
@@ -53,83 +59,63 @@ fn is_refused(
     heap: &Heap,
     call: Call,
     number: u64,
-) -> Result<bool, Fail> {
+) -> Result<bool, AllocError> {
     match call {
         Call::List(call) => lists::is_refused(rt, heap, number, call),
         Call::Strands(call) => strands::is_refused(rt, heap, number, call),
         Call::Kept(call) => kept::is_refused(rt, heap, number, call),
         Call::Trace(call) => traces::is_refused(rt, heap, number, call),
-        Call::Gate(call) => gates::is_refused(rt, heap, number, call),
+        Call::Gate(call) => gates::is_refused(rt, alloc, heap, number, call),
         Call::Program(call) => programs::is_refused(rt, heap, number, call),
         Call::Command(command) => Ok(commands::is_refused(rt, alloc, heap, number, command)),
     }
 }
 
-/// What is answered, or nothing where that is want of memory, which is answered just where a growth was refused.
-fn answered<T, E: PartialEq + Debug + Drop>(
-    rt: &impl Abort,
-    heap: &Heap,
-    found: Result<T, E>,
-    memory: E,
-) -> Option<T> {
-    equal(rt, &memory, &found.is_err(), &heap.has_refused());
-    match found {
-        Ok(value) => Some(value),
-        Err(fault) => {
-            equal(rt, &"want of memory", &fault, &memory);
-            None
-        }
-    }
-}
-
-/// Whether a text could not be read for want of memory, which is so just where a growth was refused.
-fn wants_memory(rt: &impl Abort, heap: &Heap, fault: &TextFault) -> bool {
-    assert!(rt; heap.has_refused() && matches!(fault, TextFault::Memory));
+/// Whether a text could not be read for want of memory.
+fn wants_memory(rt: &impl Abort, fault: &TextFault) -> bool {
+    assert!(rt; matches!(fault, TextFault::Memory));
     true
 }
 
 /// Whether there was no memory for a text, which is this one where there was.
-fn lacks_text(
-    rt: &impl Abort,
-    heap: &Heap,
-    found: Result<Vec<u8, &Heap>, AllocError>,
-    wanted: &[u8],
-) -> bool {
-    match answered(rt, heap, found, AllocError) {
-        Some(text) => {
+fn lacks_text(rt: &impl Abort, found: Result<Vec<u8, &Heap>, AllocError>, wanted: &[u8]) -> bool {
+    match found {
+        Ok(text) => {
             equal(rt, &"text", &text.as_slice(), &wanted);
             false
         }
-        None => true,
+        Err(AllocError) => true,
     }
 }
 
 /// Whether there was no memory for a shape, which has so many cells and these reducers where there was.
 fn lacks_shape(
     rt: &impl Abort,
-    heap: &Heap,
     found: Result<Shape<&Heap>, AllocError>,
     cells: u32,
     monoids: &[Monoid],
 ) -> bool {
-    match answered(rt, heap, found, AllocError) {
-        Some(shape) => {
+    match found {
+        Ok(shape) => {
             assert!(rt; shape.cells == cells);
             equal(rt, &"reducers", &shape.monoids.as_slice(), &monoids);
             false
         }
-        None => true,
+        Err(AllocError) => true,
     }
 }
 
 /// Where the growths of a call have no end.
 const ENDLESS: u64 = 10_000;
 
-/// Refuses the call's first growth, its second, and so on until none is refused. How many were.
-fn growths_of(rt: &impl Abort, alloc: Global, call: Call) -> Result<u64, Fail> {
+/// Refuses the call's first growth, its second, and so on until none is refused. How many were. Just a call of which one was refused
+/// answers Memory.
+fn growths_of(rt: &impl Abort, alloc: Global, call: Call) -> Result<u64, AllocError> {
     for growths in 0..ENDLESS {
         let heap = Refusing::new(alloc);
-        if !is_refused(rt, alloc, &heap, call, growths.saturating_add(1))? {
+        let is_refused = is_refused(rt, alloc, &heap, call, growths.saturating_add(1))?;
+        assert!(rt; is_refused == heap.has_refused());
+        if !is_refused {
             return Ok(growths);
         }
     }

@@ -13,21 +13,7 @@ use std::alloc::{AllocError, Global};
 use std::process::Abort;
 use std::test::Fail;
 
-/// The first so many entries are a run that is not finished.
-fn is_unfinished(
-    rt: &impl Abort,
-    alloc: Global,
-    program: &Program<Global>,
-    entries: &[Entry],
-    count: usize,
-)
-    requires { count ≤ length entries.now }
-{
-    let found = replay(alloc, program, &entries[..count]);
-    equal(rt, &count, &found, &Err(ReplayFault::Unfinished));
-}
-
-/// So is each part of the entries, which are a run.
+/// Each part of the entries, which are a run, is a run that is not finished.
 fn parts_are_unfinished(
     rt: &impl Abort,
     alloc: Global,
@@ -35,62 +21,45 @@ fn parts_are_unfinished(
     entries: &[Entry],
 ) {
     for count in 0..entries.len() {
-        is_unfinished(rt, alloc, program, entries, count);
+        let found = replay(alloc, program, &entries[..count]);
+        equal(rt, &count, &found, &Err(ReplayFault::Unfinished));
     }
     assert_eq!(rt; replay(alloc, program, entries), Ok(()));
 }
 
-/// The entries are strange from the one behind this place on.
-fn is_strange_at(
-    rt: &impl Abort,
+/// The entries before this place, this entry, and those from a place on.
+fn spliced(
     alloc: Global,
-    program: &Program<Global>,
     entries: &[Entry],
     place: usize,
-)
-    requires { place ≤ 713 }
-{
-    let wanted = ReplayFault::Strange(place as u32 + 1);
-    equal(rt, &place, &replay(alloc, program, entries), &Err(wanted));
-}
-
-/// The entries with the one at this place answered Unset.
-fn unset_at(alloc: Global, entries: &[Entry], place: usize) -> Result<Vec<Entry>, AllocError>
-    requires { place < length entries.now }
-{
-    let mut changed = Vec::from_slice(alloc, entries)?;
-    changed[place].answer = Answer::Unset;
-    Ok(changed)
-}
-
-/// The entries with the one at this place twice.
-fn twice_at(alloc: Global, entries: &[Entry], place: usize) -> Result<Vec<Entry>, AllocError>
-    requires { place < length entries.now }
+    entry: Entry,
+    rest: usize,
+) -> Result<Vec<Entry>, AllocError>
+    requires place { place ≤ length entries.now }
+    requires rest { rest ≤ length entries.now }
 {
     let mut changed = Vec::from_slice(alloc, &entries[..place])?;
-    changed.push(entries[place])?;
-    changed.extend_from_slice(&entries[place..])?;
+    changed.push(entry)?;
+    changed.extend_from_slice(&entries[rest..])?;
     Ok(changed)
 }
 
-/// The entries are strange with any answer Unset.
-fn unset_are_strange(
+/// So changed, the entries are strange from the one of this number on.
+fn is_strange(
     rt: &impl Abort,
     alloc: Global,
     program: &Program<Global>,
-    entries: &[Entry],
-) -> Result<(), AllocError>
-    requires { length entries.now ≤ 713 }
+    changed: &[Entry],
+    number: usize,
+)
+    requires { number ≤ 714 }
 {
-    for place in 0..entries.len() {
-        let changed = unset_at(alloc, entries, place)?;
-        is_strange_at(rt, alloc, program, changed.as_slice(), place);
-    }
-    Ok(())
+    let wanted = ReplayFault::Strange(number as u32);
+    equal(rt, &number, &replay(alloc, program, changed), &Err(wanted));
 }
 
-/// The entries are strange with any entry twice.
-fn twice_are_strange(
+/// The entries are strange with any answer Unset, and with any entry twice.
+fn changed_are_strange(
     rt: &impl Abort,
     alloc: Global,
     program: &Program<Global>,
@@ -99,8 +68,12 @@ fn twice_are_strange(
     requires { length entries.now ≤ 713 }
 {
     for place in 0..entries.len() {
-        let changed = twice_at(alloc, entries, place)?;
-        is_strange_at(rt, alloc, program, changed.as_slice(), place + 1);
+        let entry = entries[place];
+        let answer = Answer::Unset;
+        let unset = spliced(alloc, entries, place, Entry { answer, ..entry }, place + 1)?;
+        is_strange(rt, alloc, program, unset.as_slice(), place + 1);
+        let twice = spliced(alloc, entries, place, entry, place)?;
+        is_strange(rt, alloc, program, twice.as_slice(), place + 2);
     }
     Ok(())
 }
@@ -114,8 +87,7 @@ fn check(
 ) -> Result<(), AllocError> {
     assert!(rt; entries.len() == 713);
     parts_are_unfinished(rt, alloc, program, entries);
-    unset_are_strange(rt, alloc, program, entries)?;
-    twice_are_strange(rt, alloc, program, entries)
+    changed_are_strange(rt, alloc, program, entries)
 }
 
 #[test]

@@ -60,8 +60,8 @@ fn check_lines(rt: &impl Abort, alloc: Global, lines: Lines) -> Result<(), Fail>
 
 #[test]
 fn requests_and_lines_of_a_trace(rt: HostRuntime) -> Result<(), Fail> {
-    for lines in LINES {
-        check_lines(&rt, rt.alloc(), lines)?;
+    for lines in &LINES {
+        check_lines(&rt, rt.alloc(), *lines)?;
     }
     Ok(())
 }

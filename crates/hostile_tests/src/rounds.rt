@@ -41,40 +41,8 @@ fn logs_of<L: Ledger + Send + Sync, R: Threads + Wait + Sync>(
     run(rt, alloc, program, workers, &gate, seat)
 }
 
-/// The run of the program that is gathered, by so many workers that ask a gate with a prank.
-fn whole_of<L: Ledger + Send + Sync, R: Threads + Wait + Sync>(
-    rt: &R,
-    alloc: Global,
-    program: &Program<Global>,
-    workers: usize,
-    prank: Prank,
-    blank: Blank,
-) -> Result<Whole, RunFault>
-    requires workers { (0 < workers) × (workers ≤ 64) }
-    requires name { blank.name ≡ L.name }
-    requires all { blank.parts ≡ L.parts }
-    requires parts { blank.parts ≡ 64 }
-{
-    let gate = gate_for(alloc, program)?;
-    let (locked, seat) = LockedGate::<L>::new(gate, blank, PARTS);
-    let logs = logs_of(rt, alloc, program, workers, prank, &locked, seat)?;
-    gather(alloc, program, locked, logs)
-}
-
-/// The same, whose workers' ledger nobody else has.
-pub fn played<R: Threads + Wait + Sync>(
-    rt: &R,
-    alloc: Global,
-    program: &Program<Global>,
-    workers: usize,
-    prank: Prank,
-) -> Result<Whole, RunFault>
-    requires { (0 < workers) × (workers ≤ 64) }
-{
-    whole_of::<Brand, R>(rt, alloc, program, workers, prank, Blank::new(PARTS))
-}
-
-/// The fault of a run by so many workers that ask a gate with a prank, where it has one, and whether the gate within is stopped then.
+/// The run of the program that is gathered, by so many workers that ask a gate with a prank, or its fault, and whether the gate within is
+/// stopped where the workers bring one back.
 fn end_of<L: Ledger + Send + Sync, R: Threads + Wait + Sync>(
     rt: &R,
     alloc: Global,
@@ -82,7 +50,7 @@ fn end_of<L: Ledger + Send + Sync, R: Threads + Wait + Sync>(
     workers: usize,
     prank: Prank,
     blank: Blank,
-) -> Result<(Option<RunFault>, bool), AllocError>
+) -> Result<(Result<Whole, RunFault>, bool), AllocError>
     requires workers { (0 < workers) × (workers ≤ 64) }
     requires name { blank.name ≡ L.name }
     requires all { blank.parts ≡ L.parts }
@@ -90,8 +58,10 @@ fn end_of<L: Ledger + Send + Sync, R: Threads + Wait + Sync>(
 {
     let gate = gate_for(alloc, program)?;
     let (locked, seat) = LockedGate::<L>::new(gate, blank, PARTS);
-    let fault = logs_of(rt, alloc, program, workers, prank, &locked, seat).err();
-    Ok((fault, locked.into_gate().is_stopped()))
+    match logs_of(rt, alloc, program, workers, prank, &locked, seat) {
+        Ok(logs) => Ok((gather(alloc, program, locked, logs), false)),
+        Err(fault) => Ok((Err(fault), locked.into_gate().is_stopped())),
+    }
 }
 
 /// The same, whose workers' ledger nobody else has.
@@ -101,8 +71,22 @@ pub fn ended<R: Threads + Wait + Sync>(
     program: &Program<Global>,
     workers: usize,
     prank: Prank,
-) -> Result<(Option<RunFault>, bool), AllocError>
+) -> Result<(Result<Whole, RunFault>, bool), AllocError>
     requires { (0 < workers) × (workers ≤ 64) }
 {
     end_of::<Brand, R>(rt, alloc, program, workers, prank, Blank::new(PARTS))
+}
+
+/// The run that is gathered.
+pub fn played<R: Threads + Wait + Sync>(
+    rt: &R,
+    alloc: Global,
+    program: &Program<Global>,
+    workers: usize,
+    prank: Prank,
+) -> Result<Whole, RunFault>
+    requires { (0 < workers) × (workers ≤ 64) }
+{
+    let (whole, _) = ended(rt, alloc, program, workers, prank)?;
+    whole
 }

@@ -99,8 +99,8 @@ const OTHERS: [Clean<'static>; 2] = [
 
 #[test]
 fn updates_and_turns_of_a_loop(rt: HostRuntime) -> Result<(), Fail> {
-    for clean in OTHERS {
-        check(&rt, rt.alloc(), clean, 50, &[1, 2, 8, 64])?;
+    for clean in &OTHERS {
+        check(&rt, rt.alloc(), *clean, 50, &[1, 2, 8, 64])?;
     }
     Ok(())
 }

@@ -47,10 +47,12 @@ fn check_program(rt: &impl Abort, alloc: Global, text: &[u8]) -> Result<(), Fail
     mean_one(rt, alloc, cut, text)
 }
 
+const PROGRAMS: [&[u8]; 3] = [FIB, PAIR, TURNS];
+
 #[test]
 fn parts_of_programs(rt: HostRuntime) -> Result<(), Fail> {
-    for text in [FIB, PAIR, TURNS] {
-        check_program(&rt, rt.alloc(), text)?;
+    for text in &PROGRAMS {
+        check_program(&rt, rt.alloc(), *text)?;
     }
     Ok(())
 }
@@ -161,9 +163,9 @@ fn stands(rt: &impl Abort, line: &[u8], start: usize) {
 fn parts_of_a_trace(rt: HostRuntime) {
     let mut start = 0usize;
     let mut number = 1u32;
-    for part in PARTS {
+    for part in &PARTS {
         stands(&rt, part.line.as_bytes(), start);
-        check_part(&rt, rt.alloc(), part, number, start);
+        check_part(&rt, rt.alloc(), *part, number, start);
         start = start.saturating_add(part.line.len()).saturating_add(1);
         number = number.saturating_add(1);
     }
@@ -175,11 +177,15 @@ fn printed_trace(alloc: Global, text: &[u8]) -> Result<Vec<u8>, Fail> {
     Ok(Trace::parse(alloc, text)?.print(alloc)?)
 }
 
+/// A text means PAIR's trace.
+fn means_pair(rt: &impl Abort, alloc: Global, text: &[u8]) -> Result<(), Fail> {
+    let printed = printed_trace(alloc, text)?;
+    equal(rt, &text, &printed.as_slice(), &PAIR_TRACE);
+    Ok(())
+}
+
 #[test]
 fn a_trace_without_its_last_line_feed(rt: HostRuntime) -> Result<(), Fail> {
-    for text in [without_last(PAIR_TRACE), PAIR_TRACE] {
-        let printed = printed_trace(rt.alloc(), text)?;
-        equal(&rt, &text, &printed.as_slice(), &PAIR_TRACE);
-    }
-    Ok(())
+    means_pair(&rt, rt.alloc(), without_last(PAIR_TRACE))?;
+    means_pair(&rt, rt.alloc(), PAIR_TRACE)
 }

@@ -1,7 +1,6 @@
 //! Growths of commands, from texts that are read to texts that are written. What they are written to takes memory of another heap.
 
 use super::Heap;
-use crate::checks::equal;
 use crate::worked::{FIB, PAIR, PAIR_TRACE};
 use std::alloc::Global;
 use std::process::Abort;
@@ -49,7 +48,7 @@ const REPLAYED: Told = Told {
 };
 
 /// A command that is asked over a heap.
-#[derive(Clone, Copy, Debug)]
+#[derive(Clone, Copy)]
 pub(super) enum Command {
     Judge,
     Elide,
@@ -156,13 +155,13 @@ pub(super) fn is_refused(
     let is_refused = heap.has_refused();
     if is_refused {
         let is_right = first.has_starved || first.tells && !matches!(command, Command::Elide);
-        equal(rt, &command, &is_right, &true);
+        assert!(rt; is_right);
     }
     let last = if is_refused {
         found_of(alloc, heap, command)
     } else {
         first
     };
-    equal(rt, &command, &last.tells, &true);
+    assert!(rt; last.tells);
     is_refused
 }

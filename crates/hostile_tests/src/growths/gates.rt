@@ -2,16 +2,16 @@
 
 ghost use Rattle.std.specs.Prelude.{◌≡◌, length, IfOk};
 
-use super::{Heap, answered, lacks_text};
+use super::{Heap, lacks_text};
 use crate::checks::equal;
+use crate::refusing::Refusing;
 use model_accesses::{Kind, Rule};
 use race_gate::{Answer, Entry, Gate, GateFault, Receipt, Reply, judge_all};
 use race_report::verdict_lines;
 use shadow_history::Witness;
 use sp_labels::Spawned;
-use std::alloc::AllocError;
+use std::alloc::{AllocError, Global};
 use std::process::Abort;
-use std::test::Fail;
 use text_words::{Act, Monoid, Monoids, Request, Shape};
 
 /// A call of a gate, or what is made of its replies.
@@ -25,14 +25,15 @@ pub(super) enum Call {
 
 pub(super) fn is_refused(
     rt: &impl Abort,
+    alloc: Global,
     heap: &Heap,
     number: u64,
     call: Call,
-) -> Result<bool, Fail> {
+) -> Result<bool, AllocError> {
     match call {
         Call::New => new_gate(rt, heap, number),
         Call::Judge => judge(rt, heap, number),
-        Call::JudgeAll => judge_list(rt, heap, number),
+        Call::JudgeAll => judge_list(rt, alloc, heap, number),
         Call::Tell => Ok(tell(rt, heap, number)),
     }
 }
@@ -99,15 +100,15 @@ fn keeps(rt: &impl Abort, gate: &Gate<&Heap>, entries: &[Entry], number: u64) {
     assert!(rt; gate.limit() == 1_000 && !gate.is_stopped());
 }
 
-fn new_gate(rt: &impl Abort, heap: &Heap, number: u64) -> Result<bool, Fail> {
+fn new_gate(rt: &impl Abort, heap: &Heap, number: u64) -> Result<bool, AllocError> {
     let shape = shape(heap)?;
     heap.refuse(number);
-    match answered(rt, heap, Gate::new(heap, &shape, 1_000), AllocError) {
-        Some(gate) => {
+    match Gate::new(heap, &shape, 1_000) {
+        Ok(gate) => {
             keeps(rt, &gate, &[], 0);
             Ok(false)
         }
-        None => Ok(true),
+        Err(AllocError) => Ok(true),
     }
 }
 
@@ -120,15 +121,6 @@ fn asked(gate: &mut Gate<&Heap>, request: Request) -> Reply {
         Ok(receipt) => Reply::Done(receipt),
         Err(fault) => Reply::Illegal(fault),
     }
-}
-
-/// What the gate replies to the requests.
-fn all_asked<'a>(
-    gate: &mut Gate<&Heap>,
-    heap: &'a Heap,
-    requests: &[Request],
-) -> Result<Vec<Reply, &'a Heap>, AllocError> {
-    judge_all(gate, heap, requests)
 }
 
 /// The gate has the entries before this one, by its number, and its cell holds what they left.
@@ -175,24 +167,26 @@ fn asks_all(rt: &impl Abort, gate: &mut Gate<&Heap>, entries: &[Entry]) -> bool 
 }
 
 /// Asks a gate one request after another, for which no growth was refused.
-fn judge(rt: &impl Abort, heap: &Heap, number: u64) -> Result<bool, Fail> {
+fn judge(rt: &impl Abort, heap: &Heap, number: u64) -> Result<bool, AllocError> {
     let mut gate = opened(heap)?;
     heap.refuse(number);
-    let is_refused = asks_all(rt, &mut gate, &ENTRIES);
-    equal(rt, &"refused", &is_refused, &heap.has_refused());
-    Ok(is_refused)
+    Ok(asks_all(rt, &mut gate, &ENTRIES))
 }
 
-fn requests_of<'a>(
-    heap: &'a Heap,
-    entries: &[Entry],
-) -> Result<Vec<Request, &'a Heap>, AllocError> {
-    let mut requests = Vec::new(heap);
-    for entry in entries {
-        requests.push(entry.request)?;
-    }
-    Ok(requests)
-}
+/// The requests of the entries.
+const REQUESTS: [Request; 11] = [
+    request!(0, Act::Put(0, 0), 1),
+    request!(0, Act::Spawn, 1),
+    request!(1, Act::Update(0, 5), 1),
+    request!(2, Act::Get(0), 1),
+    request!(1, Act::Return, 1),
+    request!(2, Act::Sync, 1),
+    request!(3, Act::Get(0), 1),
+    request!(3, Act::Write(0, 4), 1),
+    request!(3, Act::Call, 1),
+    request!(3, Act::Return, 1),
+    request!(3, Act::Read(0), 1),
+];
 
 /// Asks a gate one request after another, but for those to which there was no memory, and it replies to each as here. How many it was not
 /// asked.
@@ -219,55 +213,72 @@ fn keep_the_same(rt: &impl Abort, one: &Gate<&Heap>, other: &Gate<&Heap>) {
     assert!(rt; one.history() == other.history() && one.memory() == other.memory());
 }
 
-/// The gate replies to all requests, or, where one of them found no memory, as a gate that was not asked it, which keeps the same. Whether
-/// one found none.
+/// At most one request was left out. Where none was, the gate has all entries.
+fn lacks_one(rt: &impl Abort, gate: &Gate<&Heap>, entries: &[Entry], left_out: usize) -> bool {
+    if left_out == 0 {
+        keeps(rt, gate, entries, 4);
+        return false;
+    }
+    assert!(rt; left_out == 1);
+    true
+}
+
+/// The gate replies to all requests, or, where one of them found no memory, as a gate over a spare heap that was not asked it, which keeps
+/// the same. Whether one found none.
 fn are_replies(
     rt: &impl Abort,
-    heap: &Heap,
+    spare: &Heap,
     gate: &Gate<&Heap>,
     entries: &[Entry],
     requests: &[Request],
     replies: &[Reply],
-) -> Result<bool, Fail> {
-    let mut other = opened(heap)?;
+) -> Result<bool, AllocError> {
+    let mut other = opened(spare)?;
     let left_out = replies_alike(rt, &mut other, requests, replies);
-    assert!(rt; replies.len() == requests.len() && left_out <= 1);
     keep_the_same(rt, gate, &other);
-    if left_out == 0 {
-        keeps(rt, gate, entries, 4);
-    }
-    Ok(left_out == 1)
+    assert!(rt; replies.len() == requests.len());
+    Ok(lacks_one(rt, gate, entries, left_out))
 }
 
-/// The gate replies to the list of requests, once more where there was no room for the replies. Whether there was no memory.
-fn replies_to_all(
+/// The gate, which has no entry, gets them all where it is asked once more.
+fn replies_at_last(
     rt: &impl Abort,
     heap: &Heap,
     gate: &mut Gate<&Heap>,
     entries: &[Entry],
     requests: &[Request],
-) -> Result<bool, Fail> {
-    let found = all_asked(gate, heap, requests);
-    let has_refused = heap.has_refused();
-    heap.refuse(0);
-    let is_refused = match found {
-        Ok(replies) => are_replies(rt, heap, gate, entries, requests, replies.as_slice())?,
-        Err(AllocError) => {
-            keeps(rt, gate, &[], 0);
-            all_asked(gate, heap, requests)?;
-            keeps(rt, gate, entries, 4);
-            true
-        }
-    };
-    equal(rt, &"refused", &is_refused, &has_refused);
-    Ok(is_refused)
+) -> Result<bool, AllocError> {
+    keeps(rt, gate, &[], 0);
+    judge_all(gate, heap, requests)?;
+    keeps(rt, gate, entries, 4);
+    Ok(true)
 }
 
-fn judge_list(rt: &impl Abort, heap: &Heap, number: u64) -> Result<bool, Fail> {
+/// The gate replies to the list of requests, once more where there was no room for the replies. Whether there was no memory.
+fn replies_to_all(
+    rt: &impl Abort,
+    spare: &Heap,
+    heap: &Heap,
+    gate: &mut Gate<&Heap>,
+    entries: &[Entry],
+    requests: &[Request],
+) -> Result<bool, AllocError> {
+    match judge_all(gate, heap, requests) {
+        Ok(replies) => are_replies(rt, spare, gate, entries, requests, replies.as_slice()),
+        Err(AllocError) => replies_at_last(rt, heap, gate, entries, requests),
+    }
+}
+
+fn judge_list(
+    rt: &impl Abort,
+    alloc: Global,
+    heap: &Heap,
+    number: u64,
+) -> Result<bool, AllocError> {
+    let spare = Refusing::new(alloc);
     let mut gate = opened(heap)?;
-    let requests = requests_of(heap, &ENTRIES)?;
     heap.refuse(number);
-    replies_to_all(rt, heap, &mut gate, &ENTRIES, requests.as_slice())
+    replies_to_all(rt, &spare, heap, &mut gate, &ENTRIES, &REQUESTS)
 }
 
 const LINES: &[u8] =
@@ -299,5 +310,5 @@ const REPLIES: [Reply; 4] = [
 
 fn tell(rt: &impl Abort, heap: &Heap, number: u64) -> bool {
     heap.refuse(number);
-    lacks_text(rt, heap, verdict_lines(heap, &REPLIES), LINES)
+    lacks_text(rt, verdict_lines(heap, &REPLIES), LINES)
 }

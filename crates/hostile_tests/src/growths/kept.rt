@@ -2,13 +2,12 @@
 
 ghost use Rattle.std.specs.Prelude.{◌<◌, length, IfOk};
 
-use super::{Heap, answered};
+use super::Heap;
 use branch_names::Branches;
 use reducer_views::Views;
 use shadow_history::Shadow;
 use std::alloc::AllocError;
 use std::process::Abort;
-use std::test::Fail;
 use text_words::Monoid;
 use view_read_rule::ReadPeers;
 
@@ -28,14 +27,14 @@ pub(super) fn is_refused(
     heap: &Heap,
     number: u64,
     call: Call,
-) -> Result<bool, Fail> {
+) -> Result<bool, AllocError> {
     match call {
         Call::NewBranches => Ok(new_branches(rt, heap, number)),
         Call::ReserveBranches => reserve_branches(rt, heap, number),
         Call::NewViews => Ok(new_views(rt, heap, number)),
         Call::ReserveViews => reserve_views(rt, heap, number),
-        Call::NewReads => Ok(new_reads(rt, heap, number)),
-        Call::NewShadow => Ok(new_shadow(rt, heap, number)),
+        Call::NewReads => Ok(new_reads(heap, number)),
+        Call::NewShadow => Ok(new_shadow(heap, number)),
     }
 }
 
@@ -47,23 +46,22 @@ fn names_one(rt: &impl Abort, branches: &Branches<&Heap>, has_room: bool) {
 
 fn new_branches(rt: &impl Abort, heap: &Heap, number: u64) -> bool {
     heap.refuse(number);
-    match answered(rt, heap, Branches::new(heap), AllocError) {
-        Some(branches) => {
+    match Branches::new(heap) {
+        Ok(branches) => {
             names_one(rt, &branches, false);
             false
         }
-        None => true,
+        Err(AllocError) => true,
     }
 }
 
-fn reserve_branches(rt: &impl Abort, heap: &Heap, number: u64) -> Result<bool, Fail> {
+fn reserve_branches(rt: &impl Abort, heap: &Heap, number: u64) -> Result<bool, AllocError> {
     let mut branches = Branches::new(heap)?;
     heap.refuse(number);
-    let found = branches.reserve_event();
-    let is_refused = answered(rt, heap, found, AllocError).is_none();
+    let is_refused = branches.reserve_event().is_err();
     if is_refused {
         names_one(rt, &branches, false);
-        assert!(rt; branches.reserve_event().is_ok());
+        branches.reserve_event()?;
     }
     names_one(rt, &branches, true);
     Ok(is_refused)
@@ -79,12 +77,12 @@ fn sees(rt: &impl Abort, views: &Views<&Heap>, number: u64, has_room: bool)
 
 fn new_views(rt: &impl Abort, heap: &Heap, number: u64) -> bool {
     heap.refuse(number);
-    match answered(rt, heap, Views::new(heap, &[Monoid::Sum]), AllocError) {
-        Some(views) => {
+    match Views::new(heap, &[Monoid::Sum]) {
+        Ok(views) => {
             assert!(rt; views.is_there(0) && !views.is_there(1) && !views.has_room());
             false
         }
-        None => true,
+        Err(AllocError) => true,
     }
 }
 
@@ -109,11 +107,10 @@ fn adds(rt: &impl Abort, views: &mut Views<&Heap>)
     sees(rt, views, 7, false);
 }
 
-fn reserve_views(rt: &impl Abort, heap: &Heap, number: u64) -> Result<bool, Fail> {
+fn reserve_views(rt: &impl Abort, heap: &Heap, number: u64) -> Result<bool, AllocError> {
     let mut views = put_once(rt, heap)?;
     heap.refuse(number);
-    let found = views.reserve_event();
-    let is_refused = answered(rt, heap, found, AllocError).is_none();
+    let is_refused = views.reserve_event().is_err();
     if is_refused {
         sees(rt, &views, 5, false);
         views.reserve_event()?;
@@ -122,12 +119,12 @@ fn reserve_views(rt: &impl Abort, heap: &Heap, number: u64) -> Result<bool, Fail
     Ok(is_refused)
 }
 
-fn new_reads(rt: &impl Abort, heap: &Heap, number: u64) -> bool {
+fn new_reads(heap: &Heap, number: u64) -> bool {
     heap.refuse(number);
-    answered(rt, heap, ReadPeers::new(heap, 3), AllocError).is_none()
+    ReadPeers::new(heap, 3).is_err()
 }
 
-fn new_shadow(rt: &impl Abort, heap: &Heap, number: u64) -> bool {
+fn new_shadow(heap: &Heap, number: u64) -> bool {
     heap.refuse(number);
-    answered(rt, heap, Shadow::new(heap, 3), AllocError).is_none()
+    Shadow::new(heap, 3).is_err()
 }

@@ -1,10 +1,9 @@
 //! Growths of order lists.
 
-use super::{Heap, answered};
+use super::Heap;
 use order_list::{OrderFault, OrderList};
 use std::alloc::AllocError;
 use std::process::Abort;
-use std::test::Fail;
 
 /// A call of a list.
 #[derive(Clone, Copy)]
@@ -19,7 +18,7 @@ pub(super) fn is_refused(
     heap: &Heap,
     number: u64,
     call: Call,
-) -> Result<bool, Fail> {
+) -> Result<bool, AllocError> {
     match call {
         Call::New => Ok(new(rt, heap, number)),
         Call::Reserve => reserve(rt, heap, number),
@@ -34,12 +33,12 @@ fn has_room(rt: &impl Abort, list: &OrderList<&Heap>, room: u32) {
 
 fn new(rt: &impl Abort, heap: &Heap, number: u64) -> bool {
     heap.refuse(number);
-    match answered(rt, heap, OrderList::new(heap), AllocError) {
-        Some(list) => {
+    match OrderList::new(heap) {
+        Ok(list) => {
             has_room(rt, &list, 0);
             false
         }
-        None => true,
+        Err(AllocError) => true,
     }
 }
 
@@ -50,11 +49,10 @@ fn gets_room(rt: &impl Abort, list: &mut OrderList<&Heap>) {
     has_room(rt, list, 20);
 }
 
-fn reserve(rt: &impl Abort, heap: &Heap, number: u64) -> Result<bool, Fail> {
+fn reserve(rt: &impl Abort, heap: &Heap, number: u64) -> Result<bool, AllocError> {
     let mut list = OrderList::new(heap)?;
     heap.refuse(number);
-    let found = list.reserve(20);
-    let is_refused = answered(rt, heap, found, OrderFault::Memory).is_none();
+    let is_refused = matches!(list.reserve(20), Err(OrderFault::Memory));
     if is_refused {
         gets_room(rt, &mut list);
     } else {
@@ -63,13 +61,14 @@ fn reserve(rt: &impl Abort, heap: &Heap, number: u64) -> Result<bool, Fail> {
     Ok(is_refused)
 }
 
-/// A hint, whose refused growth is no fault.
-fn hint(rt: &impl Abort, heap: &Heap, number: u64) -> Result<bool, Fail> {
+/// A hint, whose refused growth is no fault. No growth behind it is refused.
+fn hint(rt: &impl Abort, heap: &Heap, number: u64) -> Result<bool, AllocError> {
     let mut list = OrderList::new(heap)?;
     heap.refuse(number);
     list.make_room(20);
     let is_refused = heap.has_refused();
     heap.refuse(0);
     gets_room(rt, &mut list);
+    heap.refuse(if is_refused { 0 } else { 1 });
     Ok(is_refused)
 }

@@ -3,7 +3,7 @@
 ghost use Rattle.std.specs.Prelude.{◌≡◌};
 ghost use Rattle.frame_steps.specs.Frames.{Stands};
 
-use super::{Heap, answered, lacks_shape, lacks_text, wants_memory};
+use super::{Heap, lacks_shape, lacks_text, wants_memory};
 use crate::worked::{FIB, PAIR};
 use frame_steps::{Frame, FrameFault};
 use model_accesses::{Kind, Rule};
@@ -15,7 +15,6 @@ use shadow_history::Witness;
 use sp_labels::Spawned;
 use std::alloc::AllocError;
 use std::process::Abort;
-use std::test::Fail;
 use text_words::{Act, Monoid, Request};
 
 /// FIB as it is printed, without what stands before the words of a line.
@@ -50,12 +49,14 @@ pub(super) fn is_refused(
     heap: &Heap,
     number: u64,
     call: Call,
-) -> Result<bool, Fail> {
+) -> Result<bool, AllocError> {
     if matches!(call, Call::Parse) {
         return Ok(parse(rt, heap, number));
     }
-    let program = Program::parse(heap, call.text())?;
-    Ok(does(rt, heap, number, call, &program))
+    match Program::parse(heap, call.text()) {
+        Ok(program) => Ok(does(rt, heap, number, call, &program)),
+        Err(_) => Err(AllocError),
+    }
 }
 
 /// Makes the call of a program for which no growth was refused.
@@ -74,31 +75,34 @@ fn parse(rt: &impl Abort, heap: &Heap, number: u64) -> bool {
     heap.refuse(number);
     match Program::parse(heap, FIB) {
         Ok(program) => {
-            assert!(rt; !heap.has_refused() && program.functions.as_slice().len() == 2);
+            assert!(rt; program.functions.as_slice().len() == 2);
             false
         }
-        Err(fault) => wants_memory(rt, heap, &fault),
+        Err(fault) => wants_memory(rt, &fault),
     }
 }
 
 fn print(rt: &impl Abort, heap: &Heap, number: u64, program: &Program<&Heap>) -> bool {
     heap.refuse(number);
-    lacks_text(rt, heap, program.print(heap), PRINTED)
+    lacks_text(rt, program.print(heap), PRINTED)
 }
 
 fn shape(rt: &impl Abort, heap: &Heap, number: u64, program: &Program<&Heap>) -> bool {
     heap.refuse(number);
-    lacks_shape(rt, heap, program.shape(heap), 1, &[Monoid::Sum])
+    lacks_shape(rt, program.shape(heap), 1, &[Monoid::Sum])
 }
 
 fn elided(rt: &impl Abort, heap: &Heap, number: u64, program: &Program<&Heap>) -> bool {
     heap.refuse(number);
-    match answered(rt, heap, elide(heap, program, 713), ElideFault::Memory) {
-        Some(elided) => {
+    match elide(heap, program, 713) {
+        Ok(elided) => {
             assert!(rt; elided.memory.as_slice() == [55].as_slice() && elided.requests == 713);
             false
         }
-        None => true,
+        Err(fault) => {
+            assert!(rt; matches!(fault, ElideFault::Memory));
+            true
+        }
     }
 }
 
@@ -116,11 +120,11 @@ fn wants(rt: &impl Abort, program: &Program<&Heap>, frame: &mut Frame<&Heap>, ac
 }
 
 /// The frame's call is answered, once more where there was no memory. Whether there was none.
-fn calls(rt: &impl Abort, heap: &Heap, program: &Program<&Heap>, frame: &mut Frame<&Heap>) -> bool
+fn calls(rt: &impl Abort, program: &Program<&Heap>, frame: &mut Frame<&Heap>) -> bool
     requires { Stands program.now.functions frame.old }
 {
     let found = frame.answer(program, &Answer::Same);
-    let is_refused = answered(rt, heap, found, FrameFault::Memory).is_none();
+    let is_refused = matches!(found, Err(FrameFault::Memory));
     if is_refused {
         wants(rt, program, frame, Act::Call, 4);
         assert!(rt; frame.answer(program, &Answer::Same).is_ok());
@@ -133,12 +137,12 @@ fn answer(rt: &impl Abort, heap: &Heap, number: u64, program: &Program<&Heap>) -
     let mut frame = Frame::new(heap, program, program.main(), 0);
     wants(rt, program, &mut frame, Act::Call, 4);
     heap.refuse(number);
-    calls(rt, heap, program, &mut frame)
+    calls(rt, program, &mut frame)
 }
 
 /// The frame gets room for a call, asked for once more where there was no memory. Whether there was none.
-fn gets_room(rt: &impl Abort, heap: &Heap, frame: &mut Frame<&Heap>) -> bool {
-    let is_refused = answered(rt, heap, frame.reserve_call(), AllocError).is_none();
+fn gets_room(rt: &impl Abort, frame: &mut Frame<&Heap>) -> bool {
+    let is_refused = frame.reserve_call().is_err();
     if is_refused {
         assert!(rt; !frame.has_room() && frame.reserve_call().is_ok());
     }
@@ -149,7 +153,7 @@ fn gets_room(rt: &impl Abort, heap: &Heap, frame: &mut Frame<&Heap>) -> bool {
 fn reserve_call(rt: &impl Abort, heap: &Heap, number: u64, program: &Program<&Heap>) -> bool {
     let mut frame = Frame::new(heap, program, program.main(), 0);
     heap.refuse(number);
-    gets_room(rt, heap, &mut frame)
+    gets_room(rt, &mut frame)
 }
 
 /// A run of PAIR in which the child writes first.
@@ -187,6 +191,11 @@ const ENTRIES: [Entry; 7] = [
 
 fn replayed(rt: &impl Abort, heap: &Heap, number: u64, program: &Program<&Heap>) -> bool {
     heap.refuse(number);
-    let found = replay(heap, program, &ENTRIES);
-    answered(rt, heap, found, ReplayFault::Memory).is_none()
+    match replay(heap, program, &ENTRIES) {
+        Ok(()) => false,
+        Err(fault) => {
+            assert!(rt; matches!(fault, ReplayFault::Memory));
+            true
+        }
+    }
 }

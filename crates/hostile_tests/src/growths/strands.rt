@@ -1,11 +1,10 @@
 //! Growths of strands.
 
-use super::{Heap, answered};
+use super::Heap;
 use crate::checks::equal;
 use sp_labels::{Returned, SpFault, Spawned, Strands};
 use std::alloc::AllocError;
 use std::process::Abort;
-use std::test::Fail;
 
 /// A call of strands.
 #[derive(Clone, Copy)]
@@ -22,7 +21,7 @@ pub(super) fn is_refused(
     heap: &Heap,
     number: u64,
     call: Call,
-) -> Result<bool, Fail> {
+) -> Result<bool, AllocError> {
     match call {
         Call::New => Ok(new(rt, heap, number)),
         Call::Reserve => reserve(rt, heap, number),
@@ -32,64 +31,59 @@ pub(super) fn is_refused(
     }
 }
 
-/// Whether a strand has begun, and whether it runs.
-type Standing = (bool, bool);
+/// The strand has begun or not, and runs or not.
+fn stands(rt: &impl Abort, strands: &Strands<&Heap>, strand: u32, begun: bool, running: bool) {
+    assert!(rt; strands.is_begun(strand) == begun);
+    assert!(rt; strands.is_running(strand) == running);
+}
 
-/// Strand 0 alone has begun.
-const OPENING: [Standing; 3] = [(true, true), (false, false), (false, false)];
-
-/// Strand 0 has spawned.
-const PARTED: [Standing; 3] = [(true, false), (true, true), (true, true)];
-
-/// The first strands stand so, and there is room for an event or not.
-fn stand(rt: &impl Abort, strands: &Strands<&Heap>, standings: &[Standing], has_room: bool) {
-    let mut strand = 0u32;
-    for (begun, running) in standings {
-        assert!(rt; strands.is_begun(strand) == *begun && strands.is_running(strand) == *running);
-        strand = strand.saturating_add(1);
-    }
+/// Strand 0 alone has begun, or it has spawned, and there is room for an event or not.
+fn stand(rt: &impl Abort, strands: &Strands<&Heap>, has_spawned: bool, has_room: bool) {
+    stands(rt, strands, 0, true, !has_spawned);
+    stands(rt, strands, 1, has_spawned, has_spawned);
+    stands(rt, strands, 2, has_spawned, has_spawned);
     assert!(rt; strands.has_room() == has_room);
 }
 
 fn new(rt: &impl Abort, heap: &Heap, number: u64) -> bool {
     heap.refuse(number);
-    match answered(rt, heap, Strands::new(heap), AllocError) {
-        Some(strands) => {
-            stand(rt, &strands, &OPENING, false);
+    match Strands::new(heap) {
+        Ok(strands) => {
+            stand(rt, &strands, false, false);
             false
         }
-        None => true,
+        Err(AllocError) => true,
     }
 }
 
 /// There is no room for an event, and there is where it is asked for now.
 fn gets_room(rt: &impl Abort, strands: &mut Strands<&Heap>) {
-    stand(rt, strands, &OPENING, false);
+    stand(rt, strands, false, false);
     assert!(rt; strands.reserve_event().is_ok());
-    stand(rt, strands, &OPENING, true);
+    stand(rt, strands, false, true);
 }
 
-fn reserve(rt: &impl Abort, heap: &Heap, number: u64) -> Result<bool, Fail> {
+fn reserve(rt: &impl Abort, heap: &Heap, number: u64) -> Result<bool, AllocError> {
     let mut strands = Strands::new(heap)?;
     heap.refuse(number);
-    let found = strands.reserve_event();
-    let is_refused = answered(rt, heap, found, SpFault::Memory).is_none();
+    let is_refused = matches!(strands.reserve_event(), Err(SpFault::Memory));
     if is_refused {
         gets_room(rt, &mut strands);
     } else {
-        stand(rt, &strands, &OPENING, true);
+        stand(rt, &strands, false, true);
     }
     Ok(is_refused)
 }
 
-/// A hint, whose refused growth is no fault.
-fn hint(rt: &impl Abort, heap: &Heap, number: u64) -> Result<bool, Fail> {
+/// A hint, whose refused growth is no fault. No growth behind it is refused.
+fn hint(rt: &impl Abort, heap: &Heap, number: u64) -> Result<bool, AllocError> {
     let mut strands = Strands::new(heap)?;
     heap.refuse(number);
     strands.make_room(2);
     let is_refused = heap.has_refused();
     heap.refuse(0);
     gets_room(rt, &mut strands);
+    heap.refuse(if is_refused { 0 } else { 1 });
     Ok(is_refused)
 }
 
@@ -100,41 +94,46 @@ const SPLIT: Spawned = Spawned {
     first: true,
 };
 
-/// Strand 0 spawns, where there is no room for an event yet.
-fn spawns(rt: &impl Abort, strands: &mut Strands<&Heap>) {
-    stand(rt, strands, &OPENING, false);
-    equal(rt, &"once more", &strands.spawn(0), &Ok(SPLIT));
+/// Strand 0 spawns, which is answered Memory or splits it.
+fn spawns(rt: &impl Abort, strands: &mut Strands<&Heap>) -> bool {
+    let found = strands.spawn(0);
+    if matches!(found, Err(SpFault::Memory)) {
+        stand(rt, strands, false, false);
+        return true;
+    }
+    equal(rt, &"spawned", &found, &Ok(SPLIT));
+    stand(rt, strands, true, false);
+    false
 }
 
-fn spawn(rt: &impl Abort, heap: &Heap, number: u64) -> Result<bool, Fail> {
+fn spawn(rt: &impl Abort, heap: &Heap, number: u64) -> Result<bool, AllocError> {
     let mut strands = Strands::new(heap)?;
     heap.refuse(number);
-    let found = strands.spawn(0);
-    let is_refused = match answered(rt, heap, found, SpFault::Memory) {
-        Some(spawned) => {
-            equal(rt, &"spawned", &spawned, &SPLIT);
-            false
-        }
-        None => {
-            spawns(rt, &mut strands);
-            true
-        }
-    };
-    stand(rt, &strands, &PARTED, false);
+    let is_refused = spawns(rt, &mut strands);
+    if is_refused {
+        assert!(rt; !spawns(rt, &mut strands));
+    }
     Ok(is_refused)
 }
 
-fn call_function(rt: &impl Abort, heap: &Heap, number: u64) -> Result<bool, Fail> {
+/// Strand 0 calls, and returns to where it was, or it is finished where it could not call.
+fn calls(rt: &impl Abort, strands: &mut Strands<&Heap>) -> bool {
+    let is_refused = strands.call(0) == Err(SpFault::Memory);
+    let wanted = if is_refused {
+        Returned::Finished
+    } else {
+        Returned::Resumed
+    };
+    equal(rt, &is_refused, &strands.ret(0), &Ok(wanted));
+    is_refused
+}
+
+fn call_function(rt: &impl Abort, heap: &Heap, number: u64) -> Result<bool, AllocError> {
     let mut strands = Strands::new(heap)?;
     heap.refuse(number);
-    let found = strands.call(0);
-    let is_refused = answered(rt, heap, found, SpFault::Memory).is_none();
-    let found = strands.ret(0);
-    if is_refused {
-        equal(rt, &"no call", &found, &Ok(Returned::Finished));
-    } else {
-        equal(rt, &"the call", &found, &Ok(Returned::Resumed));
-        stand(rt, &strands, &OPENING, false);
+    let is_refused = calls(rt, &mut strands);
+    if !is_refused {
+        stand(rt, &strands, false, false);
     }
     Ok(is_refused)
 }

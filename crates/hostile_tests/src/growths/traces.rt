@@ -1,13 +1,12 @@
 //! Growths of traces and of their texts.
 
-ghost use Rattle.std.specs.Prelude.{◌≤◌};
+ghost use Rattle.std.specs.Prelude.{◌≡◌, ◌≤◌, IfOk};
 ghost use Rattle.text_words.specs.Declarations.{cells_of};
 
-use super::{Heap, answered, lacks_shape, lacks_text, wants_memory};
+use super::{Heap, lacks_shape, lacks_text, wants_memory};
 use crate::checks::equal;
 use std::alloc::AllocError;
 use std::process::Abort;
-use std::test::Fail;
 use text_words::Monoid;
 use trace_text::{Trace, cell_name};
 
@@ -32,12 +31,14 @@ pub(super) fn is_refused(
     heap: &Heap,
     number: u64,
     call: Call,
-) -> Result<bool, Fail> {
+) -> Result<bool, AllocError> {
     if matches!(call, Call::Parse) {
         return Ok(parse(rt, heap, number));
     }
-    let trace = Trace::parse(heap, TEXT)?;
-    tells(rt, heap, number, call, &trace)
+    match Trace::parse(heap, TEXT) {
+        Ok(trace) => tells(rt, heap, number, call, &trace),
+        Err(_) => Err(AllocError),
+    }
 }
 
 /// Asks a trace for which no growth was refused.
@@ -47,7 +48,7 @@ fn tells(
     number: u64,
     call: Call,
     trace: &Trace<&Heap>,
-) -> Result<bool, Fail> {
+) -> Result<bool, AllocError> {
     match call {
         Call::Parse | Call::Print => Ok(print(rt, heap, number, trace)),
         Call::Shape => Ok(shape(rt, heap, number, trace)),
@@ -59,21 +60,21 @@ fn parse(rt: &impl Abort, heap: &Heap, number: u64) -> bool {
     heap.refuse(number);
     match Trace::parse(heap, TEXT) {
         Ok(trace) => {
-            assert!(rt; !heap.has_refused() && trace.lines.len() == 5);
+            assert!(rt; trace.lines.len() == 5);
             false
         }
-        Err(fault) => wants_memory(rt, heap, &fault),
+        Err(fault) => wants_memory(rt, &fault),
     }
 }
 
 fn print(rt: &impl Abort, heap: &Heap, number: u64, trace: &Trace<&Heap>) -> bool {
     heap.refuse(number);
-    lacks_text(rt, heap, trace.print(heap), TEXT)
+    lacks_text(rt, trace.print(heap), TEXT)
 }
 
 fn shape(rt: &impl Abort, heap: &Heap, number: u64, trace: &Trace<&Heap>) -> bool {
     heap.refuse(number);
-    lacks_shape(rt, heap, trace.shape(heap), 3, &MONOIDS)
+    lacks_shape(rt, trace.shape(heap), 3, &MONOIDS)
 }
 
 /// The cell's name, where the trace has such a cell.
@@ -81,14 +82,20 @@ fn name(rt: &impl Abort, heap: &Heap, number: u64, trace: &Trace<&Heap>) -> bool
     requires { 3 ≤ cells_of trace.now.mems }
 {
     heap.refuse(number);
-    let found = cell_name(heap, trace.mems.as_slice(), 2);
-    match answered(rt, heap, found, AllocError) {
-        Some(name) => {
-            equal(rt, &"name", &name.as_str(), &"a[1]");
+    match cell_name(heap, trace.mems.as_slice(), 2) {
+        Ok(name) => {
+            equal(rt, &"name", &name.as_str().as_bytes(), &"a[1]".as_bytes());
             false
         }
-        None => true,
+        Err(AllocError) => true,
     }
+}
+
+/// How many cells the trace has.
+fn cells(heap: &Heap, trace: &Trace<&Heap>) -> Result<u32, AllocError>
+    ensures { IfOk result (λ cells. cells ≡ cells_of trace.now.mems) }
+{
+    Ok(trace.shape(heap)?.cells)
 }
 
 fn name_cell(
@@ -96,8 +103,8 @@ fn name_cell(
     heap: &Heap,
     number: u64,
     trace: &Trace<&Heap>,
-) -> Result<bool, Fail> {
-    let shape = trace.shape(heap)?;
-    assert!(rt; shape.cells == 3);
+) -> Result<bool, AllocError> {
+    let cells = cells(heap, trace)?;
+    assert!(rt; cells == 3);
     Ok(name(rt, heap, number, trace))
 }
