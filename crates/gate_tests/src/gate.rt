@@ -184,11 +184,16 @@ fn check_new(
 /// The reducers of a program, and its acts with their answers.
 type Run<'a> = (&'a [Monoid], &'a [Asked]);
 
-/// Each act, by its strand, of each program is answered by what stands beside it, by a gate of its own.
+/// Each act, by its strand, is answered by what stands beside it.
+fn check_run(rt: &impl Abort, alloc: Global, run: &Run<'_>) -> Result<(), Fail> {
+    assert!(rt; run.0.len() <= 2);
+    check_new(rt, alloc, run.0, 1_000_000, Asks::Acts(run.1))
+}
+
+/// The same of each program, by a gate of its own.
 fn check(rt: &impl Abort, alloc: Global, runs: &[Run<'_>]) -> Result<(), Fail> {
-    for (monoids, acts) in runs {
-        assert!(rt; monoids.len() <= 2);
-        check_new(rt, alloc, monoids, 1_000_000, Asks::Acts(acts))?;
+    for run in runs {
+        check_run(rt, alloc, run)?;
     }
     Ok(())
 }
@@ -214,11 +219,6 @@ fn holds(gate: &Gate<Global>, memory: &[u64]) -> bool {
 fn is_new(rt: &impl Abort, gate: &Gate<Global>) {
     ends(rt, gate, (0, false, 0));
     assert!(rt; gate.limit() == 7 && gate.shape().cells == 1);
-}
-
-#[test]
-fn a_gate_begins_without_entries(rt: HostRuntime) -> Result<(), Fail> {
-    check_new(&rt, rt.alloc(), &[], 7, Asks::Nothing)
 }
 
 #[test]
@@ -369,11 +369,6 @@ fn answers_faults(rt: &impl Abort, gate: &mut Gate<Global>) {
     assert!(rt; stands(gate, 2, false, true));
 }
 
-#[test]
-fn faults_come_in_their_order(rt: HostRuntime) -> Result<(), Fail> {
-    check_new(&rt, rt.alloc(), &[], 2, Asks::Faults)
-}
-
 /// The gate replies so to the requests, one to each.
 fn check_replies(
     rt: &impl Abort,
@@ -408,11 +403,6 @@ const WRITES: Listed<'static> = (
     ],
 );
 
-#[test]
-fn a_list_has_one_reply_to_each_request(rt: HostRuntime) -> Result<(), Fail> {
-    check_new(&rt, rt.alloc(), &[], 3, Asks::List(WRITES, (3, false, 3)))
-}
-
 /// The root function returns, and its strand asks once more.
 const RETURNS: Listed<'static> = (
     &[asked!(0, Sync), asked!(0, Return), asked!(0, Read(0))],
@@ -422,13 +412,6 @@ const RETURNS: Listed<'static> = (
         Reply::Illegal(GateFault::NotRunning),
     ],
 );
-
-#[test]
-fn the_root_function_finishes(rt: HostRuntime) -> Result<(), Fail> {
-    laws_hold();
-    let asks = Asks::List(RETURNS, (2, true, 0));
-    check_new(&rt, rt.alloc(), &[], 1_000_000, asks)
-}
 
 fn laws_hold() {
     laws::race_law();
@@ -482,7 +465,31 @@ fn spawns_long(rt: &impl Abort, gate: &mut Gate<Global>) {
     answers(rt, gate, receipt(20_102, 3, Return, Finished));
 }
 
+/// Gates without reducers, with these limits.
+const GATES: &[(u32, Asks<'static>)] = &[
+    // A gate begins without entries.
+    (7, Asks::Nothing),
+    // Faults come in their order.
+    (2, Asks::Faults),
+    // A list has one reply to each request.
+    (3, Asks::List(WRITES, (3, false, 3))),
+    // The root function finishes.
+    (1_000_000, Asks::List(RETURNS, (2, true, 0))),
+    // Spawns in a long loop.
+    (1_000_000, Asks::SpawnsLong),
+];
+
+/// A new gate with this limit is asked, and answers so.
+fn check_gate(rt: &impl Abort, alloc: Global, gate: &(u32, Asks<'_>)) -> Result<(), Fail> {
+    assert!(rt; gate.0 <= 1_000_000);
+    check_new(rt, alloc, &[], gate.0, gate.1)
+}
+
 #[test]
-fn spawns_in_a_long_loop(rt: HostRuntime) -> Result<(), Fail> {
-    check_new(&rt, rt.alloc(), &[], 1_000_000, Asks::SpawnsLong)
+fn a_gate_enters_from_its_begin_to_its_limit_or_end(rt: HostRuntime) -> Result<(), Fail> {
+    laws_hold();
+    for gate in GATES {
+        check_gate(&rt, rt.alloc(), gate)?;
+    }
+    Ok(())
 }
