@@ -222,7 +222,7 @@ fn finds_nothing<A: Allocator>(
     ensures locations { length shadow.new ≡ length shadow.old }
 {
     let found = step(strands, shadow, 1, 0, Access(kind, 1));
-    assert!(rt; found.is_none(), "{kind:?}");
+    equal(rt, &kind, &found, &None);
 }
 
 /// The heap has used up so many bytes, and has no room for a second shadow history.
@@ -279,28 +279,42 @@ fn laws_hold() {
     laws::place_law();
 }
 
+/// The bytes of a million locations, a thousand times those of a thousand.
+fn bytes_of_many(rt: &impl Abort, alloc: Global) -> Result<usize, AllocError> {
+    let thousand = bytes_of(alloc, 1_000)?;
+    let bytes = bytes_of(alloc, 1_000_000)?;
+    assert!(rt; 16 < bytes && bytes <= 64_000_000);
+    equal(rt, &"bytes", &thousand.saturating_mul(1_000), &bytes);
+    Ok(bytes)
+}
+
 #[test]
 fn many_locations_take_one_allocation(rt: HostRuntime) -> Result<(), Fail> {
-    let bytes = bytes_of(rt.alloc(), 1_000_000)?;
-    assert!(rt; 16 < bytes && bytes <= 64_000_000);
-    assert_eq!(rt; bytes_of(rt.alloc(), 1_000)?.saturating_mul(1_000), bytes);
-    takes_only(&rt, rt.alloc(), 1_000_000, bytes)?;
     laws_hold();
+    let bytes = bytes_of_many(&rt, rt.alloc())?;
+    takes_only(&rt, rt.alloc(), 1_000_000, bytes)?;
     Ok(())
 }
 
-/// Whether a heap of so many bytes has room for so many locations.
-fn has_room(alloc: Global, bytes: usize, locations: u32) -> Result<bool, AllocError> {
+/// Whether a heap of so many bytes has room for a million locations.
+fn has_room(alloc: Global, bytes: usize) -> Result<bool, AllocError> {
     let heap = LocalHeap::new(alloc, bytes)?;
-    Ok(Shadow::new(&heap, locations).is_ok())
+    Ok(Shadow::new(&heap, 1_000_000).is_ok())
+}
+
+/// The same of a heap of 16 bytes less as well.
+fn have_room(alloc: Global, bytes: usize) -> Result<(bool, bool), AllocError> {
+    Ok((
+        has_room(alloc, bytes)?,
+        has_room(alloc, bytes.saturating_sub(16))?,
+    ))
 }
 
 #[test]
 fn a_heap_without_room_for_all_locations_is_refused(rt: HostRuntime) -> Result<(), Fail> {
-    let bytes = bytes_of(rt.alloc(), 1_000_000)?;
-    assert!(rt; 16 < bytes && bytes <= 64_000_000);
-    assert!(rt; has_room(rt.alloc(), bytes, 1_000_000)?);
-    assert!(rt; !has_room(rt.alloc(), bytes - 16, 1_000_000)?);
+    let bytes = bytes_of_many(&rt, rt.alloc())?;
+    let rooms = have_room(rt.alloc(), bytes)?;
+    equal(&rt, &bytes, &rooms, &(true, false));
     Ok(())
 }
 

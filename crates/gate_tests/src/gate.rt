@@ -221,10 +221,12 @@ fn is_new(rt: &impl Abort, gate: &Gate<Global>) {
     assert!(rt; gate.limit() == 7 && gate.shape().cells == 1);
 }
 
+/// A strand reads what it wrote.
+const VALUES: &[Asked] = &[(0, Write(0, 5), Granted), (0, Read(0), Value(5))];
+
 #[test]
 fn values_go_along_a_strand(rt: HostRuntime) -> Result<(), Fail> {
-    let acts = [(0, Write(0, 5), Granted), (0, Read(0), Value(5))];
-    check(&rt, rt.alloc(), &[(&[], &acts)])
+    check_run(&rt, rt.alloc(), &(&[], VALUES))
 }
 
 /// Accesses of cells, and control.
