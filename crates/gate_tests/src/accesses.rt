@@ -3,12 +3,10 @@
 ghost use Rattle.std.specs.Prelude.{◌≡◌, ◌≤◌, IfOk, length};
 ghost use Rattle.shadow_history.specs.Shadow.{StandsOn};
 
-mod dag;
-
 use crate::checks::equal;
+use crate::dag::Dag;
 use crate::draws::draw;
 use access_table::{Kind, Rule, is_memory, rule};
-use dag::Dag;
 use linked_list_allocator::LocalHeap;
 use shadow_history::{Shadow, Witness, laws};
 use sp_labels::Strands;
@@ -132,122 +130,76 @@ fn check(rt: &impl Abort, alloc: Global, runs: &[&[Found]]) -> Result<(), Fail> 
     Ok(())
 }
 
-#[test]
-fn a_write_races_with_the_child_that_read(rt: HostRuntime) -> Result<(), Fail> {
-    check(
-        &rt,
-        rt.alloc(),
+/// A bump, write or read by a child, and another access by its continuation, which finds the first or nothing. In another cell it finds
+/// nothing.
+macro_rules! pair {
+    ($earlier:expr, $new:expr, $found:expr) => {
         &[
-            &[
-                (0, Spawn, None),
-                (1, Access(Kind::Read, 0), None),
-                (2, Access(Kind::Read, 0), None),
-                (2, Access(Kind::Write, 0), witness!(2, 1, Kind::Read)),
-            ],
-            &[
-                (0, Spawn, None),
-                (2, Access(Kind::Read, 0), None),
-                (1, Access(Kind::Write, 0), witness!(2, 2, Kind::Read)),
-            ],
-            &[
-                (0, Spawn, None),
-                (2, Access(Kind::Read, 0), None),
-                (1, Access(Kind::Read, 0), None),
-                (1, Access(Kind::Write, 0), witness!(2, 2, Kind::Read)),
-            ],
-        ],
-    )
+            (0, Spawn, None),
+            (1, Access($earlier, 0), None),
+            (2, Access($new, 0), $found),
+            (2, Access($new, 1), None),
+        ]
+    };
 }
+
+/// Worked accesses.
+const RUNS: &[&[Found]] = &[
+    // A write races with the child that read.
+    &[
+        (0, Spawn, None),
+        (1, Access(Kind::Read, 0), None),
+        (2, Access(Kind::Read, 0), None),
+        (2, Access(Kind::Write, 0), witness!(2, 1, Kind::Read)),
+    ],
+    &[
+        (0, Spawn, None),
+        (2, Access(Kind::Read, 0), None),
+        (1, Access(Kind::Write, 0), witness!(2, 2, Kind::Read)),
+    ],
+    &[
+        (0, Spawn, None),
+        (2, Access(Kind::Read, 0), None),
+        (1, Access(Kind::Read, 0), None),
+        (1, Access(Kind::Write, 0), witness!(2, 2, Kind::Read)),
+    ],
+    // A refused write is not kept.
+    &[
+        (0, Spawn, None),
+        (1, Access(Kind::Write, 0), None),
+        (2, Access(Kind::Write, 0), witness!(2, 1, Kind::Write)),
+        (1, Access(Kind::Read, 0), None),
+    ],
+    // A join comes behind its block.
+    &[
+        (0, Spawn, None),
+        (1, Access(Kind::Read, 0), None),
+        (2, Sync, None),
+        (1, Return, None),
+        (3, Access(Kind::Write, 0), None),
+    ],
+    // The first kind and its earliest entry count.
+    &[
+        (0, Spawn, None),
+        (1, Access(Kind::Read, 0), None),
+        (1, Access(Kind::Bump, 0), None),
+        (1, Access(Kind::Bump, 0), None),
+        (2, Access(Kind::Write, 0), witness!(3, 1, Kind::Bump)),
+        (2, Access(Kind::Bump, 0), witness!(2, 1, Kind::Read)),
+        (2, Access(Kind::Read, 0), witness!(3, 1, Kind::Bump)),
+    ],
+    // Bumps race with reads and writes alone.
+    pair!(Kind::Bump, Kind::Bump, None),
+    pair!(Kind::Bump, Kind::Write, witness!(2, 1, Kind::Bump)),
+    pair!(Kind::Write, Kind::Bump, witness!(2, 1, Kind::Write)),
+    pair!(Kind::Read, Kind::Bump, witness!(2, 1, Kind::Read)),
+    pair!(Kind::Bump, Kind::Read, witness!(2, 1, Kind::Bump)),
+    pair!(Kind::Read, Kind::Read, None),
+];
 
 #[test]
-fn a_refused_write_is_not_kept(rt: HostRuntime) -> Result<(), Fail> {
-    check(
-        &rt,
-        rt.alloc(),
-        &[&[
-            (0, Spawn, None),
-            (1, Access(Kind::Write, 0), None),
-            (2, Access(Kind::Write, 0), witness!(2, 1, Kind::Write)),
-            (1, Access(Kind::Read, 0), None),
-        ]],
-    )
-}
-
-#[test]
-fn a_join_comes_behind_its_block(rt: HostRuntime) -> Result<(), Fail> {
-    check(
-        &rt,
-        rt.alloc(),
-        &[&[
-            (0, Spawn, None),
-            (1, Access(Kind::Read, 0), None),
-            (2, Sync, None),
-            (1, Return, None),
-            (3, Access(Kind::Write, 0), None),
-        ]],
-    )
-}
-
-/// A bump, write or read by a child, and another access by its continuation, which races with it or not.
-fn check_pair(
-    rt: &impl Abort,
-    alloc: Global,
-    earlier: Kind,
-    new: Kind,
-    races: bool,
-) -> Result<(), Fail> {
-    let found = if races { witness!(2, 1, earlier) } else { None };
-    check(
-        rt,
-        alloc,
-        &[&[
-            (0, Spawn, None),
-            (1, Access(earlier, 0), None),
-            (2, Access(new, 0), found),
-            (2, Access(new, 1), None),
-        ]],
-    )
-}
-
-/// The same of each pair.
-fn check_pairs(rt: &impl Abort, alloc: Global, cases: &[(Kind, Kind, bool)]) -> Result<(), Fail> {
-    for (earlier, new, races) in cases {
-        check_pair(rt, alloc, *earlier, *new, *races)?;
-    }
-    Ok(())
-}
-
-#[test]
-fn bumps_race_with_reads_and_writes_alone(rt: HostRuntime) -> Result<(), Fail> {
-    check_pairs(
-        &rt,
-        rt.alloc(),
-        &[
-            (Kind::Bump, Kind::Bump, false),
-            (Kind::Bump, Kind::Write, true),
-            (Kind::Write, Kind::Bump, true),
-            (Kind::Read, Kind::Bump, true),
-            (Kind::Bump, Kind::Read, true),
-            (Kind::Read, Kind::Read, false),
-        ],
-    )
-}
-
-#[test]
-fn the_first_kind_and_its_earliest_entry_count(rt: HostRuntime) -> Result<(), Fail> {
-    check(
-        &rt,
-        rt.alloc(),
-        &[&[
-            (0, Spawn, None),
-            (1, Access(Kind::Read, 0), None),
-            (1, Access(Kind::Bump, 0), None),
-            (1, Access(Kind::Bump, 0), None),
-            (2, Access(Kind::Write, 0), witness!(3, 1, Kind::Bump)),
-            (2, Access(Kind::Bump, 0), witness!(2, 1, Kind::Read)),
-            (2, Access(Kind::Read, 0), witness!(3, 1, Kind::Bump)),
-        ]],
-    )
+fn an_access_finds_the_access_that_it_races_with(rt: HostRuntime) -> Result<(), Fail> {
+    check(&rt, rt.alloc(), RUNS)
 }
 
 /// The bytes that the shadow history of so many locations takes from a heap of 64 bytes for each.
@@ -270,7 +222,7 @@ fn finds_nothing<A: Allocator>(
     ensures locations { length shadow.new ≡ length shadow.old }
 {
     let found = step(strands, shadow, 1, 0, Access(kind, 1));
-    assert!(rt; found.is_none(), "{kind:?}");
+    equal(rt, &kind, &found, &None);
 }
 
 /// The heap has used up so many bytes, and has no room for a second shadow history.
@@ -327,97 +279,126 @@ fn laws_hold() {
     laws::place_law();
 }
 
+/// The bytes of a million locations, a thousand times those of a thousand.
+fn bytes_of_many(rt: &impl Abort, alloc: Global) -> Result<usize, AllocError> {
+    let thousand = bytes_of(alloc, 1_000)?;
+    let bytes = bytes_of(alloc, 1_000_000)?;
+    assert!(rt; 16 < bytes && bytes <= 64_000_000);
+    equal(rt, &"bytes", &thousand.saturating_mul(1_000), &bytes);
+    Ok(bytes)
+}
+
 #[test]
 fn many_locations_take_one_allocation(rt: HostRuntime) -> Result<(), Fail> {
-    let bytes = bytes_of(rt.alloc(), 1_000_000)?;
-    assert!(rt; 16 < bytes && bytes <= 64_000_000);
-    assert_eq!(rt; bytes_of(rt.alloc(), 1_000)?.saturating_mul(1_000), bytes);
-    takes_only(&rt, rt.alloc(), 1_000_000, bytes)?;
     laws_hold();
+    let bytes = bytes_of_many(&rt, rt.alloc())?;
+    takes_only(&rt, rt.alloc(), 1_000_000, bytes)?;
     Ok(())
 }
 
-/// Whether a heap of so many bytes has room for so many locations.
-fn has_room(alloc: Global, bytes: usize, locations: u32) -> Result<bool, AllocError> {
+/// Whether a heap of so many bytes has room for a million locations.
+fn has_room(alloc: Global, bytes: usize) -> Result<bool, AllocError> {
     let heap = LocalHeap::new(alloc, bytes)?;
-    Ok(Shadow::new(&heap, locations).is_ok())
+    Ok(Shadow::new(&heap, 1_000_000).is_ok())
+}
+
+/// The same of a heap of 16 bytes less as well.
+fn have_room(alloc: Global, bytes: usize) -> Result<(bool, bool), AllocError> {
+    Ok((
+        has_room(alloc, bytes)?,
+        has_room(alloc, bytes.saturating_sub(16))?,
+    ))
 }
 
 #[test]
 fn a_heap_without_room_for_all_locations_is_refused(rt: HostRuntime) -> Result<(), Fail> {
-    let bytes = bytes_of(rt.alloc(), 1_000_000)?;
-    assert!(rt; 16 < bytes && bytes <= 64_000_000);
-    assert!(rt; has_room(rt.alloc(), bytes, 1_000_000)?);
-    assert!(rt; !has_room(rt.alloc(), bytes - 16, 1_000_000)?);
+    let bytes = bytes_of_many(&rt, rt.alloc())?;
+    let rooms = have_room(rt.alloc(), bytes)?;
+    equal(&rt, &bytes, &rooms, &(true, false));
     Ok(())
 }
 
+/// The dag of a run, and its granted accesses, each with its location, at the number of its entry.
+#[derive(Drop)]
+struct Reference {
+    dag: Dag,
+    granted: [Option<(u32, Witness)>; 80],
+}
+
+/// No access for any entry.
+fn no_accesses() -> [Option<(u32, Witness)>; 80] {
+    [None; 80]
+}
+
+fn new_reference() -> Reference {
+    Reference {
+        dag: Dag::new(),
+        granted: no_accesses(),
+    }
+}
+
+/// Whether there is no other access yet, or its strand is before this one in one of the orders.
+fn is_later(dag: &Dag, english: bool, other: Option<Witness>, strand: u32) -> bool {
+    match other {
+        Some(other) => dag.is_before(english, other.strand, strand),
+        None => true,
+    }
+}
+
 /// The first of the last accesses of one kind in one of the orders.
-fn last(
-    dag: &Dag,
-    granted: &[(u32, Witness)],
-    location: u32,
-    kind: Kind,
-    english: bool,
-) -> Result<Option<Witness>, AllocError> {
+fn last(reference: &Reference, location: u32, kind: Kind, english: bool) -> Option<Witness> {
     let mut last: Option<Witness> = None;
-    for (place, access) in granted {
-        if *place == location && access.kind == kind {
-            let is_later = match last {
-                Some(other) => dag.is_before(
-                    english,
-                    other.strand as usize,
-                    access.strand as usize,
-                )?,
-                None => true,
-            };
-            if is_later {
+    for entry in &reference.granted {
+        if let Some((place, access)) = entry {
+            if *place == location
+                && access.kind == kind
+                && is_later(&reference.dag, english, last, access.strand)
+            {
                 last = Some(*access);
             }
         }
     }
-    Ok(last)
+    last
 }
 
-/// The witness, by a scan of all granted accesses and paths along the dag: the slow way.
-fn scan(
-    dag: &Dag,
-    granted: &[(u32, Witness)],
-    location: u32,
-    new: Kind,
-    strand: usize,
-) -> Result<Option<Witness>, AllocError> {
-    for earlier in [Kind::Write, Kind::Bump, Kind::Read] {
-        if rule(earlier, new) == Rule::Race {
-            for english in [true, false] {
-                if let Some(found) = last(dag, granted, location, earlier, english)? {
-                    if dag.parallel(found.strand as usize, strand)? {
-                        return Ok(Some(found));
-                    }
-                }
+/// The last access of one kind in one of the orders, the English one first, that is parallel to the strand.
+fn scan_kind(reference: &Reference, location: u32, kind: Kind, strand: u32) -> Option<Witness> {
+    for english in [true, false] {
+        if let Some(found) = last(reference, location, kind, english) {
+            if reference.dag.parallel(found.strand, strand) {
+                return Some(found);
             }
         }
     }
-    Ok(None)
+    None
+}
+
+/// The witness, by a scan of all granted accesses and paths along the dag: the slow way.
+fn scan(reference: &Reference, location: u32, new: Kind, strand: u32) -> Option<Witness> {
+    for earlier in [Kind::Write, Kind::Bump, Kind::Read] {
+        if rule(earlier, new) == Rule::Race {
+            let found = scan_kind(reference, location, earlier, strand);
+            if found.is_some() {
+                return found;
+            }
+        }
+    }
+    None
 }
 
 /// Whether any granted access races.
-fn races(
-    dag: &Dag,
-    granted: &[(u32, Witness)],
-    location: u32,
-    new: Kind,
-    strand: usize,
-) -> Result<bool, AllocError> {
-    for (place, access) in granted {
-        if *place == location
-            && rule(access.kind, new) == Rule::Race
-            && dag.parallel(access.strand as usize, strand)?
-        {
-            return Ok(true);
+fn races(reference: &Reference, location: u32, new: Kind, strand: u32) -> bool {
+    for entry in &reference.granted {
+        if let Some((place, access)) = entry {
+            if *place == location
+                && rule(access.kind, new) == Rule::Race
+                && reference.dag.parallel(access.strand, strand)
+            {
+                return true;
+            }
         }
     }
-    Ok(false)
+    false
 }
 
 fn drawn_act(choice: u32, location: u32) -> Act {
@@ -435,39 +416,33 @@ fn drawn_act(choice: u32, location: u32) -> Act {
 /// The greatest number of a running strand that is not above another, or 0.
 fn running_below(dag: &Dag, most: u32) -> u32 {
     for strand in (0..most).rev() {
-        if dag.runs(strand as usize) {
+        if dag.runs(strand) {
             return strand;
         }
     }
     0
 }
 
-/// Does an act in the reference, and says what it finds: the witness, and whether any access races.
-fn expected(
-    dag: &mut Dag,
-    granted: &[(u32, Witness)],
-    strand: usize,
-    asked: Act,
-) -> Result<(Option<Witness>, bool), AllocError> {
+/// Does an act of a running strand in the reference, and says what it finds: the witness, and whether any access races.
+fn expected(reference: &mut Reference, strand: u32, asked: Act) -> (Option<Witness>, bool) {
     match asked {
-        Spawn => dag.spawn(strand)?,
-        Sync => dag.sync(strand)?,
-        Call => dag.call(strand)?,
-        Return => dag.ret(strand)?,
+        Spawn => reference.dag.spawn(strand),
+        Sync => reference.dag.sync(strand),
+        Call => reference.dag.call(strand),
+        Return => reference.dag.ret(strand),
         Access(kind, location) => {
-            if dag.runs(strand) {
-                let found = scan(dag, granted, location, kind, strand)?;
-                return Ok((found, races(dag, granted, location, kind, strand)?));
-            }
+            reference.dag.close();
+            let found = scan(reference, location, kind, strand);
+            return (found, races(reference, location, kind, strand));
         }
     }
-    Ok((None, false))
+    (None, false)
 }
 
 /// Whether the same strands run in both.
 fn run_alike(strands: &Strands<Global>, dag: &Dag) -> bool {
     for strand in 0..200u32 {
-        if strands.is_running(strand) != dag.runs(strand as usize) {
+        if strands.is_running(strand) != dag.runs(strand) {
             return false;
         }
     }
@@ -483,7 +458,7 @@ struct Drawn {
     asked: Act,
 }
 
-/// A drawn act of a strand that runs in the reference, and the next state of the generator.
+/// A drawn act of a strand that runs in the reference, or of strand 0, and the next state of the generator.
 fn draw_one(dag: &Dag, seed: u64, entry: u32, state: u64) -> (Drawn, u64) {
     let (most, state_then) = draw(state, 60);
     let (choice, state_last) = draw(state_then, 14);
@@ -499,35 +474,41 @@ fn draw_one(dag: &Dag, seed: u64, entry: u32, state: u64) -> (Drawn, u64) {
     (drawn, state_next)
 }
 
-/// Keeps the access, with its location, where the act is one of a running strand that found no witness.
-fn remember(
-    granted: &mut Vec<(u32, Witness)>,
-    drawn: Drawn,
-    runs: bool,
-    found: Option<Witness>,
-) -> Result<(), AllocError> {
-    if let Access(kind, location) = drawn.asked {
-        if runs && found.is_none() {
-            let access = Witness {
-                entry: drawn.entry,
-                strand: drawn.strand,
-                kind,
-            };
-            granted.push((location, access))?;
-        }
+/// Does the drawn act in the reference, where its strand runs there, and keeps it where it is an access that has no witness.
+fn take(reference: &mut Reference, drawn: Drawn) -> (Option<Witness>, bool) {
+    if !reference.dag.runs(drawn.strand) {
+        return (None, false);
     }
-    Ok(())
+    let wanted = expected(reference, drawn.strand, drawn.asked);
+    if wanted.0.is_none() {
+        keep(reference, drawn);
+    }
+    wanted
 }
 
-/// What is found is the reference's witness, and one exactly where any access races.
-fn compare(rt: &impl Abort, drawn: Drawn, found: Option<Witness>, wanted: (Option<Witness>, bool)) {
+/// Keeps the access, with its location, where the act is one.
+fn keep(reference: &mut Reference, drawn: Drawn) {
+    if let Access(kind, location) = drawn.asked {
+        let access = Witness {
+            entry: drawn.entry,
+            strand: drawn.strand,
+            kind,
+        };
+        reference.granted[(drawn.entry % 80) as usize] = Some((location, access));
+    }
+}
+
+/// What is found is the reference's witness, and one exactly where any access races. The same strands run in both.
+fn compare(
+    rt: &impl Abort,
+    drawn: Drawn,
+    found: Option<Witness>,
+    runs: bool,
+    wanted: (Option<Witness>, bool),
+) {
     let case = (drawn.seed, drawn.entry, drawn.strand);
-    equal(rt, &case, &(found, found.is_some()), &wanted);
-}
-
-/// The same strands run in both after the act.
-fn compare_runs(rt: &impl Abort, strands: &Strands<Global>, dag: &Dag, drawn: Drawn) {
-    assert!(rt; run_alike(strands, dag), "{} {}", drawn.seed, drawn.entry);
+    let wanted = (wanted.0, wanted.1, true);
+    equal(rt, &case, &(found, found.is_some(), runs), &wanted);
 }
 
 /// Does an act in both, compares what they find, and says whether it races.
@@ -535,22 +516,19 @@ fn play_one(
     rt: &impl Abort,
     strands: &mut Strands<Global>,
     shadow: &mut Shadow<Global>,
-    dag: &mut Dag,
-    granted: &mut Vec<(u32, Witness)>,
+    reference: &mut Reference,
     drawn: Drawn,
-) -> Result<bool, AllocError>
+) -> bool
     requires stands { StandsOn shadow.old strands.old }
     requires locations { 2 ≤ length shadow.old }
     ensures stands { StandsOn shadow.new strands.new }
     ensures locations { length shadow.new ≡ length shadow.old }
 {
-    let runs = dag.runs(drawn.strand as usize);
-    let wanted = expected(dag, granted.as_slice(), drawn.strand as usize, drawn.asked)?;
+    let wanted = take(reference, drawn);
     let found = step(strands, shadow, drawn.entry, drawn.strand, drawn.asked);
-    compare(rt, drawn, found, wanted);
-    compare_runs(rt, strands, dag, drawn);
-    remember(granted, drawn, runs, found)?;
-    Ok(wanted.1)
+    let runs = run_alike(strands, &reference.dag);
+    compare(rt, drawn, found, runs, wanted);
+    wanted.1
 }
 
 /// How many of the 79 acts of this seed's run race.
@@ -558,44 +536,27 @@ fn play_all(
     rt: &impl Abort,
     strands: &mut Strands<Global>,
     shadow: &mut Shadow<Global>,
-    dag: &mut Dag,
-    granted: &mut Vec<(u32, Witness)>,
     seed: u64,
-) -> Result<u32, AllocError>
+) -> u32
     requires stands { StandsOn shadow.old strands.old }
     requires locations { 2 ≤ length shadow.old }
 {
+    let mut reference = new_reference();
     let mut state = seed;
     let mut raced = 0u32;
     for entry in 1..80u32 {
-        let (drawn, state_next) = draw_one(dag, seed, entry, state);
+        let (drawn, state_next) = draw_one(&reference.dag, seed, entry, state);
         state = state_next;
-        let is_race = play_one(rt, strands, shadow, dag, granted, drawn)?;
+        let is_race = play_one(rt, strands, shadow, &mut reference, drawn);
         raced = raced.saturating_add(u32::from(is_race));
     }
-    Ok(raced)
-}
-
-/// The same against a new dag.
-fn play_against(
-    rt: &impl Abort,
-    alloc: Global,
-    strands: &mut Strands<Global>,
-    shadow: &mut Shadow<Global>,
-    seed: u64,
-) -> Result<u32, AllocError>
-    requires stands { StandsOn shadow.old strands.old }
-    requires locations { 2 ≤ length shadow.old }
-{
-    let mut dag = Dag::new(alloc)?;
-    let mut granted = Vec::new(alloc);
-    play_all(rt, strands, shadow, &mut dag, &mut granted, seed)
+    raced
 }
 
 /// The same of new strands.
 fn play(rt: &impl Abort, alloc: Global, seed: u64) -> Result<u32, AllocError> {
     let (mut strands, mut shadow) = opening(alloc, alloc, 2)?;
-    play_against(rt, alloc, &mut strands, &mut shadow, seed)
+    Ok(play_all(rt, &mut strands, &mut shadow, seed))
 }
 
 #[test]

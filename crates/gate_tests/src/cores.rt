@@ -39,10 +39,19 @@ fn judges(rt: &impl Abort, core: &mut Core<Global>, outcomes: &[Outcome]) {
 /// How many entries there were, whether the root function has returned, whether the core was stopped, and its limit.
 type Shown = (u32, bool, bool, u32);
 
+/// What the core shows.
+fn shown_by(core: &Core<Global>) -> Shown {
+    (
+        core.entries(),
+        core.is_finished(),
+        core.is_stopped(),
+        core.limit(),
+    )
+}
+
 /// The core shows this, and its only cell holds this number.
 fn shows(rt: &impl Abort, core: &Core<Global>, shown: Shown, cell: u64) {
-    assert!(rt; core.entries() == shown.0 && core.limit() == shown.3);
-    assert!(rt; core.is_finished() == shown.1 && core.is_stopped() == shown.2);
+    equal(rt, &cell, &shown_by(core), &shown);
     assert!(rt; core.memory().first() == Some(&cell));
 }
 

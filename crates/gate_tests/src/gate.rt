@@ -30,6 +30,28 @@ macro_rules! refused {
     };
 }
 
+/// The strand's act, on line 1.
+macro_rules! asked {
+    ($strand:literal, $act:expr) => {
+        Request {
+            strand: $strand,
+            act: $act,
+            line: 1,
+        }
+    };
+}
+
+/// What the strand's act on line 1 is answered under this number.
+macro_rules! receipt {
+    ($number:literal, $strand:literal, $act:expr, $answer:expr) => {
+        Receipt {
+            number: $number,
+            request: asked!($strand, $act),
+            answer: $answer,
+        }
+    };
+}
+
 mod random;
 mod reducers;
 mod reference;
@@ -59,19 +81,23 @@ fn opening_with(alloc: Global, monoids: &[Monoid], limit: u32) -> Result<Gate<Gl
     Gate::new(alloc, &shape, limit)
 }
 
-/// The gate answers the request so under this number.
-fn answers(
-    rt: &impl Abort,
-    gate: &mut Gate<Global>,
-    number: u32,
-    request: Request,
-    answer: Answer,
-) {
-    let expected = Receipt {
+/// What the strand's act on a line of this number is answered under it.
+fn receipt(number: u32, strand: u32, act: Act, answer: Answer) -> Receipt {
+    let request = Request {
+        strand,
+        act,
+        line: number,
+    };
+    Receipt {
         number,
         request,
         answer,
-    };
+    }
+}
+
+/// The gate answers the receipt's request so.
+fn answers(rt: &impl Abort, gate: &mut Gate<Global>, expected: Receipt) {
+    let request = expected.request;
     equal(rt, &request, &gate.judge(request), &Ok(expected));
 }
 
@@ -88,14 +114,19 @@ fn answers_all(rt: &impl Abort, gate: &mut Gate<Global>, acts: &[Asked]) {
     let mut number = 0u32;
     for (strand, act, answer) in acts {
         number = number.wrapping_add(1);
-        let request = request(*strand, *act, number);
-        answers(rt, gate, number, request, *answer);
+        answers(rt, gate, receipt(number, *strand, *act, *answer));
     }
     assert!(rt; has_entries(gate, acts.len()));
 }
 
-/// An act of strand 0, and what the gate makes of it.
-type Outcome = (Act, Result<Answer, GateFault>);
+/// A request, and what the gate makes of it.
+type Outcome = (Request, Result<Receipt, GateFault>);
+
+/// A list of requests, and the reply to each.
+type Listed<'a> = (&'a [Request], &'a [Reply]);
+
+/// How many entries a gate has, whether it has finished, and the number in its first cell.
+type End = (usize, bool, u64);
 
 /// What a new gate is asked.
 #[derive(Clone, Copy)]
@@ -103,8 +134,8 @@ enum Asks<'a> {
     Nothing,
     /// Each act has the answer beside it.
     Acts(&'a [Asked]),
-    /// Each act has the outcome beside it. Then there are so many entries, it has finished or not, and its cell holds this number.
-    Outcomes(&'a [Outcome], (usize, bool, u64)),
+    /// Each request of the list has its reply, and then the gate has this end.
+    List(Listed<'a>, End),
     /// What has a fault, fault by fault.
     Faults,
     /// Ten thousand spawns.
@@ -124,8 +155,8 @@ fn ask(
     match asks {
         Asks::Nothing => is_new(rt, gate),
         Asks::Acts(acts) => answers_all(rt, gate, acts),
-        Asks::Outcomes(cases, end) => {
-            check_outcomes(rt, alloc, gate, cases)?;
+        Asks::List(listed, end) => {
+            check_replies(rt, alloc, gate, listed)?;
             ends(rt, gate, end);
         }
         Asks::Faults => answers_faults(rt, gate),
@@ -150,55 +181,28 @@ fn check_new(
     ask(rt, alloc, &mut gate, monoids, asks)
 }
 
-/// Each act, by its strand, of a program with these reducers is answered by what stands beside it.
-fn check_with(
-    rt: &impl Abort,
-    alloc: Global,
-    monoids: &[Monoid],
-    acts: &[Asked],
-) -> Result<(), Fail>
-    requires { length monoids.now ≤ most_reducers }
-{
-    check_new(rt, alloc, monoids, 1_000_000, Asks::Acts(acts))
+/// The reducers of a program, and its acts with their answers.
+type Run<'a> = (&'a [Monoid], &'a [Asked]);
+
+/// Each act, by its strand, is answered by what stands beside it.
+fn check_run(rt: &impl Abort, alloc: Global, run: &Run<'_>) -> Result<(), Fail> {
+    assert!(rt; run.0.len() <= 2);
+    check_new(rt, alloc, run.0, 1_000_000, Asks::Acts(run.1))
 }
 
-/// The same of programs with one reducer, each by a gate of its own.
-fn check_reducers(rt: &impl Abort, alloc: Global, runs: &[(Monoid, &[Asked])]) -> Result<(), Fail> {
-    for (monoid, acts) in runs {
-        check_with(rt, alloc, &[*monoid], acts)?;
+/// The same of each program, by a gate of its own.
+fn check(rt: &impl Abort, alloc: Global, runs: &[Run<'_>]) -> Result<(), Fail> {
+    for run in runs {
+        check_run(rt, alloc, run)?;
     }
     Ok(())
 }
 
-/// The same of programs without reducers.
-fn check(rt: &impl Abort, alloc: Global, runs: &[&[Asked]]) -> Result<(), Fail> {
-    for acts in runs {
-        check_with(rt, alloc, &[], acts)?;
+/// The gate makes of each request what stands beside it.
+fn judges(rt: &impl Abort, gate: &mut Gate<Global>, outcomes: &[Outcome]) {
+    for (request, outcome) in outcomes {
+        equal(rt, request, &gate.judge(*request), outcome);
     }
-    Ok(())
-}
-
-/// The strand's act on a line.
-fn request(strand: u32, act: Act, line: u32) -> Request {
-    Request { strand, act, line }
-}
-
-/// The reply that the request has this outcome, with this number where it is answered.
-fn reply(number: u32, request: Request, outcome: Result<Answer, GateFault>) -> Reply {
-    match outcome {
-        Ok(answer) => Reply::Done(Receipt {
-            number,
-            request,
-            answer,
-        }),
-        Err(fault) => Reply::Illegal(fault),
-    }
-}
-
-/// The gate answers the act of the strand by the fault.
-fn check_fault(rt: &impl Abort, gate: &mut Gate<Global>, strand: u32, act: Act, fault: GateFault) {
-    let request = request(strand, act, 1);
-    equal(rt, &request, &gate.judge(request), &Err(fault));
 }
 
 /// Whether the gate has so many entries, is finished, and is stopped.
@@ -217,82 +221,68 @@ fn is_new(rt: &impl Abort, gate: &Gate<Global>) {
     assert!(rt; gate.limit() == 7 && gate.shape().cells == 1);
 }
 
-#[test]
-fn a_gate_begins_without_entries(rt: HostRuntime) -> Result<(), Fail> {
-    check_new(&rt, rt.alloc(), &[], 7, Asks::Nothing)
-}
+/// A strand reads what it wrote.
+const VALUES: &[Asked] = &[(0, Write(0, 5), Granted), (0, Read(0), Value(5))];
 
 #[test]
 fn values_go_along_a_strand(rt: HostRuntime) -> Result<(), Fail> {
-    check(
-        &rt,
-        rt.alloc(),
-        &[&[(0, Write(0, 5), Granted), (0, Read(0), Value(5))]],
-    )
+    check_run(&rt, rt.alloc(), &(&[], VALUES))
 }
 
-#[test]
-fn parallel_reads_are_granted_and_a_parallel_write_is_refused(rt: HostRuntime) -> Result<(), Fail> {
-    check(
-        &rt,
-        rt.alloc(),
+/// Accesses of cells, and control.
+const RUNS: &[Run<'static>] = &[
+    // Parallel reads are granted, and a parallel write is refused.
+    (
+        &[],
         &[
-            &[
-                (0, Spawn, split!(1, 2, 3, true)),
-                (1, Read(0), Value(0)),
-                (2, Read(0), Value(0)),
-                (2, Write(0, 9), refused!(Rule::Race, 2, 1, Kind::Read)),
-            ],
-            &[
-                (0, Spawn, split!(1, 2, 3, true)),
-                (2, Read(0), Value(0)),
-                (1, Write(0, 9), refused!(Rule::Race, 2, 2, Kind::Read)),
-            ],
-            &[
-                (0, Spawn, split!(1, 2, 3, true)),
-                (2, Read(0), Value(0)),
-                (1, Read(0), Value(0)),
-                (1, Write(0, 9), refused!(Rule::Race, 2, 2, Kind::Read)),
-            ],
+            (0, Spawn, split!(1, 2, 3, true)),
+            (1, Read(0), Value(0)),
+            (2, Read(0), Value(0)),
+            (2, Write(0, 9), refused!(Rule::Race, 2, 1, Kind::Read)),
         ],
-    )
-}
-
-#[test]
-fn a_write_behind_the_join_is_granted(rt: HostRuntime) -> Result<(), Fail> {
-    check(
-        &rt,
-        rt.alloc(),
-        &[&[
+    ),
+    (
+        &[],
+        &[
+            (0, Spawn, split!(1, 2, 3, true)),
+            (2, Read(0), Value(0)),
+            (1, Write(0, 9), refused!(Rule::Race, 2, 2, Kind::Read)),
+        ],
+    ),
+    (
+        &[],
+        &[
+            (0, Spawn, split!(1, 2, 3, true)),
+            (2, Read(0), Value(0)),
+            (1, Read(0), Value(0)),
+            (1, Write(0, 9), refused!(Rule::Race, 2, 2, Kind::Read)),
+        ],
+    ),
+    // A write behind the join is granted.
+    (
+        &[],
+        &[
             (0, Spawn, split!(1, 2, 3, true)),
             (1, Read(0), Value(0)),
             (2, Sync, Waits),
             (1, Return, EndedJoined(3)),
             (3, Write(0, 4), Granted),
-        ]],
-    )
-}
-
-#[test]
-fn a_refused_write_is_not_done(rt: HostRuntime) -> Result<(), Fail> {
-    check(
-        &rt,
-        rt.alloc(),
-        &[&[
+        ],
+    ),
+    // A refused write is not done.
+    (
+        &[],
+        &[
             (0, Spawn, split!(1, 2, 3, true)),
             (1, Write(0, 5), Granted),
             (2, Write(0, 6), refused!(Rule::Race, 2, 1, Kind::Write)),
             (1, Read(0), Value(5)),
-        ]],
-    )
-}
-
-#[test]
-fn a_called_function_syncs_its_own_children(rt: HostRuntime) -> Result<(), Fail> {
-    check(
-        &rt,
-        rt.alloc(),
-        &[&[
+        ],
+    ),
+    // A called function syncs its own children.
+    (
+        &[],
+        &[
             (0, Spawn, split!(1, 2, 3, true)),
             (2, Call, Same),
             (2, Spawn, split!(4, 5, 6, true)),
@@ -301,136 +291,129 @@ fn a_called_function_syncs_its_own_children(rt: HostRuntime) -> Result<(), Fail>
             (6, Return, Resumed),
             (6, Sync, Waits),
             (1, Return, EndedJoined(3)),
-        ]],
-    )
-}
+        ],
+    ),
+    // Bumps are added, and race with reads and writes.
+    (
+        &[],
+        &[
+            (0, Write(0, 1), Granted),
+            (0, Spawn, split!(1, 2, 3, true)),
+            (1, Bump(0, 2), Granted),
+            (2, Bump(0, 3), Granted),
+            (2, Read(0), refused!(Rule::Race, 3, 1, Kind::Bump)),
+            (2, Sync, Waits),
+            (1, Return, EndedJoined(3)),
+            (3, Read(0), Value(6)),
+        ],
+    ),
+    (
+        &[],
+        &[
+            (0, Write(0, 18_446_744_073_709_551_615), Granted),
+            (0, Bump(0, 2), Granted),
+            (0, Read(0), Value(1)),
+        ],
+    ),
+    (
+        &[],
+        &[
+            (0, Spawn, split!(1, 2, 3, true)),
+            (1, Bump(0, 2), Granted),
+            (2, Write(0, 9), refused!(Rule::Race, 2, 1, Kind::Bump)),
+        ],
+    ),
+    (
+        &[],
+        &[
+            (0, Spawn, split!(1, 2, 3, true)),
+            (1, Write(0, 9), Granted),
+            (2, Bump(0, 2), refused!(Rule::Race, 2, 1, Kind::Write)),
+        ],
+    ),
+    (
+        &[],
+        &[
+            (0, Spawn, split!(1, 2, 3, true)),
+            (1, Read(0), Value(0)),
+            (2, Bump(0, 1), refused!(Rule::Race, 2, 1, Kind::Read)),
+        ],
+    ),
+];
 
 #[test]
-fn bumps_are_added_and_race_with_reads_and_writes(rt: HostRuntime) -> Result<(), Fail> {
-    check(
-        &rt,
-        rt.alloc(),
-        &[
-            &[
-                (0, Write(0, 1), Granted),
-                (0, Spawn, split!(1, 2, 3, true)),
-                (1, Bump(0, 2), Granted),
-                (2, Bump(0, 3), Granted),
-                (2, Read(0), refused!(Rule::Race, 3, 1, Kind::Bump)),
-                (2, Sync, Waits),
-                (1, Return, EndedJoined(3)),
-                (3, Read(0), Value(6)),
-            ],
-            &[
-                (0, Write(0, 18_446_744_073_709_551_615), Granted),
-                (0, Bump(0, 2), Granted),
-                (0, Read(0), Value(1)),
-            ],
-            &[
-                (0, Spawn, split!(1, 2, 3, true)),
-                (1, Bump(0, 2), Granted),
-                (2, Write(0, 9), refused!(Rule::Race, 2, 1, Kind::Bump)),
-            ],
-            &[
-                (0, Spawn, split!(1, 2, 3, true)),
-                (1, Write(0, 9), Granted),
-                (2, Bump(0, 2), refused!(Rule::Race, 2, 1, Kind::Write)),
-            ],
-            &[
-                (0, Spawn, split!(1, 2, 3, true)),
-                (1, Read(0), Value(0)),
-                (2, Bump(0, 1), refused!(Rule::Race, 2, 1, Kind::Read)),
-            ],
-        ],
-    )
+fn accesses_race_where_no_path_joins_their_strands(rt: HostRuntime) -> Result<(), Fail> {
+    check(&rt, rt.alloc(), RUNS)
 }
+
+/// The first fault of each request, by a gate of the limit 2.
+const FAULTS: &[Outcome] = &[
+    (asked!(0, Read(1)), Err(GateFault::BadName)),
+    (asked!(9, Read(1)), Err(GateFault::NotRunning)),
+    (asked!(0, Get(0)), Err(GateFault::BadName)),
+    (
+        asked!(0, Spawn),
+        Ok(receipt!(1, 0, Spawn, split!(1, 2, 3, true))),
+    ),
+    (asked!(2, Return), Err(GateFault::Unsynced)),
+    (asked!(2, Read(0)), Ok(receipt!(2, 2, Read(0), Value(0)))),
+    (asked!(9, Read(1)), Err(GateFault::Limit)),
+];
+
+/// What a stopped gate makes of a request.
+const STOPPED: &[Outcome] = &[(asked!(0, Sync), Err(GateFault::Stopped))];
 
 /// A gate of the limit 2 answers by the first fault of each request.
 fn answers_faults(rt: &impl Abort, gate: &mut Gate<Global>) {
-    check_fault(rt, gate, 0, Read(1), GateFault::BadName);
-    check_fault(rt, gate, 9, Read(1), GateFault::NotRunning);
-    check_fault(rt, gate, 0, Get(0), GateFault::BadName);
-    answers(rt, gate, 1, request(0, Spawn, 1), split!(1, 2, 3, true));
-    check_fault(rt, gate, 2, Return, GateFault::Unsynced);
-    answers(rt, gate, 2, request(2, Read(0), 3), Value(0));
-    check_fault(rt, gate, 9, Read(1), GateFault::Limit);
+    judges(rt, gate, FAULTS);
     gate.stop();
-    check_fault(rt, gate, 0, Sync, GateFault::Stopped);
+    judges(rt, gate, STOPPED);
     assert!(rt; stands(gate, 2, false, true));
 }
 
-#[test]
-fn faults_come_in_their_order(rt: HostRuntime) -> Result<(), Fail> {
-    check_new(&rt, rt.alloc(), &[], 2, Asks::Faults)
-}
-
-/// What strand 0 asks on line 1, and the replies that the outcomes make.
-fn lists(alloc: Global, cases: &[Outcome]) -> Result<(Vec<Request>, Vec<Reply>), AllocError> {
-    let mut requests = Vec::new(alloc);
-    let mut replies = Vec::new(alloc);
-    let mut number = 0u32;
-    for (act, outcome) in cases {
-        number = number.wrapping_add(1);
-        let request = request(0, *act, 1);
-        requests.push(request)?;
-        replies.push(reply(number, request, *outcome))?;
-    }
-    Ok((requests, replies))
-}
-
-/// A gate replies so to the requests, one to each.
+/// The gate replies so to the requests, one to each.
 fn check_replies(
     rt: &impl Abort,
     alloc: Global,
     gate: &mut Gate<Global>,
-    requests: &[Request],
-    expected: &[Reply],
+    listed: Listed<'_>,
 ) -> Result<(), Fail> {
-    let replies = judge_all(gate, alloc, requests)?;
-    equal(rt, &requests, &replies.as_slice(), &expected);
+    let replies = judge_all(gate, alloc, listed.0)?;
+    equal(rt, &listed.0, &replies.as_slice(), &listed.1);
     Ok(())
 }
 
-/// The gate gives strand 0 these outcomes, one to each act.
-fn check_outcomes(
-    rt: &impl Abort,
-    alloc: Global,
-    gate: &mut Gate<Global>,
-    cases: &[Outcome],
-) -> Result<(), Fail> {
-    let (requests, expected) = lists(alloc, cases)?;
-    check_replies(rt, alloc, gate, requests.as_slice(), expected.as_slice())
-}
-
 /// The gate has so many entries, has finished or not, is not stopped, and holds this number.
-fn ends(rt: &impl Abort, gate: &Gate<Global>, end: (usize, bool, u64)) {
+fn ends(rt: &impl Abort, gate: &Gate<Global>, end: End) {
     assert!(rt; stands(gate, end.0, end.1, false));
     assert!(rt; holds(gate, &[end.2]));
 }
 
-#[test]
-fn a_list_has_one_reply_to_each_request(rt: HostRuntime) -> Result<(), Fail> {
-    let outcomes = [
-        (Write(0, 1), Ok(Granted)),
-        (Write(0, 2), Ok(Granted)),
-        (Write(0, 3), Ok(Granted)),
-        (Write(0, 4), Err(GateFault::Limit)),
-    ];
-    let asks = Asks::Outcomes(&outcomes, (3, false, 3));
-    check_new(&rt, rt.alloc(), &[], 3, asks)
-}
+/// Four writes, by a gate of the limit 3.
+const WRITES: Listed<'static> = (
+    &[
+        asked!(0, Write(0, 1)),
+        asked!(0, Write(0, 2)),
+        asked!(0, Write(0, 3)),
+        asked!(0, Write(0, 4)),
+    ],
+    &[
+        Reply::Done(receipt!(1, 0, Write(0, 1), Granted)),
+        Reply::Done(receipt!(2, 0, Write(0, 2), Granted)),
+        Reply::Done(receipt!(3, 0, Write(0, 3), Granted)),
+        Reply::Illegal(GateFault::Limit),
+    ],
+);
 
-#[test]
-fn the_root_function_finishes(rt: HostRuntime) -> Result<(), Fail> {
-    laws_hold();
-    let outcomes = [
-        (Sync, Ok(Same)),
-        (Return, Ok(Finished)),
-        (Read(0), Err(GateFault::NotRunning)),
-    ];
-    let asks = Asks::Outcomes(&outcomes, (2, true, 0));
-    check_new(&rt, rt.alloc(), &[], 1_000_000, asks)
-}
+/// The root function returns, and its strand asks once more.
+const RETURNS: Listed<'static> = (
+    &[asked!(0, Sync), asked!(0, Return), asked!(0, Read(0))],
+    &[
+        Reply::Done(receipt!(1, 0, Sync, Same)),
+        Reply::Done(receipt!(2, 0, Return, Finished)),
+        Reply::Illegal(GateFault::NotRunning),
+    ],
+);
 
 fn laws_hold() {
     laws::race_law();
@@ -441,48 +424,74 @@ fn laws_hold() {
     laws::examples_law();
 }
 
-/// The number of the entry in which the strand's act is answered so.
-fn entered(rt: &impl Abort, gate: &mut Gate<Global>, strand: u32, act: Act, answer: Answer) -> u32 {
-    match gate.judge(request(strand, act, 1)) {
-        Ok(receipt) => {
-            equal(rt, &receipt.request, &receipt.answer, &answer);
-            receipt.number
-        }
-        Err(_) => {
-            assert!(rt; false);
-            0
-        }
-    }
-}
-
-/// The strand spawns a child, which returns at once. The first spawn is that of strand 0.
-fn spawn_and_return(rt: &impl Abort, gate: &mut Gate<Global>, strand: u32, child: u32, next: u32) {
-    let answer = split!(child, next, 3, strand == 0);
-    entered(rt, gate, strand, Spawn, answer);
-    entered(rt, gate, child, Return, Ended);
-}
-
-/// Ten thousand spawns by a new gate's root function, with a write behind each hundredth.
-fn spawns_long(rt: &impl Abort, gate: &mut Gate<Global>) {
-    let mut newest = 0;
-    let mut last = 0;
-    for k in 1..10_001u32 {
-        let child = if k == 1 { 1 } else { 2 * k };
-        spawn_and_return(rt, gate, newest, child, child + 1);
-        newest = child + 1;
-        if k % 100 == 0 {
-            last = entered(rt, gate, newest, Write(0, 7), Granted);
-        }
-    }
-    let joined = entered(rt, gate, newest, Sync, Joined(3));
-    let finished = entered(rt, gate, 3, Return, Finished);
-    assert_eq!(rt;
-        [newest, last, joined, finished],
-        [20_001, 20_100, 20_101, 20_102]
+/// The strand spawns a child, which returns at once, in the entries behind this one. The first spawn is that of strand 0.
+fn spawn_and_return(
+    rt: &impl Abort,
+    gate: &mut Gate<Global>,
+    number: u32,
+    strand: u32,
+    child: u32,
+) {
+    let answer = split!(child, child.wrapping_add(1), 3, strand == 0);
+    let number = number.wrapping_add(1);
+    answers(rt, gate, receipt(number, strand, Spawn, answer));
+    answers(
+        rt,
+        gate,
+        receipt(number.wrapping_add(1), child, Return, Ended),
     );
 }
 
+/// Ten thousand spawns by a new gate's root function, with a write behind each hundredth, and the strand that is left.
+fn spawn_all(rt: &impl Abort, gate: &mut Gate<Global>) -> u32 {
+    let mut newest = 0;
+    let mut number = 0u32;
+    for k in 1..10_001u32 {
+        let child = if k == 1 { 1 } else { 2 * k };
+        spawn_and_return(rt, gate, number, newest, child);
+        newest = child + 1;
+        number = number.wrapping_add(2);
+        if k % 100 == 0 {
+            number = number.wrapping_add(1);
+            answers(rt, gate, receipt(number, newest, Write(0, 7), Granted));
+        }
+    }
+    newest
+}
+
+/// The same, and the end of the root function.
+fn spawns_long(rt: &impl Abort, gate: &mut Gate<Global>) {
+    let newest = spawn_all(rt, gate);
+    equal(rt, &"newest", &newest, &20_001);
+    answers(rt, gate, receipt(20_101, newest, Sync, Joined(3)));
+    answers(rt, gate, receipt(20_102, 3, Return, Finished));
+}
+
+/// Gates without reducers, with these limits.
+const GATES: &[(u32, Asks<'static>)] = &[
+    // A gate begins without entries.
+    (7, Asks::Nothing),
+    // Faults come in their order.
+    (2, Asks::Faults),
+    // A list has one reply to each request.
+    (3, Asks::List(WRITES, (3, false, 3))),
+    // The root function finishes.
+    (1_000_000, Asks::List(RETURNS, (2, true, 0))),
+    // Spawns in a long loop.
+    (1_000_000, Asks::SpawnsLong),
+];
+
+/// A new gate with this limit is asked, and answers so.
+fn check_gate(rt: &impl Abort, alloc: Global, gate: &(u32, Asks<'_>)) -> Result<(), Fail> {
+    assert!(rt; gate.0 <= 1_000_000);
+    check_new(rt, alloc, &[], gate.0, gate.1)
+}
+
 #[test]
-fn spawns_in_a_long_loop(rt: HostRuntime) -> Result<(), Fail> {
-    check_new(&rt, rt.alloc(), &[], 1_000_000, Asks::SpawnsLong)
+fn a_gate_enters_from_its_begin_to_its_limit_or_end(rt: HostRuntime) -> Result<(), Fail> {
+    laws_hold();
+    for gate in GATES {
+        check_gate(&rt, rt.alloc(), gate)?;
+    }
+    Ok(())
 }

@@ -10,6 +10,8 @@ mod accesses;
 mod checks;
 #[cfg(test)]
 mod cores;
+#[cfg(test)]
+mod dag;
 pub mod draws;
 #[cfg(test)]
 mod gate;

@@ -1,8 +1,9 @@
 //! Random legal traces, against the slow reference.
 
-use super::reference::Reference;
+use super::reference::{answer_to_read, races};
 use super::{Asks, check_new};
 use crate::checks::equal;
+use crate::dag::Dag;
 use crate::draws::draw;
 use access_table::Rule;
 use race_gate::{Answer, Entry, Gate};
@@ -37,43 +38,43 @@ fn drawn_act(choice: u32, place: u32, value: u64, is_in_block: bool) -> Act {
     }
 }
 
-/// Asks the gate, and takes the answer in.
-fn ask(
-    gate: &mut Gate<Global>,
-    reference: &mut Reference,
-    strand: u32,
-    act: Act,
-) -> Result<(), AllocError> {
+/// Does an act of control in the dag.
+fn take(dag: &mut Dag, strand: u32, act: Act) {
+    match act {
+        Act::Spawn => dag.spawn(strand),
+        Act::Sync => dag.sync(strand),
+        Act::Return => dag.ret(strand),
+        _ => {}
+    }
+}
+
+/// Asks the gate, and does in the dag what it admits.
+fn ask(gate: &mut Gate<Global>, dag: &mut Dag, strand: u32, act: Act) {
     let request = Request {
         strand,
         act,
         line: 1,
     };
-    if let Ok(receipt) = gate.judge(request) {
-        reference.take(Entry {
-            request,
-            answer: receipt.answer,
-        })?;
+    if gate.judge(request).is_ok() {
+        take(dag, strand, act);
     }
-    Ok(())
 }
 
 /// Syncs and returns until the root function has returned, with a get before each.
-fn finish(gate: &mut Gate<Global>, reference: &mut Reference) -> Result<(), AllocError> {
+fn finish(gate: &mut Gate<Global>, dag: &mut Dag) {
     for round in 0..400u32 {
         if gate.is_finished() {
             break;
         }
-        let strand = reference.pick(63);
-        let act = if reference.is_in_block(strand) {
+        let strand = dag.pick(63);
+        let act = if dag.is_in_block(strand) {
             Act::Sync
         } else {
             Act::Return
         };
-        ask(gate, reference, strand, Act::Get(round % 2))?;
-        ask(gate, reference, strand, act)?;
+        ask(gate, dag, strand, Act::Get(round % 2));
+        ask(gate, dag, strand, act);
     }
-    Ok(())
 }
 
 fn is_race(answer: Answer) -> bool {
@@ -86,93 +87,68 @@ fn is_race(answer: Answer) -> bool {
     )
 }
 
-/// The entry, an access at this place in the trace of this seed, was answered as the reference answers it in the finished dag.
+/// The entry, behind these and at this place in the trace of this seed, was answered as the reference answers it in the finished dag.
 fn compare_one(
     rt: &impl Abort,
-    reference: &Reference,
+    alloc: Global,
+    dag: &Dag,
     earlier: &[Entry],
     entry: &Entry,
-    expected: Option<Answer>,
+    monoids: &[Monoid],
     case: (usize, u64),
-) {
-    let races = reference.races(earlier, entry.request.strand, entry.request.act);
-    equal(rt, &case, &is_race(entry.answer), &races);
-    if let Some(answer) = expected {
+) -> Result<(), AllocError> {
+    let strand = entry.request.strand;
+    let act = entry.request.act;
+    let is_refused = races(dag, earlier, strand, act);
+    equal(rt, &case, &is_race(entry.answer), &is_refused);
+    if let Some(answer) = answer_to_read(dag, alloc, earlier, monoids, strand, act)? {
         equal(rt, &case, &entry.answer, &answer);
     }
+    Ok(())
 }
 
 /// Each access among the entries was answered as the reference answers it.
 fn compare(
     rt: &impl Abort,
     alloc: Global,
-    reference: &Reference,
+    dag: &Dag,
     entries: &[Entry],
     monoids: &[Monoid],
     seed: u64,
 ) -> Result<(), AllocError> {
     for (place, entry) in entries.iter().enumerate() {
         let earlier = entries.get(..place).unwrap_or(&[]);
-        let strand = entry.request.strand;
-        let act = entry.request.act;
-        let expected = reference.answer_to_read(alloc, earlier, monoids, strand, act)?;
-        compare_one(rt, reference, earlier, entry, expected, (place, seed));
+        compare_one(rt, alloc, dag, earlier, entry, monoids, (place, seed))?;
     }
     Ok(())
 }
 
 /// One drawn act of a drawn strand, and the next state of the generator.
-fn play_one(
-    gate: &mut Gate<Global>,
-    reference: &mut Reference,
-    state: u64,
-) -> Result<u64, AllocError> {
+fn play_one(gate: &mut Gate<Global>, dag: &mut Dag, state: u64) -> u64 {
     let (which, state_strand) = draw(state, 64);
     let (choice, state_act) = draw(state_strand, 22);
     let (place, state_place) = draw(state_act, 3);
     let (value, state_next) = draw(state_place, 1_000);
-    let strand = reference.pick(which % 7);
+    let strand = dag.pick(which % 7);
     if !gate.is_finished() && (strand != 0 || choice <= 3 || choice >= 8) {
-        let act = drawn_act(
-            choice,
-            place,
-            u64::from(value),
-            reference.is_in_block(strand),
-        );
-        ask(gate, reference, strand, act)?;
+        let act = drawn_act(choice, place, u64::from(value), dag.is_in_block(strand));
+        ask(gate, dag, strand, act);
     }
-    Ok(state_next)
+    state_next
 }
 
 /// Twenty drawn acts, in every second trace behind a put to each reducer.
-fn play(
-    gate: &mut Gate<Global>,
-    reference: &mut Reference,
-    is_put: bool,
-    state: u64,
-) -> Result<(), AllocError> {
+fn play(gate: &mut Gate<Global>, dag: &mut Dag, is_put: bool, state: u64) {
     if is_put {
-        ask(gate, reference, 0, Act::Put(0, 1))?;
-        ask(gate, reference, 0, Act::Put(1, 500))?;
+        ask(gate, dag, 0, Act::Put(0, 1));
+        ask(gate, dag, 0, Act::Put(1, 500));
     }
     let mut state = state;
     for _entry in 0..20u32 {
-        state = play_one(gate, reference, state)?;
+        state = play_one(gate, dag, state);
     }
-    finish(gate, reference)
-}
-
-/// The trace of the finished gate is the reference's.
-fn compare_all(
-    rt: &impl Abort,
-    alloc: Global,
-    reference: &Reference,
-    gate: &Gate<Global>,
-    monoids: &[Monoid],
-    seed: u64,
-) -> Result<(), AllocError> {
-    assert!(rt; gate.is_finished(), "{seed}");
-    compare(rt, alloc, reference, gate.history(), monoids, seed)
+    finish(gate, dag);
+    dag.close();
 }
 
 /// A new gate's trace of this seed, from this state of the generator, is the reference's.
@@ -184,10 +160,10 @@ pub(super) fn agrees_in(
     seed: u64,
     state: u64,
 ) -> Result<(), AllocError> {
-    let mut reference = Reference::new(alloc);
-    play(gate, &mut reference, seed % 2 == 0, state)?;
-    reference.close();
-    compare_all(rt, alloc, &reference, gate, monoids, seed)
+    let mut dag = Dag::new();
+    play(gate, &mut dag, seed % 2 == 0, state);
+    assert!(rt; gate.is_finished());
+    compare(rt, alloc, &dag, gate.history(), monoids, seed)
 }
 
 /// The trace of this seed.

@@ -1,6 +1,6 @@
 //! Worked rows with one reducer.
 
-use super::{check_reducers, check_with};
+use super::{Run, check};
 use Act::{Get, Put, Return, Spawn, Sync, Update};
 use Answer::{Ended, EndedJoined, Granted, Joined, Unset, Value, Waits};
 use Monoid::{Digits, Last, Max, Min, Sum};
@@ -11,80 +11,63 @@ use sp_labels::Spawned;
 use std::test::Fail;
 use text_words::{Act, Monoid};
 
-#[test]
-fn a_get_by_the_continuation_is_refused_by_the_first_put(rt: HostRuntime) -> Result<(), Fail> {
-    check_reducers(
-        &rt,
-        rt.alloc(),
-        &[(
-            Sum,
-            &[
-                (0, Put(0, 0), Granted),
-                (0, Spawn, split!(1, 2, 3, true)),
-                (1, Update(0, 5), Granted),
-                (2, Get(0), refused!(Rule::View, 1, 0, Kind::Put)),
-                (1, Return, Ended),
-                (2, Sync, Joined(3)),
-                (3, Get(0), Value(5)),
-            ],
-        )],
-    )
-}
-
-#[test]
-fn views_are_combined_in_serial_order(rt: HostRuntime) -> Result<(), Fail> {
-    check_reducers(
-        &rt,
-        rt.alloc(),
+/// Programs with reducers.
+const RUNS: &[Run<'static>] = &[
+    // A get by the continuation is refused by the first put.
+    (
+        &[Sum],
         &[
-            (
-                Last,
-                &[
-                    (0, Put(0, 1), Granted),
-                    (0, Spawn, split!(1, 2, 3, true)),
-                    (2, Update(0, 7), Granted),
-                    (1, Update(0, 5), Granted),
-                    (1, Return, Ended),
-                    (2, Sync, Joined(3)),
-                    (3, Get(0), Value(7)),
-                ],
-            ),
-            (
-                Last,
-                &[
-                    (0, Put(0, 1), Granted),
-                    (0, Spawn, split!(1, 2, 3, true)),
-                    (2, Spawn, split!(4, 5, 3, false)),
-                    (1, Update(0, 5), Granted),
-                    (4, Update(0, 7), Granted),
-                    (4, Return, Ended),
-                    (1, Return, Ended),
-                    (5, Sync, Joined(3)),
-                    (3, Get(0), Value(7)),
-                ],
-            ),
-            (
-                Digits,
-                &[
-                    (0, Put(0, 0), Granted),
-                    (0, Spawn, split!(1, 2, 3, true)),
-                    (2, Update(0, 2), Granted),
-                    (1, Update(0, 1), Granted),
-                    (1, Return, Ended),
-                    (2, Sync, Joined(3)),
-                    (3, Get(0), Value(33)),
-                ],
-            ),
+            (0, Put(0, 0), Granted),
+            (0, Spawn, split!(1, 2, 3, true)),
+            (1, Update(0, 5), Granted),
+            (2, Get(0), refused!(Rule::View, 1, 0, Kind::Put)),
+            (1, Return, Ended),
+            (2, Sync, Joined(3)),
+            (3, Get(0), Value(5)),
         ],
-    )
-}
-
-#[test]
-fn a_get_of_a_reducer_that_was_not_read_is_unset(rt: HostRuntime) -> Result<(), Fail> {
-    check_reducers(&rt, rt.alloc(), &[(Last, &[(0, Get(0), Unset)])])?;
-    check_with(
-        &rt,
-        rt.alloc(),
+    ),
+    // Views are combined in serial order.
+    (
+        &[Last],
+        &[
+            (0, Put(0, 1), Granted),
+            (0, Spawn, split!(1, 2, 3, true)),
+            (2, Update(0, 7), Granted),
+            (1, Update(0, 5), Granted),
+            (1, Return, Ended),
+            (2, Sync, Joined(3)),
+            (3, Get(0), Value(7)),
+        ],
+    ),
+    (
+        &[Last],
+        &[
+            (0, Put(0, 1), Granted),
+            (0, Spawn, split!(1, 2, 3, true)),
+            (2, Spawn, split!(4, 5, 3, false)),
+            (1, Update(0, 5), Granted),
+            (4, Update(0, 7), Granted),
+            (4, Return, Ended),
+            (1, Return, Ended),
+            (5, Sync, Joined(3)),
+            (3, Get(0), Value(7)),
+        ],
+    ),
+    (
+        &[Digits],
+        &[
+            (0, Put(0, 0), Granted),
+            (0, Spawn, split!(1, 2, 3, true)),
+            (2, Update(0, 2), Granted),
+            (1, Update(0, 1), Granted),
+            (1, Return, Ended),
+            (2, Sync, Joined(3)),
+            (3, Get(0), Value(33)),
+        ],
+    ),
+    // A get of a reducer that was not read is unset.
+    (&[Last], &[(0, Get(0), Unset)]),
+    (
         &[Min, Sum],
         &[
             (0, Put(0, 5), Granted),
@@ -93,112 +76,84 @@ fn a_get_of_a_reducer_that_was_not_read_is_unset(rt: HostRuntime) -> Result<(), 
             (0, Put(1, 2), Granted),
             (0, Get(1), Value(2)),
         ],
-    )
-}
-
-#[test]
-fn a_join_has_the_peers_of_its_opener(rt: HostRuntime) -> Result<(), Fail> {
-    check_reducers(
-        &rt,
-        rt.alloc(),
-        &[(
-            Sum,
-            &[
-                (0, Spawn, split!(1, 2, 3, true)),
-                (1, Put(0, 5), Granted),
-                (1, Spawn, split!(4, 5, 6, true)),
-                (4, Update(0, 1), Granted),
-                (4, Return, Ended),
-                (5, Sync, Joined(6)),
-                (6, Get(0), Value(6)),
-                (2, Get(0), refused!(Rule::View, 2, 1, Kind::Put)),
-            ],
-        )],
-    )
-}
-
-#[test]
-fn a_refused_put_is_neither_done_nor_remembered(rt: HostRuntime) -> Result<(), Fail> {
-    check_reducers(
-        &rt,
-        rt.alloc(),
-        &[(
-            Sum,
-            &[
-                (0, Put(0, 1), Granted),
-                (0, Spawn, split!(1, 2, 3, true)),
-                (1, Put(0, 9), refused!(Rule::View, 1, 0, Kind::Put)),
-                (2, Sync, Waits),
-                (1, Return, EndedJoined(3)),
-                (3, Get(0), Value(1)),
-            ],
-        )],
-    )
-}
-
-#[test]
-fn monoids_combine_modulo_the_word(rt: HostRuntime) -> Result<(), Fail> {
-    check_reducers(
-        &rt,
-        rt.alloc(),
+    ),
+    // A join has the peers of its opener.
+    (
+        &[Sum],
         &[
-            (
-                Sum,
-                &[
-                    (0, Put(0, 18_446_744_073_709_551_615), Granted),
-                    (0, Update(0, 2), Granted),
-                    (0, Get(0), Value(1)),
-                ],
-            ),
-            (
-                Min,
-                &[
-                    (0, Put(0, 9), Granted),
-                    (0, Spawn, split!(1, 2, 3, true)),
-                    (1, Update(0, 4), Granted),
-                    (2, Update(0, 6), Granted),
-                    (1, Return, Ended),
-                    (2, Sync, Joined(3)),
-                    (3, Get(0), Value(4)),
-                ],
-            ),
-            (
-                Max,
-                &[
-                    (0, Put(0, 3), Granted),
-                    (0, Update(0, 9), Granted),
-                    (0, Update(0, 4), Granted),
-                    (0, Get(0), Value(9)),
-                ],
-            ),
+            (0, Spawn, split!(1, 2, 3, true)),
+            (1, Put(0, 5), Granted),
+            (1, Spawn, split!(4, 5, 6, true)),
+            (4, Update(0, 1), Granted),
+            (4, Return, Ended),
+            (5, Sync, Joined(6)),
+            (6, Get(0), Value(6)),
+            (2, Get(0), refused!(Rule::View, 2, 1, Kind::Put)),
         ],
-    )
-}
-
-// Peers that begin later do not count: the child's are the same ones at its put and at its get.
-#[test]
-fn peers_are_those_of_the_whole_dag(rt: HostRuntime) -> Result<(), Fail> {
-    check_reducers(
-        &rt,
-        rt.alloc(),
+    ),
+    // A refused put is neither done nor remembered.
+    (
+        &[Sum],
         &[
-            (
-                Sum,
-                &[
-                    (0, Spawn, split!(1, 2, 3, true)),
-                    (1, Put(0, 5), Granted),
-                    (2, Spawn, split!(4, 5, 3, false)),
-                    (1, Get(0), Value(5)),
-                ],
-            ),
-            (
-                Sum,
-                &[
-                    (0, Spawn, split!(1, 2, 3, true)),
-                    (1, Put(0, 5), Granted),
-                    (2, Get(0), refused!(Rule::View, 2, 1, Kind::Put)),
-                ],
-            ),
+            (0, Put(0, 1), Granted),
+            (0, Spawn, split!(1, 2, 3, true)),
+            (1, Put(0, 9), refused!(Rule::View, 1, 0, Kind::Put)),
+            (2, Sync, Waits),
+            (1, Return, EndedJoined(3)),
+            (3, Get(0), Value(1)),
         ],
-    )
+    ),
+    // Monoids combine modulo the word.
+    (
+        &[Sum],
+        &[
+            (0, Put(0, 18_446_744_073_709_551_615), Granted),
+            (0, Update(0, 2), Granted),
+            (0, Get(0), Value(1)),
+        ],
+    ),
+    (
+        &[Min],
+        &[
+            (0, Put(0, 9), Granted),
+            (0, Spawn, split!(1, 2, 3, true)),
+            (1, Update(0, 4), Granted),
+            (2, Update(0, 6), Granted),
+            (1, Return, Ended),
+            (2, Sync, Joined(3)),
+            (3, Get(0), Value(4)),
+        ],
+    ),
+    (
+        &[Max],
+        &[
+            (0, Put(0, 3), Granted),
+            (0, Update(0, 9), Granted),
+            (0, Update(0, 4), Granted),
+            (0, Get(0), Value(9)),
+        ],
+    ),
+    // Peers are those of the whole dag: ones that begin later do not count, and the child's are the same at its put and at its get.
+    (
+        &[Sum],
+        &[
+            (0, Spawn, split!(1, 2, 3, true)),
+            (1, Put(0, 5), Granted),
+            (2, Spawn, split!(4, 5, 3, false)),
+            (1, Get(0), Value(5)),
+        ],
+    ),
+    (
+        &[Sum],
+        &[
+            (0, Spawn, split!(1, 2, 3, true)),
+            (1, Put(0, 5), Granted),
+            (2, Get(0), refused!(Rule::View, 2, 1, Kind::Put)),
+        ],
+    ),
+];
+
+#[test]
+fn reads_want_equal_peers_and_combine_views(rt: HostRuntime) -> Result<(), Fail> {
+    check(&rt, rt.alloc(), RUNS)
 }

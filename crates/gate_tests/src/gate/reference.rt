@@ -1,282 +1,228 @@
-//! A slow reference: the dag by its paths, peers as sets, and values as lists.
+//! A slow reference: races and reads by the dag's paths, peers as sets, and values as lists.
 
-ghost use Rattle.std.specs.Prelude.{◌<◌};
-
+use crate::dag::Dag;
 use access_table::{Kind, Rule, rule};
 use race_gate::{Answer, Entry};
+use shadow_history::Witness;
 use std::alloc::{AllocError, Global};
 use text_words::{Act, Monoid};
 
-/// The strands below 64 of a program without calls.
-#[derive(Drop)]
-pub struct Reference {
-    /// From which strand to which the edges of the dag lead.
-    edges: Vec<(u32, u32)>,
-    /// The child and the next strand of each spawn.
-    splits: Vec<(u32, u32)>,
-    /// The strands that each one reaches by a path, as bits.
-    reached: [u64; 64],
-    begun: u64,
-    running: u64,
-    /// The join of the block that the strand's function is a child of, 0 for the root function.
-    home: [u32; 64],
-    /// The join of the open block that the strand is in, or 0.
-    block: [u32; 64],
+/// The right answer to a put or a get, by the entries before it.
+pub fn answer_to_read(
+    dag: &Dag,
+    alloc: Global,
+    earlier: &[Entry],
+    monoids: &[Monoid],
+    strand: u32,
+    act: Act,
+) -> Result<Option<Answer>, AllocError> {
+    match act {
+        Act::Put(reducer, _) => Ok(Some(answer_to_put(dag, earlier, reducer, strand))),
+        Act::Get(reducer) => {
+            let answer = answer_to_get(dag, alloc, earlier, monoids, strand, reducer)?;
+            Ok(Some(answer))
+        }
+        _ => Ok(None),
+    }
 }
 
-/// The strand as a bit.
-fn bit(strand: u32) -> u64 {
-    1 << (strand % 64)
+fn answer_to_put(dag: &Dag, earlier: &[Entry], reducer: u32, strand: u32) -> Answer {
+    if differs(dag, earlier, reducer, strand) {
+        return refused(earlier, reducer);
+    }
+    Answer::Granted
 }
 
-fn place(strand: u32) -> usize
-    ensures { result < 64 }
-{
-    (strand % 64) as usize
+fn answer_to_get(
+    dag: &Dag,
+    alloc: Global,
+    earlier: &[Entry],
+    monoids: &[Monoid],
+    strand: u32,
+    reducer: u32,
+) -> Result<Answer, AllocError> {
+    if differs(dag, earlier, reducer, strand) {
+        return Ok(refused(earlier, reducer));
+    }
+    let Some(put) = last_put(earlier, reducer) else {
+        return Ok(Answer::Unset);
+    };
+    let updates = updates_behind(dag, alloc, earlier, put, reducer, strand)?;
+    let monoid = monoid_of(monoids, reducer);
+    Ok(Answer::Value(combined(monoid, put_value(earlier, put), updates.as_slice())))
 }
 
-/// No bit for any strand.
-fn no_bits() -> [u64; 64] {
-    [0; 64]
+fn monoid_of(monoids: &[Monoid], reducer: u32) -> Monoid {
+    monoids
+        .get(reducer as usize)
+        .copied()
+        .unwrap_or(Monoid::Sum)
 }
 
-/// No join for any strand.
-fn no_joins() -> [u32; 64] {
-    [0; 64]
+/// Whether a strand that read the reducer has other peers than this one.
+fn differs(dag: &Dag, earlier: &[Entry], reducer: u32, strand: u32) -> bool {
+    let peers = dag.peers(strand);
+    for entry in earlier {
+        if granted_read(entry, reducer).is_some() && dag.peers(entry.request.strand) != peers {
+            return true;
+        }
+    }
+    false
 }
 
-impl Reference {
-    pub fn new(alloc: Global) -> Reference {
-        Reference {
-            edges: Vec::new(alloc),
-            splits: Vec::new(alloc),
-            reached: no_bits(),
-            begun: 1,
-            running: 1,
-            home: no_joins(),
-            block: no_joins(),
+/// The refusal by the first read of the reducer.
+fn refused(earlier: &[Entry], reducer: u32) -> Answer {
+    let mut number = 0u32;
+    for entry in earlier {
+        number = number.wrapping_add(1);
+        if let Some(kind) = granted_read(entry, reducer) {
+            return refused_by(number, entry.request.strand, kind);
         }
     }
+    Answer::Unset
+}
 
-    pub fn is_running(&self, strand: u32) -> bool {
-        self.running & bit(strand) != 0
+fn refused_by(entry: u32, strand: u32, kind: Kind) -> Answer {
+    Answer::Refused {
+        rule: Rule::View,
+        witness: Witness {
+            entry,
+            strand,
+            kind,
+        },
     }
+}
 
-    pub fn is_in_block(&self, strand: u32) -> bool {
-        self.block[place(strand)] != 0
-    }
-
-    /// A running strand, by a number that picks one.
-    pub fn pick(&self, pick: u32) -> u32 {
-        let mut left = pick % 64;
-        let mut last = 0;
-        for strand in 0..64u32 {
-            if self.is_running(strand) {
-                last = strand;
-                if left == 0 {
-                    break;
-                }
-                left -= 1;
-            }
-        }
-        last
-    }
-
-    fn begin(&mut self, strand: u32, home: u32, block: u32) {
-        self.begun |= bit(strand);
-        self.running |= bit(strand);
-        self.home[place(strand)] = home;
-        self.block[place(strand)] = block;
-    }
-
-    fn end(&mut self, strand: u32) {
-        self.running &= !bit(strand);
-    }
-
-    fn arrive(&mut self, strand: u32, join: u32) -> Result<(), AllocError> {
-        self.end(strand);
-        self.edges.push((strand, join))?;
-        Ok(())
-    }
-
-    /// Takes in an entry of control.
-    pub fn take(&mut self, entry: Entry) -> Result<(), AllocError> {
-        let strand = entry.request.strand;
-        let home = self.home[place(strand)];
-        let block = self.block[place(strand)];
-        match entry.answer {
-            Answer::Split(spawned) => {
-                self.end(strand);
-                self.edges.push((strand, spawned.child))?;
-                self.edges.push((strand, spawned.next))?;
-                self.splits.push((spawned.child, spawned.next))?;
-                self.begin(spawned.child, spawned.join, 0);
-                self.begin(spawned.next, home, spawned.join);
-                if spawned.first {
-                    self.home[place(spawned.join)] = home;
-                }
-            }
-            Answer::Waits => self.arrive(strand, block)?,
-            Answer::Ended => self.arrive(strand, home)?,
-            Answer::Joined(join) | Answer::EndedJoined(join) => {
-                self.arrive(strand, join)?;
-                let below = self.home[place(join)];
-                self.begin(join, below, 0);
-            }
-            Answer::Finished => self.end(strand),
-            _ => {}
-        }
-        Ok(())
-    }
-
-    /// Follows the edges until no further strand is reached.
-    pub fn close(&mut self) {
-        for _round in 0..64u32 {
-            for (from, to) in &self.edges {
-                let further = bit(*to) | self.reached[place(*to)];
-                self.reached[place(*from)] |= further;
-            }
+/// The place of the last put to the reducer.
+fn last_put(earlier: &[Entry], reducer: u32) -> Option<usize> {
+    let mut put = None;
+    for (place, entry) in earlier.iter().enumerate() {
+        if granted_read(entry, reducer) == Some(Kind::Put) {
+            put = Some(place);
         }
     }
+    put
+}
 
-    /// Whether there is a path, perhaps of no edge.
-    fn reaches(&self, from: u32, to: u32) -> bool {
-        from == to || self.reached[place(from)] & bit(to) != 0
+/// The strand and the value of the put at this place.
+fn put_at(earlier: &[Entry], put: usize) -> (u32, u64) {
+    match earlier.get(put) {
+        Some(entry) => match entry.request.act {
+            Act::Put(_, value) => (entry.request.strand, value),
+            _ => (0, 0),
+        },
+        None => (0, 0),
     }
+}
 
-    fn parallel(&self, strand: u32, other: u32) -> bool {
-        !self.reaches(strand, other) && !self.reaches(other, strand)
-    }
+fn put_value(earlier: &[Entry], put: usize) -> u64 {
+    put_at(earlier, put).1
+}
 
-    /// The begun strands that are parallel to this one.
-    fn peers(&self, strand: u32) -> u64 {
-        let mut peers = 0;
-        for other in 0..64u32 {
-            if self.begun & bit(other) != 0 && self.parallel(strand, other) {
-                peers |= bit(other);
-            }
+/// The updates of the reducer between the put and the strand, in serial order.
+fn updates_behind(
+    dag: &Dag,
+    alloc: Global,
+    earlier: &[Entry],
+    put: usize,
+    reducer: u32,
+    strand: u32,
+) -> Result<Vec<(u32, u64)>, AllocError> {
+    let put_by = put_at(earlier, put).0;
+    let mut updates = Vec::new(alloc);
+    for (place, entry) in earlier.iter().enumerate() {
+        if place > put {
+            take_update(dag, &mut updates, entry, reducer, (put_by, strand))?;
         }
-        peers
     }
+    Ok(updates)
+}
 
-    /// The serial order of strands.
-    fn is_before(&self, strand: u32, other: u32) -> bool {
-        (self.reaches(strand, other) && strand != other)
-            || self.splits.iter().any(|(child, next)| {
-                self.reaches(*child, strand)
-                    && !self.reaches(*child, other)
-                    && self.reaches(*next, other)
-                    && !self.reaches(*next, strand)
-            })
-    }
-
-    /// The right answer to a put or a get, by the entries before it.
-    pub fn answer_to_read(
-        &self,
-        alloc: Global,
-        earlier: &[Entry],
-        monoids: &[Monoid],
-        strand: u32,
-        act: Act,
-    ) -> Result<Option<Answer>, AllocError> {
-        let (reducer, is_get) = match act {
-            Act::Put(reducer, _) => (reducer, false),
-            Act::Get(reducer) => (reducer, true),
-            _ => return Ok(None),
-        };
-        let mut first = None;
-        let mut differs = false;
-        let mut put = None;
-        for (place, entry) in earlier.iter().enumerate() {
-            let kind = match granted_read(entry, reducer) {
-                Some(kind) => kind,
-                None => continue,
-            };
-            if first.is_none() {
-                first = Some((place, entry.request.strand, kind));
-            }
-            if kind == Kind::Put {
-                put = Some(place);
-            }
-            differs |= self.peers(entry.request.strand) != self.peers(strand);
+/// Takes in an update of the reducer by a strand between these two.
+fn take_update(
+    dag: &Dag,
+    updates: &mut Vec<(u32, u64)>,
+    entry: &Entry,
+    reducer: u32,
+    ends: (u32, u32),
+) -> Result<(), AllocError> {
+    if let Act::Update(updated, number) = entry.request.act {
+        let by = entry.request.strand;
+        if updated == reducer && dag.reaches(ends.0, by) && dag.reaches(by, ends.1) {
+            put_in_order(dag, updates, by, number)?;
         }
-        Ok(match first {
-            None if is_get => Some(Answer::Unset),
-            Some((place, read_by, kind)) if differs => Some(refused(place, read_by, kind)),
-            _ if !is_get => Some(Answer::Granted),
-            _ => match (put, monoids.get(reducer as usize)) {
-                (Some(put), Some(monoid)) => Some(Answer::Value(self.value(
-                    alloc, earlier, put, *monoid, reducer, strand,
-                )?)),
-                _ => None,
-            },
-        })
     }
+    Ok(())
+}
 
-    /// The put's value combined with the updates between, in serial order.
-    fn value(
-        &self,
-        alloc: Global,
-        earlier: &[Entry],
-        put: usize,
-        monoid: Monoid,
-        reducer: u32,
-        strand: u32,
-    ) -> Result<u64, AllocError> {
-        let (put_by, mut value) = match earlier.get(put) {
-            Some(entry) => match entry.request.act {
-                Act::Put(_, value) => (entry.request.strand, value),
-                _ => return Ok(0),
-            },
-            None => return Ok(0),
-        };
-        let mut updates = Vec::new(alloc);
-        for (place, entry) in earlier.iter().enumerate() {
-            if let Act::Update(updated, number) = entry.request.act {
-                let by = entry.request.strand;
-                let is_between = self.reaches(put_by, by) && self.reaches(by, strand);
-                if place > put && updated == reducer && is_between {
-                    self.put_in_order(&mut updates, by, number)?;
-                }
-            }
-        }
-        for (_, number) in &updates {
-            value = combined(monoid, value, *number);
-        }
-        Ok(value)
+/// Puts an update by the strand in its place. Of one strand the updates stand in the order of their numbers.
+fn put_in_order(
+    dag: &Dag,
+    updates: &mut Vec<(u32, u64)>,
+    by: u32,
+    number: u64,
+) -> Result<(), AllocError> {
+    let at = place_of(dag, updates.as_slice(), by);
+    if at <= updates.len() {
+        updates.insert(at, (by, number))?;
     }
+    Ok(())
+}
 
-    /// Puts an update by the strand in its place. Of one strand the updates stand in the order of their numbers.
-    fn put_in_order(
-        &self,
-        updates: &mut Vec<(u32, u64)>,
-        by: u32,
-        number: u64,
-    ) -> Result<(), AllocError> {
-        let at = updates
-            .iter()
-            .position(|(other, _)| self.is_before(by, *other))
-            .unwrap_or(updates.len());
-        if at <= updates.len() {
-            updates.insert(at, (by, number))?;
+/// How many updates stand before the first by a strand that is behind this one.
+fn place_of(dag: &Dag, updates: &[(u32, u64)], by: u32) -> usize {
+    let mut place = 0usize;
+    for (other, _) in updates {
+        if dag.is_before(true, by, *other) {
+            break;
         }
-        Ok(())
+        place = place.wrapping_add(1);
     }
+    place
+}
 
-    /// Whether an access of a cell races with an earlier granted one.
-    pub fn races(&self, earlier: &[Entry], strand: u32, act: Act) -> bool {
-        let Some((kind, cell)) = cell_access(act) else {
-            return false;
-        };
-        earlier.iter().any(|entry| match cell_access(entry.request.act) {
-            Some((other, place)) => {
-                place == cell
-                    && matches!(entry.answer, Answer::Granted | Answer::Value(_))
-                    && rule(other, kind) == Rule::Race
-                    && self.parallel(entry.request.strand, strand)
-            }
-            None => false,
-        })
+/// What the updates make of a value.
+fn combined(monoid: Monoid, put: u64, updates: &[(u32, u64)]) -> u64 {
+    let mut value = put;
+    for (_, number) in updates {
+        value = combined_once(monoid, value, *number);
+    }
+    value
+}
+
+/// What a further update makes of a value.
+fn combined_once(monoid: Monoid, value: u64, number: u64) -> u64 {
+    match monoid {
+        Monoid::Sum => value.wrapping_add(number),
+        Monoid::Min => value.min(number),
+        Monoid::Max => value.max(number),
+        Monoid::Last => number,
+        Monoid::Digits => value.wrapping_mul(31).wrapping_add(number),
+    }
+}
+
+/// Whether an access of a cell races with an earlier granted one.
+pub fn races(dag: &Dag, earlier: &[Entry], strand: u32, act: Act) -> bool {
+    let Some((kind, cell)) = cell_access(act) else {
+        return false;
+    };
+    for entry in earlier {
+        if conflicts(entry, kind, cell) && dag.parallel(entry.request.strand, strand) {
+            return true;
+        }
+    }
+    false
+}
+
+/// Whether the entry is a granted access of the cell, of a kind that races with this one.
+fn conflicts(entry: &Entry, kind: Kind, cell: u32) -> bool {
+    match cell_access(entry.request.act) {
+        Some((other, place)) => {
+            place == cell
+                && matches!(entry.answer, Answer::Granted | Answer::Value(_))
+                && rule(other, kind) == Rule::Race
+        }
+        None => false,
     }
 }
 
@@ -295,27 +241,5 @@ fn granted_read(entry: &Entry, reducer: u32) -> Option<Kind> {
         (Act::Put(read, _), Answer::Granted) if read == reducer => Some(Kind::Put),
         (Act::Get(read), Answer::Value(_)) if read == reducer => Some(Kind::Get),
         _ => None,
-    }
-}
-
-fn refused(place: usize, strand: u32, kind: Kind) -> Answer {
-    Answer::Refused {
-        rule: Rule::View,
-        witness: shadow_history::Witness {
-            entry: ((place % 1_000_000) + 1) as u32,
-            strand,
-            kind,
-        },
-    }
-}
-
-/// What a further update makes of a value.
-fn combined(monoid: Monoid, value: u64, number: u64) -> u64 {
-    match monoid {
-        Monoid::Sum => value.wrapping_add(number),
-        Monoid::Min => value.min(number),
-        Monoid::Max => value.max(number),
-        Monoid::Last => number,
-        Monoid::Digits => value.wrapping_mul(31).wrapping_add(number),
     }
 }
