@@ -2,7 +2,7 @@
 
 use std::process::Abort;
 
-/// Checks that the text that was found in a case is what is wanted.
-pub fn same_text(rt: &impl Abort, case: &str, found: &[u8], wanted: &[u8]) {
-    assert_eq!(rt; found, wanted, "{case}");
+/// Checks that the text that was found is what is wanted.
+pub fn same_text(rt: &impl Abort, found: &[u8], wanted: &[u8]) {
+    assert_eq!(rt; found, wanted);
 }

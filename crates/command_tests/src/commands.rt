@@ -282,7 +282,7 @@ fn is_ended(rt: &impl Abort, outcome: &Outcome, status: u8, what: &str) {
 /// It has, and has written this text.
 fn is_written(rt: &impl Abort, outcome: &Outcome, status: u8, text: &str) {
     is_ended(rt, outcome, status, text);
-    same_text(rt, "text", outcome.output.held.as_slice(), text.as_bytes());
+    same_text(rt, outcome.output.held.as_slice(), text.as_bytes());
 }
 
 /// Whether these bytes are those of one of the texts.
@@ -310,7 +310,7 @@ fn is_fault(
     wanted: &str,
 ) -> Result<(), Fail> {
     let told = format!(in alloc; "{fault}")?;
-    same_text(rt, wanted, told.as_bytes(), wanted.as_bytes());
+    same_text(rt, told.as_bytes(), wanted.as_bytes());
     assert!(rt; fault.status() == status, "{wanted}");
     Ok(())
 }
@@ -323,12 +323,14 @@ fn has_fault(
     status: u8,
     wanted: &str,
 ) -> Result<(), Fail> {
-    assert!(rt; outcome.output.held.is_empty(), "{wanted}");
+    assert!(rt; outcome.output.held.is_empty());
     match &outcome.answer {
-        Ok(_) => assert!(rt; false, "{wanted} is not answered"),
-        Err(fault) => is_fault(rt, alloc, fault, status, wanted)?,
+        Ok(_) => {
+            assert!(rt; false, "{wanted}");
+            Ok(())
+        }
+        Err(fault) => is_fault(rt, alloc, fault, status, wanted),
     }
-    Ok(())
 }
 
 /// The reader has failed behind so many reads, which is told, and nothing is written.
@@ -369,12 +371,7 @@ fn has_filled(rt: &impl Abort, outcome: &Outcome, left: u32, calls: u32, text: &
         "{left} writes"
     );
     let (front, _) = text.as_bytes().split_at(text.len().min(left as usize));
-    same_text(
-        rt,
-        "what was written",
-        outcome.output.held.as_slice(),
-        front,
-    );
+    same_text(rt, outcome.output.held.as_slice(), front);
 }
 
 /// The outcome is what is wanted.

@@ -140,7 +140,7 @@ fn is_delivered(rt: &impl Abort, run: &Recorded, status: u8) {
 /// It has, and its trace is this text.
 fn is_traced(rt: &impl Abort, run: &Recorded, status: u8, wanted: &str) {
     is_delivered(rt, run, status);
-    same_text(rt, "trace", run.trace.held.as_slice(), wanted.as_bytes());
+    same_text(rt, run.trace.held.as_slice(), wanted.as_bytes());
 }
 
 /// It has, and its trace is one of a run of the program, with this status, which is told so.
@@ -180,7 +180,7 @@ fn is_trace_taken(rt: &impl Abort, run: &Recorded, left: u32) {
     }
     is_traced(rt, run, 0, SHORT_TRACE);
     let report = run.output.held.as_slice();
-    same_text(rt, "report", report, SHORT_REPORT.as_bytes());
+    same_text(rt, report, SHORT_REPORT.as_bytes());
 }
 
 /// A report of SHORT whose writer goes along with too few calls.
@@ -191,7 +191,7 @@ fn is_report_cut(rt: &impl Abort, run: &Recorded, left: u32) {
         "{left} writes"
     );
     let trace = run.trace.held.as_slice();
-    same_text(rt, "trace", trace, SHORT_TRACE.as_bytes());
+    same_text(rt, trace, SHORT_TRACE.as_bytes());
 }
 
 /// A run that the limit ended, of which nothing is written.
@@ -459,8 +459,8 @@ enum Leaves {
 /// SHORT is reported, and its trace is in a file of this name.
 fn is_kept(rt: &impl Abort, left: &Left<'_>, name: &str) {
     let (report, trace) = (left.output.held.as_slice(), left.desk.held.as_slice());
-    same_text(rt, "report", report, SHORT_REPORT.as_bytes());
-    same_text(rt, "trace", trace, SHORT_TRACE.as_bytes());
+    same_text(rt, report, SHORT_REPORT.as_bytes());
+    same_text(rt, trace, SHORT_TRACE.as_bytes());
     assert!(rt; left.desk.name.as_str() == name && left.desk.created == 1);
 }
 

@@ -9,9 +9,8 @@ use std::test::Fail;
 use text_words::{Act, Request, TextFault};
 use tool_commands::{CliFault, status_of};
 
-/// Traces and their verdict lines, or what is wrong with their texts.
-const JUDGED: &[Case<'static>] = &[
-    // Control, values, limits and faults of texts.
+/// Control, values, limits and faults of texts.
+const CONTROL: &[Case<'static>] = &[
     (Judge(MOST), "cilk 1\nmem x\n", Text(0, "")),
     (
         Judge(MOST),
@@ -75,7 +74,15 @@ const JUDGED: &[Case<'static>] = &[
         "cilk 1\nmem a 2\nread 0 a[2]\n",
         Fault(2, "trace line 3: BadNumber"),
     ),
-    // Accesses of a cell that race or not.
+];
+
+#[test]
+fn control_and_values(rt: HostRuntime) -> Result<(), Fail> {
+    check_all(&rt, rt.alloc(), CONTROL)
+}
+
+/// Accesses of a cell that race or not.
+const RACES: &[Case<'static>] = &[
     (
         Judge(MOST),
         "cilk 1\nmem x\nspawn 0\nread 1 x\nread 2 x\nwrite 2 x 9\n",
@@ -125,7 +132,15 @@ const JUDGED: &[Case<'static>] = &[
         "cilk 2\nmem x\nspawn 0\nread 1 x\nbump 2 x 1\n",
         Text(1, "1 split 1 2 3\n2 value 0\n3 refused read-bump 2\n"),
     ),
-    // Reducers, and their views in blocks.
+];
+
+#[test]
+fn races_and_bumps(rt: HostRuntime) -> Result<(), Fail> {
+    check_all(&rt, rt.alloc(), RACES)
+}
+
+/// Reducers, and their views in blocks.
+const REDUCED: &[Case<'static>] = &[
     (
         Judge(MOST),
         "cilk 1\nreducer h sum\nput 0 h 0\nspawn 0\nupdate 1 h 5\nget 2 h\nreturn 1\nsync 2\nget 3 h\n",
@@ -210,8 +225,8 @@ const JUDGED: &[Case<'static>] = &[
 ];
 
 #[test]
-fn control_values_races_and_reducers(rt: HostRuntime) -> Result<(), Fail> {
-    check_all(&rt, rt.alloc(), JUDGED)
+fn reducers(rt: HostRuntime) -> Result<(), Fail> {
+    check_all(&rt, rt.alloc(), REDUCED)
 }
 
 /// A loop of 10,000 spawns, with a write behind each hundredth. The children, which end, are strands 1, 4, 6, and so on. The one with an even
@@ -229,18 +244,24 @@ fn spawn_loop(alloc: Global) -> Result<String, AllocError> {
     Ok(text)
 }
 
-/// Its verdict lines: two for each spawn and its end, and one for each write.
+/// The verdict lines on its spawns but the first two: two for each, for it and for the child's end, and one for each write.
+fn push_verdicts(lines: &mut String) -> Result<(), AllocError> {
+    for k in 3..10_001u32 {
+        let end = (2 * k).wrapping_add((k - 1) / 100);
+        push_numbers(lines, "", end.wrapping_sub(1), " split ", 2 * k, " ")?;
+        push_numbers(lines, "", 2 * k + 1, " 3\n", end, " ended\n")?;
+        if k % 100 == 0 {
+            push_number(lines, "", end.wrapping_add(1), " granted\n")?;
+        }
+    }
+    Ok(())
+}
+
+/// Its verdict lines.
 fn loop_verdicts(alloc: Global) -> Result<String, AllocError> {
     let head = "1 split 1 2 3\n2 ended\n3 split 4 5 3\n4 ended\n";
     let mut lines = String::from_str(alloc, head)?;
-    for k in 3..10_001u32 {
-        let end = (2 * k).wrapping_add((k - 1) / 100);
-        push_numbers(&mut lines, "", end.wrapping_sub(1), " split ", 2 * k, " ")?;
-        push_numbers(&mut lines, "", 2 * k + 1, " 3\n", end, " ended\n")?;
-        if k % 100 == 0 {
-            push_number(&mut lines, "", end.wrapping_add(1), " granted\n")?;
-        }
-    }
+    push_verdicts(&mut lines)?;
     lines.push_str("20101 joined 3\n20102 finished\n")?;
     Ok(lines)
 }

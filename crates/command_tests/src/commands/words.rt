@@ -83,12 +83,23 @@ fn read(alloc: Global, line: &str) -> Result<Result<Job, CliFault>, AllocError> 
     Ok(read_words(alloc, words.as_slice()))
 }
 
+/// What the words of this line ask for is this.
+fn is_met(
+    rt: &impl Abort,
+    alloc: Global,
+    found: &Result<Job, CliFault>,
+    asks: Asks<'_>,
+    line: &str,
+) -> Result<(), Fail> {
+    let is_asked = is_asked(alloc, found, asks)?;
+    assert!(rt; is_asked, "{line}");
+    Ok(())
+}
+
 /// They ask for this.
 fn check(rt: &impl Abort, alloc: Global, line: &str, asks: Asks<'_>) -> Result<(), Fail> {
     let found = read(alloc, line)?;
-    let is_met = is_asked(alloc, &found, asks)?;
-    assert!(rt; is_met, "{line}");
-    Ok(())
+    is_met(rt, alloc, &found, asks, line)
 }
 
 /// Words, and what they ask for.
