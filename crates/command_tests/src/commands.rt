@@ -18,7 +18,7 @@ mod verdicts;
 mod words;
 mod worked;
 
-use crate::checks::equal;
+use crate::checks::same_text;
 use crate::devices::Filling;
 use std::alloc::{AllocError, Global};
 use std::io::Read;
@@ -33,7 +33,7 @@ use tool_commands::{
 
 const MOST: u32 = 1_000_000;
 
-/// A command over a text that is read. The other text that it may want has its lines between semicolons.
+/// A command over a text that is read. It may want another text.
 #[derive(Clone, Copy)]
 enum Command<'a> {
     /// Judges the trace that is read, with this limit.
@@ -71,7 +71,7 @@ fn manned(rt: &impl Abort, workers: usize) -> usize
     workers
 }
 
-/// Replays this trace as a run of the program that is read. The trace stands in memory, so it can be read.
+/// Replays this trace, which stands in memory and so can be read, as a run of the program that is read.
 fn replayed<P: Read>(
     rt: &impl Abort,
     alloc: Global,
@@ -82,7 +82,6 @@ fn replayed<P: Read>(
     requires reader { has_failed program.old ≡ false }
     requires writer { has_failed output.old ≡ false }
 {
-    let trace = lined(alloc, trace, "; ")?;
     let mut other = Watched::new(trace.as_bytes());
     let answer = replay_text(alloc, program, &mut other, output);
     assert!(rt; !other.failed());
@@ -100,7 +99,6 @@ fn followed<P: Read>(
     requires reader { has_failed trace.old ≡ false }
     requires writer { has_failed output.old ≡ false }
 {
-    let program = lined(alloc, program, "; ")?;
     let mut other = Watched::new(program.as_bytes());
     let answer = replay_text(alloc, &mut other, trace, output);
     assert!(rt; !other.failed());
@@ -238,8 +236,6 @@ enum Wanted<'a> {
     Status(u8),
     /// It ends with this status and writes this text.
     Text(u8, &'a str),
-    /// The same, of lines between slashes.
-    Lines(u8, &'a str),
     /// It ends with this status and writes one of these texts.
     Among(u8, &'a [&'a str]),
     /// It writes nothing, and answers a fault with this status and text.
@@ -257,7 +253,7 @@ enum Wanted<'a> {
     Filled(Takes, u32, &'a str),
 }
 
-use Wanted::{Among, Fault, Filled, Interrupted, Lacking, Lines, Status, Text, TooLong, Unread};
+use Wanted::{Among, Fault, Filled, Interrupted, Lacking, Status, Text, TooLong, Unread};
 
 impl Wanted<'_> {
     /// The writer for which this is wanted.
@@ -279,39 +275,30 @@ fn has_ended(answer: &Result<u8, CliFault>, status: u8) -> bool {
 
 /// The command has ended with this status, and neither its reader nor its writer has failed.
 fn is_ended(rt: &impl Abort, outcome: &Outcome, status: u8, what: &str) {
-    assert!(rt; !outcome.read_failed && !outcome.write_failed, "{what}");
-    assert!(rt; has_ended(&outcome.answer, status), "{what}");
+    let has_failed = outcome.read_failed || outcome.write_failed;
+    assert!(rt; !has_failed && has_ended(&outcome.answer, status), "{what}");
 }
 
 /// It has, and has written this text.
 fn is_written(rt: &impl Abort, outcome: &Outcome, status: u8, text: &str) {
     is_ended(rt, outcome, status, text);
-    equal(
-        rt,
-        &"text",
-        &outcome.output.held.as_slice(),
-        &text.as_bytes(),
-    );
+    same_text(rt, outcome.output.held.as_slice(), text.as_bytes());
 }
 
-/// It has, and has written these lines.
-fn has_lines(
-    rt: &impl Abort,
-    alloc: Global,
-    outcome: &Outcome,
-    status: u8,
-    lines: &str,
-) -> Result<(), Fail> {
-    let text = lined(alloc, lines, " / ")?;
-    is_written(rt, outcome, status, text.as_str());
-    Ok(())
+/// Whether these bytes are those of one of the texts.
+fn is_one_of(bytes: &[u8], texts: &[&str]) -> bool {
+    for text in texts {
+        if text.as_bytes() == bytes {
+            return true;
+        }
+    }
+    false
 }
 
 /// It has, and has written one of these texts.
 fn is_among(rt: &impl Abort, outcome: &Outcome, status: u8, texts: &[&str]) {
     is_ended(rt, outcome, status, "one of several texts");
-    let written = outcome.output.held.as_slice();
-    assert!(rt; texts.iter().any(|text| text.as_bytes() == written));
+    assert!(rt; is_one_of(outcome.output.held.as_slice(), texts));
 }
 
 /// The fault has this status and text.
@@ -323,8 +310,8 @@ fn is_fault(
     wanted: &str,
 ) -> Result<(), Fail> {
     let told = format!(in alloc; "{fault}")?;
-    equal(rt, &wanted, &told.as_str(), &wanted);
-    equal(rt, &wanted, &fault.status(), &status);
+    same_text(rt, told.as_bytes(), wanted.as_bytes());
+    assert!(rt; fault.status() == status, "{wanted}");
     Ok(())
 }
 
@@ -336,22 +323,21 @@ fn has_fault(
     status: u8,
     wanted: &str,
 ) -> Result<(), Fail> {
-    assert!(rt; outcome.output.held.is_empty(), "{wanted}");
+    assert!(rt; outcome.output.held.is_empty());
     match &outcome.answer {
-        Ok(_) => assert!(rt; false, "{wanted} is not answered"),
-        Err(fault) => is_fault(rt, alloc, fault, status, wanted)?,
+        Ok(_) => {
+            assert!(rt; false, "{wanted}");
+            Ok(())
+        }
+        Err(fault) => is_fault(rt, alloc, fault, status, wanted),
     }
-    Ok(())
 }
 
 /// The reader has failed behind so many reads, which is told, and nothing is written.
 fn is_unread(rt: &impl Abort, outcome: &Outcome, left: u32) {
+    let is_told = matches!(outcome.answer, Err(CliFault::Read));
     assert!(rt;
-        matches!(outcome.answer, Err(CliFault::Read)),
-        "at read {left}"
-    );
-    assert!(rt;
-        outcome.read_failed && outcome.output.held.is_empty(),
+        is_told && outcome.read_failed && outcome.output.held.is_empty(),
         "at read {left}"
     );
 }
@@ -366,34 +352,26 @@ fn is_lacking(rt: &impl Abort, alloc: Global, outcome: &Outcome) -> Result<(), F
 /// The reader was interrupted, which is told as a failure, and nothing is written.
 fn is_interrupted(rt: &impl Abort, outcome: &Outcome) {
     is_unread(rt, outcome, 0);
-    equal(rt, &"reads", &outcome.reads, &1);
+    assert!(rt; outcome.reads == 1);
 }
 
 /// The text was too long, which was told after so many reads, and nothing is written.
 fn is_too_long(rt: &impl Abort, outcome: &Outcome, least: u64, most: u64) {
-    let reads = outcome.reads;
-    assert!(rt; matches!(outcome.answer, Err(CliFault::TooLong)));
-    assert!(rt; !outcome.read_failed && outcome.output.held.is_empty());
-    assert!(rt; least <= reads && reads <= most, "{reads} reads");
+    let is_told = matches!(outcome.answer, Err(CliFault::TooLong));
+    assert!(rt; is_told && !outcome.read_failed && outcome.output.held.is_empty());
+    assert!(rt; least <= outcome.reads && outcome.reads <= most);
 }
 
 /// The writer, which went along with so many calls, has failed just where they are fewer than the text takes, and holds what they wrote.
 fn has_filled(rt: &impl Abort, outcome: &Outcome, left: u32, calls: u32, text: &str) {
-    let has_failed = matches!(outcome.answer, Err(CliFault::Write));
-    let held = outcome.output.held.as_slice();
-    let found = (
-        outcome.write_failed,
-        has_failed,
-        has_ended(&outcome.answer, 0),
+    let (is_cut, is_told) = (left < calls, matches!(outcome.answer, Err(CliFault::Write)));
+    let has_ended = has_ended(&outcome.answer, 0);
+    assert!(rt;
+        is_told == is_cut && outcome.write_failed == is_cut && has_ended != is_cut,
+        "{left} writes"
     );
-    equal(
-        rt,
-        &left,
-        &found,
-        &(left < calls, left < calls, left >= calls),
-    );
-    assert!(rt; text.as_bytes().starts_with(held), "{left} writes");
-    equal(rt, &left, &held.len(), &(left as usize).min(text.len()));
+    let (front, _) = text.as_bytes().split_at(text.len().min(left as usize));
+    same_text(rt, outcome.output.held.as_slice(), front);
 }
 
 /// The outcome is what is wanted.
@@ -406,7 +384,6 @@ fn is_met(
     match wanted {
         Status(status) => is_ended(rt, outcome, status, "a status"),
         Text(status, text) => is_written(rt, outcome, status, text),
-        Lines(status, lines) => has_lines(rt, alloc, outcome, status, lines)?,
         Among(status, texts) => is_among(rt, outcome, status, texts),
         Fault(status, text) => has_fault(rt, alloc, outcome, status, text)?,
         Lacking => is_lacking(rt, alloc, outcome)?,
@@ -444,34 +421,26 @@ fn check<P: Read + Drop, R: Abort + Threads + Wait + Sync>(
     is_met(rt, alloc, &outcome, wanted)
 }
 
-/// Appends the text with a line feed in place of each separator, and one behind it.
-fn append_lines(lines: &mut String, text: &str, separator: &str) -> Result<(), AllocError> {
-    if !text.is_empty() {
-        for line in text.split(separator) {
-            lines.push_str(line)?;
-            lines.push_str("\n")?;
-        }
-    }
-    Ok(())
+/// Appends a number between two texts.
+fn push_number(
+    text: &mut String,
+    before: &str,
+    number: u32,
+    behind: &str,
+) -> Result<(), AllocError> {
+    write!(text, "{before}{number}{behind}")
 }
 
-/// The text with a line feed in place of each separator, and one behind it.
-fn lined(alloc: Global, text: &str, separator: &str) -> Result<String, AllocError> {
-    let mut lines = String::new(alloc);
-    append_lines(&mut lines, text, separator)?;
-    Ok(lines)
-}
-
-/// The command over this text, whose lines stand between semicolons, does what is wanted.
-fn check_text<R: Abort + Threads + Wait + Sync>(
-    rt: &R,
-    alloc: Global,
-    command: Command<'_>,
-    text: &str,
-    wanted: Wanted<'_>,
-) -> Result<(), Fail> {
-    let text = lined(alloc, text, "; ")?;
-    check(rt, alloc, command, text.as_bytes(), wanted)
+/// Appends two numbers between three texts.
+fn push_numbers(
+    text: &mut String,
+    before: &str,
+    first: u32,
+    between: &str,
+    second: u32,
+    behind: &str,
+) -> Result<(), AllocError> {
+    write!(text, "{before}{first}{between}{second}{behind}")
 }
 
 /// A command, the text that it reads, and what is wanted of it.
@@ -484,7 +453,7 @@ fn check_all<R: Abort + Threads + Wait + Sync>(
     cases: &[Case<'_>],
 ) -> Result<(), Fail> {
     for (command, text, wanted) in cases {
-        check_text(rt, alloc, *command, text, *wanted)?;
+        check(rt, alloc, *command, text.as_bytes(), *wanted)?;
     }
     Ok(())
 }

@@ -4,7 +4,7 @@ ghost use Rattle.std.specs.Prelude.{◌<◌};
 
 use super::Command::Draw;
 use super::Wanted::{Fault, Text};
-use super::{Case, check, check_all};
+use super::{Case, check, check_all, push_number, push_numbers};
 use std::alloc::{AllocError, Global};
 use std::test::Fail;
 
@@ -12,12 +12,12 @@ use std::test::Fail;
 const DRAWN: &[Case<'static>] = &[
     (
         Draw,
-        "cilk 1",
+        "cilk 1\n",
         Text(0, "digraph trace {\n  0 [label=\"0\\l\"];\n}\n"),
     ),
     (
         Draw,
-        "cilk 1; mem x; mem a 2; write 0 x 1; spawn 0; write 1 a[1] 5; read 2 a[1]; read 2 a[0]; sync 2; return 1; read 3 x",
+        "cilk 1\nmem x\nmem a 2\nwrite 0 x 1\nspawn 0\nwrite 1 a[1] 5\nread 2 a[1]\nread 2 a[0]\nsync 2\nreturn 1\nread 3 x\n",
         Text(
             1,
             "digraph trace {\n  0 [label=\"0\\l1 write x\\l\"];\n  1 [label=\"1\\l3 write a[1]\\l\"];\n  2 [label=\"2\\l4 read a[1] refused\\l5 read a[0]\\l\"];\n  3 [label=\"3\\l8 read x\\l\"];\n  0 -> 1 [label=\"child\"];\n  0 -> 2 [label=\"next\"];\n  2 -> 3 [label=\"join\"];\n  1 -> 3 [label=\"join\"];\n  1 -> 2 [label=\"write-read on a[1]\", color=red, fontcolor=red, constraint=false];\n}\n",
@@ -25,7 +25,7 @@ const DRAWN: &[Case<'static>] = &[
     ),
     (
         Draw,
-        "cilk 2; mem x; spawn 0; bump 2 x 2; write 1 x 9",
+        "cilk 2\nmem x\nspawn 0\nbump 2 x 2\nwrite 1 x 9\n",
         Text(
             1,
             "digraph trace {\n  0 [label=\"0\\l\"];\n  1 [label=\"1\\l3 write x refused\\l\"];\n  2 [label=\"2\\l2 bump x\\l\"];\n  0 -> 1 [label=\"child\"];\n  0 -> 2 [label=\"next\"];\n  2 -> 1 [label=\"bump-write on x\", color=red, fontcolor=red, constraint=false];\n}\n",
@@ -33,7 +33,7 @@ const DRAWN: &[Case<'static>] = &[
     ),
     (
         Draw,
-        "cilk 2; reducer h_1 sum; reducer g digits; get 0 g; put 0 h_1 0; spawn 0; update 1 h_1 5; get 2 h_1; return 1; sync 2; get 3 h_1",
+        "cilk 2\nreducer h_1 sum\nreducer g digits\nget 0 g\nput 0 h_1 0\nspawn 0\nupdate 1 h_1 5\nget 2 h_1\nreturn 1\nsync 2\nget 3 h_1\n",
         Text(
             1,
             "digraph trace {\n  0 [label=\"0\\l1 get g unset\\l2 put h_1\\l\"];\n  1 [label=\"1\\l4 update h_1\\l\"];\n  2 [label=\"2\\l5 get h_1 refused\\l\"];\n  3 [label=\"3\\l8 get h_1\\l\"];\n  0 -> 1 [label=\"child\"];\n  0 -> 2 [label=\"next\"];\n  1 -> 3 [label=\"join\"];\n  2 -> 3 [label=\"join\"];\n  0 -> 2 [label=\"view-read on h_1\", color=red, fontcolor=red, constraint=false];\n}\n",
@@ -41,7 +41,7 @@ const DRAWN: &[Case<'static>] = &[
     ),
     (
         Draw,
-        "cilk 1; mem x; spawn 0; read 1 x; sync 2",
+        "cilk 1\nmem x\nspawn 0\nread 1 x\nsync 2\n",
         Text(
             0,
             "digraph trace {\n  0 [label=\"0\\l\"];\n  1 [label=\"1\\l2 read x\\l\"];\n  2 [label=\"2\\l\"];\n  0 -> 1 [label=\"child\"];\n  0 -> 2 [label=\"next\"];\n}\n",
@@ -49,26 +49,26 @@ const DRAWN: &[Case<'static>] = &[
     ),
     (
         Draw,
-        "cilk 1; spawn 0; call 2; spawn 2; return 4; sync 5; return 6; sync 6; return 1",
+        "cilk 1\nspawn 0\ncall 2\nspawn 2\nreturn 4\nsync 5\nreturn 6\nsync 6\nreturn 1\n",
         Text(
             0,
             "digraph trace {\n  0 [label=\"0\\l\"];\n  1 [label=\"1\\l\"];\n  2 [label=\"2\\l\"];\n  3 [label=\"3\\l\"];\n  4 [label=\"4\\l\"];\n  5 [label=\"5\\l\"];\n  6 [label=\"6\\l\"];\n  0 -> 1 [label=\"child\"];\n  0 -> 2 [label=\"next\"];\n  2 -> 4 [label=\"child\"];\n  2 -> 5 [label=\"next\"];\n  4 -> 6 [label=\"join\"];\n  5 -> 6 [label=\"join\"];\n  6 -> 3 [label=\"join\"];\n  1 -> 3 [label=\"join\"];\n}\n",
         ),
     ),
-    (Draw, "cilk 1; foo", Fault(2, "trace line 2: BadWord")),
+    (Draw, "cilk 1\nfoo\n", Fault(2, "trace line 2: BadWord")),
     (
         Draw,
-        "cilk 1; read 0 x",
+        "cilk 1\nread 0 x\n",
         Fault(2, "trace line 2: UnknownName"),
     ),
     (
         Draw,
-        "cilk 1; sync 0; return 9; sync 8",
+        "cilk 1\nsync 0\nreturn 9\nsync 8\n",
         Fault(2, "illegal request 2"),
     ),
     (
         Draw,
-        "cilk 1; spawn 0; return 2",
+        "cilk 1\nspawn 0\nreturn 2\n",
         Fault(2, "illegal request 2"),
     ),
 ];
@@ -87,31 +87,27 @@ fn chain(alloc: Global, end: u32) -> Result<String, AllocError>
         "cilk 1\nspawn 0\nreturn 1\nsync 2\nspawn 3\nspawn 5\n",
     )?;
     for half in 4..end {
-        let spawn = format!(in alloc; "spawn {}\n", 2 * half)?;
-        trace.push_str(spawn.as_str())?;
+        push_number(&mut trace, "spawn ", 2 * half, "\n")?;
     }
     Ok(trace)
 }
 
 /// The nodes of its strands: all numbers but that of the join that waits.
-fn push_nodes(alloc: Global, text: &mut String) -> Result<(), AllocError> {
+fn push_nodes(text: &mut String) -> Result<(), AllocError> {
     for strand in 0..10_001u32 {
         if strand != 6 {
-            let node = format!(in alloc; "  {strand} [label=\"{strand}\\l\"];\n")?;
-            text.push_str(node.as_str())?;
+            push_numbers(text, "  ", strand, " [label=\"", strand, "\\l\"];\n")?;
         }
     }
     Ok(())
 }
 
 /// The edges of its spawns behind the second join.
-fn push_edges(alloc: Global, text: &mut String) -> Result<(), AllocError> {
+fn push_edges(text: &mut String) -> Result<(), AllocError> {
     for half in 4..5_000u32 {
-        let (from, child, next) = (2 * half, 2 * half + 1, 2 * half + 2);
-        let edges = format!(in alloc;
-            "  {from} -> {child} [label=\"child\"];\n  {from} -> {next} [label=\"next\"];\n"
-        )?;
-        text.push_str(edges.as_str())?;
+        let from = 2 * half;
+        push_numbers(text, "  ", from, " -> ", from + 1, " [label=\"child\"];\n")?;
+        push_numbers(text, "  ", from, " -> ", from + 2, " [label=\"next\"];\n")?;
     }
     Ok(())
 }
@@ -123,9 +119,9 @@ const FIRST_EDGES: &str =
 /// The drawing of the chain that begins as many strands as are drawn.
 fn drawn_chain(alloc: Global) -> Result<String, AllocError> {
     let mut wanted = String::from_str(alloc, "digraph trace {\n")?;
-    push_nodes(alloc, &mut wanted)?;
+    push_nodes(&mut wanted)?;
     wanted.push_str(FIRST_EDGES)?;
-    push_edges(alloc, &mut wanted)?;
+    push_edges(&mut wanted)?;
     wanted.push_str("}\n")?;
     Ok(wanted)
 }

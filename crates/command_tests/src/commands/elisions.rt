@@ -1,9 +1,9 @@
 //! Elisions, from programs that are read to lines that are written.
 
 use super::Command::Elide;
-use super::Wanted::{Fault, Filled, Lines, Text};
+use super::Wanted::{Fault, Filled, Text};
 use super::worked::{ENDLESS, FIB, LASTS, NO_TURNS, PAIR, SERIES, TURNS};
-use super::{Case, MOST, Takes, check, check_all};
+use super::{Case, MOST, Takes, check, check_all, push_number};
 use std::alloc::{AllocError, Global};
 use std::process::Abort;
 use std::sync::Wait;
@@ -12,33 +12,37 @@ use std::thread::Threads;
 
 /// Programs and their elisions, or why there is none.
 const ELIDED: &[Case<'static>] = &[
-    (Elide(MOST), FIB, Lines(0, "x 55 / requests 713")),
-    (Elide(713), FIB, Lines(0, "x 55 / requests 713")),
-    (Elide(MOST), PAIR, Lines(0, "x 7 / y 0 / requests 7")),
-    (Elide(MOST), SERIES, Lines(0, "x 7 / y 7 / requests 9")),
-    (Elide(MOST), LASTS, Lines(0, "x 3 / requests 11")),
+    (Elide(MOST), FIB, Text(0, "x 55\nrequests 713\n")),
+    (Elide(713), FIB, Text(0, "x 55\nrequests 713\n")),
+    (Elide(MOST), PAIR, Text(0, "x 7\ny 0\nrequests 7\n")),
+    (Elide(MOST), SERIES, Text(0, "x 7\ny 7\nrequests 9\n")),
+    (Elide(MOST), LASTS, Text(0, "x 3\nrequests 11\n")),
     (
         Elide(MOST),
         TURNS,
-        Lines(0, "a[0] 0 / a[1] 1 / a[2] 2 / a[3] 3 / requests 19"),
+        Text(0, "a[0] 0\na[1] 1\na[2] 2\na[3] 3\nrequests 19\n"),
     ),
     (
         Elide(MOST),
         NO_TURNS,
-        Lines(0, "a[0] 0 / a[1] 0 / a[2] 0 / a[3] 0 / requests 3"),
+        Text(0, "a[0] 0\na[1] 0\na[2] 0\na[3] 0\nrequests 3\n"),
     ),
     (
         Elide(MOST),
-        "cilk 1; mem x; mem a 2; mem y; func main z; write a[1] 5; write y 6; end",
-        Lines(0, "x 0 / a[0] 0 / a[1] 5 / y 6 / requests 4"),
+        "cilk 1\nmem x\nmem a 2\nmem y\nfunc main z\nwrite a[1] 5\nwrite y 6\nend\n",
+        Text(0, "x 0\na[0] 0\na[1] 5\ny 6\nrequests 4\n"),
     ),
-    (Elide(2), "cilk 1; func main z; end", Lines(0, "requests 2")),
+    (
+        Elide(2),
+        "cilk 1\nfunc main z\nend\n",
+        Text(0, "requests 2\n"),
+    ),
     (
         Elide(MOST),
-        "cilk 1; mem abcdefghijklmnopqrstuvwxyz_12345 2; func main z; write abcdefghijklmnopqrstuvwxyz_12345[1] 18446744073709551615; end",
-        Lines(
+        "cilk 1\nmem abcdefghijklmnopqrstuvwxyz_12345 2\nfunc main z\nwrite abcdefghijklmnopqrstuvwxyz_12345[1] 18446744073709551615\nend\n",
+        Text(
             0,
-            "abcdefghijklmnopqrstuvwxyz_12345[0] 0 / abcdefghijklmnopqrstuvwxyz_12345[1] 18446744073709551615 / requests 3",
+            "abcdefghijklmnopqrstuvwxyz_12345[0] 0\nabcdefghijklmnopqrstuvwxyz_12345[1] 18446744073709551615\nrequests 3\n",
         ),
     ),
     (Elide(0), FIB, Fault(4, "limit")),
@@ -50,17 +54,17 @@ const ELIDED: &[Case<'static>] = &[
     (Elide(MOST), "", Fault(2, "program line 1: BadHeader")),
     (
         Elide(MOST),
-        "cilk 1; mem a 0",
+        "cilk 1\nmem a 0\n",
         Fault(2, "program line 2: BadNumber"),
     ),
     (
         Elide(MOST),
-        "cilk 1; func main z; sync",
+        "cilk 1\nfunc main z\nsync\n",
         Fault(2, "program line 4: BadNesting"),
     ),
     (
         Elide(MOST),
-        "cilk 1; func main z; spawn g 1; end",
+        "cilk 1\nfunc main z\nspawn g 1\nend\n",
         Fault(2, "program line 3: UnknownName"),
     ),
 ];
@@ -78,7 +82,7 @@ const WIDE: &str = "cilk 1\nmem a 20000\nmem x\nfunc main z\nwrite a[19999] 5\nw
 fn left_by_wide(alloc: Global) -> Result<String, AllocError> {
     let mut lines = String::new(alloc);
     for index in 0..19_999u32 {
-        lines.push_str(format!(in alloc; "a[{index}] 0\n")?.as_str())?;
+        push_number(&mut lines, "a[", index, "] 0\n")?;
     }
     lines.push_str("a[19999] 5\nx 6\nrequests 4\n")?;
     Ok(lines)
@@ -98,29 +102,23 @@ const WRITERS: &[Takes] = &[
     Takes::Calls(300_001),
 ];
 
-/// To a writer that takes so these lines, which WIDE leaves, are written just where it goes along with enough calls.
+/// Its elision is these lines, which are written to a writer just where it goes along with enough calls.
 fn check_wide<R: Abort + Threads + Wait + Sync>(
     rt: &R,
     alloc: Global,
     lines: &str,
-    writers: &[Takes],
 ) -> Result<(), Fail> {
-    for takes in writers {
+    let program = WIDE.as_bytes();
+    check(rt, alloc, Elide(MOST), program, Text(0, lines))?;
+    for takes in WRITERS {
         let wanted = Filled(*takes, 208_906, lines);
-        check(rt, alloc, Elide(MOST), WIDE.as_bytes(), wanted)?;
+        check(rt, alloc, Elide(MOST), program, wanted)?;
     }
     Ok(())
 }
 
 #[test]
-fn an_elision_of_many_cells(rt: HostRuntime) -> Result<(), Fail> {
+fn an_elision_of_many_cells_that_can_be_written_or_not(rt: HostRuntime) -> Result<(), Fail> {
     let lines = left_by_wide(rt.alloc())?;
-    let wanted = Text(0, lines.as_str());
-    check(&rt, rt.alloc(), Elide(MOST), WIDE.as_bytes(), wanted)
-}
-
-#[test]
-fn an_elision_of_many_cells_that_cannot_be_written(rt: HostRuntime) -> Result<(), Fail> {
-    let lines = left_by_wide(rt.alloc())?;
-    check_wide(&rt, rt.alloc(), lines.as_str(), WRITERS)
+    check_wide(&rt, rt.alloc(), lines.as_str())
 }

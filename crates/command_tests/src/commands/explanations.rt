@@ -8,7 +8,7 @@ use std::test::Fail;
 
 /// A write beside a spawned function that writes the same cell, and then no end. One worker goes on with `main` first.
 const RACE_AND_NO_END: &str =
-    "cilk 1; mem x; func main z; spawn f 1; write x 2; sync; call main 0; end; func f v; write x v; end";
+    "cilk 1\nmem x\nfunc main z\nspawn f 1\nwrite x 2\nsync\ncall main 0\nend\nfunc f v\nwrite x v\nend\n";
 
 const RACE_TOLD: &str = "race: write-write on x, 1 time
   --> p.cilk:10
@@ -29,7 +29,7 @@ this is no whole run: the limit ended it after 6 requests, and there may be more
 ";
 
 /// Two names that are wrong, of which the first is told.
-const NO_PROGRAM: &str = "cilk 1; func main z; write x 1; write y 2; end";
+const NO_PROGRAM: &str = "cilk 1\nfunc main z\nwrite x 1\nwrite y 2\nend\n";
 
 const NO_PROGRAM_TOLD: &str = "error: a name is not declared as what its place wants
  --> p.cilk:3

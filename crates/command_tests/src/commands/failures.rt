@@ -2,8 +2,7 @@
 
 use super::Command::{Draw, Elide, Follow, Judge, Replay, Run};
 use super::Wanted::{Filled, Interrupted, Text, TooLong, Unread};
-use super::{Command, MOST, Takes, check, lined};
-use crate::checks::equal;
+use super::{Command, MOST, Takes, check};
 use crate::devices::{Breaking, Interrupted as InterruptedReader, Spaces};
 use std::alloc::Global;
 use std::io;
@@ -26,71 +25,56 @@ struct Short {
 const SHORT: &[Short] = &[
     Short {
         command: Judge(MOST),
-        read: "cilk 1; mem x; read 0 x",
+        read: "cilk 1\nmem x\nread 0 x\n",
         bytes: 22,
         written: "1 value 0\n",
         calls: 11,
     },
     Short {
         command: Elide(MOST),
-        read: "cilk 1; mem x; func main z; end",
+        read: "cilk 1\nmem x\nfunc main z\nend\n",
         bytes: 29,
         written: "x 0\nrequests 2\n",
         calls: 16,
     },
     Short {
         command: Run(2, MOST),
-        read: "cilk 1; func main z; end",
+        read: "cilk 1\nfunc main z\nend\n",
         bytes: 23,
         written: "{\"clean\":true,\"entries\":2,\"memory\":{},\"refusals\":[],\"schedules\":\"clean for every schedule\"}\n",
         calls: 93,
     },
     Short {
-        command: Replay("cilk 2; sync 0 @3; return 0 @3"),
-        read: "cilk 1; func main z; end",
+        command: Replay("cilk 2\nsync 0 @3\nreturn 0 @3\n"),
+        read: "cilk 1\nfunc main z\nend\n",
         bytes: 23,
         written: "replayed 2\n",
         calls: 12,
     },
     Short {
-        command: Follow("cilk 1; func main z; end"),
-        read: "cilk 2; sync 0 @3; return 0 @3",
+        command: Follow("cilk 1\nfunc main z\nend\n"),
+        read: "cilk 2\nsync 0 @3\nreturn 0 @3\n",
         bytes: 29,
         written: "replayed 2\n",
         calls: 12,
     },
     Short {
         command: Draw,
-        read: "cilk 1",
+        read: "cilk 1\n",
         bytes: 7,
         written: "digraph trace {\n  0 [label=\"0\\l\"];\n}\n",
         calls: 38,
     },
 ];
 
-/// A device that fails.
-#[derive(Clone, Copy)]
-enum Failing {
-    /// A reader that answers an error behind some reads.
-    Reader,
-    /// One that answers at once that it was interrupted.
-    InterruptedReader,
-    /// One that never ends.
-    EndlessReader,
-    /// A writer that takes nothing behind some calls.
-    Writer,
-    /// One that answers an error behind them.
-    WriterWithErrors,
-}
-
 /// A reader that fails before the text has ended is told, and one that would fail later is as good as another.
 fn check_reader<R: Abort + Threads + Wait + Sync>(
     rt: &R,
     alloc: Global,
     short: Short,
-    text: &[u8],
 ) -> Result<(), Fail> {
-    equal(rt, &short.read, &text.len(), &(short.bytes as usize));
+    let text = short.read.as_bytes();
+    assert!(rt; text.len() == short.bytes as usize);
     for left in 0..short.bytes.saturating_add(3) {
         let wanted = if left <= short.bytes {
             Unread(left)
@@ -102,87 +86,58 @@ fn check_reader<R: Abort + Threads + Wait + Sync>(
     Ok(())
 }
 
-/// A writer fails just where it goes along with too few calls.
+/// A writer that takes so fails just where it goes along with too few calls.
+fn check_taken<R: Abort + Threads + Wait + Sync>(
+    rt: &R,
+    alloc: Global,
+    short: Short,
+    takes: Takes,
+) -> Result<(), Fail> {
+    let wanted = Filled(takes, short.calls, short.written);
+    check(rt, alloc, short.command, short.read.as_bytes(), wanted)
+}
+
+/// A writer that takes nothing behind some calls does, and one that answers an error behind them.
 fn check_writer<R: Abort + Threads + Wait + Sync>(
     rt: &R,
     alloc: Global,
     short: Short,
-    text: &[u8],
-    answers_an_error: bool,
 ) -> Result<(), Fail> {
     for left in 0..short.calls.saturating_add(1) {
-        let takes = if answers_an_error {
-            Takes::CallsThenErrors(left)
-        } else {
-            Takes::Calls(left)
-        };
-        let wanted = Filled(takes, short.calls, short.written);
-        check(rt, alloc, short.command, text, wanted)?;
+        check_taken(rt, alloc, short, Takes::Calls(left))?;
+        check_taken(rt, alloc, short, Takes::CallsThenErrors(left))?;
     }
     Ok(())
-}
-
-/// The command tells that the device has failed.
-fn check_short<R: Abort + Threads + Wait + Sync>(
-    rt: &R,
-    alloc: Global,
-    short: Short,
-    failing: Failing,
-) -> Result<(), Fail> {
-    let text = lined(alloc, short.read, "; ")?;
-    let text = text.as_bytes();
-    match failing {
-        Failing::Reader => check_reader(rt, alloc, short, text),
-        Failing::InterruptedReader => {
-            let was_asked = false;
-            let reader = InterruptedReader { text, was_asked };
-            check(rt, alloc, short.command, reader, Interrupted)
-        }
-        Failing::EndlessReader => {
-            let wanted = TooLong(67_108_865, 67_108_865);
-            check(rt, alloc, short.command, Spaces, wanted)
-        }
-        Failing::Writer => check_writer(rt, alloc, short, text, false),
-        Failing::WriterWithErrors => check_writer(rt, alloc, short, text, true),
-    }
-}
-
-/// Each of these commands does.
-fn check_all<R: Abort + Threads + Wait + Sync>(
-    rt: &R,
-    alloc: Global,
-    commands: &[Short],
-    failing: Failing,
-) -> Result<(), Fail> {
-    for short in commands {
-        check_short(rt, alloc, *short, failing)?;
-    }
-    Ok(())
-}
-
-/// Each command does.
-fn check_each<R: Abort + Threads + Wait + Sync>(
-    rt: &R,
-    alloc: Global,
-    failing: Failing,
-) -> Result<(), Fail> {
-    check_all(rt, alloc, SHORT, failing)
 }
 
 #[test]
 fn a_reader_that_fails(rt: HostRuntime) -> Result<(), Fail> {
-    check_each(&rt, rt.alloc(), Failing::Reader)
+    for short in SHORT {
+        check_reader(&rt, rt.alloc(), *short)?;
+    }
+    Ok(())
 }
 
 #[test]
 fn a_reader_that_is_interrupted(rt: HostRuntime) -> Result<(), Fail> {
-    check_each(&rt, rt.alloc(), Failing::InterruptedReader)
+    for short in SHORT {
+        let reader = InterruptedReader {
+            text: short.read.as_bytes(),
+            was_asked: false,
+        };
+        check(&rt, rt.alloc(), short.command, reader, Interrupted)?;
+    }
+    Ok(())
 }
 
 /// It gives a byte at each read, and is asked as often as a reader may be.
 #[test]
 fn a_reader_that_never_ends(rt: HostRuntime) -> Result<(), Fail> {
-    check_each(&rt, rt.alloc(), Failing::EndlessReader)
+    for short in SHORT {
+        let wanted = TooLong(67_108_865, 67_108_865);
+        check(&rt, rt.alloc(), short.command, Spaces, wanted)?;
+    }
+    Ok(())
 }
 
 #[test]
@@ -193,6 +148,8 @@ fn a_reader_that_gives_too_much(rt: HostRuntime) -> Result<(), Fail> {
 
 #[test]
 fn a_writer_that_fails(rt: HostRuntime) -> Result<(), Fail> {
-    check_each(&rt, rt.alloc(), Failing::Writer)?;
-    check_each(&rt, rt.alloc(), Failing::WriterWithErrors)
+    for short in SHORT {
+        check_writer(&rt, rt.alloc(), *short)?;
+    }
+    Ok(())
 }

@@ -6,6 +6,7 @@ ghost use Rattle.tool_commands.specs.Performed.{IsAlone};
 ghost use Rattle.tool_commands.specs.Sources.{unknown_sources};
 
 use super::Wanted::{Lacking, Text};
+use super::worked::{FIB, PAIR};
 use super::{MOST, Outcome, Wanted, is_met, manned, outcome_of};
 use crate::devices::{Breaking, Filling};
 use std::alloc::{AllocError, Global};
@@ -21,16 +22,8 @@ const JOINED: &str = "cilk 1\nmem x\nspawn 0\nread 1 x\nsync 2\nreturn 1\nwrite 
 
 const VERDICTS: &str = "1 split 1 2 3\n2 value 0\n3 waits\n4 ended-joined 3\n5 granted\n";
 
-/// FIB, a line for each of its lines.
-const FIB: &str =
-    "cilk 1\nmem x\nreducer h sum\nfunc main z\nput h 0\ncall fib 10\nget r h\nwrite x r\nend\nfunc fib n\nlet t = n < 2\nif t\nupdate h n\nelse\nlet a = n - 1\nlet b = n - 2\nspawn fib a\ncall fib b\nsync\nend\nend\n";
-
 const FIB_REPORT: &str =
     "{\"clean\":true,\"entries\":713,\"memory\":{\"x\":55},\"refusals\":[],\"schedules\":\"clean for every schedule\"}\n";
-
-/// PAIR, a line for each of its lines.
-const PAIR: &str =
-    "cilk 1\nmem x\nmem y\nfunc main z\nspawn f 7\nread r x\nend\nfunc f v\nwrite x v\nend\n";
 
 /// A run of PAIR in which the write comes first, and the read is refused.
 const PAIR_TRACE: &str =
@@ -89,7 +82,7 @@ impl<'a> Host for Texts<'a> {
 
     /// Each file has one name.
     fn is_one_file(&self, first: &str, second: &str) -> bool {
-        first == second && self.open(first).is_ok()
+        first == second
     }
 
     fn is_terminal(&self) -> bool {
@@ -110,16 +103,23 @@ enum Deed {
     Show(&'static str),
 }
 
+impl Deed {
+    /// The one or two names, or the text.
+    fn names(self) -> (&'static str, &'static str) {
+        match self {
+            Deed::JudgeInput => ("", ""),
+            Deed::Elide(name) | Deed::Draw(name) | Deed::Show(name) => (name, ""),
+            Deed::Replay(program, trace) => (program, trace),
+        }
+    }
+}
+
 /// The job that starts no thread and does this.
 fn job_alone(alloc: Global, deed: Deed) -> Result<Job, AllocError>
     ensures ranges { IfOk result IsInRange }
     ensures alone { IfOk result IsAlone }
 {
-    let (first, second) = match deed {
-        Deed::JudgeInput => ("", ""),
-        Deed::Elide(name) | Deed::Draw(name) | Deed::Show(name) => (name, ""),
-        Deed::Replay(program, trace) => (program, trace),
-    };
+    let (first, second) = deed.names();
     let file = String::from_str(alloc, first)?;
     let trace = String::from_str(alloc, second)?;
     match deed {
@@ -190,36 +190,36 @@ fn check_job_alone(
     is_met(rt, alloc, &outcome, wanted)
 }
 
+/// The same by either call.
+fn check_both<R: Abort + Threads + Wait + Sync>(
+    rt: &R,
+    alloc: Global,
+    texts: Texts<'_>,
+    job: &Job,
+    wanted: Wanted<'_>,
+) -> Result<(), Fail>
+    requires ranges { IsInRange job.now }
+    requires alone { IsAlone job.now }
+{
+    check_job(rt, alloc, texts, job, wanted)?;
+    check_job_alone(rt, alloc, texts, job, wanted)
+}
+
 /// Of the deed comes what is wanted, by either call.
 fn check_either<R: Abort + Threads + Wait + Sync>(
     rt: &R,
     alloc: Global,
-    texts: Texts<'_>,
-    deed: Deed,
-    wanted: Wanted<'_>,
+    case: &(Texts<'_>, Deed, Wanted<'_>),
 ) -> Result<(), Fail> {
-    let job = job_alone(alloc, deed)?;
-    check_job(rt, alloc, texts, &job, wanted)?;
-    check_job_alone(rt, alloc, texts, &job, wanted)
-}
-
-/// The same of each deed, over the texts beside it.
-fn check_all<R: Abort + Threads + Wait + Sync>(
-    rt: &R,
-    alloc: Global,
-    cases: &[(Texts<'_>, Deed, Wanted<'_>)],
-) -> Result<(), Fail> {
-    for (texts, deed, wanted) in cases {
-        check_either(rt, alloc, *texts, *deed, *wanted)?;
-    }
-    Ok(())
+    let job = job_alone(alloc, case.1)?;
+    check_both(rt, alloc, case.0, &job, case.2)
 }
 
 /// The job that runs the program in this file.
-fn run_job(alloc: Global, file: &str, workers: usize) -> Result<Job, AllocError>
-    requires { (0 < workers) × (workers ≤ 64) }
+fn run_job(rt: &impl Abort, alloc: Global, file: &str, workers: usize) -> Result<Job, AllocError>
     ensures { IfOk result IsInRange }
 {
+    let workers = manned(rt, workers);
     let file = String::from_str(alloc, file)?;
     Ok(Job::Run {
         file,
@@ -232,13 +232,10 @@ fn run_job(alloc: Global, file: &str, workers: usize) -> Result<Job, AllocError>
 fn check_run<R: Abort + Threads + Wait + Sync>(
     rt: &R,
     alloc: Global,
-    texts: Texts<'_>,
-    file: &str,
-    workers: usize,
-    wanted: Wanted<'_>,
+    case: &(Texts<'_>, &str, usize, Wanted<'_>),
 ) -> Result<(), Fail> {
-    let job = run_job(alloc, file, manned(rt, workers))?;
-    check_job(rt, alloc, texts, &job, wanted)
+    let job = run_job(rt, alloc, case.1, case.2)?;
+    check_job(rt, alloc, case.0, &job, case.3)
 }
 
 /// FIB in a file.
@@ -253,7 +250,7 @@ const THERE: Texts<'static> = Texts {
     files: &[("there", "cilk 1\nfunc main z\nend\n")],
 };
 
-/// What is done with texts that are there.
+/// What is done with texts.
 const DEEDS: &[(Texts<'static>, Deed, Wanted<'static>)] = &[
     (
         Texts {
@@ -292,33 +289,34 @@ const DEEDS: &[(Texts<'static>, Deed, Wanted<'static>)] = &[
         Deed::Show("one\ntwo\n"),
         Text(0, "one\ntwo\n"),
     ),
-];
-
-/// A trace on standard input, a program in a file, both in two files, a trace in a file, and a text that is shown.
-#[test]
-fn texts_that_are_there(rt: HostRuntime) -> Result<(), Fail> {
-    check_all(&rt, rt.alloc(), DEEDS)
-}
-
-/// What can't be done with a file that is not there.
-const GONE: &[(Texts<'static>, Deed, Wanted<'static>)] = &[
+    // What can't be done with a file that is not there.
     (THERE, Deed::Elide("gone"), Lacking),
     (THERE, Deed::Draw("gone"), Lacking),
     (THERE, Deed::Replay("gone", "there"), Lacking),
     (THERE, Deed::Replay("there", "gone"), Lacking),
 ];
 
+/// A trace on standard input, a program in a file, both in two files, a trace in a file, a text that is shown, and files that are not there.
 #[test]
-fn files_that_are_not_there(rt: HostRuntime) -> Result<(), Fail> {
-    check_all(&rt, rt.alloc(), GONE)
+fn texts_that_are_there_or_not(rt: HostRuntime) -> Result<(), Fail> {
+    for case in DEEDS {
+        check_either(&rt, rt.alloc(), case)?;
+    }
+    Ok(())
 }
+
+/// Workers who run the program in this file, and what comes of it.
+const RUNS: &[(Texts<'static>, &str, usize, Wanted<'static>)] = &[
+    (PROGRAM, "program", 1, Text(0, FIB_REPORT)),
+    (PROGRAM, "program", 2, Text(0, FIB_REPORT)),
+    (THERE, "gone", 1, Lacking),
+    (THERE, "gone", 2, Lacking),
+];
 
 #[test]
 fn a_run_of_a_program_that_is_there_or_not(rt: HostRuntime) -> Result<(), Fail> {
-    for workers in [1usize, 2] {
-        let wanted = Text(0, FIB_REPORT);
-        check_run(&rt, rt.alloc(), PROGRAM, "program", workers, wanted)?;
-        check_run(&rt, rt.alloc(), THERE, "gone", workers, Lacking)?;
+    for case in RUNS {
+        check_run(&rt, rt.alloc(), case)?;
     }
     Ok(())
 }

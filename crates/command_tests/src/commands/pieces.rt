@@ -2,7 +2,7 @@
 
 use super::Command::Judge;
 use super::Wanted::{Fault, Text, Unread};
-use super::{MOST, Wanted, check};
+use super::{MOST, Wanted, check, push_number};
 use crate::devices::{Breaking, Giving};
 use std::alloc::{AllocError, Global};
 use std::process::Abort;
@@ -36,9 +36,7 @@ impl Long {
 fn zeros(alloc: Global, reads: u32) -> Result<String, AllocError> {
     let mut lines = String::new(alloc);
     for number in 0..reads {
-        let place = u64::from(number) + 1;
-        let line = format!(in alloc; "{place} value 0\n")?;
-        lines.push_str(line.as_str())?;
+        push_number(&mut lines, "", number + 1, " value 0\n")?;
     }
     Ok(lines)
 }
@@ -92,21 +90,15 @@ const RETURNS: Long = Long {
     tail: "read 0 x",
 };
 
-/// Each text asks for so many reads.
-fn check_each<R: Abort + Threads + Wait + Sync>(
-    rt: &R,
-    alloc: Global,
-    cases: &[(Long, u32)],
-) -> Result<(), Fail> {
-    for (long, reads) in cases {
-        check_zeros(rt, alloc, *long, *reads)?;
-    }
-    Ok(())
-}
+/// Texts, and for how many reads each asks.
+const READS: &[(Long, u32)] = &[(LATE, 1), (WIDE, 2), (RETURNS, 20_001)];
 
 #[test]
 fn long_traces(rt: HostRuntime) -> Result<(), Fail> {
-    check_each(&rt, rt.alloc(), &[(LATE, 1), (WIDE, 2), (RETURNS, 20_001)])
+    for (long, reads) in READS {
+        check_zeros(&rt, rt.alloc(), *long, *reads)?;
+    }
+    Ok(())
 }
 
 const FAULTY: Long = Long {
@@ -124,12 +116,13 @@ fn a_fault_behind_the_first_piece(rt: HostRuntime) -> Result<(), Fail> {
     check_pieces(&rt, rt.alloc(), text.as_bytes(), wanted)
 }
 
-/// A reader that fails behind the faulty lines is told in place of their fault.
+/// A reader that fails behind the faulty lines, which are 180,035 bytes, is told in place of their fault.
 #[test]
 fn a_failure_behind_a_fault(rt: HostRuntime) -> Result<(), Fail> {
-    let long = FAULTY.text(rt.alloc())?;
-    let text = long.as_bytes();
-    let left = u32::try_from(text.len()).unwrap_or(0);
-    let reader = Breaking { text, left };
-    check(&rt, rt.alloc(), Judge(MOST), reader, Unread(left))
+    let text = FAULTY.text(rt.alloc())?;
+    let reader = Breaking {
+        text: text.as_bytes(),
+        left: 180_035,
+    };
+    check(&rt, rt.alloc(), Judge(MOST), reader, Unread(180_035))
 }

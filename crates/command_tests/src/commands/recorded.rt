@@ -7,8 +7,8 @@ ghost use Rattle.tool_commands.specs.Sources.{unknown_sources};
 use super::Command::{Follow, Judge};
 use super::Wanted::{Status, Text};
 use super::worked::{FIB, LASTS, PAIR, SERIES, TURNS};
-use super::{MOST, Takes, check, has_ended, is_fault, limited, lined, manned};
-use crate::checks::equal;
+use super::{MOST, Takes, check, has_ended, is_fault, limited, manned};
+use crate::checks::same_text;
 use crate::devices::{Breaking, Filling};
 use std::alloc::{AllocError, Global};
 use std::io::{self, Error, ErrorKind};
@@ -21,7 +21,7 @@ use tool_commands::{
 };
 
 /// A program of two requests, the text of the trace of its one run, and the report of it.
-const SHORT: &str = "cilk 1; func main z; end";
+const SHORT: &str = "cilk 1\nfunc main z\nend\n";
 
 const SHORT_TRACE: &str = "cilk 1\nsync 0 @3\nreturn 0 @3\n";
 
@@ -30,7 +30,7 @@ const SHORT_REPORT: &str =
 
 /// A program of one strand, and its trace.
 const SERIAL: &str =
-    "cilk 2; mem a 2; reducer h digits; func main z; write a[1] 7; bump a[0] 3; read r a[1]; put h r; update h 2; call f 5; get t h; sync; end; func f v; write a[0] v; end";
+    "cilk 2\nmem a 2\nreducer h digits\nfunc main z\nwrite a[1] 7\nbump a[0] 3\nread r a[1]\nput h r\nupdate h 2\ncall f 5\nget t h\nsync\nend\nfunc f v\nwrite a[0] v\nend\n";
 
 const SERIAL_TRACE: &str =
     "cilk 2\nmem a 2\nreducer h digits\nwrite 0 a[1] 7 @5\nbump 0 a[0] 3 @6\nread 0 a[1] @7\nput 0 h 7 @8\nupdate 0 h 2 @9\ncall 0 @10\nwrite 0 a[0] 5 @15\nsync 0 @16\nreturn 0 @16\nget 0 h @11\nsync 0 @12\nsync 0 @13\nreturn 0 @13\n";
@@ -137,22 +137,13 @@ fn is_delivered(rt: &impl Abort, run: &Recorded, status: u8) {
     assert!(rt; run.trace_delivered && !run.trace_failed && !run.output_failed);
 }
 
-/// Its trace is this text.
-fn is_traced(rt: &impl Abort, run: &Recorded, wanted: &str) {
-    equal(rt, &"trace", &run.trace.held.as_slice(), &wanted.as_bytes());
+/// It has, and its trace is this text.
+fn is_traced(rt: &impl Abort, run: &Recorded, status: u8, wanted: &str) {
+    is_delivered(rt, run, status);
+    same_text(rt, run.trace.held.as_slice(), wanted.as_bytes());
 }
 
-/// Its report is this text.
-fn is_reported(rt: &impl Abort, run: &Recorded, wanted: &str) {
-    equal(
-        rt,
-        &"report",
-        &run.output.held.as_slice(),
-        &wanted.as_bytes(),
-    );
-}
-
-/// Its trace is one of a run of the program, with this status, which is told so.
+/// It has, and its trace is one of a run of the program, with this status, which is told so.
 fn is_replayed<R: Abort + Threads + Wait + Sync>(
     rt: &R,
     alloc: Global,
@@ -161,32 +152,35 @@ fn is_replayed<R: Abort + Threads + Wait + Sync>(
     program: &str,
     wanted: &str,
 ) -> Result<(), Fail> {
+    is_delivered(rt, run, status);
     let trace = run.trace.held.as_slice();
     check(rt, alloc, Follow(program), trace, Text(status, wanted))?;
     check(rt, alloc, Judge(MOST), trace, Status(status))
 }
 
-/// A trace of SHORT whose writer goes along with so many calls, of which it takes 30: one for each byte, and the flush.
+/// A trace of SHORT whose writer goes along with too few calls.
+fn is_trace_cut(rt: &impl Abort, run: &Recorded, left: u32) {
+    let is_told = matches!(run.answer, Err(CliFault::Unwritten));
+    assert!(rt;
+        is_told && run.trace_failed && !run.trace_delivered,
+        "{left} writes"
+    );
+    assert!(rt; run.output.held.is_empty() && !run.output_failed);
+    assert!(rt;
+        SHORT_TRACE
+            .as_bytes()
+            .starts_with(run.trace.held.as_slice())
+    );
+}
+
+/// One whose writer goes along with so many, of which it takes 30: one for each byte, and the flush.
 fn is_trace_taken(rt: &impl Abort, run: &Recorded, left: u32) {
-    let held = run.trace.held.as_slice();
-    assert!(rt; SHORT_TRACE.as_bytes().starts_with(held), "{left} writes");
     if left < 30 {
-        let is_told = matches!(run.answer, Err(CliFault::Unwritten));
-        assert!(rt;
-            is_told && run.trace_failed && !run.trace_delivered,
-            "{left} writes"
-        );
-        assert!(rt;
-            run.output.held.is_empty() && !run.output_failed,
-            "{left} writes"
-        );
-    } else {
-        assert!(rt;
-            has_ended(&run.answer, 0) && run.trace_delivered,
-            "{left} writes"
-        );
-        is_reported(rt, run, SHORT_REPORT);
+        return is_trace_cut(rt, run, left);
     }
+    is_traced(rt, run, 0, SHORT_TRACE);
+    let report = run.output.held.as_slice();
+    same_text(rt, report, SHORT_REPORT.as_bytes());
 }
 
 /// A report of SHORT whose writer goes along with too few calls.
@@ -196,7 +190,14 @@ fn is_report_cut(rt: &impl Abort, run: &Recorded, left: u32) {
         is_told && run.trace_delivered && run.output_failed,
         "{left} writes"
     );
-    is_traced(rt, run, SHORT_TRACE);
+    let trace = run.trace.held.as_slice();
+    same_text(rt, trace, SHORT_TRACE.as_bytes());
+}
+
+/// A run that the limit ended, of which nothing is written.
+fn is_unfinished(rt: &impl Abort, run: &Recorded) {
+    assert!(rt; matches!(run.answer, Err(CliFault::Limit)));
+    assert!(rt; run.trace.held.is_empty() && run.output.held.is_empty());
 }
 
 /// It is what is wanted.
@@ -207,25 +208,18 @@ fn is_told<R: Abort + Threads + Wait + Sync>(
     told: Told<'_>,
 ) -> Result<(), Fail> {
     match told {
-        Traced(status, trace) => {
-            is_delivered(rt, run, status);
-            is_traced(rt, run, trace);
-        }
+        Traced(status, trace) => is_traced(rt, run, status, trace),
         Replays(status, program, wanted) => {
-            is_delivered(rt, run, status);
             is_replayed(rt, alloc, run, status, program, wanted)?;
         }
         TraceTaken(takes) => is_trace_taken(rt, run, takes.calls()),
         ReportTaken(takes) => is_report_cut(rt, run, takes.calls()),
-        Unfinished => {
-            assert!(rt; matches!(run.answer, Err(CliFault::Limit)));
-            assert!(rt; run.trace.held.is_empty() && run.output.held.is_empty());
-        }
+        Unfinished => is_unfinished(rt, run),
     }
     Ok(())
 }
 
-/// Recorded by so many workers, the run of the program, whose lines stand between semicolons, is what is wanted.
+/// Recorded by so many workers, the run of the program is what is wanted.
 fn check_recorded<R: Abort + Threads + Wait + Sync>(
     rt: &R,
     alloc: Global,
@@ -233,60 +227,47 @@ fn check_recorded<R: Abort + Threads + Wait + Sync>(
     workers: usize,
     told: Told<'_>,
 ) -> Result<(), Fail> {
-    let program = lined(alloc, program, "; ")?;
-    let run = ran_recorded(rt, alloc, program.as_str(), workers, told);
+    let run = ran_recorded(rt, alloc, program, workers, told);
     is_told(rt, alloc, &run, told)
 }
 
-/// The same of each program by each of these numbers of workers.
-fn check_by_each<R: Abort + Threads + Wait + Sync>(
-    rt: &R,
-    alloc: Global,
-    cases: &[(&[usize], &str, Told<'_>)],
-) -> Result<(), Fail> {
-    for (numbers, program, told) in cases {
-        check_by(rt, alloc, numbers, program, *told)?;
-    }
-    Ok(())
-}
-
-fn check_by<R: Abort + Threads + Wait + Sync>(
-    rt: &R,
-    alloc: Global,
-    numbers: &[usize],
-    program: &str,
-    told: Told<'_>,
-) -> Result<(), Fail> {
-    for workers in numbers {
-        check_recorded(rt, alloc, program, *workers, told)?;
-    }
-    Ok(())
-}
-
-/// Runs whose one trace is known, by these numbers of workers, and runs that the limit ends.
-const SERIAL_RUNS: &[(&[usize], &str, Told<'static>)] = &[
-    (&[1, 2, 8, 64], SHORT, Traced(0, SHORT_TRACE)),
-    (&[1, 2, 8, 64], SERIAL, Traced(0, SERIAL_TRACE)),
-    (&[1, 2], SHORT, Unfinished),
+/// Workers, a program, and what is wanted of its run by them.
+const RUNS: &[(usize, &str, Told<'static>)] = &[
+    // Runs whose one trace is known, and runs that the limit ends.
+    (1, SHORT, Traced(0, SHORT_TRACE)),
+    (2, SHORT, Traced(0, SHORT_TRACE)),
+    (8, SHORT, Traced(0, SHORT_TRACE)),
+    (64, SHORT, Traced(0, SHORT_TRACE)),
+    (1, SERIAL, Traced(0, SERIAL_TRACE)),
+    (2, SERIAL, Traced(0, SERIAL_TRACE)),
+    (8, SERIAL, Traced(0, SERIAL_TRACE)),
+    (64, SERIAL, Traced(0, SERIAL_TRACE)),
+    (1, SHORT, Unfinished),
+    (2, SHORT, Unfinished),
+    // Those whose trace is one of several.
+    (1, FIB, Replays(0, FIB, "replayed 713\n")),
+    (2, FIB, Replays(0, FIB, "replayed 713\n")),
+    (8, FIB, Replays(0, FIB, "replayed 713\n")),
+    (1, SERIES, Replays(0, SERIES, "replayed 9\n")),
+    (2, SERIES, Replays(0, SERIES, "replayed 9\n")),
+    (8, SERIES, Replays(0, SERIES, "replayed 9\n")),
+    (1, LASTS, Replays(0, LASTS, "replayed 11\n")),
+    (2, LASTS, Replays(0, LASTS, "replayed 11\n")),
+    (8, LASTS, Replays(0, LASTS, "replayed 11\n")),
+    (1, TURNS, Replays(0, TURNS, "replayed 19\n")),
+    (2, TURNS, Replays(0, TURNS, "replayed 19\n")),
+    (8, TURNS, Replays(0, TURNS, "replayed 19\n")),
+    (1, PAIR, Replays(1, PAIR, "replayed 7\n")),
+    (2, PAIR, Replays(1, PAIR, "replayed 7\n")),
+    (8, PAIR, Replays(1, PAIR, "replayed 7\n")),
 ];
 
 #[test]
-fn traces_of_programs_of_one_strand(rt: HostRuntime) -> Result<(), Fail> {
-    check_by_each(&rt, rt.alloc(), SERIAL_RUNS)
-}
-
-/// Runs whose trace is one of several.
-const PARALLEL_RUNS: &[(&[usize], &str, Told<'static>)] = &[
-    (&[1, 2, 8], FIB, Replays(0, FIB, "replayed 713\n")),
-    (&[1, 2, 8], SERIES, Replays(0, SERIES, "replayed 9\n")),
-    (&[1, 2, 8], LASTS, Replays(0, LASTS, "replayed 11\n")),
-    (&[1, 2, 8], TURNS, Replays(0, TURNS, "replayed 19\n")),
-    (&[1, 2, 8], PAIR, Replays(1, PAIR, "replayed 7\n")),
-];
-
-#[test]
-fn each_trace_replays(rt: HostRuntime) -> Result<(), Fail> {
-    check_by_each(&rt, rt.alloc(), PARALLEL_RUNS)
+fn each_trace_is_known_or_replays(rt: HostRuntime) -> Result<(), Fail> {
+    for (workers, program, told) in RUNS {
+        check_recorded(&rt, rt.alloc(), program, *workers, *told)?;
+    }
+    Ok(())
 }
 
 #[test]
@@ -478,23 +459,28 @@ enum Leaves {
 /// SHORT is reported, and its trace is in a file of this name.
 fn is_kept(rt: &impl Abort, left: &Left<'_>, name: &str) {
     let (report, trace) = (left.output.held.as_slice(), left.desk.held.as_slice());
-    assert!(rt; has_ended(&left.answer, 0));
-    equal(rt, &"report", &report, &SHORT_REPORT.as_bytes());
-    equal(rt, &"trace", &trace, &SHORT_TRACE.as_bytes());
-    equal(rt, &"name", &left.desk.name.as_str(), &name);
-    equal(rt, &"created", &left.desk.created, &1);
+    same_text(rt, report, SHORT_REPORT.as_bytes());
+    same_text(rt, trace, SHORT_TRACE.as_bytes());
+    assert!(rt; left.desk.name.as_str() == name && left.desk.created == 1);
+}
+
+/// Whether it is answered so.
+fn is_answered(answer: &Result<u8, CliFault>, leaves: Leaves) -> bool {
+    match leaves {
+        Leaves::Trace(_) => has_ended(answer, 0),
+        Leaves::Unwritten => matches!(answer, Err(CliFault::Unwritten)),
+        Leaves::Cut => matches!(answer, Err(CliFault::Limit)),
+        Leaves::NoProgram => matches!(answer, Err(CliFault::Program(_))),
+    }
 }
 
 /// The desk is left so.
 fn is_left(rt: &impl Abort, left: &Left<'_>, leaves: Leaves) {
-    let answer = &left.answer;
+    assert!(rt; is_answered(&left.answer, leaves));
     match leaves {
-        Leaves::Trace(name) => return is_kept(rt, left, name),
-        Leaves::Unwritten => assert!(rt; matches!(answer, Err(CliFault::Unwritten))),
-        Leaves::Cut => assert!(rt; matches!(answer, Err(CliFault::Limit))),
-        Leaves::NoProgram => assert!(rt; matches!(answer, Err(CliFault::Program(_)))),
+        Leaves::Trace(name) => is_kept(rt, left, name),
+        _ => assert!(rt; left.output.held.is_empty() && left.desk.created == 0),
     }
-    assert!(rt; left.output.held.is_empty() && left.desk.created == 0);
 }
 
 /// The desk that is asked so is left so.
@@ -509,21 +495,6 @@ fn check_desk<R: Abort + Threads + Wait + Sync>(
     Ok(())
 }
 
-/// Each desk that is asked so is left so.
-fn check_desks<R: Abort + Threads + Wait + Sync>(
-    rt: &R,
-    alloc: Global,
-    cases: &[(Asked, Leaves)],
-) -> Result<(), Fail> {
-    for (asked, leaves) in cases {
-        check_desk(rt, alloc, *asked, *leaves)?;
-    }
-    Ok(())
-}
-
-/// SHORT, a line for each of its lines.
-const SHORT_LINES: &str = "cilk 1\nfunc main z\nend\n";
-
 /// What asks a desk to record a run of this program.
 macro_rules! recording {
     ($program:expr, $limit:expr, $trace:literal) => {
@@ -537,48 +508,67 @@ macro_rules! recording {
 
 /// What desks are asked, and what they are left with.
 const DESKS: &[(Asked, Leaves)] = &[
-    (recording!(SHORT_LINES, MOST, "out"), Leaves::Trace("out")),
-    (recording!(SHORT_LINES, MOST, "barred"), Leaves::Unwritten),
-    (recording!(SHORT_LINES, 1, "out"), Leaves::Cut),
+    (recording!(SHORT, MOST, "out"), Leaves::Trace("out")),
+    (recording!(SHORT, MOST, "barred"), Leaves::Unwritten),
+    (recording!(SHORT, 1, "out"), Leaves::Cut),
     (recording!("cilk 1\nfoo\n", MOST, "out"), Leaves::NoProgram),
 ];
 
 /// A file is created for a run alone, and where it can be.
 #[test]
 fn a_trace_in_a_file(rt: HostRuntime) -> Result<(), Fail> {
-    check_desks(&rt, rt.alloc(), DESKS)
-}
-
-/// At a desk the job is refused with this text, or passes.
-fn check_names_of(
-    rt: &impl Abort,
-    alloc: Global,
-    job: &Job,
-    wanted: Option<&str>,
-) -> Result<(), Fail> {
-    let host = Watched::new(new_desk(alloc, SHORT_LINES));
-    match (check_names(alloc, &host, job), wanted) {
-        (Ok(()), None) => {}
-        (Err(fault), Some(wanted)) => is_fault(rt, alloc, &fault, 2, wanted)?,
-        _ => assert!(rt; false, "{job:?}"),
+    for (asked, leaves) in DESKS {
+        check_desk(&rt, rt.alloc(), *asked, *leaves)?;
     }
     Ok(())
 }
 
-/// A run that is recorded under this name is.
+/// What is found of the names in a job at a desk.
+fn named(alloc: Global, job: &Job) -> Result<(), CliFault> {
+    let host = Watched::new(new_desk(alloc, SHORT));
+    check_names(alloc, &host, job)
+}
+
+/// The job is refused with this text, or passes.
+fn is_named(
+    rt: &impl Abort,
+    alloc: Global,
+    found: &Result<(), CliFault>,
+    wanted: Option<&str>,
+) -> Result<(), Fail> {
+    match found {
+        Ok(()) => assert!(rt; wanted.is_none()),
+        Err(fault) => is_fault(rt, alloc, fault, 2, wanted.unwrap_or("no fault"))?,
+    }
+    Ok(())
+}
+
+/// The job that replays the trace in a file of this name, or that writes it.
+fn job_with(alloc: Global, trace: &str, is_replayed: bool) -> Result<Job, AllocError> {
+    let file = String::from_str(alloc, "program")?;
+    let trace = String::from_str(alloc, trace)?;
+    Ok(if is_replayed {
+        Job::Replay { file, trace }
+    } else {
+        Job::Record {
+            file,
+            workers: 2,
+            limit: MOST,
+            trace,
+        }
+    })
+}
+
+/// At a desk it is refused with this text, or passes.
 fn check_name(
     rt: &impl Abort,
     alloc: Global,
-    trace: &'static str,
+    trace: &str,
+    is_replayed: bool,
     wanted: Option<&str>,
 ) -> Result<(), Fail> {
-    let asked = Asked {
-        program: SHORT_LINES,
-        limit: MOST,
-        trace,
-    };
-    let job = asked.job(rt, alloc)?;
-    check_names_of(rt, alloc, &job, wanted)
+    let job = job_with(alloc, trace, is_replayed)?;
+    is_named(rt, alloc, &named(alloc, &job), wanted)
 }
 
 const NAMED: &str =
@@ -587,35 +577,21 @@ const NAMED: &str =
 const FILED: &str =
     "the trace would be written over the program, whose file has both names: name another file with '--trace <OUT>'";
 
-/// The same of each name.
-fn check_each_name(
-    rt: &impl Abort,
-    alloc: Global,
-    cases: &[(&'static str, Option<&'static str>)],
-) -> Result<(), Fail> {
-    for (trace, wanted) in cases {
-        check_name(rt, alloc, trace, *wanted)?;
-    }
-    Ok(())
-}
-
-/// The names of traces, and why they are refused.
-const NAMES: &[(&'static str, Option<&'static str>)] = &[
-    ("program", Some(NAMED)),
-    ("./program", Some(FILED)),
-    ("link", Some(FILED)),
-    ("other", None),
-    ("new", None),
+/// The names of traces, whether they are replayed, and why they are refused.
+const NAMES: &[(&str, bool, Option<&str>)] = &[
+    ("program", false, Some(NAMED)),
+    ("./program", false, Some(FILED)),
+    ("link", false, Some(FILED)),
+    ("other", false, None),
+    ("new", false, None),
+    ("link", true, None),
 ];
 
+/// A trace is not written over its program, and a job that writes none passes.
 #[test]
 fn a_trace_over_its_program(rt: HostRuntime) -> Result<(), Fail> {
-    check_each_name(&rt, rt.alloc(), NAMES)
-}
-
-#[test]
-fn jobs_that_write_no_trace_pass(rt: HostRuntime) -> Result<(), Fail> {
-    let file = String::from_str(rt.alloc(), "program")?;
-    let trace = String::from_str(rt.alloc(), "link")?;
-    check_names_of(&rt, rt.alloc(), &Job::Replay { file, trace }, None)
+    for (trace, is_replayed, wanted) in NAMES {
+        check_name(&rt, rt.alloc(), trace, *is_replayed, *wanted)?;
+    }
+    Ok(())
 }

@@ -8,18 +8,18 @@ use std::test::Fail;
 
 /// Its run in which the write comes first, without the last request.
 const MOST_OF_PAIR: &str =
-    "cilk 1; mem x; mem y; spawn 0 @5; write 1 x 7 @9; read 2 x @6; sync 1 @10; return 1 @10; sync 2 @7";
+    "cilk 1\nmem x\nmem y\nspawn 0 @5\nwrite 1 x 7 @9\nread 2 x @6\nsync 1 @10\nreturn 1 @10\nsync 2 @7\n";
 
 /// The same with it.
 const PAIR_TRACE: &str =
-    "cilk 1; mem x; mem y; spawn 0 @5; write 1 x 7 @9; read 2 x @6; sync 1 @10; return 1 @10; sync 2 @7; return 3 @7";
+    "cilk 1\nmem x\nmem y\nspawn 0 @5\nwrite 1 x 7 @9\nread 2 x @6\nsync 1 @10\nreturn 1 @10\nsync 2 @7\nreturn 3 @7\n";
 
 /// The same with a read of the other cell.
 const OTHER_CELL: &str =
-    "cilk 1; mem x; mem y; spawn 0 @5; write 1 x 7 @9; read 2 y @6; sync 1 @10; return 1 @10; sync 2 @7; return 3 @7";
+    "cilk 1\nmem x\nmem y\nspawn 0 @5\nwrite 1 x 7 @9\nread 2 y @6\nsync 1 @10\nreturn 1 @10\nsync 2 @7\nreturn 3 @7\n";
 
 /// A program of two requests.
-const SHORT: &str = "cilk 1; func main z; end";
+const SHORT: &str = "cilk 1\nfunc main z\nend\n";
 
 /// Programs with traces, and what is told of them.
 const REPLAYED: &[Case<'static>] = &[
@@ -27,83 +27,75 @@ const REPLAYED: &[Case<'static>] = &[
     (Replay(OTHER_CELL), PAIR, Text(4, "strange 3\n")),
     (Replay(MOST_OF_PAIR), PAIR, Text(4, "unfinished\n")),
     (
-        Replay("cilk 1; mem x; mem y"),
+        Replay("cilk 1\nmem x\nmem y\n"),
         PAIR,
         Text(4, "unfinished\n"),
     ),
     (
-        Replay("cilk 2; sync 0 @3; return 0 @3"),
+        Replay("cilk 2\nsync 0 @3\nreturn 0 @3\n"),
         SHORT,
         Text(0, "replayed 2\n"),
     ),
     (
-        Replay("cilk 1; sync 0 @3; return 0 @4"),
+        Replay("cilk 1\nsync 0 @3\nreturn 0 @4\n"),
         SHORT,
         Text(4, "strange 2\n"),
     ),
     (
-        Replay("cilk 1; call 0 @3; call 0 @3; call 0 @3; call 0 @3; call 0 @3"),
+        Replay("cilk 1\ncall 0 @3\ncall 0 @3\ncall 0 @3\ncall 0 @3\ncall 0 @3\n"),
         ENDLESS,
         Text(4, "unfinished\n"),
     ),
     (
-        Replay("cilk 1; reducer h sum; mem a 2; get 0 h @5; sync 0 @6; return 0 @6"),
-        "cilk 1; mem a 2; reducer h sum; func main z; get r h; end",
+        Replay("cilk 1\nreducer h sum\nmem a 2\nget 0 h @5\nsync 0 @6\nreturn 0 @6\n"),
+        "cilk 1\nmem a 2\nreducer h sum\nfunc main z\nget r h\nend\n",
         Text(1, "replayed 3\n"),
     ),
-];
-
-#[test]
-fn replays(rt: HostRuntime) -> Result<(), Fail> {
-    check_all(&rt, rt.alloc(), REPLAYED)
-}
-
-/// Programs with traces that differ from them or have faults.
-const REFUSED: &[Case<'static>] = &[
-    (Replay("cilk 1; mem x"), PAIR, Fault(2, "shape")),
-    (Replay("cilk 1; mem y; mem x"), PAIR, Fault(2, "shape")),
-    (Replay("cilk 1; mem x; mem y 1"), PAIR, Fault(2, "shape")),
+    // Traces that differ from their programs or have faults.
+    (Replay("cilk 1\nmem x\n"), PAIR, Fault(2, "shape")),
+    (Replay("cilk 1\nmem y\nmem x\n"), PAIR, Fault(2, "shape")),
+    (Replay("cilk 1\nmem x\nmem y 1\n"), PAIR, Fault(2, "shape")),
     (
-        Replay("cilk 1; mem x; mem y; reducer h sum"),
+        Replay("cilk 1\nmem x\nmem y\nreducer h sum\n"),
         PAIR,
         Fault(2, "shape"),
     ),
     (
-        Replay("cilk 1; mem a 3"),
-        "cilk 1; mem a 2; func main z; end",
+        Replay("cilk 1\nmem a 3\n"),
+        "cilk 1\nmem a 2\nfunc main z\nend\n",
         Fault(2, "shape"),
     ),
     (
-        Replay("cilk 1; reducer h max"),
-        "cilk 1; reducer h sum; func main z; end",
+        Replay("cilk 1\nreducer h max\n"),
+        "cilk 1\nreducer h sum\nfunc main z\nend\n",
         Fault(2, "shape"),
     ),
     (
-        Replay("cilk 1; reducer g sum"),
-        "cilk 1; reducer h sum; func main z; end",
+        Replay("cilk 1\nreducer g sum\n"),
+        "cilk 1\nreducer h sum\nfunc main z\nend\n",
         Fault(2, "shape"),
     ),
     (Replay(""), "", Fault(2, "program line 1: BadHeader")),
     (Replay(""), PAIR, Fault(2, "trace line 1: BadHeader")),
     (
-        Replay("cilk 1; mem x; mem y; spawn"),
+        Replay("cilk 1\nmem x\nmem y\nspawn\n"),
         PAIR,
         Fault(2, "trace line 4: BadWord"),
     ),
     (
-        Replay("cilk 1; mem x; mem y; spawn 0; return 3; write 9 x 7"),
+        Replay("cilk 1\nmem x\nmem y\nspawn 0\nreturn 3\nwrite 9 x 7\n"),
         PAIR,
         Fault(2, "illegal request 2"),
     ),
     (
-        Replay("cilk 1; mem x; mem y; write 9 x 7"),
+        Replay("cilk 1\nmem x\nmem y\nwrite 9 x 7\n"),
         PAIR,
         Fault(2, "illegal request 1"),
     ),
 ];
 
-/// The declarations of a program and its trace differ, or one of them has a fault.
+/// Also of traces whose declarations are not their program's, and of texts with faults.
 #[test]
-fn traces_that_are_not_replayed(rt: HostRuntime) -> Result<(), Fail> {
-    check_all(&rt, rt.alloc(), REFUSED)
+fn replays(rt: HostRuntime) -> Result<(), Fail> {
+    check_all(&rt, rt.alloc(), REPLAYED)
 }

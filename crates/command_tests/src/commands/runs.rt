@@ -3,12 +3,8 @@
 use super::Command::Run;
 use super::Wanted::{Fault, Text};
 use super::worked::{ENDLESS, FIB, LASTS, NO_TURNS, SERIES, TURNS};
-use super::{MOST, Wanted, check_text};
-use std::alloc::Global;
-use std::process::Abort;
-use std::sync::Wait;
+use super::{Case, MOST, check_all};
 use std::test::Fail;
-use std::thread::Threads;
 
 const FIB_REPORT: &str =
     "{\"clean\":true,\"entries\":713,\"memory\":{\"x\":55},\"refusals\":[],\"schedules\":\"clean for every schedule\"}\n";
@@ -26,67 +22,56 @@ const NO_TURNS_REPORT: &str =
     "{\"clean\":true,\"entries\":3,\"memory\":{\"a\":[0,0,0,0]},\"refusals\":[],\"schedules\":\"clean for every schedule\"}\n";
 
 /// A get of a reducer that nobody has put.
-const UNSET: &str = "cilk 1; reducer h sum; func main z; get r h; end";
+const UNSET: &str = "cilk 1\nreducer h sum\nfunc main z\nget r h\nend\n";
 
 const UNSET_REPORT: &str =
     "{\"clean\":false,\"entries\":3,\"memory\":{},\"refusals\":[{\"entry\":1,\"line\":4,\"name\":\"h\",\"rule\":\"unset\",\"strand\":0,\"witness\":null}]}\n";
 
-/// A program, a limit on the entries of its run, and what is wanted of it.
-type Case<'a> = (&'a str, u32, Wanted<'a>);
-
-/// Each program's run by so many workers does what is wanted.
-fn check_by<R: Abort + Threads + Wait + Sync>(
-    rt: &R,
-    alloc: Global,
-    workers: usize,
-    cases: &[Case<'_>],
-) -> Result<(), Fail> {
-    for (program, limit, wanted) in cases {
-        check_text(rt, alloc, Run(workers, *limit), program, *wanted)?;
-    }
-    Ok(())
-}
-
-/// The same by each of these numbers of workers.
-fn check_by_each<R: Abort + Threads + Wait + Sync>(
-    rt: &R,
-    alloc: Global,
-    numbers: &[usize],
-    cases: &[Case<'_>],
-) -> Result<(), Fail> {
-    for workers in numbers {
-        check_by(rt, alloc, *workers, cases)?;
-    }
-    Ok(())
-}
-
-/// Programs and the reports of their runs.
-const REPORTED: &[Case<'static>] = &[
-    (FIB, MOST, Text(0, FIB_REPORT)),
-    (FIB, 713, Text(0, FIB_REPORT)),
-    (SERIES, MOST, Text(0, SERIES_REPORT)),
-    (LASTS, MOST, Text(0, LASTS_REPORT)),
-    (TURNS, MOST, Text(0, TURNS_REPORT)),
-    (NO_TURNS, MOST, Text(0, NO_TURNS_REPORT)),
-    (UNSET, MOST, Text(1, UNSET_REPORT)),
+/// Programs and the reports of their runs by any number of workers, or why there is none.
+const RUNS: &[Case<'static>] = &[
+    (Run(1, MOST), FIB, Text(0, FIB_REPORT)),
+    (Run(2, MOST), FIB, Text(0, FIB_REPORT)),
+    (Run(8, MOST), FIB, Text(0, FIB_REPORT)),
+    (Run(64, MOST), FIB, Text(0, FIB_REPORT)),
+    (Run(1, 713), FIB, Text(0, FIB_REPORT)),
+    (Run(2, 713), FIB, Text(0, FIB_REPORT)),
+    (Run(8, 713), FIB, Text(0, FIB_REPORT)),
+    (Run(64, 713), FIB, Text(0, FIB_REPORT)),
+    (Run(1, MOST), SERIES, Text(0, SERIES_REPORT)),
+    (Run(2, MOST), SERIES, Text(0, SERIES_REPORT)),
+    (Run(8, MOST), SERIES, Text(0, SERIES_REPORT)),
+    (Run(64, MOST), SERIES, Text(0, SERIES_REPORT)),
+    (Run(1, MOST), LASTS, Text(0, LASTS_REPORT)),
+    (Run(2, MOST), LASTS, Text(0, LASTS_REPORT)),
+    (Run(8, MOST), LASTS, Text(0, LASTS_REPORT)),
+    (Run(64, MOST), LASTS, Text(0, LASTS_REPORT)),
+    (Run(1, MOST), TURNS, Text(0, TURNS_REPORT)),
+    (Run(2, MOST), TURNS, Text(0, TURNS_REPORT)),
+    (Run(8, MOST), TURNS, Text(0, TURNS_REPORT)),
+    (Run(64, MOST), TURNS, Text(0, TURNS_REPORT)),
+    (Run(1, MOST), NO_TURNS, Text(0, NO_TURNS_REPORT)),
+    (Run(2, MOST), NO_TURNS, Text(0, NO_TURNS_REPORT)),
+    (Run(8, MOST), NO_TURNS, Text(0, NO_TURNS_REPORT)),
+    (Run(64, MOST), NO_TURNS, Text(0, NO_TURNS_REPORT)),
+    (Run(1, MOST), UNSET, Text(1, UNSET_REPORT)),
+    (Run(2, MOST), UNSET, Text(1, UNSET_REPORT)),
+    (Run(8, MOST), UNSET, Text(1, UNSET_REPORT)),
+    (Run(64, MOST), UNSET, Text(1, UNSET_REPORT)),
+    (Run(1, 0), FIB, Fault(4, "limit")),
+    (Run(2, 0), FIB, Fault(4, "limit")),
+    (Run(1, 1), FIB, Fault(4, "limit")),
+    (Run(2, 1), FIB, Fault(4, "limit")),
+    (Run(1, 100), FIB, Fault(4, "limit")),
+    (Run(2, 100), FIB, Fault(4, "limit")),
+    (Run(1, 712), FIB, Fault(4, "limit")),
+    (Run(2, 712), FIB, Fault(4, "limit")),
+    (Run(1, 5), ENDLESS, Fault(4, "limit")),
+    (Run(2, 5), ENDLESS, Fault(4, "limit")),
+    (Run(1, 5), "cilk 1\n", Fault(2, "program line 2: NoMain")),
+    (Run(2, 5), "cilk 1\n", Fault(2, "program line 2: NoMain")),
 ];
 
 #[test]
-fn any_number_of_workers_leaves_one_report(rt: HostRuntime) -> Result<(), Fail> {
-    check_by_each(&rt, rt.alloc(), &[1, 2, 8, 64], REPORTED)
-}
-
-/// Programs without a run that is reported.
-const FAULTY: &[Case<'static>] = &[
-    (FIB, 0, Fault(4, "limit")),
-    (FIB, 1, Fault(4, "limit")),
-    (FIB, 100, Fault(4, "limit")),
-    (FIB, 712, Fault(4, "limit")),
-    (ENDLESS, 5, Fault(4, "limit")),
-    ("cilk 1", 5, Fault(2, "program line 2: NoMain")),
-];
-
-#[test]
-fn faults_of_runs(rt: HostRuntime) -> Result<(), Fail> {
-    check_by_each(&rt, rt.alloc(), &[1, 2], FAULTY)
+fn any_number_of_workers_leaves_one_report_or_fault(rt: HostRuntime) -> Result<(), Fail> {
+    check_all(&rt, rt.alloc(), RUNS)
 }

@@ -3,7 +3,7 @@
 use super::Command::Run;
 use super::Wanted::{Among, Text};
 use super::worked::PAIR;
-use super::{Case, MOST, Outcome, Wanted, check_all, check_text, is_met, lined, outcome_of};
+use super::{Case, MOST, Outcome, Wanted, check_all, is_met, outcome_of};
 use std::alloc::Global;
 use std::process::Abort;
 use std::sync::Wait;
@@ -48,28 +48,23 @@ const SCHEDULED: &[Case<'static>] = &[
     (Run(2, MOST), PAIR, Among(1, REPORTS)),
     (Run(8, MOST), PAIR, Among(1, REPORTS)),
     (Run(64, MOST), PAIR, Among(1, REPORTS)),
+    (Run(1, MOST), PAIR, Text(1, READ_SYNC_WRITE)),
 ];
 
+/// Each schedule tells one refusal, and one worker goes on with the spawner.
 #[test]
-fn each_schedule_tells_one_refusal(rt: HostRuntime) -> Result<(), Fail> {
+fn runs_that_no_door_decides(rt: HostRuntime) -> Result<(), Fail> {
     check_all(&rt, rt.alloc(), SCHEDULED)
-}
-
-#[test]
-fn one_worker_goes_on_with_the_spawner(rt: HostRuntime) -> Result<(), Fail> {
-    let wanted = Text(1, READ_SYNC_WRITE);
-    check_text(&rt, rt.alloc(), Run(1, MOST), PAIR, wanted)
 }
 
 /// What comes of a run of PAIR by two workers through a door.
 fn ran_pair<D: Door + Sync, R: Threads + Wait + Sync>(
     rt: &R,
     alloc: Global,
-    text: &str,
     door: &D,
     wanted: Wanted<'_>,
 ) -> Outcome {
-    let mut program = Watched::new(text.as_bytes());
+    let mut program = Watched::new(PAIR.as_bytes());
     let mut output = Watched::new(wanted.writer(alloc));
     let answer = run_text(rt, alloc, &mut program, 2, door, &mut output, MOST);
     outcome_of(answer, &program, output)
@@ -82,8 +77,7 @@ fn check_pair<D: Door + Sync, R: Abort + Threads + Wait + Sync>(
     door: &D,
     wanted: Wanted<'_>,
 ) -> Result<(), Fail> {
-    let text = lined(alloc, PAIR, "; ")?;
-    let outcome = ran_pair(rt, alloc, text.as_str(), door, wanted);
+    let outcome = ran_pair(rt, alloc, door, wanted);
     is_met(rt, alloc, &outcome, wanted)
 }
 
@@ -147,18 +141,6 @@ fn check_order<R: Abort + Threads + Wait + Sync>(
     check_pair(rt, alloc, &order, Text(1, wanted))
 }
 
-/// The same of each order.
-fn check_orders<R: Abort + Threads + Wait + Sync>(
-    rt: &R,
-    alloc: Global,
-    cases: &[(u32, u32, u64, &str)],
-) -> Result<(), Fail> {
-    for (first, second, times, wanted) in cases {
-        check_order(rt, alloc, *first, *second, *times, wanted)?;
-    }
-    Ok(())
-}
-
 /// Which strand comes first, which second, how often the first comes before, and the report.
 const ORDERS: &[(u32, u32, u64, &str)] = &[
     (1, 2, 2, WRITE_READ),
@@ -168,7 +150,10 @@ const ORDERS: &[(u32, u32, u64, &str)] = &[
 
 #[test]
 fn the_first_access_is_the_witness(rt: HostRuntime) -> Result<(), Fail> {
-    check_orders(&rt, rt.alloc(), ORDERS)
+    for (first, second, times, wanted) in ORDERS {
+        check_order(&rt, rt.alloc(), *first, *second, *times, wanted)?;
+    }
+    Ok(())
 }
 
 /// Holds whichever of strands 1 and 2 comes first until the other has come too.

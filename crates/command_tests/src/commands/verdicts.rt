@@ -1,81 +1,77 @@
 //! Verdicts on traces.
 
 use super::Command::Judge;
-use super::Wanted::{Fault, Lines, Text};
-use super::{Case, MOST, check, check_all, is_fault};
+use super::Wanted::{Fault, Text};
+use super::{Case, MOST, check, check_all, is_fault, push_number, push_numbers};
 use model_histories::{Answer, GateFault, Receipt, Reply};
-use std::alloc::Global;
-use std::io::Write;
-use std::process::Abort;
-use std::sync::Wait;
+use std::alloc::{AllocError, Global};
 use std::test::Fail;
-use std::thread::Threads;
 use text_words::{Act, Request, TextFault};
 use tool_commands::{CliFault, status_of};
 
 /// Control, values, limits and faults of texts.
 const CONTROL: &[Case<'static>] = &[
-    (Judge(MOST), "cilk 1; mem x", Lines(0, "")),
+    (Judge(MOST), "cilk 1\nmem x\n", Text(0, "")),
     (
         Judge(MOST),
-        "cilk 1; mem x; write 0 x 5; read 0 x",
-        Lines(0, "1 granted / 2 value 5"),
+        "cilk 1\nmem x\nwrite 0 x 5\nread 0 x\n",
+        Text(0, "1 granted\n2 value 5\n"),
     ),
     (
         Judge(MOST),
-        "cilk 1; mem x; spawn 0; read 1 x; read 2 x",
-        Lines(0, "1 split 1 2 3 / 2 value 0 / 3 value 0"),
+        "cilk 1\nmem x\nspawn 0\nread 1 x\nread 2 x\n",
+        Text(0, "1 split 1 2 3\n2 value 0\n3 value 0\n"),
     ),
     (
         Judge(MOST),
-        "cilk 1; mem x; spawn 0; read 1 x; sync 2; return 1; write 3 x 4",
-        Lines(
+        "cilk 1\nmem x\nspawn 0\nread 1 x\nsync 2\nreturn 1\nwrite 3 x 4\n",
+        Text(
             0,
-            "1 split 1 2 3 / 2 value 0 / 3 waits / 4 ended-joined 3 / 5 granted",
+            "1 split 1 2 3\n2 value 0\n3 waits\n4 ended-joined 3\n5 granted\n",
         ),
     ),
     (
         Judge(MOST),
-        "cilk 1; mem x; sync 0; return 0; read 0 x",
-        Lines(2, "1 same / 2 finished / illegal not-running"),
+        "cilk 1\nmem x\nsync 0\nreturn 0\nread 0 x\n",
+        Text(2, "1 same\n2 finished\nillegal not-running\n"),
     ),
     (
         Judge(MOST),
-        "cilk 1; mem x; spawn 0; call 2; spawn 2; return 4; sync 5; return 6; sync 6; return 1",
-        Lines(
+        "cilk 1\nmem x\nspawn 0\ncall 2\nspawn 2\nreturn 4\nsync 5\nreturn 6\nsync 6\nreturn 1\n",
+        Text(
             0,
-            "1 split 1 2 3 / 2 same / 3 split 4 5 6 / 4 ended / 5 joined 6 / 6 resumed / 7 waits / 8 ended-joined 3",
+            "1 split 1 2 3\n2 same\n3 split 4 5 6\n4 ended\n5 joined 6\n6 resumed\n7 waits\n8 ended-joined 3\n",
         ),
     ),
     (
         Judge(MOST),
-        "cilk 1; mem x; spawn 0; return 2; read 2 x",
-        Lines(2, "1 split 1 2 3 / illegal unsynced / 2 value 0"),
+        "cilk 1\nmem x\nspawn 0\nreturn 2\nread 2 x\n",
+        Text(2, "1 split 1 2 3\nillegal unsynced\n2 value 0\n"),
     ),
     (
         Judge(MOST),
-        "cilk 1; mem x; read 4294967295 x",
-        Lines(2, "illegal not-running"),
+        "cilk 1\nmem x\nread 4294967295 x\n",
+        Text(2, "illegal not-running\n"),
     ),
     (
         Judge(3),
-        "cilk 1; mem x; write 0 x 1; write 0 x 2; write 0 x 3; write 0 x 4",
-        Lines(4, "1 granted / 2 granted / 3 granted / illegal limit"),
+        "cilk 1\nmem x\nwrite 0 x 1\nwrite 0 x 2\nwrite 0 x 3\nwrite 0 x 4\n",
+        Text(4, "1 granted\n2 granted\n3 granted\nillegal limit\n"),
     ),
     (
         Judge(0),
-        "cilk 1; mem x; return 5",
-        Lines(4, "illegal limit"),
+        "cilk 1\nmem x\nreturn 5\n",
+        Text(4, "illegal limit\n"),
     ),
     (Judge(MOST), "", Fault(2, "trace line 1: BadHeader")),
     (
         Judge(MOST),
-        "cilk 1; mem x; mem x",
+        "cilk 1\nmem x\nmem x\n",
         Fault(2, "trace line 3: TwiceNamed"),
     ),
     (
         Judge(MOST),
-        "cilk 1; mem a 2; read 0 a[2]",
+        "cilk 1\nmem a 2\nread 0 a[2]\n",
         Fault(2, "trace line 3: BadNumber"),
     ),
 ];
@@ -89,52 +85,52 @@ fn control_and_values(rt: HostRuntime) -> Result<(), Fail> {
 const RACES: &[Case<'static>] = &[
     (
         Judge(MOST),
-        "cilk 1; mem x; spawn 0; read 1 x; read 2 x; write 2 x 9",
-        Lines(
+        "cilk 1\nmem x\nspawn 0\nread 1 x\nread 2 x\nwrite 2 x 9\n",
+        Text(
             1,
-            "1 split 1 2 3 / 2 value 0 / 3 value 0 / 4 refused read-write 2",
+            "1 split 1 2 3\n2 value 0\n3 value 0\n4 refused read-write 2\n",
         ),
     ),
     (
         Judge(MOST),
-        "cilk 1; mem x; spawn 0; read 2 x; write 1 x 9",
-        Lines(1, "1 split 1 2 3 / 2 value 0 / 3 refused read-write 2"),
+        "cilk 1\nmem x\nspawn 0\nread 2 x\nwrite 1 x 9\n",
+        Text(1, "1 split 1 2 3\n2 value 0\n3 refused read-write 2\n"),
     ),
     (
         Judge(MOST),
-        "cilk 1; mem x; spawn 0; write 1 x 5; write 2 x 6; read 1 x",
-        Lines(
+        "cilk 1\nmem x\nspawn 0\nwrite 1 x 5\nwrite 2 x 6\nread 1 x\n",
+        Text(
             1,
-            "1 split 1 2 3 / 2 granted / 3 refused write-write 2 / 4 value 5",
+            "1 split 1 2 3\n2 granted\n3 refused write-write 2\n4 value 5\n",
         ),
     ),
     (
         Judge(MOST),
-        "cilk 2; mem x; write 0 x 1; spawn 0; bump 1 x 2; bump 2 x 3; read 2 x; sync 2; return 1; read 3 x",
-        Lines(
+        "cilk 2\nmem x\nwrite 0 x 1\nspawn 0\nbump 1 x 2\nbump 2 x 3\nread 2 x\nsync 2\nreturn 1\nread 3 x\n",
+        Text(
             1,
-            "1 granted / 2 split 1 2 3 / 3 granted / 4 granted / 5 refused bump-read 3 / 6 waits / 7 ended-joined 3 / 8 value 6",
+            "1 granted\n2 split 1 2 3\n3 granted\n4 granted\n5 refused bump-read 3\n6 waits\n7 ended-joined 3\n8 value 6\n",
         ),
     ),
     (
         Judge(MOST),
-        "cilk 2; mem x; write 0 x 18446744073709551615; bump 0 x 2; read 0 x",
-        Lines(0, "1 granted / 2 granted / 3 value 1"),
+        "cilk 2\nmem x\nwrite 0 x 18446744073709551615\nbump 0 x 2\nread 0 x\n",
+        Text(0, "1 granted\n2 granted\n3 value 1\n"),
     ),
     (
         Judge(MOST),
-        "cilk 2; mem x; spawn 0; bump 1 x 2; write 2 x 9",
-        Lines(1, "1 split 1 2 3 / 2 granted / 3 refused bump-write 2"),
+        "cilk 2\nmem x\nspawn 0\nbump 1 x 2\nwrite 2 x 9\n",
+        Text(1, "1 split 1 2 3\n2 granted\n3 refused bump-write 2\n"),
     ),
     (
         Judge(MOST),
-        "cilk 2; mem x; spawn 0; write 1 x 9; bump 2 x 2",
-        Lines(1, "1 split 1 2 3 / 2 granted / 3 refused write-bump 2"),
+        "cilk 2\nmem x\nspawn 0\nwrite 1 x 9\nbump 2 x 2\n",
+        Text(1, "1 split 1 2 3\n2 granted\n3 refused write-bump 2\n"),
     ),
     (
         Judge(MOST),
-        "cilk 2; mem x; spawn 0; read 1 x; bump 2 x 1",
-        Lines(1, "1 split 1 2 3 / 2 value 0 / 3 refused read-bump 2"),
+        "cilk 2\nmem x\nspawn 0\nread 1 x\nbump 2 x 1\n",
+        Text(1, "1 split 1 2 3\n2 value 0\n3 refused read-bump 2\n"),
     ),
 ];
 
@@ -147,84 +143,84 @@ fn races_and_bumps(rt: HostRuntime) -> Result<(), Fail> {
 const REDUCED: &[Case<'static>] = &[
     (
         Judge(MOST),
-        "cilk 1; reducer h sum; put 0 h 0; spawn 0; update 1 h 5; get 2 h; return 1; sync 2; get 3 h",
-        Lines(
+        "cilk 1\nreducer h sum\nput 0 h 0\nspawn 0\nupdate 1 h 5\nget 2 h\nreturn 1\nsync 2\nget 3 h\n",
+        Text(
             1,
-            "1 granted / 2 split 1 2 3 / 3 granted / 4 refused view-read 1 / 5 ended / 6 joined 3 / 7 value 5",
+            "1 granted\n2 split 1 2 3\n3 granted\n4 refused view-read 1\n5 ended\n6 joined 3\n7 value 5\n",
         ),
     ),
     (
         Judge(MOST),
-        "cilk 1; reducer h last; put 0 h 1; spawn 0; update 2 h 7; update 1 h 5; return 1; sync 2; get 3 h",
-        Lines(
+        "cilk 1\nreducer h last\nput 0 h 1\nspawn 0\nupdate 2 h 7\nupdate 1 h 5\nreturn 1\nsync 2\nget 3 h\n",
+        Text(
             0,
-            "1 granted / 2 split 1 2 3 / 3 granted / 4 granted / 5 ended / 6 joined 3 / 7 value 7",
+            "1 granted\n2 split 1 2 3\n3 granted\n4 granted\n5 ended\n6 joined 3\n7 value 7\n",
         ),
     ),
     (
         Judge(MOST),
-        "cilk 1; reducer h last; put 0 h 1; spawn 0; spawn 2; update 1 h 5; update 4 h 7; return 4; return 1; sync 5; get 3 h",
-        Lines(
+        "cilk 1\nreducer h last\nput 0 h 1\nspawn 0\nspawn 2\nupdate 1 h 5\nupdate 4 h 7\nreturn 4\nreturn 1\nsync 5\nget 3 h\n",
+        Text(
             0,
-            "1 granted / 2 split 1 2 3 / 3 split 4 5 3 / 4 granted / 5 granted / 6 ended / 7 ended / 8 joined 3 / 9 value 7",
+            "1 granted\n2 split 1 2 3\n3 split 4 5 3\n4 granted\n5 granted\n6 ended\n7 ended\n8 joined 3\n9 value 7\n",
         ),
     ),
     (
         Judge(MOST),
-        "cilk 1; reducer h last; get 0 h",
-        Lines(1, "1 refused unset"),
+        "cilk 1\nreducer h last\nget 0 h\n",
+        Text(1, "1 refused unset\n"),
     ),
     (
         Judge(MOST),
-        "cilk 1; reducer h sum; spawn 0; put 1 h 5; get 2 h",
-        Lines(1, "1 split 1 2 3 / 2 granted / 3 refused view-read 2"),
+        "cilk 1\nreducer h sum\nspawn 0\nput 1 h 5\nget 2 h\n",
+        Text(1, "1 split 1 2 3\n2 granted\n3 refused view-read 2\n"),
     ),
     (
         Judge(MOST),
-        "cilk 2; reducer h digits; put 0 h 0; spawn 0; update 2 h 2; update 1 h 1; return 1; sync 2; get 3 h",
-        Lines(
+        "cilk 2\nreducer h digits\nput 0 h 0\nspawn 0\nupdate 2 h 2\nupdate 1 h 1\nreturn 1\nsync 2\nget 3 h\n",
+        Text(
             0,
-            "1 granted / 2 split 1 2 3 / 3 granted / 4 granted / 5 ended / 6 joined 3 / 7 value 33",
+            "1 granted\n2 split 1 2 3\n3 granted\n4 granted\n5 ended\n6 joined 3\n7 value 33\n",
         ),
     ),
     (
         Judge(MOST),
-        "cilk 1; reducer h sum; spawn 0; put 1 h 5; spawn 1; update 4 h 1; return 4; sync 5; get 6 h; get 2 h",
-        Lines(
+        "cilk 1\nreducer h sum\nspawn 0\nput 1 h 5\nspawn 1\nupdate 4 h 1\nreturn 4\nsync 5\nget 6 h\nget 2 h\n",
+        Text(
             1,
-            "1 split 1 2 3 / 2 granted / 3 split 4 5 6 / 4 granted / 5 ended / 6 joined 6 / 7 value 6 / 8 refused view-read 2",
+            "1 split 1 2 3\n2 granted\n3 split 4 5 6\n4 granted\n5 ended\n6 joined 6\n7 value 6\n8 refused view-read 2\n",
         ),
     ),
     (
         Judge(MOST),
-        "cilk 1; reducer h sum; put 0 h 1; spawn 0; put 1 h 9; return 1; sync 2; get 3 h",
-        Lines(
+        "cilk 1\nreducer h sum\nput 0 h 1\nspawn 0\nput 1 h 9\nreturn 1\nsync 2\nget 3 h\n",
+        Text(
             1,
-            "1 granted / 2 split 1 2 3 / 3 refused view-read 1 / 4 ended / 5 joined 3 / 6 value 1",
+            "1 granted\n2 split 1 2 3\n3 refused view-read 1\n4 ended\n5 joined 3\n6 value 1\n",
         ),
     ),
     (
         Judge(MOST),
-        "cilk 1; reducer h sum; put 0 h 18446744073709551615; update 0 h 2; get 0 h",
-        Lines(0, "1 granted / 2 granted / 3 value 1"),
+        "cilk 1\nreducer h sum\nput 0 h 18446744073709551615\nupdate 0 h 2\nget 0 h\n",
+        Text(0, "1 granted\n2 granted\n3 value 1\n"),
     ),
     (
         Judge(MOST),
-        "cilk 1; reducer h min; put 0 h 9; spawn 0; update 1 h 4; update 2 h 6; return 1; sync 2; get 3 h",
-        Lines(
+        "cilk 1\nreducer h min\nput 0 h 9\nspawn 0\nupdate 1 h 4\nupdate 2 h 6\nreturn 1\nsync 2\nget 3 h\n",
+        Text(
             0,
-            "1 granted / 2 split 1 2 3 / 3 granted / 4 granted / 5 ended / 6 joined 3 / 7 value 4",
+            "1 granted\n2 split 1 2 3\n3 granted\n4 granted\n5 ended\n6 joined 3\n7 value 4\n",
         ),
     ),
     (
         Judge(MOST),
-        "cilk 1; reducer h max; put 0 h 3; update 0 h 9; update 0 h 4; get 0 h",
-        Lines(0, "1 granted / 2 granted / 3 granted / 4 value 9"),
+        "cilk 1\nreducer h max\nput 0 h 3\nupdate 0 h 9\nupdate 0 h 4\nget 0 h\n",
+        Text(0, "1 granted\n2 granted\n3 granted\n4 value 9\n"),
     ),
     (
         Judge(MOST),
-        "cilk 1; reducer h sum; spawn 0; put 1 h 5; spawn 2; get 1 h",
-        Lines(0, "1 split 1 2 3 / 2 granted / 3 split 4 5 3 / 4 value 5"),
+        "cilk 1\nreducer h sum\nspawn 0\nput 1 h 5\nspawn 2\nget 1 h\n",
+        Text(0, "1 split 1 2 3\n2 granted\n3 split 4 5 3\n4 value 5\n"),
     ),
 ];
 
@@ -233,71 +229,49 @@ fn reducers(rt: HostRuntime) -> Result<(), Fail> {
     check_all(&rt, rt.alloc(), REDUCED)
 }
 
-/// A long loop that is written: the trace, its verdict lines, the strand that spawns next, and the last entry.
-#[derive(Drop)]
-struct SpawnLoop {
-    text: String,
-    wanted: String,
-    newest: u32,
-    entry: u32,
-}
-
-impl SpawnLoop {
-    /// Spawns a child, which ends.
-    fn spawn(&mut self, child: u32) -> Result<(), Fail> {
-        write!(self.text, "spawn {}\nreturn {child}\n", self.newest)?;
-        self.newest = child.wrapping_add(1);
-        let (spawn, end) = (self.entry.wrapping_add(1), self.entry.wrapping_add(2));
-        write!(
-            self.wanted,
-            "{spawn} split {child} {} 3\n{end} ended\n",
-            self.newest
-        )?;
-        self.entry = end;
-        Ok(())
-    }
-
-    fn access(&mut self, value: u32) -> Result<(), Fail> {
-        self.entry = self.entry.wrapping_add(1);
-        write!(self.text, "write {} x {value}\n", self.newest)?;
-        write!(self.wanted, "{} granted\n", self.entry)?;
-        Ok(())
-    }
-}
-
-/// 10,000 spawns with a write behind each hundredth, and the end.
-fn spawn_all(made: &mut SpawnLoop) -> Result<(), Fail> {
-    for k in 1..10_001u32 {
-        made.spawn(if k == 1 { 1 } else { 2 * k })?;
+/// A loop of 10,000 spawns, with a write behind each hundredth. The children, which end, are strands 1, 4, 6, and so on. The one with an even
+/// number comes from the strand before it, and the one behind it goes on.
+fn spawn_loop(alloc: Global) -> Result<String, AllocError> {
+    let head = "cilk 1\nmem x\nspawn 0\nreturn 1\nspawn 2\nreturn 4\n";
+    let mut text = String::from_str(alloc, head)?;
+    for k in 3..10_001u32 {
+        push_numbers(&mut text, "spawn ", 2 * k - 1, "\nreturn ", 2 * k, "\n")?;
         if k % 100 == 0 {
-            made.access(k)?;
+            push_numbers(&mut text, "write ", 2 * k + 1, " x ", k, "\n")?;
         }
     }
-    made.text.push_str("sync 20001\nreturn 3\n")?;
-    made.wanted.push_str("20101 joined 3\n20102 finished\n")?;
+    text.push_str("sync 20001\nreturn 3\n")?;
+    Ok(text)
+}
+
+/// The verdict lines on its spawns but the first two: two for each, for it and for the child's end, and one for each write.
+fn push_verdicts(lines: &mut String) -> Result<(), AllocError> {
+    for k in 3..10_001u32 {
+        let end = (2 * k).wrapping_add((k - 1) / 100);
+        push_numbers(lines, "", end.wrapping_sub(1), " split ", 2 * k, " ")?;
+        push_numbers(lines, "", 2 * k + 1, " 3\n", end, " ended\n")?;
+        if k % 100 == 0 {
+            push_number(lines, "", end.wrapping_add(1), " granted\n")?;
+        }
+    }
     Ok(())
 }
 
-/// The long loop that is written so is judged so.
-fn check_loop<R: Abort + Threads + Wait + Sync>(
-    rt: &R,
-    alloc: Global,
-    made: &mut SpawnLoop,
-) -> Result<(), Fail> {
-    spawn_all(made)?;
-    let wanted = Text(0, made.wanted.as_str());
-    check(rt, alloc, Judge(MOST), made.text.as_bytes(), wanted)
+/// Its verdict lines.
+fn loop_verdicts(alloc: Global) -> Result<String, AllocError> {
+    let head = "1 split 1 2 3\n2 ended\n3 split 4 5 3\n4 ended\n";
+    let mut lines = String::from_str(alloc, head)?;
+    push_verdicts(&mut lines)?;
+    lines.push_str("20101 joined 3\n20102 finished\n")?;
+    Ok(lines)
 }
 
 #[test]
 fn spawns_in_a_long_loop(rt: HostRuntime) -> Result<(), Fail> {
-    let mut made = SpawnLoop {
-        text: String::from_str(rt.alloc(), "cilk 1\nmem x\n")?,
-        wanted: String::new(rt.alloc()),
-        newest: 0,
-        entry: 0,
-    };
-    check_loop(&rt, rt.alloc(), &mut made)
+    let text = spawn_loop(rt.alloc())?;
+    let lines = loop_verdicts(rt.alloc())?;
+    let wanted = Text(0, lines.as_str());
+    check(&rt, rt.alloc(), Judge(MOST), text.as_bytes(), wanted)
 }
 
 #[test]
@@ -306,19 +280,26 @@ fn want_of_memory_for_a_text(rt: HostRuntime) -> Result<(), Fail> {
     is_fault(&rt, rt.alloc(), &fault, 3, "memory")
 }
 
+const UNSET: Reply = Reply::Done(Receipt {
+    number: 1,
+    request: Request {
+        strand: 0,
+        act: Act::Get(0),
+        line: 1,
+    },
+    answer: Answer::Unset,
+});
+
+const STOPPED: Reply = Reply::Illegal(GateFault::Stopped);
+
+const MEMORY: Reply = Reply::Illegal(GateFault::Memory);
+
+/// Replies, and their status.
+const STATUSES: &[(&[Reply], u8)] = &[(&[UNSET, STOPPED, MEMORY], 3), (&[UNSET], 1)];
+
 #[test]
 fn statuses_of_replies(rt: HostRuntime) {
-    let unset = Reply::Done(Receipt {
-        number: 1,
-        request: Request {
-            strand: 0,
-            act: Act::Get(0),
-            line: 1,
-        },
-        answer: Answer::Unset,
-    });
-    let stopped = Reply::Illegal(GateFault::Stopped);
-    let memory = Reply::Illegal(GateFault::Memory);
-    assert_eq!(rt; status_of(&[unset, stopped, memory]), 3);
-    assert_eq!(rt; status_of(&[unset]), 1);
+    for (replies, status) in STATUSES {
+        assert!(rt; status_of(replies) == *status);
+    }
 }

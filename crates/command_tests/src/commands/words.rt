@@ -1,6 +1,6 @@
 //! Which words of a command line give which job.
 
-use std::alloc::Global;
+use std::alloc::{AllocError, Global};
 use std::process::Abort;
 use std::test::Fail;
 use tool_commands::{CliFault, Job, read_words};
@@ -29,72 +29,82 @@ enum Asks<'a> {
 
 use Asks::{Does, Refused, Shows};
 
-/// The words ask for this job.
-fn is_job(
-    rt: &impl Abort,
-    alloc: Global,
-    job: &Job,
-    asks: Asks<'_>,
-    words: &str,
-) -> Result<(), Fail> {
-    let told = format!(in alloc; "{job:?}")?;
-    let told = told.as_str();
-    assert!(rt;
-        matches!(asks, Does(wanted) if told == wanted),
-        "{words} asks for {told}"
-    );
-    Ok(())
-}
-
-/// The words ask for this.
-fn is_asked(
-    rt: &impl Abort,
-    alloc: Global,
-    found: &Result<Job, CliFault>,
-    asks: Asks<'_>,
-    words: &str,
-) -> Result<(), Fail> {
+/// Whether it is the job that is printed so.
+fn is_job(alloc: Global, found: &Result<Job, CliFault>, wanted: &str) -> Result<bool, AllocError> {
     match found {
-        Ok(Job::Show { text }) => {
-            let text = text.as_str();
-            assert!(rt;
-                matches!(asks, Shows(part) if text.contains(part)),
-                "{words}"
-            );
+        Ok(job) => {
+            let told = format!(in alloc; "{job:?}")?;
+            Ok(told.as_str() == wanted)
         }
-        Ok(job) => is_job(rt, alloc, job, asks, words)?,
-        Err(fault) => {
-            assert!(rt; fault.status() == 2, "{words}");
-            assert!(rt; is_refused(fault, asks), "{words}");
-        }
+        Err(_) => Ok(false),
     }
-    Ok(())
 }
 
-/// Whether the fault is that words are not understood, with the text that is wanted.
-fn is_refused(fault: &CliFault, asks: Asks<'_>) -> bool {
-    match fault {
-        CliFault::Usage(text) => matches!(asks, Refused(whole) if text.as_str() == whole),
+/// Whether it is the fault that words are not understood, with this text.
+fn is_refused(found: &Result<Job, CliFault>, whole: &str) -> bool {
+    match found {
+        Err(CliFault::Usage(text)) => text.as_str() == whole,
         _ => false,
     }
 }
 
-/// These words, between spaces, ask for this.
-fn check(rt: &impl Abort, alloc: Global, line: &str, asks: Asks<'_>) -> Result<(), Fail> {
-    let words: Vec<&str> = line.split_whitespace().collect(alloc)?;
-    is_asked(rt, alloc, &read_words(alloc, words.as_slice()), asks, line)
+/// Whether it has status 2.
+fn has_status_two(found: &Result<Job, CliFault>) -> bool {
+    match found {
+        Ok(_) => false,
+        Err(fault) => fault.status() == 2,
+    }
 }
 
-/// Each line's words ask for what stands beside it.
-fn check_all(rt: &impl Abort, alloc: Global, cases: &[(&str, Asks<'_>)]) -> Result<(), Fail> {
-    for (words, asks) in cases {
-        check(rt, alloc, words, *asks)?;
+/// Whether it is the job that shows a text with this part.
+fn is_shown(found: &Result<Job, CliFault>, part: &str) -> bool {
+    match found {
+        Ok(Job::Show { text }) => text.as_str().contains(part),
+        _ => false,
     }
+}
+
+/// Whether it is what is asked for.
+fn is_asked(
+    alloc: Global,
+    found: &Result<Job, CliFault>,
+    asks: Asks<'_>,
+) -> Result<bool, AllocError> {
+    match asks {
+        Does(wanted) => is_job(alloc, found, wanted),
+        Refused(whole) => Ok(has_status_two(found) && is_refused(found, whole)),
+        Shows(part) => Ok(is_shown(found, part)),
+    }
+}
+
+/// What these words, between spaces, ask for.
+fn read(alloc: Global, line: &str) -> Result<Result<Job, CliFault>, AllocError> {
+    let words: Vec<&str> = line.split_whitespace().collect(alloc)?;
+    Ok(read_words(alloc, words.as_slice()))
+}
+
+/// What the words of this line ask for is this.
+fn is_met(
+    rt: &impl Abort,
+    alloc: Global,
+    found: &Result<Job, CliFault>,
+    asks: Asks<'_>,
+    line: &str,
+) -> Result<(), Fail> {
+    let is_asked = is_asked(alloc, found, asks)?;
+    assert!(rt; is_asked, "{line}");
     Ok(())
 }
 
-/// Words of each command, and the job that they ask for.
-const JOBS: &[(&str, Asks<'static>)] = &[
+/// They ask for this.
+fn check(rt: &impl Abort, alloc: Global, line: &str, asks: Asks<'_>) -> Result<(), Fail> {
+    let found = read(alloc, line)?;
+    is_met(rt, alloc, &found, asks, line)
+}
+
+/// Words, and what they ask for.
+const LINES: &[(&str, Asks<'static>)] = &[
+    // Words of each command, and the job that they ask for.
     ("judge", Does("Judge { file: None, limit: 1000000 }")),
     ("judge --limit 3", Does("Judge { file: None, limit: 3 }")),
     ("judge --limit=0", Does("Judge { file: None, limit: 0 }")),
@@ -154,15 +164,7 @@ const JOBS: &[(&str, Asks<'static>)] = &[
     ),
     ("replay f g", Does("Replay { file: \"f\", trace: \"g\" }")),
     ("draw g", Does("Draw { file: \"g\" }")),
-];
-
-#[test]
-fn words_of_each_command(rt: HostRuntime) -> Result<(), Fail> {
-    check_all(&rt, rt.alloc(), JOBS)
-}
-
-/// Words that ask for nothing, and why.
-const WRONG: &[(&str, Asks<'static>)] = &[
+    // Words that ask for nothing, and why.
     ("judge --limit 1000001", Refused(NO_LIMIT)),
     ("judge --limit many", Refused(NO_LIMIT)),
     ("elide f --limit 1000001", Refused(NO_LIMIT)),
@@ -186,15 +188,7 @@ const WRONG: &[(&str, Asks<'static>)] = &[
     ),
     ("jugde", Refused("unrecognized subcommand 'jugde'")),
     ("", Refused("no command is given; see 'cilkcheck --help'")),
-];
-
-#[test]
-fn words_that_are_refused(rt: HostRuntime) -> Result<(), Fail> {
-    check_all(&rt, rt.alloc(), WRONG)
-}
-
-/// Words that ask for the help or the version.
-const SHOWN: &[(&str, Asks<'static>)] = &[
+    // Words that ask for the help or the version.
     ("--help", Shows("Usage: cilkcheck [COMMAND]\n")),
     (
         "judge --help",
@@ -220,7 +214,11 @@ const SHOWN: &[(&str, Asks<'static>)] = &[
     ("--version", Shows("cilkcheck 0.1.0\n")),
 ];
 
+/// Each line's words ask for a job, for a text that is shown, or for nothing, and are refused.
 #[test]
-fn texts_that_are_shown(rt: HostRuntime) -> Result<(), Fail> {
-    check_all(&rt, rt.alloc(), SHOWN)
+fn words_of_each_command(rt: HostRuntime) -> Result<(), Fail> {
+    for (line, asks) in LINES {
+        check(&rt, rt.alloc(), line, *asks)?;
+    }
+    Ok(())
 }
