@@ -31,6 +31,21 @@ const AFTER_TURNS: &[u8] =
 
 const ENDLESS: &[u8] = b"cilk 1\nfunc main z\ncall main 0\nend\n";
 
+const NO_NUMBER: &[u8] =
+    b"cilk 1\nmem x\nreducer h last\nfunc main z\nwrite x 5\nget r h\nwrite x r\nend\n";
+
+const ARITHMETIC: &[u8] =
+    b"cilk 1\nmem a 6\nfunc main z\nlet m = 0 - 1\nwrite a[0] m\nlet r = m + 2\nwrite a[1] r\nlet r = m * 2\nwrite a[2] r\nlet r = m < 0\nwrite a[3] r\nlet r = 0 < m\nwrite a[4] r\nwrite a[5] ok\nend\n";
+
+const INDICES: &[u8] =
+    b"cilk 1\nmem x\nmem a 3\nfunc main z\nlet m = 0 - 2\nwrite a[7] 5\nwrite a[m] 6\nread r a[4]\nwrite x r\nend\n";
+
+const REGISTERS: &[u8] =
+    b"cilk 1\nmem x\nmem y\nfunc main z\nlet r = 5\ncall f 1\nwrite x r\nend\nfunc f n\nlet r = n + 8\nwrite y r\nend\n";
+
+const PARTS: &[u8] =
+    b"cilk 1\nmem x\nmem y\nfunc main z\nif ok\nif z\nwrite x 1\nelse\nwrite x 2\nend\nelse\nwrite x 3\nend\nif z\nwrite y 4\nend\nend\n";
+
 /// What an elision leaves, and after how many requests.
 type Left<'a> = (&'a [u64], u32);
 
@@ -55,80 +70,50 @@ fn of_text(alloc: Global, text: &[u8], limit: u32, wanted: Option<Left<'_>>) -> 
     }
 }
 
-/// Whether the elision of a text ends with this memory after so many requests.
-fn gives(alloc: Global, text: &[u8], limit: u32, memory: &[u64], requests: u32) -> bool {
-    of_text(alloc, text, limit, Some((memory, requests)))
-}
+/// A program's text, how many requests its elision may make, and what it leaves, or nothing where it passes the limit.
+type Case<'a> = (&'a [u8], u32, Option<Left<'a>>);
 
-/// Whether the elision of a text passes the limit.
-fn is_limited(alloc: Global, text: &[u8], limit: u32) -> bool {
-    of_text(alloc, text, limit, None)
-}
+const CASES: &[Case<'static>] = &[
+    (FIBONACCI, 1_000_000, Some((&[55], 713))),
+    (FIBONACCI, 713, Some((&[55], 713))),
+    (FIBONACCI, 712, None),
+    (FIBONACCI, 0, None),
+    // A spawn is a call.
+    (PAIR, 100, Some((&[7, 0], 7))),
+    (SERIES, 100, Some((&[7, 7], 9))),
+    // Reducers are updated in serial order, and a get of no number is zero.
+    (LASTS, 100, Some((&[3], 11))),
+    (DIGITS, 100, Some((&[33], 11))),
+    (NO_NUMBER, 100, Some((&[0], 5))),
+    // A `pfor` has as many turns as its number says.
+    (FOUR_TURNS, 100, Some((&[0, 1, 2, 3], 19))),
+    (NO_TURNS, 100, Some((&[0, 0, 0, 0, 9], 4))),
+    (AFTER_TURNS, 100, Some((&[3, 2], 16))),
+    // Recursion meets the limit.
+    (ENDLESS, 5, None),
+    (ENDLESS, 100_000, None),
+    // Numbers are of 64 bits, and `ok` is one.
+    (
+        ARITHMETIC,
+        100,
+        Some((&[18446744073709551615, 1, 18446744073709551614, 0, 1, 1], 8)),
+    ),
+    // An index is taken modulo the length.
+    (INDICES, 100, Some((&[5, 0, 5, 6], 6))),
+    // A called function has its own registers.
+    (REGISTERS, 100, Some((&[5, 9], 7))),
+    // Either part of an `if` is done.
+    (PARTS, 100, Some((&[2, 0], 3))),
+];
 
-#[test]
-fn fibonacci(rt: HostRuntime) {
-    assert!(rt; gives(rt.alloc(), FIBONACCI, 1_000_000, &[55], 713));
-    assert!(rt; gives(rt.alloc(), FIBONACCI, 713, &[55], 713));
-    assert!(rt; is_limited(rt.alloc(), FIBONACCI, 712));
-    assert!(rt; is_limited(rt.alloc(), FIBONACCI, 0));
-}
-
-#[test]
-fn a_spawn_is_a_call(rt: HostRuntime) {
-    assert!(rt; gives(rt.alloc(), PAIR, 100, &[7, 0], 7));
-    assert!(rt; gives(rt.alloc(), SERIES, 100, &[7, 7], 9));
-}
-
-#[test]
-fn reducers_in_serial_order(rt: HostRuntime) {
-    assert!(rt; gives(rt.alloc(), LASTS, 100, &[3], 11));
-    assert!(rt; gives(rt.alloc(), DIGITS, 100, &[33], 11));
-}
-
-#[test]
-fn a_get_of_no_number_is_zero(rt: HostRuntime) {
-    let text = b"cilk 1\nmem x\nreducer h last\nfunc main z\nwrite x 5\nget r h\nwrite x r\nend\n";
-    assert!(rt; gives(rt.alloc(), text, 100, &[0], 5));
-}
-
-#[test]
-fn turns(rt: HostRuntime) {
-    assert!(rt; gives(rt.alloc(), FOUR_TURNS, 100, &[0, 1, 2, 3], 19));
-    assert!(rt; gives(rt.alloc(), NO_TURNS, 100, &[0, 0, 0, 0, 9], 4));
-    assert!(rt; gives(rt.alloc(), AFTER_TURNS, 100, &[3, 2], 16));
-}
-
-#[test]
-fn recursion_meets_the_limit(rt: HostRuntime) {
-    assert!(rt; is_limited(rt.alloc(), ENDLESS, 5));
-    assert!(rt; is_limited(rt.alloc(), ENDLESS, 100_000));
+/// The elision of each of these is so.
+fn check_all(rt: &impl Abort, alloc: Global, cases: &[Case<'_>]) {
+    for (text, limit, left) in cases {
+        assert!(rt; of_text(alloc, text, *limit, *left), "{text:?}");
+    }
 }
 
 #[test]
-fn arithmetic(rt: HostRuntime) {
-    let text =
-        b"cilk 1\nmem a 6\nfunc main z\nlet m = 0 - 1\nwrite a[0] m\nlet r = m + 2\nwrite a[1] r\nlet r = m * 2\nwrite a[2] r\nlet r = m < 0\nwrite a[3] r\nlet r = 0 < m\nwrite a[4] r\nwrite a[5] ok\nend\n";
-    let memory = [u64::MAX, 1, u64::MAX - 1, 0, 1, 1];
-    assert!(rt; gives(rt.alloc(), text, 100, &memory, 8));
-}
-
-#[test]
-fn an_index_is_taken_modulo_the_length(rt: HostRuntime) {
-    let text =
-        b"cilk 1\nmem x\nmem a 3\nfunc main z\nlet m = 0 - 2\nwrite a[7] 5\nwrite a[m] 6\nread r a[4]\nwrite x r\nend\n";
-    assert!(rt; gives(rt.alloc(), text, 100, &[5, 0, 5, 6], 6));
-}
-
-#[test]
-fn a_called_function_has_its_own_registers(rt: HostRuntime) {
-    let text =
-        b"cilk 1\nmem x\nmem y\nfunc main z\nlet r = 5\ncall f 1\nwrite x r\nend\nfunc f n\nlet r = n + 8\nwrite y r\nend\n";
-    assert!(rt; gives(rt.alloc(), text, 100, &[5, 9], 7));
-}
-
-#[test]
-fn either_part(rt: HostRuntime) {
-    let text =
-        b"cilk 1\nmem x\nmem y\nfunc main z\nif ok\nif z\nwrite x 1\nelse\nwrite x 2\nend\nelse\nwrite x 3\nend\nif z\nwrite y 4\nend\nend\n";
-    assert!(rt; gives(rt.alloc(), text, 100, &[2, 0], 3));
+fn programs_leave_what_their_definitions_say(rt: HostRuntime) {
+    check_all(&rt, rt.alloc(), CASES);
 }

@@ -15,26 +15,31 @@ use text_words::Act;
 const PAIR: &[u8] =
     b"cilk 1\nmem x\nmem y\nfunc main z\n  spawn f 7\n  read r x\nend\nfunc f v\n  write x v\nend\n";
 
-// The first spawn of a block by strand 0.
-fn split() -> Answer {
-    Answer::Split(Spawned {
-        child: 1,
-        next: 2,
-        join: 3,
-        first: true,
-    })
-}
+const REFUSED_OR_NOT: &[u8] =
+    b"cilk 1\nmem x\nfunc main z\n  let r = 4\n  read r x\n  if ok\n    write x 1\n  else\n    write x r\n  end\nend\n";
 
-fn refused() -> Answer {
-    Answer::Refused {
-        rule: Rule::Race,
-        witness: Witness {
-            entry: 2,
-            strand: 1,
-            kind: Kind::Write,
-        },
-    }
-}
+const CALLS: &[u8] =
+    b"cilk 1\nmem x\nfunc main z\n  let r = 4\n  call f 9\n  write x r\nend\nfunc f v\n  let r = v + 1\n  write x r\nend\n";
+
+const TURNS: &[u8] =
+    b"cilk 2\nmem x\nfunc main z\n  let i = 5\n  pfor i 0 f\n  write x i\n  pfor i 2 f\n  write x i\nend\nfunc f n\nend\n";
+
+/// The first spawn of a block by strand 0.
+const SPLIT: Answer = Answer::Split(Spawned {
+    child: 1,
+    next: 2,
+    join: 3,
+    first: true,
+});
+
+const REFUSED: Answer = Answer::Refused {
+    rule: Rule::Race,
+    witness: Witness {
+        entry: 2,
+        strand: 1,
+        kind: Kind::Write,
+    },
+};
 
 /// Checks what a frame asks next.
 fn wants(rt: &impl Abort, program: &Program<Global>, frame: &mut Frame<Global>, act: Act, line: u32)
@@ -96,7 +101,7 @@ fn splits(
     wants(rt, program, frame, Act::Spawn, line);
     assert!(rt; spawns(program, frame, 1, argument));
     is_strange(rt, program, frame, Answer::Granted);
-    frame.answer(program, &split())?;
+    frame.answer(program, &SPLIT)?;
     Ok(())
 }
 
@@ -207,61 +212,41 @@ fn check(rt: &impl Abort, alloc: Global, text: &[u8], steps: &[Step]) -> Result<
     begins(rt, alloc, &program, steps)
 }
 
-// A spawn, a refused read, the sync at the end.
-#[test]
-fn a_frame_is_answered(rt: HostRuntime) -> Result<(), Fail> {
-    check(
-        &rt,
-        rt.alloc(),
+const CASES: &[(&[u8], &[Step])] = &[
+    // A spawn, a refused read, the sync at the end.
+    (
         PAIR,
         &[
             Refuses(Answer::Granted),
             Splits(5, 7),
             HasJoin(Some(3)),
-            Says(Act::Read(0), 6, refused()),
+            Says(Act::Read(0), 6, REFUSED),
             Says(Act::Sync, 7, Answer::Waits),
             HasJoin(None),
             Returns(7, Answer::Resumed, Answer::Finished),
             IsOver,
         ],
-    )
-}
-
-const REFUSED_OR_NOT: &[u8] =
-    b"cilk 1\nmem x\nfunc main z\n  let r = 4\n  read r x\n  if ok\n    write x 1\n  else\n    write x r\n  end\nend\n";
-
-// A refused read leaves its register and clears `ok`, which decides; then the else part runs.
-#[test]
-fn a_refused_read_keeps_its_register(rt: HostRuntime) -> Result<(), Fail> {
-    check(
-        &rt,
-        rt.alloc(),
+    ),
+    // A refused read leaves its register and clears `ok`, which decides; then the else part runs.
+    (
         REFUSED_OR_NOT,
         &[
-            Says(Act::Read(0), 5, refused()),
+            Says(Act::Read(0), 5, REFUSED),
             Says(Act::Write(0, 4), 9, Answer::Granted),
             Says(Act::Sync, 11, Answer::Same),
         ],
-    )?;
-    check(
-        &rt,
-        rt.alloc(),
+    ),
+    (
         REFUSED_OR_NOT,
         &[
             Says(Act::Read(0), 5, Answer::Value(6)),
             Says(Act::Write(0, 1), 7, Answer::Granted),
             Says(Act::Sync, 11, Answer::Same),
         ],
-    )
-}
-
-// A called function has registers of its own, and returns to the statement behind the call.
-#[test]
-fn a_call_has_registers_of_its_own(rt: HostRuntime) -> Result<(), Fail> {
-    check(
-        &rt,
-        rt.alloc(),
-        b"cilk 1\nmem x\nfunc main z\n  let r = 4\n  call f 9\n  write x r\nend\nfunc f v\n  let r = v + 1\n  write x r\nend\n",
+    ),
+    // A called function has registers of its own, and returns to the statement behind the call.
+    (
+        CALLS,
         &[
             Reserves,
             Says(Act::Call, 5, Answer::Same),
@@ -270,16 +255,10 @@ fn a_call_has_registers_of_its_own(rt: HostRuntime) -> Result<(), Fail> {
             Returns(11, Answer::Ended, Answer::Resumed),
             Says(Act::Write(0, 4), 6, Answer::Granted),
         ],
-    )
-}
-
-// A `pfor` spawns once for each number, and then syncs; its register keeps the last number. With no number it syncs alone.
-#[test]
-fn a_pfor_spawns_for_each_number(rt: HostRuntime) -> Result<(), Fail> {
-    check(
-        &rt,
-        rt.alloc(),
-        b"cilk 2\nmem x\nfunc main z\n  let i = 5\n  pfor i 0 f\n  write x i\n  pfor i 2 f\n  write x i\nend\nfunc f n\nend\n",
+    ),
+    // A `pfor` spawns once for each number, and then syncs; its register keeps the last number. With no number it syncs alone.
+    (
+        TURNS,
         &[
             Says(Act::Sync, 5, Answer::Same),
             Says(Act::Write(0, 5), 6, Answer::Granted),
@@ -288,5 +267,13 @@ fn a_pfor_spawns_for_each_number(rt: HostRuntime) -> Result<(), Fail> {
             Says(Act::Sync, 7, Answer::Waits),
             Says(Act::Write(0, 1), 8, Answer::Granted),
         ],
-    )
+    ),
+];
+
+#[test]
+fn frames_ask_and_are_answered(rt: HostRuntime) -> Result<(), Fail> {
+    for (text, steps) in CASES {
+        check(&rt, rt.alloc(), text, steps)?;
+    }
+    Ok(())
 }

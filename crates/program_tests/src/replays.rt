@@ -1,60 +1,17 @@
 //! Worked runs.
 
-use model_accesses::{Kind, Rule, Witness};
-use model_strands::Spawned;
+use crate::gathered::{ENDED, FINISHED, JOINED, READ, REFUSED, SPLIT, SYNCED, WRITTEN};
 use program_text::Program;
 use race_gate::{Answer, Entry};
 use run_replay::{ReplayFault, replay};
 use std::alloc::Global;
 use std::process::Abort;
-use std::test::Fail;
 use text_words::{Act, Request};
 
 const PAIR: &[u8] =
     b"cilk 1\nmem x\nmem y\nfunc main z\n  spawn f 7\n  read r x\nend\nfunc f v\n  write x v\nend\n";
 
 const ENDLESS: &[u8] = b"cilk 1\nfunc main z\ncall main 0\nend\n";
-
-fn entry(strand: u32, act: Act, line: u32, answer: Answer) -> Entry {
-    Entry {
-        request: Request { strand, act, line },
-        answer,
-    }
-}
-
-// The program's run in which the child writes before the spawner reads.
-fn pair() -> [Entry; 7] {
-    [
-        entry(
-            0,
-            Act::Spawn,
-            5,
-            Answer::Split(Spawned {
-                child: 1,
-                next: 2,
-                join: 3,
-                first: true,
-            }),
-        ),
-        entry(1, Act::Write(0, 7), 9, Answer::Granted),
-        entry(2, Act::Read(0), 6, refused()),
-        entry(1, Act::Sync, 10, Answer::Same),
-        entry(1, Act::Return, 10, Answer::Ended),
-        entry(2, Act::Sync, 7, Answer::Joined(3)),
-        entry(3, Act::Return, 7, Answer::Finished),
-    ]
-}
-
-fn refused() -> Answer {
-    Answer::Refused {
-        rule: Rule::Race,
-        witness: Witness {
-            entry: 2,
-            strand: 1,
-            kind: Kind::Write,
-        },
-    }
-}
 
 // Whether the replay of these entries of a program's run is so.
 fn replays(
@@ -85,38 +42,114 @@ fn check(
     assert!(rt; gives(alloc, text, entries, wanted), "{wanted:?}");
 }
 
-#[test]
-fn a_run_is_replayed(rt: HostRuntime) -> Result<(), Fail> {
-    let entries = pair();
-    check(&rt, rt.alloc(), PAIR, &entries, Ok(()));
-    check(
-        &rt,
-        rt.alloc(),
+// A program's text, entries, and what their replay answers.
+type Case<'a> = (&'a [u8], &'a [Entry], Result<(), ReplayFault>);
+
+// The entries of the program's run.
+fn pair() -> [Entry; 7] {
+    [SPLIT, WRITTEN, READ, SYNCED, ENDED, JOINED, FINISHED]
+}
+
+// An entry that is not that of the program's run.
+macro_rules! other {
+    ($strand:literal, $act:expr, $line:literal, $answer:expr) => {
+        Entry {
+            request: Request {
+                strand: $strand,
+                act: $act,
+                line: $line,
+            },
+            answer: $answer,
+        }
+    };
+}
+
+const CALL: Entry = other!(0, Act::Call, 3, Answer::Same);
+
+const CASES: &[Case<'static>] = &[
+    (
         PAIR,
-        &entries[..6],
+        &[SPLIT, WRITTEN, READ, SYNCED, ENDED, JOINED, FINISHED],
+        Ok(()),
+    ),
+    (
+        PAIR,
+        &[SPLIT, WRITTEN, READ, SYNCED, ENDED, JOINED],
         Err(ReplayFault::Unfinished),
-    );
-    check(&rt, rt.alloc(), PAIR, &[], Err(ReplayFault::Unfinished));
-    Ok(())
+    ),
+    (PAIR, &[], Err(ReplayFault::Unfinished)),
+    // Calls need not end.
+    (
+        ENDLESS,
+        &[CALL, CALL, CALL, CALL, CALL],
+        Err(ReplayFault::Unfinished),
+    ),
+    // Another answer is strange.
+    (
+        PAIR,
+        &[
+            SPLIT,
+            other!(1, Act::Write(0, 7), 9, REFUSED),
+            READ,
+            SYNCED,
+            ENDED,
+            JOINED,
+            FINISHED,
+        ],
+        Err(ReplayFault::Strange(2)),
+    ),
+    // Nothing follows the end.
+    (
+        PAIR,
+        &[
+            SPLIT, WRITTEN, READ, SYNCED, ENDED, JOINED, FINISHED, FINISHED,
+        ],
+        Err(ReplayFault::Strange(8)),
+    ),
+    // Another request is strange.
+    (
+        PAIR,
+        &[
+            SPLIT,
+            WRITTEN,
+            other!(2, Act::Read(1), 6, REFUSED),
+            SYNCED,
+            ENDED,
+            JOINED,
+            FINISHED,
+        ],
+        Err(ReplayFault::Strange(3)),
+    ),
+    (
+        PAIR,
+        &[
+            SPLIT,
+            WRITTEN,
+            READ,
+            other!(9, Act::Sync, 10, Answer::Same),
+            ENDED,
+            JOINED,
+            FINISHED,
+        ],
+        Err(ReplayFault::Strange(4)),
+    ),
+];
+
+// The cases, in a function of their own, so that the test's proof is not about the places of the table.
+fn cases() -> &'static [Case<'static>] {
+    CASES
 }
 
 #[test]
-fn another_answer_is_strange(rt: HostRuntime) -> Result<(), Fail> {
-    let mut entries = pair();
-    entries[1].answer = refused();
-    check(
-        &rt,
-        rt.alloc(),
-        PAIR,
-        &entries,
-        Err(ReplayFault::Strange(2)),
-    );
-    Ok(())
+fn a_run_is_replayed(rt: HostRuntime) {
+    for (text, entries, wanted) in cases() {
+        check(&rt, rt.alloc(), text, entries, *wanted);
+    }
 }
 
 // The first entry whose answer no gate gives is the strange one, wherever it stands.
 #[test]
-fn each_answer_is_compared(rt: HostRuntime) -> Result<(), Fail> {
+fn each_answer_is_compared(rt: HostRuntime) {
     for place in 0..7 {
         let mut entries = pair();
         entries[place].answer = Answer::Unset;
@@ -128,50 +161,4 @@ fn each_answer_is_compared(rt: HostRuntime) -> Result<(), Fail> {
             Err(ReplayFault::Strange(place as u32 + 1)),
         );
     }
-    Ok(())
-}
-
-#[test]
-fn nothing_follows_the_end(rt: HostRuntime) -> Result<(), Fail> {
-    let entries = pair();
-    let mut more = Vec::from_slice(rt.alloc(), &entries)?;
-    more.push(entries[6])?;
-    check(&rt, rt.alloc(), PAIR, &more, Err(ReplayFault::Strange(8)));
-    Ok(())
-}
-
-#[test]
-fn another_request_is_strange(rt: HostRuntime) -> Result<(), Fail> {
-    let mut entries = pair();
-    entries[2].request.act = Act::Read(1);
-    check(
-        &rt,
-        rt.alloc(),
-        PAIR,
-        &entries,
-        Err(ReplayFault::Strange(3)),
-    );
-    let mut entries = pair();
-    entries[3].request.strand = 9;
-    check(
-        &rt,
-        rt.alloc(),
-        PAIR,
-        &entries,
-        Err(ReplayFault::Strange(4)),
-    );
-    Ok(())
-}
-
-#[test]
-fn calls_need_not_end(rt: HostRuntime) -> Result<(), Fail> {
-    let entries = [entry(0, Act::Call, 3, Answer::Same); 5];
-    check(
-        &rt,
-        rt.alloc(),
-        ENDLESS,
-        &entries,
-        Err(ReplayFault::Unfinished),
-    );
-    Ok(())
 }

@@ -31,10 +31,6 @@ fn is_clean(entries: &[Entry]) -> bool
     entries.iter().all(|entry| is_clean_answer(entry.answer))
 }
 
-fn asked(strand: u32, act: Act, line: u32) -> Request {
-    Request { strand, act, line }
-}
-
 /// Asks the gate these.
 fn ask_all(gate: &mut Gate<Global>, requests: &[Request]) -> Result<(), Fail>
     ensures { OnOk result (gate.new.shape ≡ gate.old.shape) }
@@ -120,58 +116,67 @@ fn check(
     Ok(())
 }
 
-#[test]
-fn reducers(rt: HostRuntime) -> Result<(), Fail> {
-    let text = "cilk 1\nreducer h sum\nfunc main z\n  get r h\nend\n";
-    let other_peers = [
-        asked(0, Act::Put(0, 1), 1),
-        asked(0, Act::Spawn, 2),
-        asked(2, Act::Get(0), 3),
-        asked(1, Act::Get(0), 4),
-    ];
-    let wanted =
-        "{\"clean\":false,\"entries\":4,\"memory\":{},\"refusals\":[{\"entry\":3,\"line\":3,\"name\":\"h\",\"rule\":\"view-read\",\"strand\":2,\"witness\":{\"entry\":1,\"line\":1,\"strand\":0}},{\"entry\":4,\"line\":4,\"name\":\"h\",\"rule\":\"view-read\",\"strand\":1,\"witness\":{\"entry\":1,\"line\":1,\"strand\":0}}]}";
-    check(&rt, rt.alloc(), text, &other_peers, wanted)
+/// What a strand asks on a line.
+macro_rules! asked {
+    ($strand:literal, $act:expr, $line:literal) => {
+        Request {
+            strand: $strand,
+            act: $act,
+            line: $line,
+        }
+    };
 }
 
-/// The request, and so many calls behind it.
-fn calls_behind(alloc: Global, first: Request, count: u32) -> Result<Vec<Request>, AllocError> {
-    let mut requests = Vec::new(alloc);
-    requests.push(first)?;
-    for _ in 0..count {
-        requests.push(asked(0, Act::Call, 5))?;
+/// A program's text, what a gate of the program is asked, and the report.
+type Case<'a> = (&'a str, &'a [Request], &'a str);
+
+const CASES: &[Case<'static>] = &[
+    (
+        "cilk 1\nreducer h sum\nfunc main z\n  get r h\nend\n",
+        &[
+            asked!(0, Act::Put(0, 1), 1),
+            asked!(0, Act::Spawn, 2),
+            asked!(2, Act::Get(0), 3),
+            asked!(1, Act::Get(0), 4),
+        ],
+        "{\"clean\":false,\"entries\":4,\"memory\":{},\"refusals\":[{\"entry\":3,\"line\":3,\"name\":\"h\",\"rule\":\"view-read\",\"strand\":2,\"witness\":{\"entry\":1,\"line\":1,\"strand\":0}},{\"entry\":4,\"line\":4,\"name\":\"h\",\"rule\":\"view-read\",\"strand\":1,\"witness\":{\"entry\":1,\"line\":1,\"strand\":0}}]}",
+    ),
+    (
+        "cilk 1\nmem b 1\nmem a 4\nmem c\nfunc main z\nend\n",
+        &[
+            asked!(0, Act::Write(2, 1), 1),
+            asked!(0, Act::Write(3, 2), 1),
+            asked!(0, Act::Write(4, 3), 1),
+            asked!(0, Act::Spawn, 1),
+            asked!(1, Act::Read(4), 2),
+            asked!(2, Act::Write(4, 9), 3),
+        ],
+        "{\"clean\":false,\"entries\":6,\"memory\":{\"a\":[0,1,2,3],\"b\":[0],\"c\":0},\"refusals\":[{\"entry\":6,\"line\":3,\"name\":\"a[3]\",\"rule\":\"read-write\",\"strand\":2,\"witness\":{\"entry\":5,\"line\":2,\"strand\":1}}]}",
+    ),
+];
+
+#[test]
+fn reducers_and_arrays(rt: HostRuntime) -> Result<(), Fail> {
+    for (text, requests, wanted) in CASES {
+        check(&rt, rt.alloc(), text, requests, wanted)?;
     }
-    Ok(requests)
+    Ok(())
 }
+
+const CLEAN: &str =
+    "{\"clean\":true,\"entries\":713,\"memory\":{\"x\":55},\"refusals\":[],\"schedules\":\"clean for every schedule\"}";
 
 #[test]
 fn a_clean_run(rt: HostRuntime) -> Result<(), Fail> {
-    let requests = calls_behind(rt.alloc(), asked(0, Act::Write(0, 55), 4), 712)?;
-    let wanted =
-        "{\"clean\":true,\"entries\":713,\"memory\":{\"x\":55},\"refusals\":[],\"schedules\":\"clean for every schedule\"}";
+    let mut requests = [asked!(0, Act::Call, 5); 713];
+    requests[0] = asked!(0, Act::Write(0, 55), 4);
     check(
         &rt,
         rt.alloc(),
         "cilk 1\nmem x\nfunc main z\nend\n",
-        requests.as_slice(),
-        wanted,
+        &requests,
+        CLEAN,
     )
-}
-
-#[test]
-fn arrays(rt: HostRuntime) -> Result<(), Fail> {
-    let text = "cilk 1\nmem b 1\nmem a 4\nmem c\nfunc main z\nend\n";
-    let requests = [
-        asked(0, Act::Write(2, 1), 1),
-        asked(0, Act::Write(3, 2), 1),
-        asked(0, Act::Write(4, 3), 1),
-        asked(0, Act::Spawn, 1),
-        asked(1, Act::Read(4), 2),
-        asked(2, Act::Write(4, 9), 3),
-    ];
-    let wanted =
-        "{\"clean\":false,\"entries\":6,\"memory\":{\"a\":[0,1,2,3],\"b\":[0],\"c\":0},\"refusals\":[{\"entry\":6,\"line\":3,\"name\":\"a[3]\",\"rule\":\"read-write\",\"strand\":2,\"witness\":{\"entry\":5,\"line\":2,\"strand\":1}}]}";
-    check(&rt, rt.alloc(), text, &requests, wanted)
 }
 
 /// The reply to a get that finds nothing, with this number.
@@ -198,36 +203,35 @@ fn check_lines(rt: &impl Abort, alloc: Global, replies: &[Reply], wanted: &str) 
     Ok(())
 }
 
+const REPLIES: [Reply; 4] = [
+    unset!(1),
+    Reply::Illegal(GateFault::Stopped),
+    Reply::Illegal(GateFault::BadName),
+    Reply::Illegal(GateFault::Memory),
+];
+
+const COUNTED: [Reply; 5] = [unset!(9), unset!(10), unset!(11), unset!(99), unset!(100)];
+
+const DISTANT: [Reply; 5] = [
+    unset!(1_000_000),
+    unset!(10),
+    unset!(0),
+    unset!(4_294_967_295),
+    unset!(7),
+];
+
+const FAULTS: &str = "1 refused unset\nillegal stopped\nillegal bad-name\nillegal memory\n";
+
+const COUNTED_LINES: &str =
+    "9 refused unset\n10 refused unset\n11 refused unset\n99 refused unset\n100 refused unset\n";
+
+const DISTANT_LINES: &str =
+    "1000000 refused unset\n10 refused unset\n0 refused unset\n4294967295 refused unset\n7 refused unset\n";
+
+// Numbers that count up, and numbers that are distant.
 #[test]
 fn lines_of_replies(rt: HostRuntime) -> Result<(), Fail> {
-    let replies = [
-        unset!(1),
-        Reply::Illegal(GateFault::Stopped),
-        Reply::Illegal(GateFault::BadName),
-        Reply::Illegal(GateFault::Memory),
-    ];
-    let wanted = "1 refused unset\nillegal stopped\nillegal bad-name\nillegal memory\n";
-    check_lines(&rt, rt.alloc(), &replies, wanted)
-}
-
-#[test]
-fn lines_count_up(rt: HostRuntime) -> Result<(), Fail> {
-    let replies = [unset!(9), unset!(10), unset!(11), unset!(99), unset!(100)];
-    let wanted =
-        "9 refused unset\n10 refused unset\n11 refused unset\n99 refused unset\n100 refused unset\n";
-    check_lines(&rt, rt.alloc(), &replies, wanted)
-}
-
-#[test]
-fn lines_of_distant_numbers(rt: HostRuntime) -> Result<(), Fail> {
-    let replies = [
-        unset!(1_000_000),
-        unset!(10),
-        unset!(0),
-        unset!(4_294_967_295),
-        unset!(7),
-    ];
-    let wanted =
-        "1000000 refused unset\n10 refused unset\n0 refused unset\n4294967295 refused unset\n7 refused unset\n";
-    check_lines(&rt, rt.alloc(), &replies, wanted)
+    check_lines(&rt, rt.alloc(), &REPLIES, FAULTS)?;
+    check_lines(&rt, rt.alloc(), &COUNTED, COUNTED_LINES)?;
+    check_lines(&rt, rt.alloc(), &DISTANT, DISTANT_LINES)
 }

@@ -21,17 +21,25 @@ fn arithmetic_is_modulo_two_to_the_64(rt: HostRuntime) {
     assert!(rt; result_of(&registers, Expression::Less(two, two)) == 0);
 }
 
+/// The element of an array of four cells, the first of which is cell 5.
+macro_rules! element {
+    ($index:literal) => {
+        Location::Element {
+            first: 5,
+            length: 4,
+            index: Operand::Number($index),
+        }
+    };
+}
+
+const CELLS: [(Location, u32); 3] = [(Location::Cell(3), 3), (element!(3), 8), (element!(6), 7)];
+
 #[test]
 fn an_index_is_modulo_the_length(rt: HostRuntime) {
     let registers = [0; REGISTERS];
-    let element = |index: u64| Location::Element {
-        first: 5,
-        length: 4,
-        index: Operand::Number(index),
-    };
-    assert!(rt; cell_of(&registers, Location::Cell(3)) == 3);
-    assert!(rt; cell_of(&registers, element(3)) == 8);
-    assert!(rt; cell_of(&registers, element(6)) == 7);
+    for (location, wanted) in CELLS {
+        assert!(rt; cell_of(&registers, location) == wanted);
+    }
 }
 
 #[test]

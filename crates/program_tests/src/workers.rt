@@ -4,7 +4,7 @@ ghost use Rattle.std.specs.Prelude.{◌≡◌, ◌<◌, ◌≤◌, [], IfOk};
 
 use crate::meeting::Meeting;
 use frame_steps::Frame;
-use locked_replay::{LockedGate, WorkerLog};
+use locked_replay::{LockedGate, Seat, WorkerLog};
 use program_text::Program;
 use race_gate::{Answer, Gate};
 use short_receipts::Receipts;
@@ -60,7 +60,23 @@ fn counted<L: Ledger>(logs: &[WorkerLog<L>]) -> (usize, usize) {
     (receipts, finished)
 }
 
-// The same of those that the workers bring back.
+// The same of those that the workers bring back from this gate.
+fn brought<L: Ledger + Send + Sync, R: Threads + Wait + Sync>(
+    rt: &R,
+    alloc: Global,
+    program: &Program<Global>,
+    locked: &LockedGate<L>,
+    seat: Seat<L>,
+    workers: usize,
+) -> Result<(usize, usize), Fail>
+    requires parts { seat.parts ≡ 64 }
+    requires workers { (0 < workers) × (workers ≤ 64) }
+{
+    let logs = run(rt, alloc, program, workers, locked, seat)?;
+    Ok(counted(logs.as_slice()))
+}
+
+// The same of a gate that was asked nothing.
 fn received<L: Ledger + Send + Sync, R: Threads + Wait + Sync>(
     rt: &R,
     alloc: Global,
@@ -74,8 +90,7 @@ fn received<L: Ledger + Send + Sync, R: Threads + Wait + Sync>(
     requires workers { (0 < workers) × (workers ≤ 64) }
 {
     let (locked, seat) = LockedGate::<L>::new(gate(alloc)?, blank, PARTS);
-    let logs = run(rt, alloc, program, workers, &locked, seat)?;
-    Ok(counted(logs.as_slice()))
+    brought(rt, alloc, program, &locked, seat, workers)
 }
 
 #[test]
@@ -89,6 +104,22 @@ fn many_workers_finish_one_run(rt: HostRuntime) -> Result<(), Fail> {
     Ok(())
 }
 
+// Whether two workers meet before this gate.
+fn meet_at<L: Ledger + Send + Sync, R: Threads + Wait + Sync>(
+    rt: &R,
+    alloc: Global,
+    program: &Program<Global>,
+    locked: &LockedGate<L>,
+    seat: Seat<L>,
+) -> Result<bool, Fail>
+    requires parts { seat.parts ≡ 64 }
+{
+    let meeting = Meeting::new(locked);
+    run(rt, alloc, program, 2, &meeting, seat)?;
+    Ok(meeting.both_met())
+}
+
+// The same of a gate that was asked nothing.
 fn meet<L: Ledger + Send + Sync, R: Threads + Wait + Sync>(
     rt: &R,
     alloc: Global,
@@ -100,9 +131,7 @@ fn meet<L: Ledger + Send + Sync, R: Threads + Wait + Sync>(
     requires parts { blank.parts ≡ 64 }
 {
     let (locked, seat) = LockedGate::<L>::new(gate(alloc)?, blank, PARTS);
-    let meeting = Meeting::new(&locked);
-    run(rt, alloc, program, 2, &meeting, seat)?;
-    Ok(meeting.both_met())
+    meet_at(rt, alloc, program, &locked, seat)
 }
 
 #[test]
@@ -124,7 +153,7 @@ fn root<'p>(alloc: Global, program: &'p Program<Global>) -> Result<Task<'p>, All
 }
 
 // Who comes for a join.
-#[derive(Clone, Copy, Debug)]
+#[derive(Clone, Copy)]
 enum Comes {
     Child(u32),
     Task(u32),
@@ -148,21 +177,20 @@ fn is_found(found: &Result<Option<Task<'_>>, LotFault>, wanted: Finds) -> bool {
     }
 }
 
-// Comes for a join.
+// Whether who comes for a join finds this.
 fn come<'p, R: Wait>(
     rt: &R,
     alloc: Global,
     program: &'p Program<Global>,
     lot: &Lot<'p>,
     comes: Comes,
-) -> Result<Result<Option<Task<'p>>, LotFault>, AllocError> {
-    match comes {
-        Comes::Child(join) => Ok(lot.wake(rt, join)),
-        Comes::Task(join) => {
-            let task = root(alloc, program)?;
-            Ok(lot.park(rt, join, task))
-        }
-    }
+    finds: Finds,
+) -> Result<bool, AllocError> {
+    let found = match comes {
+        Comes::Child(join) => lot.wake(rt, join),
+        Comes::Task(join) => lot.park(rt, join, root(alloc, program)?),
+    };
+    Ok(is_found(&found, finds))
 }
 
 // The row of a lot: each that comes finds what stands beside it.
@@ -174,8 +202,7 @@ fn come_for_joins<'p, R: Wait + Abort>(
     row: &[(Comes, Finds)],
 ) -> Result<(), Fail> {
     for (comes, finds) in row {
-        let found = come(rt, alloc, program, lot, *comes)?;
-        assert!(rt; is_found(&found, *finds), "{comes:?}");
+        assert!(rt; come(rt, alloc, program, lot, *comes, *finds)?);
     }
     Ok(())
 }
@@ -187,27 +214,23 @@ fn is_closed_at_last<R: Wait + Abort>(rt: &R, lot: &Lot<'_>) {
     assert!(rt; lot.look(rt));
 }
 
+const ROW: &[(Comes, Finds)] = &[
+    (Comes::Child(3), Finds::Nobody),
+    (Comes::Task(3), Finds::TaskOf(3)),
+    (Comes::Child(3), Finds::Torn),
+    (Comes::Child(6), Finds::Nobody),
+    (Comes::Child(6), Finds::Torn),
+    (Comes::Task(4), Finds::Nobody),
+    (Comes::Child(4), Finds::TaskOf(4)),
+    (Comes::Task(5), Finds::Nobody),
+    (Comes::Task(5), Finds::Torn),
+];
+
 #[test]
 fn second_comer_gets_the_task(rt: HostRuntime) -> Result<(), Fail> {
     let program = Program::parse(rt.alloc(), PAIR)?;
     let lot = Lot::new(rt.alloc());
-    come_for_joins(
-        &rt,
-        rt.alloc(),
-        &program,
-        &lot,
-        &[
-            (Comes::Child(3), Finds::Nobody),
-            (Comes::Task(3), Finds::TaskOf(3)),
-            (Comes::Child(3), Finds::Torn),
-            (Comes::Child(6), Finds::Nobody),
-            (Comes::Child(6), Finds::Torn),
-            (Comes::Task(4), Finds::Nobody),
-            (Comes::Child(4), Finds::TaskOf(4)),
-            (Comes::Task(5), Finds::Nobody),
-            (Comes::Task(5), Finds::Torn),
-        ],
-    )?;
+    come_for_joins(&rt, rt.alloc(), &program, &lot, ROW)?;
     is_closed_at_last(&rt, &lot);
     Ok(())
 }
