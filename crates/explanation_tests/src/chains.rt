@@ -8,7 +8,7 @@ use spawn_chains::{Lineage, chain};
 use std::alloc::{AllocError, Global};
 use std::process::Abort;
 use std::test::Fail;
-use text_words::{Act, Monoids, Request, Shape};
+use text_words::Act;
 
 /// The number of a spawn's entry, the strand that came by its child, and the one that came by its next.
 type Told = Option<(usize, u32, u32)>;
@@ -36,16 +36,37 @@ fn told(
     Ok(parting.map(|found| (found.entry, found.by_child, found.by_next)))
 }
 
+/// A gate of one cell that was asked for these acts, all of them on line 1.
+fn asked(rt: &impl Abort, alloc: Global, acts: &[(u32, Act)]) -> Result<Gate<Global>, AllocError> {
+    let mut gate = gate_of(alloc, 1, &[])?;
+    ask_all(rt, &mut gate, acts);
+    Ok(gate)
+}
+
+fn ask_all(rt: &impl Abort, gate: &mut Gate<Global>, acts: &[(u32, Act)]) {
+    for (strand, act) in acts {
+        ask(rt, gate, *strand, 1, *act);
+    }
+}
+
+/// The strands of each two entries part where it is said.
+fn they_part(
+    rt: &impl Abort,
+    alloc: Global,
+    gate: &Gate<Global>,
+    cases: &[Case],
+) -> Result<(), AllocError> {
+    for (first, second, wanted) in cases {
+        let found = told(alloc, gate, *first, *second)?;
+        assert_eq!(rt; (*first, *second, found), (*first, *second, *wanted));
+    }
+    Ok(())
+}
+
 /// Asks a gate for these acts, and then for the partings.
 fn check(rt: &impl Abort, alloc: Global, acts: &[(u32, Act)], cases: &[Case]) -> Result<(), Fail> {
-    let mut gate = gate_of(alloc, 1, &[])?;
-    for (strand, act) in acts {
-        ask(rt, &mut gate, *strand, 1, *act);
-    }
-    for (first, second, wanted) in cases {
-        let found = told(alloc, &gate, *first, *second)?;
-        assert_eq!(rt; found, *wanted, "{first} {second}");
-    }
+    let gate = asked(rt, alloc, acts)?;
+    they_part(rt, alloc, &gate, cases)?;
     Ok(())
 }
 
@@ -122,22 +143,22 @@ fn behind_a_sync(rt: HostRuntime) -> Result<(), Fail> {
     )
 }
 
-/// A loop of fifty spawns: the spawn with the number n has the child 2n and the next 2n + 1, but for the first.
+/// Fifty spawns: the one with the number n has the child 2n and the next 2n + 1, but for the first.
+fn spawn_on(rt: &impl Abort, gate: &mut Gate<Global>) {
+    ask(rt, gate, 0, 1, Spawn);
+    ask(rt, gate, 2, 1, Spawn);
+    for before in 2..50u32 {
+        ask(rt, gate, 2 * before + 1, 1, Spawn);
+    }
+}
+
 #[test]
 fn a_loop(rt: HostRuntime) -> Result<(), Fail> {
-    let alloc = rt.alloc();
-    let mut gate = gate_of(alloc, 1, &[])?;
-    ask(&rt, &mut gate, 0, 1, Spawn);
-    ask(&rt, &mut gate, 2, 1, Spawn);
-    for before in 2..50u32 {
-        ask(&rt, &mut gate, 2 * before + 1, 1, Spawn);
-    }
-    ask(&rt, &mut gate, 40, 1, ADDS);
-    ask(&rt, &mut gate, 80, 1, ADDS);
-    let found = told(alloc, &gate, 51, 52)?;
-    assert_eq!(rt; found, Some((20, 40, 80)));
-    let found = told(alloc, &gate, 52, 1)?;
-    assert_eq!(rt; found, None);
+    let mut gate = gate_of(rt.alloc(), 1, &[])?;
+    spawn_on(&rt, &mut gate);
+    ask_all(&rt, &mut gate, &[(40, ADDS), (80, ADDS)]);
+    const CASES: &[Case] = &[(51, 52, Some((20, 40, 80))), (52, 1, None)];
+    they_part(&rt, rt.alloc(), &gate, CASES)?;
     Ok(())
 }
 
@@ -154,6 +175,20 @@ fn enclosing(alloc: Global, gate: &Gate<Global>, number: usize) -> Result<Vec<us
     )
 }
 
+/// What encloses each entry is what is said.
+fn are_enclosed(
+    rt: &impl Abort,
+    alloc: Global,
+    gate: &Gate<Global>,
+    cases: &[(usize, &[usize])],
+) -> Result<(), AllocError> {
+    for (number, wanted) in cases {
+        let found = enclosing(alloc, gate, *number)?;
+        assert_eq!(rt; (*number, found.as_slice()), (*number, *wanted));
+    }
+    Ok(())
+}
+
 /// Asks a gate for these acts, and then what encloses entries.
 fn encloses(
     rt: &impl Abort,
@@ -161,14 +196,8 @@ fn encloses(
     acts: &[(u32, Act)],
     cases: &[(usize, &[usize])],
 ) -> Result<(), Fail> {
-    let mut gate = gate_of(alloc, 1, &[])?;
-    for (strand, act) in acts {
-        ask(rt, &mut gate, *strand, 1, *act);
-    }
-    for (number, wanted) in cases {
-        let found = enclosing(alloc, &gate, *number)?;
-        assert_eq!(rt; found.as_slice(), *wanted, "{number}");
-    }
+    let gate = asked(rt, alloc, acts)?;
+    are_enclosed(rt, alloc, &gate, cases)?;
     Ok(())
 }
 

@@ -1,13 +1,14 @@
 //! Whole explanations.
 
+use crate::asked::{Deed, ask_all};
 use Act::{Call, Get, Put, Return, Spawn, Sync, Write};
 use program_text::Program;
 use race_explanations::explanation;
 use race_gate::Gate;
-use std::alloc::Global;
+use std::alloc::{AllocError, Global};
 use std::process::Abort;
 use std::test::Fail;
-use text_words::{Act, Request, TextFault};
+use text_words::{Act, TextFault};
 
 /// A program of these lines.
 fn read(rt: &(impl Abort + Alloc<A = Global>), text: &str) -> Result<Program<Global>, Fail> {
@@ -18,37 +19,59 @@ fn read(rt: &(impl Abort + Alloc<A = Global>), text: &str) -> Result<Program<Glo
     }
 }
 
-/// What is told of a program whose strands did these acts, on these lines.
-fn check(
-    rt: &(impl Abort + Alloc<A = Global>),
-    text: &str,
-    acts: &[(u32, u32, Act)],
-    wanted: &str,
-) -> Result<(), Fail> {
-    let alloc = rt.alloc();
-    let program = read(rt, text)?;
+/// A gate for the program that was asked for these acts.
+fn answered(
+    rt: &impl Abort,
+    alloc: Global,
+    program: &Program<Global>,
+    deeds: &[Deed],
+) -> Result<Gate<Global>, AllocError> {
     let shape = program.shape(alloc)?;
     let mut gate = Gate::new(alloc, &shape, 1000)?;
-    for (strand, line, act) in acts {
-        let reply = gate.judge(Request {
-            strand: *strand,
-            line: *line,
-            act: *act,
-        });
-        assert!(rt; reply.is_ok());
-    }
-    let told = explanation(
-        alloc,
-        false,
-        "p.cilk",
-        text.as_bytes(),
-        &program,
-        gate.history(),
-    )?;
+    ask_all(rt, &mut gate, deeds);
+    Ok(gate)
+}
+
+/// This is told of the gate's history as a run of the program of this text.
+fn is_told(
+    rt: &impl Abort,
+    alloc: Global,
+    text: &str,
+    program: &Program<Global>,
+    gate: &Gate<Global>,
+    wanted: &str,
+) -> Result<(), AllocError> {
+    let bytes = text.as_bytes();
+    let told = explanation(alloc, false, "p.cilk", bytes, program, gate.history())?;
     assert_eq!(rt;
         str::from_utf8(told.as_slice()).unwrap_or("no text"),
         wanted
     );
+    Ok(())
+}
+
+/// The same of a program whose strands did these acts, on these lines.
+fn is_explained(
+    rt: &impl Abort,
+    alloc: Global,
+    text: &str,
+    program: &Program<Global>,
+    deeds: &[Deed],
+    wanted: &str,
+) -> Result<(), AllocError> {
+    let gate = answered(rt, alloc, program, deeds)?;
+    is_told(rt, alloc, text, program, &gate, wanted)
+}
+
+/// The same of the program of this text.
+fn check(
+    rt: &(impl Abort + Alloc<A = Global>),
+    text: &str,
+    deeds: &[Deed],
+    wanted: &str,
+) -> Result<(), Fail> {
+    let program = read(rt, text)?;
+    is_explained(rt, rt.alloc(), text, &program, deeds, wanted)?;
     Ok(())
 }
 
