@@ -228,6 +228,55 @@ fn reported_by<R: Wait>(
     reported_on::<Brand, R>(rt, alloc, Blank::new(2), program, gate, case)
 }
 
+/// Asks for the run's requests on the log's seat.
+fn ask_run<L: Ledger, R: Wait>(
+    rt: &R,
+    locked: &LockedGate<L>,
+    log: &mut WorkerLog<L>,
+    run: &Run<'_>,
+) -> Result<(), RunFault> {
+    for entry in run.entries {
+        ask(rt, locked, log, entry.request)?;
+    }
+    Ok(())
+}
+
+/// The run of this gate's only seat that is gathered, and its report.
+fn reported_on_one<L: Ledger, R: Wait>(
+    rt: &R,
+    alloc: Global,
+    blank: Blank,
+    program: &Program<Global>,
+    gate: Gate<Global>,
+    run: &Run<'_>,
+) -> Result<(Whole, Vec<u8>), RunFault>
+    requires empty { gate.history ≡ [] }
+    requires name { blank.name ≡ L.name }
+    requires all { blank.parts ≡ L.parts }
+    requires parts { blank.parts ≡ 1 }
+{
+    let (locked, seat) = LockedGate::<L>::new(gate, blank, 1);
+    let mut log = WorkerLog {
+        seat,
+        receipts: Receipts::new(alloc),
+    };
+    ask_run(rt, &locked, &mut log, run)?;
+    let mut logs = Vec::with_capacity(alloc, 1)?;
+    logs.push_reserved(log);
+    reported(alloc, program, locked, logs)
+}
+
+/// The same of the program's gate.
+fn reported_alone<R: Wait>(
+    rt: &R,
+    alloc: Global,
+    program: &Program<Global>,
+    run: &Run<'_>,
+) -> Result<(Whole, Vec<u8>), RunFault> {
+    let gate = gate_for(alloc, program, 100)?;
+    reported_on_one::<Brand, R>(rt, alloc, Blank::new(1), program, gate, run)
+}
+
 /// The run has these entries, is not clean, and leaves this memory.
 fn is_whole(rt: &impl Abort, whole: &Whole, run: &Run<'_>) {
     equal(rt, &run.text, &whole.entries.as_slice(), &run.entries);
@@ -348,4 +397,12 @@ const ALONE: Case<'static> = Case {
 #[test]
 fn a_race_is_reported(rt: HostRuntime) -> Result<(), Fail> {
     check(&rt, rt.alloc(), &ALONE)
+}
+
+#[test]
+fn a_race_on_the_only_seat_is_reported(rt: HostRuntime) -> Result<(), Fail> {
+    let program = Program::parse(rt.alloc(), RACE.text.as_bytes())?;
+    let found = reported_alone(&rt, rt.alloc(), &program, &RACE);
+    is_found(&rt, &found, &ALONE);
+    Ok(())
 }

@@ -1,5 +1,6 @@
 //! Single steps of functions: what statements compute, ask and make of an answer.
 
+use crate::gathered::REFUSED;
 use function_steps::{Activation, act_of, answered, cell_of, line_of, result_of};
 use program_text::{Expression, Location, Operand, REGISTERS, Statement};
 use race_gate::Answer;
@@ -65,4 +66,6 @@ fn a_refused_write_clears_ok(rt: HostRuntime) {
     assert!(rt; !answered(&mut registers, write, &Answer::Value(1)));
     assert!(rt; registers[0] == 1 && registers[1] == 7);
     assert!(rt; answered(&mut registers, Statement::Sync { line: 5 }, &Answer::Waits));
+    assert!(rt; answered(&mut registers, write, &REFUSED));
+    assert!(rt; registers[0] == 0 && registers[1] == 7);
 }
