@@ -1,8 +1,8 @@
 -- Requests in plain form mean what their lines mean.
-use Rattle.std.proofs.Common.{◌≡◌, ◌++◌, ◌∷◌, [], ◌+◌, ◌-◌, ◌≤◌, ◌∙◌, ℕ, List, Bool, true, false, cond, length, take, drop, arith, refl, ap, sym, subst, inl, inr, slice_index_or, append_assoc}
+use Rattle.std.proofs.Common.{◌≡◌, ◌++◌, ◌∷◌, [], ◌+◌, ◌-◌, ◌≤◌, ◌∙◌, ℕ, suc, List, Bool, true, false, cond, length, take, drop, arith, refl, ap, sym, subst, inl, inr, slice_index_or, append_assoc}
 use Rattle.std.specs.Prelude.{Option, Some, None, option_map}
 use Rattle.std.specs.List.{All}
-use Rattle.std.proofs.lemmas.List.{take_all}
+use Rattle.std.proofs.lemmas.List.{take_all, append-nil}
 use Rattle.model_accesses.specs.declared.request.Act.{Act}
 use Rattle.model_accesses.specs.declared.request.Act.TheVariants as act
 use Rattle.text_words.specs.declared.value.Mem.{Mem}
@@ -16,7 +16,7 @@ use Rattle.text_words.specs.Index.{IsInRange, named, named_by}
 use Rattle.trace_text.specs.declared.keyword.Keyword.{Keyword}
 use Rattle.trace_text.specs.Lines.{Place, Number, Cell, ReducerName, Mark, wanted, optional, Value, OfNumber, Says, asks, operands, if_there, a_strand, a_value, spelling, HasKeyword}
 use Rattle.trace_text.specs.Printing.{behind_space, spaced}
-use Rattle.trace_text.specs.Plain.{ArePlain, HasNumber, HasNext, HasTwo, HasIndex, HasEnd, HasOperands, HasRequest}
+use Rattle.trace_text.specs.Plain.{ArePlain, HasNumber, HasNext, HasIndex, HasEnd, HasPlaces, HasRequest, BeginsRequest}
 use Rattle.trace_text.proofs.CellWords.{flat}
 use Rattle.trace_text.proofs.NamedWords.{element_means, array_end}
 use Rattle.trace_text.proofs.PlainWords.{digits_plain, name_plain, words_spaced, text_spaced}
@@ -36,6 +36,25 @@ behind_two (c ∷ []) a b some first second = absurd (omega arith)
 behind_two (c ∷ d ∷ bytes) a b some first second =
     ap (λ (n : ℕ). n ∷ d ∷ bytes) first ∙ (ap (λ (n : ℕ). a ∷ n ∷ bytes) second
     ∙ ap (λ (l : List ℕ). a ∷ b ∷ l) (sym (take_all (length (c ∷ d ∷ bytes) - 2) bytes (omega arith))))
+
+-- these bytes stand from this place on
+abbrev pub StandAt : List ℕ → ℕ → List ℕ → Type 0
+StandAt bytes from [] = Unit {0}
+StandAt bytes from (b ∷ word) = (slice_index_or bytes from 0 ≡ b) × StandAt bytes (suc from) word
+
+stand_behind : (bytes word : List ℕ) (c from : ℕ) → StandAt (c ∷ bytes) (suc from) word → StandAt bytes from word
+stand_behind bytes [] c from stand = tt
+stand_behind bytes (b ∷ word) c from stand = (stand.0, stand_behind bytes word c (suc from) stand.1)
+
+pub behind_word : (bytes word : List ℕ) → length word ≤ length bytes → StandAt bytes 0 word
+    → bytes ≡ word ++ take (length bytes - length word) (drop (length word) bytes)
+behind_word bytes [] some stand = sym (take_all (length bytes - 0) bytes (omega arith))
+behind_word [] (b ∷ word) some stand = absurd (omega arith)
+behind_word (c ∷ bytes) (b ∷ word) some stand =
+    let rest = behind_word bytes word (omega arith) (stand_behind bytes word c 0 stand.1) in
+    let less : length (c ∷ bytes) - length (b ∷ word) ≡ length bytes - length word = omega arith in
+    ap (λ (n : ℕ). n ∷ bytes) stand.0 ∙ (ap (λ (l : List ℕ). b ∷ l) rest
+    ∙ ap (λ (n : ℕ). b ∷ (word ++ take n (drop (length word) bytes))) (sym less))
 
 -- ---- numbers
 
@@ -90,16 +109,24 @@ next_end known place places last bytes rest behind value values next end =
       mean = (next.2.3, end.mean);
     }
 
-pub one_operand : (known : Known) (place : Place) (bytes rest : List ℕ) (value : Value) → HasNext known place bytes value rest
-    → (mark : List Value) (behind : List ℕ) → HasEnd known [] (Some Mark) rest mark behind → HasEnd known (place ∷ []) (Some Mark) bytes (value ∷ mark) behind
-one_operand known place bytes rest value next mark behind end = next_end known place [] (Some Mark) bytes rest behind value mark next end
+pub one_place : (known : Known) (place : Place) (bytes rest : List ℕ) (value : Value) → HasNext known place bytes value rest
+    → HasPlaces known (place ∷ []) bytes (value ∷ []) rest
+one_place known place bytes rest value next others more behind end = next_end known place others (Some Mark) bytes rest behind value more next end
 
-pub two_operands : (known : Known) (place : Place) (bytes rest : List ℕ) (first second : Value) → HasTwo known place bytes first second rest
-    → (mark : List Value) (behind : List ℕ) → HasEnd known [] (Some Mark) rest mark behind
-    → HasEnd known (place ∷ a_value ∷ []) (Some Mark) bytes (first ∷ second ∷ mark) behind
-two_operands known place bytes rest first second two mark behind end =
-    next_end known place (a_value ∷ []) (Some Mark) bytes two.0 behind first (second ∷ mark) two.1
-    (next_end known a_value [] (Some Mark) two.0 rest behind second mark two.2 end)
+pub two_places : (known : Known) (place other : Place) (bytes between rest : List ℕ) (first second : Value)
+    → HasNext known place bytes first between → HasNext known other between second rest
+    → HasPlaces known (place ∷ other ∷ []) bytes (first ∷ second ∷ []) rest
+two_places known place other bytes between rest first second next then others more behind end =
+    next_end known place (other ∷ others) (Some Mark) bytes between behind first (second ∷ more) next
+    (next_end known other others (Some Mark) between rest behind second more then end)
+
+pub value_behind : (known : Known) (places : List Place) (bytes between rest : List ℕ) (values : List Value) (number : ℕ)
+    → HasPlaces known places bytes values between → HasNext known a_value between (OfNumber number) rest
+    → HasPlaces known (places ++ a_value ∷ []) bytes (values ++ OfNumber number ∷ []) rest
+value_behind known places bytes between rest values number has next others more behind end =
+    rw (append_assoc places (a_value ∷ []) others, append_assoc values (OfNumber number ∷ []) more)
+    (has (a_value ∷ others) (OfNumber number ∷ more) behind
+    (next_end known a_value others (Some Mark) between rest behind (OfNumber number) more next end))
 
 -- ---- names
 
@@ -179,18 +206,6 @@ module _ (known : Known) (bytes name rest : List ℕ) (next : IsNextName bytes n
 
 -- ---- lines
 
-strand_wanted : (a : Act) → wanted (asks a) ≡ a_strand ∷ drop 1 (wanted (asks a))
-strand_wanted act.Spawn = refl
-strand_wanted act.Sync = refl
-strand_wanted act.Call = refl
-strand_wanted act.Return = refl
-strand_wanted (act.Read cell) = refl
-strand_wanted (act.Write cell value) = refl
-strand_wanted (act.Bump cell value) = refl
-strand_wanted (act.Update reducer value) = refl
-strand_wanted (act.Put reducer value) = refl
-strand_wanted (act.Get reducer) = refl
-
 mark_optional : (a : Act) → optional (asks a) ≡ Some Mark
 mark_optional act.Spawn = refl
 mark_optional act.Sync = refl
@@ -215,19 +230,15 @@ line_says known keyword bytes behind rest values has split end =
       (end.pairs, (end.ws, words_spaced (spelling keyword) end.ws plain, has, end.in_places), end.mean),
     )
 
-pub request_line : (known : Known) (keyword : Keyword) (bytes behind operand tail rest : List ℕ) (strand : ℕ) (act : Act) (mark : Option ℕ)
-    → HasKeyword known.version keyword → bytes ≡ spelling keyword ++ behind → HasNext known a_strand behind (OfNumber strand) operand
-    → HasOperands known keyword operand act tail → HasEnd known [] (Some Mark) tail (if_there mark) rest → HasRequest known bytes strand act mark rest
-request_line known keyword bytes behind operand tail rest strand act mark has split next asked end =
-    let has_it : HasKeyword known.version (asks act) = subst (λ (k : Keyword). HasKeyword known.version k) (sym asked.0) has in
-    let split_it : bytes ≡ spelling (asks act) ++ behind = split ∙ ap (λ (k : Keyword). spelling k ++ behind) (sym asked.0) in
-    let values = operands act ++ if_there mark in
-    let ends : HasEnd known (drop 1 (wanted (asks act))) (Some Mark) operand values rest =
-    subst (λ (k : Keyword). HasEnd known (drop 1 (wanted k)) (Some Mark) operand values rest) (sym asked.0) (asked.1 (if_there mark) rest end) in
-    let all = next_end known a_strand (drop 1 (wanted (asks act))) (Some Mark) behind operand rest (OfNumber strand) values next ends in
-    let in_places : HasEnd known (wanted (asks act)) (Some Mark) behind (OfNumber strand ∷ values) rest =
-    subst (λ (ps : List Place). HasEnd known ps (Some Mark) behind (OfNumber strand ∷ values) rest) (sym (strand_wanted act)) all in
-    let whole : HasEnd known (wanted (asks act)) (optional (asks act)) behind (OfNumber strand ∷ values) rest =
-    subst (λ (o : Option Place). HasEnd known (wanted (asks act)) o behind (OfNumber strand ∷ values) rest) (sym (mark_optional act)) in_places in
-    let line = line_says known (asks act) bytes behind rest (OfNumber strand ∷ values) has_it split_it whole in
+-- a keyword, and words in the places that it wants, are a request
+pub begins_request : (known : Known) (act : Act) (strand : ℕ) (bytes behind rest : List ℕ) → HasKeyword known.version (asks act)
+    → bytes ≡ spelling (asks act) ++ behind → HasPlaces known (wanted (asks act)) behind (OfNumber strand ∷ operands act) rest
+    → BeginsRequest known bytes strand act rest
+begins_request known act strand bytes behind rest has split places mark after end =
+    let values = OfNumber strand ∷ (operands act ++ if_there mark) in
+    let marked : HasEnd known (wanted (asks act)) (Some Mark) behind values after =
+    subst (λ (ps : List Place). HasEnd known ps (Some Mark) behind values after) (append-nil (wanted (asks act))) (places [] (if_there mark) after end) in
+    let whole : HasEnd known (wanted (asks act)) (optional (asks act)) behind values after =
+    subst (λ (o : Option Place). HasEnd known (wanted (asks act)) o behind values after) (sym (mark_optional act)) marked in
+    let line = line_says known (asks act) bytes behind after values has split whole in
     (line.0, line.1, line.2, λ at. (mark, line.3, refl, refl, refl))

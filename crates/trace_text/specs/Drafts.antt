@@ -1,5 +1,5 @@
 -- What was read so far, and what one more line makes of it.
-use Rattle.std.specs.Prelude.{◌≡◌, ℕ, ◌<◌, ◌≤◌, ◌⊎◌, List, ◌∷◌, length}
+use Rattle.std.specs.Prelude.{◌≡◌, ℕ, ◌<◌, ◌≤◌, ◌⊎◌, Option, MatchOption, List, ◌∷◌, length}
 use Rattle.text_words.specs.declared.fault.Cause.{Cause}
 use Rattle.text_words.specs.declared.fault.Cause.TheVariants.{BadNesting, TooMany}
 use Rattle.text_words.specs.declared.fault.TextFault.{TextFault}
@@ -50,6 +50,10 @@ IsTaken at before text rest next =
 abbrev pub IsStopped : ℕ → Contents → List ℕ → TextFault → Type 0
 IsStopped at before text fault = (line : List ℕ) × (rest : List ℕ) × (lines text ≡ line ∷ lines rest) × IsLineFault at before line fault
 
+-- The first line of the text is taken, or this is its fault.
+abbrev pub Goes : ℕ → Contents → List ℕ → List ℕ → Option TextFault → Contents → Type 0
+Goes at before text rest fault next = MatchOption fault (IsTaken at before text rest next) (IsStopped at before text)
+
 abbrev pub IsHeaderFault : List ℕ → TextFault → Type 0
 IsHeaderFault line fault = IsFaultOf (IsLowest (HeaderFault line)) 1 fault
 
@@ -60,8 +64,7 @@ IsLinesFault at before lines Memory = Unit {0}
 
 -- The fault is the first of the lines behind the header.
 abbrev pub IsBodyFault : Version → List ℕ → TextFault → Type 0
-IsBodyFault version text (At line why) = LinesFault 2 (nothing version) (lines text) line why
-IsBodyFault version text Memory = Unit {0}
+IsBodyFault version text fault = IsLinesFault 2 (nothing version) (lines text) fault
 
 -- The fault is that of the text; or memory ran out.
 abbrev pub IsTextFault : List ℕ → TextFault → Type 0

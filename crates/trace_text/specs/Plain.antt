@@ -1,13 +1,12 @@
 -- Lines in plain form: single spaces between words, no comment, and a line feed at the end.
-use Rattle.std.specs.Prelude.{◌≡◌, ℕ, ◌+◌, ◌<◌, ◌≤◌, Bool, IsTrue, Option, Some, List, [], ◌∷◌, ◌++◌, length, drop}
+use Rattle.std.specs.Prelude.{◌≡◌, ℕ, ◌+◌, ◌<◌, ◌≤◌, Bool, IsTrue, Option, Some, List, [], ◌∷◌, ◌++◌, length}
 use Rattle.std.specs.List.{AllByRecursion}
 use Rattle.std.specs.Int.{is_in_range}
 use Rattle.model_accesses.specs.declared.request.Act.{Act}
 use Rattle.text_words.specs.Text.{words, IsTextLine, IsNumber}
 use Rattle.text_words.specs.Limits.{max_value}
 use Rattle.text_words.specs.Values.{Known}
-use Rattle.trace_text.specs.declared.keyword.Keyword.{Keyword}
-use Rattle.trace_text.specs.Lines.{Place, Placed, placed, wanted, a_value, Value, WordMeans, WordsMean, Mark, asks, operands, if_there}
+use Rattle.trace_text.specs.Lines.{Place, Placed, placed, Value, WordMeans, WordsMean, Mark, if_there}
 use Rattle.trace_text.specs.Grammar.{ItemMeans}
 use Rattle.trace_text.specs.Items.{line_asked}
 use Rattle.trace_text.specs.Printing.{behind_space}
@@ -34,11 +33,6 @@ HasWord known place bytes value rest = (word : List ℕ) × (bytes ≡ word ++ r
 abbrev pub HasNext : Known → Place → List ℕ → Value → List ℕ → Type 0
 HasNext known place bytes value rest = (behind : List ℕ) × (bytes ≡ 32 ∷ behind) × HasWord known place behind value rest
 
--- The same of two words, of which the second means a value.
-abbrev pub HasTwo : Known → Place → List ℕ → Value → Value → List ℕ → Type 0
-HasTwo known place bytes first second rest =
-    (between : List ℕ) × HasNext known place bytes first between × HasNext known a_value between second rest
-
 -- The bytes begin with an index in brackets, which is that of this cell of an array.
 abbrev pub HasIndex : List ℕ → ℕ → ℕ → ℕ → List ℕ → Type 0
 HasIndex bytes first cells cell rest =
@@ -54,12 +48,11 @@ pub record HasEnd (known : Known) (places : List Place) (last : Option Place)
   pub in_places : placed places last ws ≡ Some pairs
   pub mean : WordsMean known pairs values
 
--- The bytes begin with the operands of this act, whatever mark stands behind them.
-abbrev pub HasOperands : Known → Keyword → List ℕ → Act → List ℕ → Type 0
-HasOperands known keyword bytes act rest =
-    (asks act ≡ keyword)
-    × ((mark : List Value) (behind : List ℕ) → HasEnd known [] (Some Mark) rest mark behind
-    → HasEnd known (drop 1 (wanted keyword)) (Some Mark) bytes (operands act ++ mark) behind)
+-- The bytes begin with plain words that mean these values in these places, whatever others stand behind them.
+abbrev pub HasPlaces : Known → List Place → List ℕ → List Value → List ℕ → Type 0
+HasPlaces known places bytes values rest =
+    (others : List Place) (more : List Value) (behind : List ℕ)
+    → HasEnd known others (Some Mark) rest more behind → HasEnd known (places ++ others) (Some Mark) bytes (values ++ more) behind
 
 -- The bytes begin with a line that asks for this, on whatever line of the text it stands.
 abbrev pub HasRequest : Known → List ℕ → ℕ → Act → Option ℕ → List ℕ → Type 0

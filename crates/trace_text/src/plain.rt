@@ -2,18 +2,14 @@
 //!
 //! None says nothing here: the line may still be a request, and is read in the general way.
 
-ghost use Rattle.std.specs.Prelude.{◌≡◌, ◌++◌, ◌+◌, ◌≤◌, [], Some, length};
+ghost use Rattle.std.specs.Prelude.{◌≡◌, ◌++◌, ◌∷◌, ◌+◌, ◌≤◌, [], Some, length};
 ghost use Rattle.std.specs.Option.{IfSome};
 ghost use Rattle.model_accesses.specs.Limits.{most_cells};
-ghost use Rattle.text_words.specs.declared.value.Version.{Version as SpecVersion};
 ghost use Rattle.text_words.specs.Values.{Known};
-ghost use Rattle.trace_text.specs.declared.keyword.Keyword.TheVariants.{Access};
-ghost use Rattle.trace_text.specs.Lines.{Cell, ReducerName, Mark, a_strand, a_value, OfNumber, if_there, spelling, HasKeyword};
-ghost use Rattle.trace_text.specs.Plain.{HasNumber, HasNext, HasTwo, HasIndex, HasEnd, HasOperands, BeginsRequest};
+ghost use Rattle.trace_text.specs.Lines.{Cell, ReducerName, Mark, a_strand, a_value, OfNumber, if_there};
+ghost use Rattle.trace_text.specs.Plain.{HasNumber, HasNext, HasIndex, HasEnd, HasPlaces, BeginsRequest};
 
-use crate::keyword::Keyword;
 use crate::place::STRAND;
-use access_table::Kind;
 use std::alloc::Allocator;
 use text_words::{Act, Named, Names, Version};
 
@@ -193,144 +189,237 @@ fn reducer<'b, A: Allocator + Copy>(
     }
 }
 
-/// The keyword at the head of the bytes of a request that spawns, calls, waits or returns.
+/// The strand and the cell, each behind a space.
 #[inline(always)]
-fn control_keyword(bytes: &[u8]) -> Option<(Keyword, &[u8])>
-    ensures { (version : SpecVersion) → IfSome result (λ r. HasKeyword version r.0 × (bytes.now ≡ spelling r.0 ++ r.1.now)) }
-{
-    match bytes {
-        [b's', b'p', b'a', b'w', b'n', rest @ ..] => Some((Keyword::Spawn, rest)),
-        [b's', b'y', b'n', b'c', rest @ ..] => Some((Keyword::Sync, rest)),
-        [b'c', b'a', b'l', b'l', rest @ ..] => Some((Keyword::Call, rest)),
-        [b'r', b'e', b't', b'u', b'r', b'n', rest @ ..] => Some((Keyword::Return, rest)),
-        _ => None,
-    }
-}
-
-/// The kind at the head of the bytes of a request that is an access, and its keyword.
-#[inline(always)]
-fn access_keyword(version: Version, bytes: &[u8]) -> Option<(Keyword, &[u8])>
-    ensures { IfSome result (λ r. HasKeyword version r.0 × (bytes.now ≡ spelling r.0 ++ r.1.now)) }
-{
-    match bytes {
-        [b'r', b'e', b'a', b'd', rest @ ..] => Some((Keyword::Access(Kind::Read), rest)),
-        [b'w', b'r', b'i', b't', b'e', rest @ ..] => Some((Keyword::Access(Kind::Write), rest)),
-        [b'u', b'p', b'd', b'a', b't', b'e', rest @ ..] => {
-            Some((Keyword::Access(Kind::Update), rest))
-        }
-        [b'p', b'u', b't', rest @ ..] => Some((Keyword::Access(Kind::Put), rest)),
-        [b'g', b'e', b't', rest @ ..] => Some((Keyword::Access(Kind::Get), rest)),
-        [b'b', b'u', b'm', b'p', rest @ ..] if version == Version::Two => {
-            Some((Keyword::Access(Kind::Bump), rest))
-        }
-        _ => None,
-    }
-}
-
-/// The keyword of a request at the head of the bytes.
-#[inline(always)]
-fn keyword(version: Version, bytes: &[u8]) -> Option<(Keyword, &[u8])>
-    ensures { IfSome result (λ r. HasKeyword version r.0 × (bytes.now ≡ spelling r.0 ++ r.1.now)) }
-{
-    match control_keyword(bytes) {
-        Some(found) => Some(found),
-        None => access_keyword(version, bytes),
-    }
-}
-
-/// The cell and the value, each behind a space.
-#[inline(always)]
-fn cell_and_value<'b, A: Allocator + Copy>(
+fn of_cell<'b, A: Allocator + Copy>(
     names: &Names<'_, A>,
     bytes: &'b [u8],
-) -> Option<(u32, u64, &'b [u8])>
-    ensures { IfSome result (λ r. HasTwo names.now Cell bytes.now (OfNumber r.0) (OfNumber r.1) r.2.now) }
+) -> Option<(u32, u32, &'b [u8])>
+    ensures { IfSome result (λ r. HasPlaces names.now (a_strand ∷ Cell ∷ []) bytes.now (OfNumber r.0 ∷ OfNumber r.1 ∷ []) r.2.now) }
 {
-    let (cell, rest) = cell(names, bytes)?;
+    let (strand, rest) = strand(bytes)?;
+    let (cell, rest) = cell(names, rest)?;
+    Some((strand, cell, rest))
+}
+
+/// The strand, the cell and the value, each behind a space.
+#[inline(always)]
+fn of_cell_and_value<'b, A: Allocator + Copy>(
+    names: &Names<'_, A>,
+    bytes: &'b [u8],
+) -> Option<(u32, u32, u64, &'b [u8])>
+    ensures { IfSome result (λ r. HasPlaces names.now (a_strand ∷ Cell ∷ a_value ∷ []) bytes.now
+        (OfNumber r.0 ∷ OfNumber r.1 ∷ OfNumber r.2 ∷ []) r.3.now) }
+{
+    let (strand, cell, rest) = of_cell(names, bytes)?;
     let (value, rest) = value(rest)?;
-    Some((cell, value, rest))
+    Some((strand, cell, value, rest))
 }
 
-/// The reducer and the value, each behind a space.
+/// The strand and the reducer, each behind a space.
 #[inline(always)]
-fn reducer_and_value<'b, A: Allocator + Copy>(
+fn of_reducer<'b, A: Allocator + Copy>(
     names: &Names<'_, A>,
     bytes: &'b [u8],
-) -> Option<(u32, u64, &'b [u8])>
-    ensures { IfSome result (λ r. HasTwo names.now ReducerName bytes.now (OfNumber r.0) (OfNumber r.1) r.2.now) }
+) -> Option<(u32, u32, &'b [u8])>
+    ensures { IfSome result (λ r. HasPlaces names.now (a_strand ∷ ReducerName ∷ []) bytes.now (OfNumber r.0 ∷ OfNumber r.1 ∷ []) r.2.now) }
 {
-    let (reducer, rest) = reducer(names, bytes)?;
+    let (strand, rest) = strand(bytes)?;
+    let (reducer, rest) = reducer(names, rest)?;
+    Some((strand, reducer, rest))
+}
+
+/// The strand, the reducer and the value, each behind a space.
+#[inline(always)]
+fn of_reducer_and_value<'b, A: Allocator + Copy>(
+    names: &Names<'_, A>,
+    bytes: &'b [u8],
+) -> Option<(u32, u32, u64, &'b [u8])>
+    ensures { IfSome result (λ r. HasPlaces names.now (a_strand ∷ ReducerName ∷ a_value ∷ []) bytes.now
+        (OfNumber r.0 ∷ OfNumber r.1 ∷ OfNumber r.2 ∷ []) r.3.now) }
+{
+    let (strand, reducer, rest) = of_reducer(names, bytes)?;
     let (value, rest) = value(rest)?;
-    Some((reducer, value, rest))
+    Some((strand, reducer, value, rest))
 }
 
-/// What an access of this kind asks for, by its operands.
+/// The spawn that the first line asks for, where it stands in plain form up to its strand.
 #[inline(always)]
-fn access<'b, A: Allocator + Copy>(
-    names: &Names<'_, A>,
-    kind: Kind,
-    bytes: &'b [u8],
-) -> Option<(Act, &'b [u8])>
-    ensures { IfSome result (λ r. HasOperands names.now (Access kind) bytes.now r.0 r.1.now) }
+pub fn spawn_request(bytes: &[u8]) -> Option<Plain<'_>>
+    ensures { (known : Known) → IfSome result (λ plain. BeginsRequest known bytes.now plain.strand plain.act plain.rest.now) }
 {
-    match kind {
-        Kind::Read => {
-            let (cell, rest) = cell(names, bytes)?;
-            Some((Act::Read(cell), rest))
-        }
-        Kind::Write => {
-            let (cell, value, rest) = cell_and_value(names, bytes)?;
-            Some((Act::Write(cell, value), rest))
-        }
-        Kind::Bump => {
-            let (cell, value, rest) = cell_and_value(names, bytes)?;
-            Some((Act::Bump(cell, value), rest))
-        }
-        Kind::Get => {
-            let (reducer, rest) = reducer(names, bytes)?;
-            Some((Act::Get(reducer), rest))
-        }
-        Kind::Put => {
-            let (reducer, value, rest) = reducer_and_value(names, bytes)?;
-            Some((Act::Put(reducer, value), rest))
-        }
-        Kind::Update => {
-            let (reducer, value, rest) = reducer_and_value(names, bytes)?;
-            Some((Act::Update(reducer, value), rest))
-        }
-    }
+    let [b's', b'p', b'a', b'w', b'n', rest @ ..] = bytes else {
+        return None;
+    };
+    let (strand, rest) = strand(rest)?;
+    Some(Plain {
+        strand,
+        act: Act::Spawn,
+        rest,
+    })
 }
 
-/// What a keyword asks for, by the operands behind the strand.
+/// The sync that the first line asks for, where it stands in plain form up to its strand.
 #[inline(always)]
-fn act<'b, A: Allocator + Copy>(
-    names: &Names<'_, A>,
-    keyword: Keyword,
-    bytes: &'b [u8],
-) -> Option<(Act, &'b [u8])>
-    ensures { IfSome result (λ r. HasOperands names.now keyword bytes.now r.0 r.1.now) }
+pub fn sync_request(bytes: &[u8]) -> Option<Plain<'_>>
+    ensures { (known : Known) → IfSome result (λ plain. BeginsRequest known bytes.now plain.strand plain.act plain.rest.now) }
 {
-    match keyword {
-        Keyword::Spawn => Some((Act::Spawn, bytes)),
-        Keyword::Sync => Some((Act::Sync, bytes)),
-        Keyword::Call => Some((Act::Call, bytes)),
-        Keyword::Return => Some((Act::Return, bytes)),
-        Keyword::Access(kind) => access(names, kind, bytes),
-        Keyword::Mem => None,
-        Keyword::Reducer => None,
-    }
+    let [b's', b'y', b'n', b'c', rest @ ..] = bytes else {
+        return None;
+    };
+    let (strand, rest) = strand(rest)?;
+    Some(Plain {
+        strand,
+        act: Act::Sync,
+        rest,
+    })
 }
 
-/// The request that the first line asks for, where it stands in plain form up to its operands.
+/// The call that the first line asks for, where it stands in plain form up to its strand.
 #[inline(always)]
-pub fn plain_request<'b, A: Allocator + Copy>(
+pub fn call_request(bytes: &[u8]) -> Option<Plain<'_>>
+    ensures { (known : Known) → IfSome result (λ plain. BeginsRequest known bytes.now plain.strand plain.act plain.rest.now) }
+{
+    let [b'c', b'a', b'l', b'l', rest @ ..] = bytes else {
+        return None;
+    };
+    let (strand, rest) = strand(rest)?;
+    Some(Plain {
+        strand,
+        act: Act::Call,
+        rest,
+    })
+}
+
+/// The return that the first line asks for, where it stands in plain form up to its strand.
+#[inline(always)]
+pub fn return_request(bytes: &[u8]) -> Option<Plain<'_>>
+    ensures { (known : Known) → IfSome result (λ plain. BeginsRequest known bytes.now plain.strand plain.act plain.rest.now) }
+{
+    let [b'r', b'e', b't', b'u', b'r', b'n', rest @ ..] = bytes else {
+        return None;
+    };
+    let (strand, rest) = strand(rest)?;
+    Some(Plain {
+        strand,
+        act: Act::Return,
+        rest,
+    })
+}
+
+/// The read that the first line asks for, where it stands in plain form up to its operands.
+#[inline(always)]
+pub fn read_request<'b, A: Allocator + Copy>(
     names: &Names<'_, A>,
     bytes: &'b [u8],
 ) -> Option<Plain<'b>>
     ensures { IfSome result (λ plain. BeginsRequest names.now bytes.now plain.strand plain.act plain.rest.now) }
 {
-    let (keyword, rest) = keyword(names.version(), bytes)?;
-    let (strand, rest) = strand(rest)?;
-    let (act, rest) = act(names, keyword, rest)?;
-    Some(Plain { strand, act, rest })
+    let [b'r', b'e', b'a', b'd', rest @ ..] = bytes else {
+        return None;
+    };
+    let (strand, cell, rest) = of_cell(names, rest)?;
+    Some(Plain {
+        strand,
+        act: Act::Read(cell),
+        rest,
+    })
+}
+
+/// The write that the first line asks for, where it stands in plain form up to its operands.
+#[inline(always)]
+pub fn write_request<'b, A: Allocator + Copy>(
+    names: &Names<'_, A>,
+    bytes: &'b [u8],
+) -> Option<Plain<'b>>
+    ensures { IfSome result (λ plain. BeginsRequest names.now bytes.now plain.strand plain.act plain.rest.now) }
+{
+    let [b'w', b'r', b'i', b't', b'e', rest @ ..] = bytes else {
+        return None;
+    };
+    let (strand, cell, value, rest) = of_cell_and_value(names, rest)?;
+    Some(Plain {
+        strand,
+        act: Act::Write(cell, value),
+        rest,
+    })
+}
+
+/// The bump that the first line asks for, where it stands in plain form up to its operands.
+#[inline(always)]
+pub fn bump_request<'b, A: Allocator + Copy>(
+    names: &Names<'_, A>,
+    bytes: &'b [u8],
+) -> Option<Plain<'b>>
+    ensures { IfSome result (λ plain. BeginsRequest names.now bytes.now plain.strand plain.act plain.rest.now) }
+{
+    let [b'b', b'u', b'm', b'p', rest @ ..] = bytes else {
+        return None;
+    };
+    let Version::Two = names.version() else {
+        return None;
+    };
+    let (strand, cell, value, rest) = of_cell_and_value(names, rest)?;
+    Some(Plain {
+        strand,
+        act: Act::Bump(cell, value),
+        rest,
+    })
+}
+
+/// The update that the first line asks for, where it stands in plain form up to its operands.
+#[inline(always)]
+pub fn update_request<'b, A: Allocator + Copy>(
+    names: &Names<'_, A>,
+    bytes: &'b [u8],
+) -> Option<Plain<'b>>
+    ensures { IfSome result (λ plain. BeginsRequest names.now bytes.now plain.strand plain.act plain.rest.now) }
+{
+    let [b'u', b'p', b'd', b'a', b't', b'e', rest @ ..] = bytes else {
+        return None;
+    };
+    let (strand, reducer, value, rest) = of_reducer_and_value(names, rest)?;
+    Some(Plain {
+        strand,
+        act: Act::Update(reducer, value),
+        rest,
+    })
+}
+
+/// The put that the first line asks for, where it stands in plain form up to its operands.
+#[inline(always)]
+pub fn put_request<'b, A: Allocator + Copy>(
+    names: &Names<'_, A>,
+    bytes: &'b [u8],
+) -> Option<Plain<'b>>
+    ensures { IfSome result (λ plain. BeginsRequest names.now bytes.now plain.strand plain.act plain.rest.now) }
+{
+    let [b'p', b'u', b't', rest @ ..] = bytes else {
+        return None;
+    };
+    let (strand, reducer, value, rest) = of_reducer_and_value(names, rest)?;
+    Some(Plain {
+        strand,
+        act: Act::Put(reducer, value),
+        rest,
+    })
+}
+
+/// The get that the first line asks for, where it stands in plain form up to its operands.
+#[inline(always)]
+pub fn get_request<'b, A: Allocator + Copy>(
+    names: &Names<'_, A>,
+    bytes: &'b [u8],
+) -> Option<Plain<'b>>
+    ensures { IfSome result (λ plain. BeginsRequest names.now bytes.now plain.strand plain.act plain.rest.now) }
+{
+    let [b'g', b'e', b't', rest @ ..] = bytes else {
+        return None;
+    };
+    let (strand, reducer, rest) = of_reducer(names, rest)?;
+    Some(Plain {
+        strand,
+        act: Act::Get(reducer),
+        rest,
+    })
 }

@@ -14,15 +14,18 @@ ghost use Rattle.trace_text.specs.Grammar.{LinesMean, TextMeans, extended, nothi
 ghost use Rattle.trace_text.specs.Items.{item_of};
 ghost use Rattle.trace_text.specs.Plain.{BeginsRequest};
 ghost use Rattle.trace_text.specs.Drafts.{so_far, Extends, IsRoomFault, IsLineFault, IsHeaderFault};
-ghost use Rattle.trace_text.specs.Drafts.{IsLinesFault, IsBodyFault, IsTextFault, IsTaken, IsStopped, SaysSo};
+ghost use Rattle.trace_text.specs.Drafts.{IsLinesFault, IsBodyFault, IsTextFault, IsTaken, IsStopped, Goes, SaysSo};
 
 use crate::line::{Item, read_line, request_on};
 use crate::place::CELLS;
-use crate::plain::{Plain, mark, plain_request};
+use crate::plain::{
+    Plain, bump_request, call_request, get_request, mark, put_request, read_request,
+    return_request, spawn_request, sync_request, update_request, write_request,
+};
 use std::alloc::{AllocError, Allocator};
 use text_words::{
-    Act, Cause, Mems, Monoid, Monoids, Names, Reducers, Shape, TextFault, TraceLine, Version,
-    Words, as_text, split_line, without_return,
+    Cause, Mems, Monoid, Monoids, Names, Reducers, Shape, TextFault, TraceLine, Version, Words,
+    as_text, split_line, without_return,
 };
 use trace_lines::TraceLines;
 
@@ -34,10 +37,16 @@ pub const REQUESTS: usize = 2_000_000;
 pub const REDUCERS: usize = 256;
 
 /// What was read so far.
-#[derive(Drop)]
 pub(crate) struct Draft<'a, A: Allocator> {
     pub(crate) names: Names<'a, A>,
     pub(crate) lines: TraceLines<A>,
+}
+
+/// Written out, so that what lets it go calls one function.
+impl<'a, A: Allocator> Drop for Draft<'a, A> {
+    fn drop(self) {
+        let Draft { names: _, lines: _ } = self;
+    }
 }
 
 fn fault(line: u32, why: Cause) -> TextFault
@@ -47,6 +56,14 @@ fn fault(line: u32, why: Cause) -> TextFault
 }
 
 impl<'a, A: Allocator + Copy> Draft<'a, A> {
+    /// The declarations and the requests.
+    fn into_parts(self) -> (Names<'a, A>, TraceLines<A>)
+        ensures { (result.0 ≡ self.entry.names) × (result.1 ≡ self.entry.lines) }
+    {
+        let Draft { names, lines } = self;
+        (names, lines)
+    }
+
     /// Adds a memory.
     fn declare(&mut self, at: u32, name: &'a str, length: Option<u32>) -> Result<(), TextFault>
         requires { SaysSo at self.old.names (Declared name.now length) }
@@ -211,30 +228,116 @@ impl<'a, A: Allocator + Copy> Draft<'a, A> {
         }
     }
 
-    /// The same, by code of its own for each kind of act. So the kind is told apart here, and nowhere below.
-    #[inline(always)]
-    fn ask_by_kind<'b>(
-        &mut self,
-        at: u32,
-        plain: Plain<'b>,
-    ) -> Option<(&'b [u8], Option<TextFault>)>
-        ensures asked { IfSome result (λ r. (text : List ℕ) →
-            BeginsRequest self.old.names text plain.entry.strand plain.entry.act plain.entry.rest.now → MatchOption r.1
-            (IsTaken at (so_far self.old.names self.old.lines) text r.0.now (so_far self.new.names self.new.lines))
-            (IsStopped at (so_far self.old.names self.old.lines) text)) }
+    /// Adds the spawn that the first line of the text is, and gives what stands behind the line, or its fault too. None, which changes nothing,
+    /// where the line is no spawn in plain form.
+    fn take_spawn<'b>(&mut self, at: u32, text: &'b [u8]) -> Option<(&'b [u8], Option<TextFault>)>
+        ensures taken { IfSome result (λ r. Goes at (so_far self.old.names self.old.lines) text.now r.0.now r.1 (so_far self.new.names self.new.lines)) }
         ensures unchanged { IsNone result → self.new ≡ self.old }
     {
-        match plain.act {
-            Act::Spawn => self.ask_plain(at, plain),
-            Act::Sync => self.ask_plain(at, plain),
-            Act::Call => self.ask_plain(at, plain),
-            Act::Return => self.ask_plain(at, plain),
-            Act::Read(_) => self.ask_plain(at, plain),
-            Act::Write(_, _) => self.ask_plain(at, plain),
-            Act::Bump(_, _) => self.ask_plain(at, plain),
-            Act::Update(_, _) => self.ask_plain(at, plain),
-            Act::Put(_, _) => self.ask_plain(at, plain),
-            Act::Get(_) => self.ask_plain(at, plain),
+        let plain = spawn_request(text)?;
+        self.ask_plain(at, plain)
+    }
+
+    /// The same of a sync.
+    fn take_sync<'b>(&mut self, at: u32, text: &'b [u8]) -> Option<(&'b [u8], Option<TextFault>)>
+        ensures taken { IfSome result (λ r. Goes at (so_far self.old.names self.old.lines) text.now r.0.now r.1 (so_far self.new.names self.new.lines)) }
+        ensures unchanged { IsNone result → self.new ≡ self.old }
+    {
+        let plain = sync_request(text)?;
+        self.ask_plain(at, plain)
+    }
+
+    /// The same of a call.
+    fn take_call<'b>(&mut self, at: u32, text: &'b [u8]) -> Option<(&'b [u8], Option<TextFault>)>
+        ensures taken { IfSome result (λ r. Goes at (so_far self.old.names self.old.lines) text.now r.0.now r.1 (so_far self.new.names self.new.lines)) }
+        ensures unchanged { IsNone result → self.new ≡ self.old }
+    {
+        let plain = call_request(text)?;
+        self.ask_plain(at, plain)
+    }
+
+    /// The same of a return.
+    fn take_return<'b>(&mut self, at: u32, text: &'b [u8]) -> Option<(&'b [u8], Option<TextFault>)>
+        ensures taken { IfSome result (λ r. Goes at (so_far self.old.names self.old.lines) text.now r.0.now r.1 (so_far self.new.names self.new.lines)) }
+        ensures unchanged { IsNone result → self.new ≡ self.old }
+    {
+        let plain = return_request(text)?;
+        self.ask_plain(at, plain)
+    }
+
+    /// The same of a read.
+    fn take_read<'b>(&mut self, at: u32, text: &'b [u8]) -> Option<(&'b [u8], Option<TextFault>)>
+        ensures taken { IfSome result (λ r. Goes at (so_far self.old.names self.old.lines) text.now r.0.now r.1 (so_far self.new.names self.new.lines)) }
+        ensures unchanged { IsNone result → self.new ≡ self.old }
+    {
+        let plain = read_request(&self.names, text)?;
+        self.ask_plain(at, plain)
+    }
+
+    /// The same of a write.
+    fn take_write<'b>(&mut self, at: u32, text: &'b [u8]) -> Option<(&'b [u8], Option<TextFault>)>
+        ensures taken { IfSome result (λ r. Goes at (so_far self.old.names self.old.lines) text.now r.0.now r.1 (so_far self.new.names self.new.lines)) }
+        ensures unchanged { IsNone result → self.new ≡ self.old }
+    {
+        let plain = write_request(&self.names, text)?;
+        self.ask_plain(at, plain)
+    }
+
+    /// The same of a bump.
+    fn take_bump<'b>(&mut self, at: u32, text: &'b [u8]) -> Option<(&'b [u8], Option<TextFault>)>
+        ensures taken { IfSome result (λ r. Goes at (so_far self.old.names self.old.lines) text.now r.0.now r.1 (so_far self.new.names self.new.lines)) }
+        ensures unchanged { IsNone result → self.new ≡ self.old }
+    {
+        let plain = bump_request(&self.names, text)?;
+        self.ask_plain(at, plain)
+    }
+
+    /// The same of an update.
+    fn take_update<'b>(&mut self, at: u32, text: &'b [u8]) -> Option<(&'b [u8], Option<TextFault>)>
+        ensures taken { IfSome result (λ r. Goes at (so_far self.old.names self.old.lines) text.now r.0.now r.1 (so_far self.new.names self.new.lines)) }
+        ensures unchanged { IsNone result → self.new ≡ self.old }
+    {
+        let plain = update_request(&self.names, text)?;
+        self.ask_plain(at, plain)
+    }
+
+    /// The same of a put.
+    fn take_put<'b>(&mut self, at: u32, text: &'b [u8]) -> Option<(&'b [u8], Option<TextFault>)>
+        ensures taken { IfSome result (λ r. Goes at (so_far self.old.names self.old.lines) text.now r.0.now r.1 (so_far self.new.names self.new.lines)) }
+        ensures unchanged { IsNone result → self.new ≡ self.old }
+    {
+        let plain = put_request(&self.names, text)?;
+        self.ask_plain(at, plain)
+    }
+
+    /// The same of a get.
+    fn take_get<'b>(&mut self, at: u32, text: &'b [u8]) -> Option<(&'b [u8], Option<TextFault>)>
+        ensures taken { IfSome result (λ r. Goes at (so_far self.old.names self.old.lines) text.now r.0.now r.1 (so_far self.new.names self.new.lines)) }
+        ensures unchanged { IsNone result → self.new ≡ self.old }
+    {
+        let plain = get_request(&self.names, text)?;
+        self.ask_plain(at, plain)
+    }
+
+    /// The same of any request, whose keyword the first bytes tell. So it is told here, and nowhere below.
+    #[inline(always)]
+    fn take_plain<'b>(&mut self, at: u32, text: &'b [u8]) -> Option<(&'b [u8], Option<TextFault>)>
+        requires { 0 < length text.now }
+        ensures taken { IfSome result (λ r. Goes at (so_far self.old.names self.old.lines) text.now r.0.now r.1 (so_far self.new.names self.new.lines)) }
+        ensures unchanged { IsNone result → self.new ≡ self.old }
+    {
+        match text[0] {
+            b's' if text.len() > 1 && text[1] == b'p' => self.take_spawn(at, text),
+            b's' => self.take_sync(at, text),
+            b'c' => self.take_call(at, text),
+            b'r' if text.len() > 2 && text[2] == b'a' => self.take_read(at, text),
+            b'r' => self.take_return(at, text),
+            b'w' => self.take_write(at, text),
+            b'b' => self.take_bump(at, text),
+            b'u' => self.take_update(at, text),
+            b'p' => self.take_put(at, text),
+            b'g' => self.take_get(at, text),
+            _ => None,
         }
     }
 
@@ -263,9 +366,7 @@ impl<'a, A: Allocator + Copy> Draft<'a, A> {
             (IsTaken at (so_far self.old.names self.old.lines) text.now result.0.now (so_far self.new.names self.new.lines))
             (IsStopped at (so_far self.old.names self.old.lines) text.now) }
     {
-        if let Some(plain) = plain_request(&self.names, text)
-            && let Some((rest, fault)) = self.ask_by_kind(at, plain)
-        {
+        if let Some((rest, fault)) = self.take_plain(at, text) {
             return (rest, fault);
         }
         let (rest, fault) = self.take_other(at, text);
@@ -292,6 +393,29 @@ impl<'a, A: Allocator + Copy> Draft<'a, A> {
             rest = after;
         }
         Ok(last)
+    }
+
+    /// Reads the lines of a text that stand behind its first line. It gives the number of the last line.
+    fn take_body(&mut self, text: &'a [u8]) -> Result<u32, TextFault>
+        ensures { MatchResult result
+            (λ last. LinesMean 2 (so_far self.old.names self.old.lines) (lines text.now) (so_far self.new.names self.new.lines)
+            × (last ≡ 1 + length (lines text.now)) × (last ≤ most_lines))
+            (IsLinesFault 2 (so_far self.old.names self.old.lines) (lines text.now)) }
+    {
+        let mut rest = text;
+        let mut at = 1;
+        while !rest.is_empty() {
+            if !self.lines.is_empty() {
+                return self.take_lines(at, rest);
+            }
+            at += 1;
+            let (after, fault) = self.take_first(at, rest);
+            if let Some(fault) = fault {
+                return Err(fault);
+            }
+            rest = after;
+        }
+        Ok(at)
     }
 }
 
@@ -325,23 +449,10 @@ fn body<'a, A: Allocator + Copy>(
         names: Names::new(alloc, version),
         lines: TraceLines::new(alloc),
     };
-    let mut rest = text;
-    let mut at = 1;
-    while !rest.is_empty() {
-        if !draft.lines.is_empty() {
-            return match draft.take_lines(at, rest) {
-                Ok(last) => Ok((draft, last)),
-                Err(fault) => Err(fault),
-            };
-        }
-        at += 1;
-        let (after, fault) = draft.take_first(at, rest);
-        if let Some(fault) = fault {
-            return Err(fault);
-        }
-        rest = after;
+    match draft.take_body(text) {
+        Ok(last) => Ok((draft, last)),
+        Err(fault) => Err(fault),
     }
-    Ok((draft, at))
 }
 
 /// Reads a text. It gives the number of its last line too.
@@ -404,7 +515,7 @@ impl<A: Allocator + Copy> Trace<A> {
         requires { (text : List ℕ) × TextMeans text (so_far draft.names draft.lines) }
         ensures { contents result ≡ so_far draft.entry.names draft.entry.lines }
     {
-        let Draft { names, lines } = draft;
+        let (names, lines) = draft.into_parts();
         let (version, mems, reducers) = names.into_parts();
         Trace {
             version,

@@ -1,0 +1,13 @@
+use Rattle.std.proofs.Common.{◌∷◌, ◌-◌, [], length, take, drop, arith}
+use Rattle.model_accesses.specs.declared.request.Act.TheVariants as act
+use Rattle.trace_text.proofs.PlainRequests.{StandAt, behind_word, begins_request}
+use Rattle.trace_text.proofs.plain.update_request.Goals as goal
+
+pub returns : goal.returns
+returns g c =
+    let bytes = c.args.bytes.now in
+    let stand : StandAt bytes 0 (117 ∷ 112 ∷ 100 ∷ 97 ∷ 116 ∷ 101 ∷ []) = (omega arith, (omega arith, (omega arith, (omega arith, (omega arith, (omega arith, tt)))))) in
+    let behind = take (length bytes - 6) (drop 6 bytes) in
+    let of = c.in_ok-strand in
+    begins_request c.args.names.now (act.Update of.reducer of.value) of.strand bytes behind of.rest.now tt
+    (behind_word bytes (117 ∷ 112 ∷ 100 ∷ 97 ∷ 116 ∷ 101 ∷ []) c.in-117.len_at_least stand) of.ensures
