@@ -4,11 +4,11 @@ ghost use Rattle.std.specs.Prelude.{◌≤◌};
 ghost use Rattle.model_histories.specs.Shapes.{most_entries};
 
 use crate::checks::equal;
-use race_gate::{Answer, Core, GateFault};
+use race_gate::{Answer, Core, GateFault, Receipt, Reply};
 use std::alloc::{AllocError, Global};
 use std::process::Abort;
 use std::test::Fail;
-use text_words::{Act, Monoids, Request, Shape};
+use text_words::{Act, Monoid, Monoids, Request, Shape};
 
 /// A core over one cell, with this limit.
 fn opening(alloc: Global, limit: u32) -> Result<Core<Global>, AllocError>
@@ -112,5 +112,57 @@ fn a_core_judges_as_a_gate_does(rt: HostRuntime) -> Result<(), Fail> {
 fn a_stopped_core_judges_nothing(rt: HostRuntime) -> Result<(), Fail> {
     let mut core = opening(rt.alloc(), 2)?;
     stops(&rt, &mut core);
+    Ok(())
+}
+
+/// An act of strand 0 on line 1.
+macro_rules! request {
+    ($act:expr) => {
+        Request {
+            strand: 0,
+            act: $act,
+            line: 1,
+        }
+    };
+}
+
+/// The reply is that the request was answered so under this number.
+fn is_done(rt: &impl Abort, reply: Reply, number: u32, request: Request, answer: Answer) {
+    let receipt = Receipt {
+        number,
+        request,
+        answer,
+    };
+    equal(rt, &request, &reply, &Reply::Done(receipt));
+}
+
+#[test]
+fn a_core_replies_to_requests_of_a_known_sort(rt: HostRuntime) -> Result<(), Fail> {
+    let alloc = rt.alloc();
+    let shape = Shape {
+        cells: 1,
+        monoids: Monoids::new([Monoid::Sum].to_vec(alloc)?),
+    };
+    let mut core = Core::new(alloc, &shape, 4)?;
+    let write = request!(Act::Write(0, 5));
+    is_done(&rt, core.reply_to_cell(write), 1, write, Answer::Granted);
+    let update = request!(Act::Update(0, 2));
+    is_done(
+        &rt,
+        core.reply_to_reducer(update),
+        2,
+        update,
+        Answer::Granted,
+    );
+    let sync = request!(Act::Sync);
+    is_done(&rt, core.reply_to_control(sync), 3, sync, Answer::Same);
+    let read = request!(Act::Read(0));
+    is_done(&rt, core.reply(read), 4, read, Answer::Value(5));
+    equal(
+        &rt,
+        &read,
+        &core.reply_to_cell(read),
+        &Reply::Illegal(GateFault::Limit),
+    );
     Ok(())
 }

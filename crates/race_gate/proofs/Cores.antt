@@ -100,6 +100,21 @@ module _ (core : CoreState) (state : State) (fits : IsCoreOf core state) where
         kept = kept;
       }
 
+  -- the same where no cell was handed on
+  pub fits-entered : (request : Request) (answer : Answer) (number : ℕ) (finished : Bool) (after : Roster) (marks : List Cell) (others : Option Books) →
+      number ≡ core.entries + 1 → IsTrue finished ↔ IsEnd answer → IsKept (with_entry state request answer core.memory) after marks others →
+      IsCoreOf (the_core number finished core.memory after marks others) (with_entry state request answer core.memory)
+  fits-entered request answer number finished after marks others numbered ends kept = record {
+    shown = ap (λ (s : State). with_entry s request answer core.memory) fits.shown;
+    counted = omega (arith, fits.counted, numbered);
+    finished = ends;
+    kept = kept;
+  }
+
+  pub fits-kept : (after : Roster) (marks : List Cell) (others : Option Books) → IsKept state after marks others →
+      IsCoreOf (the_core core.entries core.finished core.memory after marks others) state
+  fits-kept after marks others kept = record { shown = fits.shown; counted = fits.counted; finished = fits.finished; kept = kept }
+
 -- what a judged request leaves
 pub judges-next : (old new : CoreState) (state : State) (request : Request) (result : Result Answer GateFault) → IsCoreOf old state → IsFaultless state request →
     MatchResult result (λ answer. IsCoreOf new (with_entry state request answer new.memory)) (λ fault. (fault ≡ Memory) × IsCoreOf new state) →
@@ -110,6 +125,17 @@ judges-next old new state request (Ok answer) fits faultless done = (
   done,
 )
 judges-next old new state request (Err fault) fits faultless done = (state, rw done.0 (refl, only-memory state request faultless), done.1)
+
+-- the number of the entry is how many the core has counted since
+pub replied-next : (old new : CoreState) (state : State) (request : Request) (result : Result Answer GateFault) →
+    (next : State) × Judges state request (reply_with (old.entries + 1) request result) next × IsCoreOf new next →
+    (next : State) × Judges state request (reply_with new.entries request result) next × IsCoreOf new next
+replied-next old new state request (Ok answer) done = (
+  done.0,
+  record { faultless = done.1.faultless; asked = refl; number = done.2.counted; after = done.1.after },
+  done.2,
+)
+replied-next old new state request (Err fault) done = done
 
 -- ---- a gate: its core, and the list of its entries
 

@@ -81,18 +81,24 @@ module _ (state : State) (strands : Roster) (shadow : List Cell) (books : Option
       IfOk result (λ answer. (event : Event) → event_between request.strand request.act answer ≡ Some event → OptionKeepsOn books others event) →
       IfErr result (λ fault. fault ≡ Memory) → OnErr result ((history : History) → Follows strands history → Follows after history) →
       OnErr result (OptionKeepsStill books others) → MatchResult result
-      (λ answer. IsKept (with_entry state request answer memory) after shadow others) (λ fault. (fault ≡ Memory) × (memory ≡ memory) × IsKept state after shadow others)
+      (λ answer. IsKept (with_entry state request answer memory) after shadow others) (λ fault. (fault ≡ Memory) × IsKept state after shadow others)
   answers-control after others (Ok answer) is goes on none follows still =
       subst (λ cells. IsKept (with_entry state request answer cells) after shadow others) (sym ready.cells)
       (entered-control state strands shadow books ready.kept (record { request = request; answer = answer }) ready.faultless after others is
       (goes _ ready.kept.follows) on)
-  answers-control after others (Err fault) is goes on none follows still = (none, refl, kept-still _ _ _ _ _ _ ready.kept follows still)
+  answers-control after others (Err fault) is goes on none follows still = (none, kept-still _ _ _ _ _ _ ready.kept follows still)
 
   pub answers-reducer : (others : Option Books) (result : Result Answer GateFault) → sort_of request.act ≡ Reducer →
       IfOk result (OptionAnswersAccess books others number request.strand request.act) → IfErr result (λ fault. fault ≡ Memory) →
       OnErr result (OptionKeepsStill books others) → MatchResult result
-      (λ answer. IsKept (with_entry state request answer memory) strands shadow others) (λ fault. (fault ≡ Memory) × (memory ≡ memory) × IsKept state strands shadow others)
+      (λ answer. IsKept (with_entry state request answer memory) strands shadow others) (λ fault. (fault ≡ Memory) × IsKept state strands shadow others)
   answers-reducer others (Ok answer) is answers none still =
       subst (λ cells. IsKept (with_entry state request answer cells) strands shadow others) (sym ready.cells)
       (entered-reducer state strands shadow books ready.kept (record { request = request; answer = answer }) ready.faultless others number numbered is answers)
-  answers-reducer others (Err fault) is answers none still = (none, refl, kept-still _ _ _ _ _ _ ready.kept (λ history follows. follows) still)
+  answers-reducer others (Err fault) is answers none still = (none, kept-still _ _ _ _ _ _ ready.kept (λ history follows. follows) still)
+
+-- cells that were not handed on are as they were
+pub with-same-cells : (P : Answer → Type 0) (K : Type 0) (cells : List ℕ) (result : Result Answer GateFault) →
+    MatchResult result P (λ fault. (fault ≡ Memory) × K) → MatchResult result P (λ fault. (fault ≡ Memory) × (cells ≡ cells) × K)
+with-same-cells P K cells (Ok answer) done = done
+with-same-cells P K cells (Err fault) done = (done.0, refl, done.1)

@@ -13,10 +13,13 @@ ghost use Rattle.race_gate.specs.Kept.{with_entry};
 ghost use Rattle.model_histories.specs.Replies.{Judges};
 ghost use Rattle.model_histories.specs.Admission.{IsAdmitted, IsOfTheGate};
 ghost use Rattle.race_gate.specs.Cores.{IsCoreOf, IsCore, reply_with};
+ghost use Rattle.race_gate.specs.Accesses.{sort_of};
 
+use crate::access::{Sort, sort_of};
 use crate::step::is_in_range;
 use crate::tracks::Tracks;
 use model_histories::{Answer, GateFault, Receipt, Reply};
+use model_races::CellAccess;
 use std::alloc::{AllocError, Allocator};
 use std::marker::Model;
 use text_words::{Act, Monoids, Request, Shape};
@@ -256,12 +259,62 @@ impl<A: Allocator + Clone> Core<A> {
         self.answer(request)
     }
 
-    /// Answers a request as [`Core::judge`] does, and gives the reply of a gate that judged the same requests.
+    /// As [`Core::judge`], of a request that is an access of a cell.
     #[inline(always)]
-    pub fn reply(&mut self, request: Request) -> Reply
-        ensures { (state : State) → IsCoreOf self.old state → (next : State) × Judges state request result next × IsCoreOf self.new next }
+    fn judge_cell(&mut self, request: Request) -> Result<Answer, GateFault>
+        requires { (access : CellAccess) × sort_of request.act ≡ Sort.Cell access }
+        ensures { (state : State) → IsCoreOf self.old state →
+            (next : State) × Judges state request (reply_with (self.old.entries + 1) request result) next × IsCoreOf self.new next }
     {
-        match self.judge(request) {
+        self.check(request)?;
+        let Sort::Cell(access) = sort_of(request.act) else {
+            unreachable!()
+        };
+        let number = self.entries + 1;
+        let answer = self
+            .tracks
+            .access_cell(self.memory.as_mut_slice(), number, request, access);
+        self.entries = number;
+        self.finished = is_end(answer);
+        Ok(answer)
+    }
+
+    /// As [`Core::judge`], of a request that is an access of a reducer.
+    #[inline(always)]
+    fn judge_reducer(&mut self, request: Request) -> Result<Answer, GateFault>
+        requires { sort_of request.act ≡ Sort.Reducer }
+        ensures { (state : State) → IsCoreOf self.old state →
+            (next : State) × Judges state request (reply_with (self.old.entries + 1) request result) next × IsCoreOf self.new next }
+    {
+        self.check(request)?;
+        let number = self.entries + 1;
+        let answer = self.tracks.access_reducer(number, request)?;
+        self.entries = number;
+        self.finished = is_end(answer);
+        Ok(answer)
+    }
+
+    /// As [`Core::judge`], of a request that is an act of control.
+    #[inline(always)]
+    fn judge_control(&mut self, request: Request) -> Result<Answer, GateFault>
+        requires { sort_of request.act ≡ Sort.Control }
+        ensures { (state : State) → IsCoreOf self.old state →
+            (next : State) × Judges state request (reply_with (self.old.entries + 1) request result) next × IsCoreOf self.new next }
+    {
+        self.check(request)?;
+        let number = self.entries + 1;
+        let answer = self.tracks.control(number, request)?;
+        self.entries = number;
+        self.finished = is_end(answer);
+        Ok(answer)
+    }
+
+    /// The reply that tells what the newest request was answered, or its fault.
+    #[inline(always)]
+    fn reply_of(&self, request: Request, judged: Result<Answer, GateFault>) -> Reply
+        ensures { result ≡ reply_with self.now.entries request judged }
+    {
+        match judged {
             Ok(answer) => Reply::Done(Receipt {
                 number: self.entries,
                 request,
@@ -269,5 +322,45 @@ impl<A: Allocator + Clone> Core<A> {
             }),
             Err(fault) => Reply::Illegal(fault),
         }
+    }
+
+    /// Answers a request as [`Core::judge`] does, and gives the reply of a gate that judged the same requests.
+    #[inline(always)]
+    pub fn reply(&mut self, request: Request) -> Reply
+        ensures { (state : State) → IsCoreOf self.old state → (next : State) × Judges state request result next × IsCoreOf self.new next }
+    {
+        let judged = self.judge(request);
+        self.reply_of(request, judged)
+    }
+
+    /// As [`Core::reply`], of a request that is an access of a cell. It is code of its own, which a caller that knows the sort of its
+    /// requests makes a shorter way of.
+    #[inline(always)]
+    pub fn reply_to_cell(&mut self, request: Request) -> Reply
+        requires { (access : CellAccess) × sort_of request.act ≡ Sort.Cell access }
+        ensures { (state : State) → IsCoreOf self.old state → (next : State) × Judges state request result next × IsCoreOf self.new next }
+    {
+        let judged = self.judge_cell(request);
+        self.reply_of(request, judged)
+    }
+
+    /// As [`Core::reply`], of a request that is an access of a reducer.
+    #[inline(always)]
+    pub fn reply_to_reducer(&mut self, request: Request) -> Reply
+        requires { sort_of request.act ≡ Sort.Reducer }
+        ensures { (state : State) → IsCoreOf self.old state → (next : State) × Judges state request result next × IsCoreOf self.new next }
+    {
+        let judged = self.judge_reducer(request);
+        self.reply_of(request, judged)
+    }
+
+    /// As [`Core::reply`], of a request that is an act of control.
+    #[inline(always)]
+    pub fn reply_to_control(&mut self, request: Request) -> Reply
+        requires { sort_of request.act ≡ Sort.Control }
+        ensures { (state : State) → IsCoreOf self.old state → (next : State) × Judges state request result next × IsCoreOf self.new next }
+    {
+        let judged = self.judge_control(request);
+        self.reply_of(request, judged)
     }
 }

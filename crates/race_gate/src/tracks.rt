@@ -1,16 +1,18 @@
 //! What the gate keeps beside the history and the cells.
 
-ghost use Rattle.std.specs.Prelude.{◌≡◌, ◌<◌, ◌^◌, [], length, IfOk, MatchResult};
+ghost use Rattle.std.specs.Prelude.{◌≡◌, ◌<◌, ◌^◌, ℕ, List, [], length, IfOk, MatchResult};
 ghost use Rattle.model_strands.specs.History.{History};
 ghost use Rattle.sp_labels.specs.Roster.{Follows};
 ghost use Rattle.shadow_history.specs.Shadow.{Remembers};
 ghost use Rattle.race_gate.specs.Kept.{IsKept, IsReady, OpensTracks, with_entry};
 ghost use Rattle.model_histories.specs.States.{State};
+ghost use Rattle.race_gate.specs.Accesses.{sort_of};
 
 use crate::access::{Sort, sort_of};
 use crate::reducers::{ReducerTracks, opening_reducers};
 use crate::step::{control, judge_access, judge_reducer};
 use model_histories::{Answer, GateFault};
+use model_races::CellAccess;
 use shadow_history::Shadow;
 use sp_labels::Strands;
 use std::alloc::{AllocError, Allocator};
@@ -72,24 +74,67 @@ impl<A: Allocator + Clone> Tracks<A> {
             × IsKept state self.new.strands self.new.shadow self.new.reducers) }
     {
         match sort_of(request.act) {
-            Sort::Cell(access) => Ok(judge_access(
-                &self.strands,
-                &mut self.shadow,
-                memory,
-                number,
-                request.strand,
-                request.act,
-                access,
-            )),
-            Sort::Reducer => {
-                judge_reducer(&mut self.reducers, number, request.strand, request.act)
-            }
-            Sort::Control => control(
-                &mut self.strands,
-                &mut self.reducers,
-                request.strand,
-                request.act,
-            ),
+            Sort::Cell(access) => Ok(self.access_cell(memory, number, request, access)),
+            Sort::Reducer => self.access_reducer(number, request),
+            Sort::Control => self.control(number, request),
         }
+    }
+
+    /// The same of a request that is an access of a cell. It takes no memory.
+    #[inline(always)]
+    pub fn access_cell(
+        &mut self,
+        memory: &mut [u64],
+        number: u32,
+        request: Request,
+        access: CellAccess,
+    ) -> Answer
+        requires is { sort_of request.act ≡ Sort.Cell access }
+        requires ready { (state : State) × IsReady state self.old.strands self.old.shadow self.old.reducers memory.old request number }
+        ensures { (state : State) → IsReady state self.old.strands self.old.shadow self.old.reducers memory.old request number →
+            IsKept (with_entry state request result memory.new) self.new.strands self.new.shadow self.new.reducers }
+    {
+        judge_access(
+            &self.strands,
+            &mut self.shadow,
+            memory,
+            number,
+            request.strand,
+            request.act,
+            access,
+        )
+    }
+
+    /// The same of a request that is an access of a reducer.
+    #[inline(always)]
+    pub fn access_reducer(&mut self, number: u32, request: Request) -> Result<Answer, GateFault>
+        requires is { sort_of request.act ≡ Sort.Reducer }
+        requires ready { (state : State) × (cells : List ℕ) ×
+            IsReady state self.old.strands self.old.shadow self.old.reducers cells request number }
+        ensures { (state : State) (cells : List ℕ) → IsReady state self.old.strands self.old.shadow self.old.reducers cells request number →
+            MatchResult result
+            (λ answer. IsKept (with_entry state request answer cells) self.new.strands self.new.shadow self.new.reducers)
+            (λ fault. (fault ≡ GateFault.Memory) × IsKept state self.new.strands self.new.shadow self.new.reducers) }
+    {
+        judge_reducer(&mut self.reducers, number, request.strand, request.act)
+    }
+
+    /// The same of a request that is an act of control.
+    #[inline(always)]
+    pub fn control(&mut self, number: u32, request: Request) -> Result<Answer, GateFault>
+        requires is { sort_of request.act ≡ Sort.Control }
+        requires ready { (state : State) × (cells : List ℕ) ×
+            IsReady state self.old.strands self.old.shadow self.old.reducers cells request number }
+        ensures { (state : State) (cells : List ℕ) → IsReady state self.old.strands self.old.shadow self.old.reducers cells request number →
+            MatchResult result
+            (λ answer. IsKept (with_entry state request answer cells) self.new.strands self.new.shadow self.new.reducers)
+            (λ fault. (fault ≡ GateFault.Memory) × IsKept state self.new.strands self.new.shadow self.new.reducers) }
+    {
+        control(
+            &mut self.strands,
+            &mut self.reducers,
+            request.strand,
+            request.act,
+        )
     }
 }
