@@ -8,9 +8,16 @@ ghost use Rattle.model_histories.specs.Replies.{Judges, reply_of};
 use crate::seat::Seat;
 use race_gate::{Gate, GateFault, Receipt};
 use std::alloc::Global;
+use std::sync::atomic::AtomicU64;
 use std::sync::ledger::{Blank, Book, Ledger};
-use std::sync::{Mutex, Wait};
+use std::sync::{Mutex, MutexGuard, Wait};
+use std::time::Duration;
 use text_words::Request;
+
+/// For how many microseconds an asker dozes that finds the lock held: at first, and at most.
+const DOZE: u64 = 40;
+
+const LONGEST_DOZE: u64 = 640;
 
 /// Who asks does not know what stands behind it: a gate's lock, or something round one.
 pub trait Ask<L: Ledger> {
@@ -70,6 +77,8 @@ impl<L: Ledger> Round<L> {
 #[derive(Drop)]
 pub struct LockedGate<L: Ledger> {
     round: Mutex<Round<L>>,
+    /// What askers doze on. It is 0 for good.
+    calm: AtomicU64,
 }
 
 impl<L: Ledger> LockedGate<L> {
@@ -89,7 +98,32 @@ impl<L: Ledger> LockedGate<L> {
             share,
         };
         let round = Mutex::new(Round { gate, total });
-        (LockedGate { round }, seat)
+        let calm = AtomicU64::new(0);
+        (LockedGate { round, calm }, seat)
+    }
+
+    /// Takes the lock as soon as it is found free. Until then it dozes, each time for longer, and does not stand in the lock's line: those
+    /// that ask in turns would hand all that a gate keeps from one processor to another at each request.
+    #[cold]
+    #[inline(never)]
+    fn take_later<R: Wait>(&self, rt: &R) -> MutexGuard<'_, Round<L>> {
+        let mut doze = DOZE;
+        for _ in rt.forever() {
+            self.calm.park_timeout(rt, 0, Duration::from_micros(doze));
+            if let Some(round) = self.round.try_lock() {
+                return round;
+            }
+            doze = doze.saturating_mul(2).min(LONGEST_DOZE);
+        }
+        unreachable!()
+    }
+
+    /// Takes the lock.
+    fn take<R: Wait>(&self, rt: &R) -> MutexGuard<'_, Round<L>> {
+        match self.round.try_lock() {
+            Some(round) => round,
+            None => self.take_later(rt),
+        }
     }
 
     /// As [`Ask::ask`], and the receipt is of that request.
@@ -103,7 +137,7 @@ impl<L: Ledger> LockedGate<L> {
         ensures parts { seat.new.parts ≡ seat.old.parts }
         ensures asked { MatchResult result (λ _. seat.new.asked ≡ seat.old.asked + 1) (λ _. seat.new.asked ≡ seat.old.asked) }
     {
-        self.round.lock(rt).judge(seat, request)
+        self.take(rt).judge(seat, request)
     }
 
     /// Stops the gate.
@@ -116,7 +150,7 @@ impl<L: Ledger> LockedGate<L> {
         ensures judged { IsJudged result.shape result.history }
         ensures values { IsMemory result.shape.cells result.history result.memory }
     {
-        let LockedGate { round } = self;
+        let LockedGate { round, calm: _ } = self;
         let Round { gate, total: _ } = round.into_inner();
         // What is known of each gate is known of this one from here on.
         let _entries = gate.history();

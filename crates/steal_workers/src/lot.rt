@@ -24,8 +24,10 @@ pub enum LotFault {
     Memory,
 }
 
-/// For how many microseconds a worker dozes that finds nothing to do.
-const DOZE: u64 = 100;
+/// For how many microseconds a worker dozes that finds nothing to do: at first, and at most.
+pub(crate) const DOZE: u64 = 50;
+
+const LONGEST_DOZE: u64 = 800;
 
 /// The greatest join for which there is a mark. No gate has so many strands.
 const MOST_JOIN: u32 = 4_194_303;
@@ -227,8 +229,10 @@ impl<'p> Lot<'p> {
         self.closed.load(Ordering::SeqCst) != 0
     }
 
-    /// Sleeps for a short while, or until the lot is closed. It may come back at once.
-    pub(crate) fn doze<R: Wait>(&self, rt: &R) {
-        self.closed.park_timeout(rt, 0, Duration::from_micros(DOZE));
+    /// Sleeps for so many microseconds, or until the lot is closed, and answers for how many it is to be the next time. It may come back
+    /// at once.
+    pub(crate) fn doze<R: Wait>(&self, rt: &R, doze: u64) -> u64 {
+        self.closed.park_timeout(rt, 0, Duration::from_micros(doze));
+        doze.saturating_mul(2).min(LONGEST_DOZE)
     }
 }

@@ -9,7 +9,7 @@ ghost use Rattle.steal_workers.specs.Goings.{GoesOn, HandsOut, IsAtJoin};
 
 use crate::ends::Ends;
 use crate::fault::{fault_of, meeting_of, refusal_of};
-use crate::lot::Lot;
+use crate::lot::{DOZE, Lot};
 use crate::task::{Spare, Task};
 use crossbeam_utils::Backoff;
 use frame_steps::Frame;
@@ -304,10 +304,12 @@ impl<'p, L: Ledger> Worker<'p, L> {
         ensures torn { result ≡ Err RunFault.Torn → EndsAtJoin self.new.receipts.items }
     {
         let backoff = Backoff::new();
+        let mut doze = DOZE;
         for _ in rt.forever() {
             match self.ends.find() {
                 Some(task) => {
                     backoff.reset();
+                    doze = DOZE;
                     self.walk(rt, alloc, gate, lot, task)?;
                 }
                 None => {
@@ -315,7 +317,7 @@ impl<'p, L: Ledger> Worker<'p, L> {
                         break;
                     }
                     if backoff.is_completed() {
-                        lot.doze(rt);
+                        doze = lot.doze(rt, doze);
                     } else {
                         backoff.snooze();
                     }
