@@ -123,3 +123,28 @@ pub(crate) fn put_number(out: &mut [u8], at: usize, number: u64) -> usize
     }
     put_long(out, at, number)
 }
+
+/// Puts a number as [`put_number`] does, in a call of its own.
+#[inline(never)]
+fn put_great(out: &mut [u8], at: usize, number: u64) -> usize
+    requires room { at + 20 ≤ length out.old }
+    ensures end { result ≤ at + 20 }
+    ensures len { length out.new ≡ length out.old }
+    ensures put { take result out.new ≡ take at out.old ++ decimal number }
+{
+    put_number(out, at, number)
+}
+
+/// Puts a number as [`put_number`] does, with less code in line: a great one is put by a call.
+#[inline(always)]
+pub(crate) fn put_mostly_small(out: &mut [u8], at: usize, number: u64) -> usize
+    requires room { at + 20 ≤ length out.old }
+    ensures end { result ≤ at + 20 }
+    ensures len { length out.new ≡ length out.old }
+    ensures put { take result out.new ≡ take at out.old ++ decimal number }
+{
+    if number < 10_000 {
+        return put_four(out, at, number);
+    }
+    put_great(out, at, number)
+}

@@ -8,7 +8,7 @@ ghost use Rattle.race_report.specs.VerdictText.{fault_word, numbers_text, line_o
 ghost use Rattle.race_report.specs.Rooms.{HasRoom, number_room, line_room};
 
 use crate::counted::Counted;
-use crate::placed::{put_number, put_word};
+use crate::placed::{put_mostly_small, put_number, put_word};
 use access_table::{Kind, access_table, rule_word};
 use itoa::Buffer;
 use model_accesses::Witness;
@@ -70,8 +70,11 @@ pub fn put_told(out: &mut [u8], at: usize, word: &str, number: u64) -> usize
     put_word(out, end, "\n")
 }
 
+// What tells a spawn, a join or a refusal is a call of its own: so the rest of `put_answer` is short enough for the compiler to put it in
+// line where requests are judged, and which answers an act can have is known there.
+
 /// Puts the end of a line that tells a spawn.
-#[inline(always)]
+#[inline(never)]
 fn put_split(out: &mut [u8], at: usize, spawned: Spawned) -> usize
     requires room { at + 70 ≤ length out.old }
     ensures len { length out.new ≡ length out.old }
@@ -119,7 +122,7 @@ fn put_rule(out: &mut [u8], at: usize, act: Act, witness: Kind) -> usize
 }
 
 /// Puts the end of a line that tells a refusal: that, the rule and the witness.
-#[inline(always)]
+#[inline(never)]
 fn put_refusal(out: &mut [u8], at: usize, act: Act, witness: Witness) -> usize
     requires word { IsSome (refusal_word act witness.kind) }
     requires room { at + 48 ≤ length out.old }
@@ -129,6 +132,38 @@ fn put_refusal(out: &mut [u8], at: usize, act: Act, witness: Witness) -> usize
 {
     let end = put_rule(out, at, act, witness.kind);
     put_told(out, end, "", u64::from(witness.entry))
+}
+
+/// Puts the end of a line that tells a join by a sync.
+#[inline(never)]
+fn put_joined(out: &mut [u8], at: usize, join: u32) -> usize
+    requires room { at + 29 ≤ length out.old }
+    ensures len { length out.new ≡ length out.old }
+    ensures put { take result out.new ≡ take at out.old ++ (codes " joined " ++ decimal join ++ codes "\n") }
+{
+    put_told(out, at, " joined ", u64::from(join))
+}
+
+/// Puts the end of a line that tells a join by a return.
+#[inline(never)]
+fn put_ended_joined(out: &mut [u8], at: usize, join: u32) -> usize
+    requires room { at + 35 ≤ length out.old }
+    ensures len { length out.new ≡ length out.old }
+    ensures put { take result out.new ≡ take at out.old ++ (codes " ended-joined " ++ decimal join ++ codes "\n") }
+{
+    put_told(out, at, " ended-joined ", u64::from(join))
+}
+
+/// Puts the end of a line that tells a value.
+#[inline(always)]
+fn put_value(out: &mut [u8], at: usize, value: u64) -> usize
+    requires room { at + 28 ≤ length out.old }
+    ensures len { length out.new ≡ length out.old }
+    ensures put { take result out.new ≡ take at out.old ++ (codes " value " ++ decimal value ++ codes "\n") }
+{
+    let place = put_word(out, at, " value ");
+    let end = put_mostly_small(out, place, value);
+    put_word(out, end, "\n")
 }
 
 /// Puts the end of a line behind the entry's number: what the gate answered to an act.
@@ -142,14 +177,14 @@ fn put_answer(out: &mut [u8], at: usize, act: Act, answer: Answer) -> usize
     match answer {
         Answer::Split(spawned) => put_split(out, at, spawned),
         Answer::Same => put_word(out, at, " same\n"),
-        Answer::Joined(join) => put_told(out, at, " joined ", u64::from(join)),
+        Answer::Joined(join) => put_joined(out, at, join),
         Answer::Waits => put_word(out, at, " waits\n"),
         Answer::Resumed => put_word(out, at, " resumed\n"),
         Answer::Ended => put_word(out, at, " ended\n"),
-        Answer::EndedJoined(join) => put_told(out, at, " ended-joined ", u64::from(join)),
+        Answer::EndedJoined(join) => put_ended_joined(out, at, join),
         Answer::Finished => put_word(out, at, " finished\n"),
         Answer::Granted => put_word(out, at, " granted\n"),
-        Answer::Value(value) => put_told(out, at, " value ", value),
+        Answer::Value(value) => put_value(out, at, value),
         Answer::Refused { witness, .. } => put_refusal(out, at, act, witness),
         Answer::Unset => put_word(out, at, " refused unset\n"),
     }

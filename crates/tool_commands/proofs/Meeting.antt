@@ -1,5 +1,5 @@
 -- What was met among replies, one after another.
-use Rattle.std.proofs.Common.{◌≡◌, ◌||◌, ℕ, Bool, true, false, Option, List, [], ◌∷◌, ◌++◌, map, append-nil, append_assoc, refl, ap, sym, subst, ◌∙◌}
+use Rattle.std.proofs.Common.{◌≡◌, ◌||◌, ℕ, zero, arith, Bool, true, false, Option, List, [], ◌∷◌, ◌++◌, map, append-nil, append_assoc, refl, ap, sym, subst, ◌∙◌}
 use Rattle.std.specs.List.{list_any}
 use Rattle.std.proofs.lemmas.Bool.{true≢false}
 use Rattle.std.proofs.lemmas.List.Folds.{list_any-append}
@@ -11,9 +11,12 @@ use Rattle.text_words.specs.Values.{Contents}
 use Rattle.model_histories.specs.declared.reply.Reply.{Reply}
 use Rattle.model_histories.specs.Shapes.{Shape}
 use Rattle.model_histories.specs.States.{State, opening}
-use Rattle.model_histories.specs.Replies.{JudgesAll}
-use Rattle.race_gate.specs.Cores.{CoreState}
-use Rattle.race_report.specs.VerdictText.{line_of_reply, verdict_text}
+use Rattle.model_histories.specs.Replies.{Judges, JudgesAll}
+use Rattle.model_races.specs.Judged.{IsJudged}
+use Rattle.race_gate.specs.Cores.{CoreState, IsCoreOf}
+use Rattle.race_gate.proofs.Lists.{JudgesAll-more}
+use Rattle.race_report.specs.VerdictText.{HasWords, line_of_reply, verdict_text}
+use Rattle.race_report.proofs.GateWords.{replies_have_words}
 use Rattle.tool_commands.specs.declared.status.Met.{Met}
 use Rattle.tool_commands.specs.declared.judge.Verdicts.{Verdicts}
 use Rattle.tool_commands.specs.Streams.{declared_shape, requests_of, StopsWriting}
@@ -22,7 +25,7 @@ use Rattle.std.specs.Prelude.{◌↔◌, Result, Ok, Err, IsTrue, IsErrOf, OnOk,
 use Rattle.std.specs.Io.KnownBytes.{Appends, Keeps}
 use Rattle.tool_commands.specs.declared.fault.CliFault.{CliFault}
 use Rattle.tool_commands.specs.declared.fault.CliFault.TheVariants.{Write}
-use Rattle.tool_commands.specs.Meetings.{HasMet, HasJudged, TellsTrace}
+use Rattle.tool_commands.specs.Meetings.{HasMet, HasJudged, Tells, TellsTrace}
 use Rattle.tool_commands.specs.Tellings.{IsTold}
 use Rattle.tool_commands.proofs.Bytes.{appends-none, appends-kept, appends-more}
 
@@ -156,3 +159,22 @@ module _ {A : Type 0} (start : State) (core : CoreState) (verdicts : Verdicts A)
     },
     judged.tells,
   )
+
+-- the reply to a request has its words
+pub has_words : (state next : State) (request : Request) (reply : Reply) → Judges state request reply next → IsJudged next.shape next.history → HasWords reply
+has_words state next request reply judges judged =
+    let words = replies_have_words (request ∷ []) (reply ∷ []) state next (next, judges, refl) judged in
+    words.1 zero reply (omega arith)
+
+-- one request more was judged, and its reply told
+pub judged_and_told : (A : Type 0) (start : State) (requests : List Request) (replies : List Reply) (core after : CoreState) (verdicts new : Verdicts A)
+    (wrote writes later : Option (List ℕ)) (failed fails : Bool) (request : Request) (reply : Reply) →
+    (judged : HasJudged start requests replies core verdicts wrote writes failed) → (next : State) × Judges judged.last request reply next × IsCoreOf after next →
+    (Tells replies verdicts wrote writes failed → Tells (replies ++ reply ∷ []) new wrote later fails) →
+    HasJudged start (requests ++ request ∷ []) (replies ++ reply ∷ []) after new wrote later fails
+judged_and_told A start requests replies core after verdicts new wrote writes later failed fails request reply judged next tells = record {
+  last = next.0;
+  judges = JudgesAll-more _ _ _ _ _ _ _ _ _ refl refl judged.judges next.1;
+  fits = next.2;
+  tells = tells judged.tells;
+}

@@ -16,7 +16,10 @@ ghost use Rattle.model_histories.specs.declared.reply.Reply.{Reply as SpecReply}
 ghost use Rattle.model_accesses.specs.declared.request.Request.{Request as SpecRequest};
 ghost use Rattle.tool_commands.specs.Watched.{held, has_failed, is_delivered, calls_of, IsCalledAtMost};
 ghost use Rattle.tool_commands.specs.Meetings.{HasJudged, Tells, TellsTrace};
-ghost use Rattle.race_report.specs.VerdictText.{verdict_text};
+ghost use Rattle.race_report.specs.VerdictText.{verdict_text, HasWords};
+ghost use Rattle.race_gate.specs.Accesses.{sort_of};
+ghost use Rattle.race_gate.specs.declared.access.Sort.{Sort};
+ghost use Rattle.model_races.specs.declared.access.CellAccess.{CellAccess};
 ghost use Rattle.tool_commands.specs.Statuses.{status_of_replies};
 ghost use Rattle.tool_commands.specs.Streams.{most_reads, declared_shape, requests_of, IsJudgedBy, JudgesTrace};
 ghost use Rattle.tool_commands.specs.Streams.{AreReplies, IsAnswered, StopsWriting, StopsAnswer, HasCause};
@@ -39,50 +42,73 @@ struct Verdicts<A: Allocator> {
     met: Met,
 }
 
-/// Judges a request and tells the reply.
+/// Tells a reply.
 #[inline(always)]
-fn told<A: Allocator + Clone, W: Write>(
-    core: &mut Core<A>,
-    verdicts: &mut Verdicts<A>,
-    output: &mut Watched<W>,
-    request: Request,
-)
-    requires { IsCore core.old }
-    ensures { (start : State) (wrote : Option (List ℕ)) (requests : List SpecRequest) (replies : List SpecReply) →
-        HasJudged start requests replies core.old verdicts.old wrote (W.contents (held output.old)) (has_failed output.old) →
-        (reply : SpecReply) × HasJudged start (requests ++ request ∷ []) (replies ++ reply ∷ []) core.new verdicts.new
-        wrote (W.contents (held output.new)) (has_failed output.new) }
+fn note<A: Allocator, W: Write>(verdicts: &mut Verdicts<A>, output: &mut Watched<W>, reply: &Reply)
+    requires { HasWords reply.now }
+    ensures { (wrote : Option (List ℕ)) (replies : List SpecReply) →
+        Tells replies verdicts.old wrote (W.contents (held output.old)) (has_failed output.old) →
+        Tells (replies ++ reply.now ∷ []) verdicts.new wrote (W.contents (held output.new)) (has_failed output.new) }
 {
-    let reply = core.reply(request);
-    verdicts.lines.tell_verdict(output, &reply);
-    verdicts.met.meet(&reply);
+    verdicts.lines.tell_verdict(output, reply);
+    verdicts.met.meet(reply);
 }
 
-/// The same, by code of its own for each kind of act. So which replies there may be is known where their lines are put.
-fn tell<A: Allocator + Clone, W: Write>(
+/// Judges an act of control and tells the reply.
+#[inline(always)]
+fn tell_control<A: Allocator + Clone, W: Write>(
     core: &mut Core<A>,
     verdicts: &mut Verdicts<A>,
     output: &mut Watched<W>,
     request: Request,
 )
-    requires { IsCore core.old }
+    requires is { sort_of request.act ≡ Sort.Control }
+    requires core { IsCore core.old }
     ensures { (start : State) (wrote : Option (List ℕ)) (requests : List SpecRequest) (replies : List SpecReply) →
         HasJudged start requests replies core.old verdicts.old wrote (W.contents (held output.old)) (has_failed output.old) →
         (reply : SpecReply) × HasJudged start (requests ++ request ∷ []) (replies ++ reply ∷ []) core.new verdicts.new
         wrote (W.contents (held output.new)) (has_failed output.new) }
 {
-    match request.act {
-        Act::Spawn => told(core, verdicts, output, request),
-        Act::Sync => told(core, verdicts, output, request),
-        Act::Call => told(core, verdicts, output, request),
-        Act::Return => told(core, verdicts, output, request),
-        Act::Read(_) => told(core, verdicts, output, request),
-        Act::Write(_, _) => told(core, verdicts, output, request),
-        Act::Bump(_, _) => told(core, verdicts, output, request),
-        Act::Update(_, _) => told(core, verdicts, output, request),
-        Act::Put(_, _) => told(core, verdicts, output, request),
-        Act::Get(_) => told(core, verdicts, output, request),
-    }
+    let reply = core.reply_to_control(request);
+    note(verdicts, output, &reply);
+}
+
+/// Judges an access of a cell and tells the reply.
+#[inline(always)]
+fn tell_cell<A: Allocator + Clone, W: Write>(
+    core: &mut Core<A>,
+    verdicts: &mut Verdicts<A>,
+    output: &mut Watched<W>,
+    request: Request,
+)
+    requires is { (access : CellAccess) × sort_of request.act ≡ Sort.Cell access }
+    requires core { IsCore core.old }
+    ensures { (start : State) (wrote : Option (List ℕ)) (requests : List SpecRequest) (replies : List SpecReply) →
+        HasJudged start requests replies core.old verdicts.old wrote (W.contents (held output.old)) (has_failed output.old) →
+        (reply : SpecReply) × HasJudged start (requests ++ request ∷ []) (replies ++ reply ∷ []) core.new verdicts.new
+        wrote (W.contents (held output.new)) (has_failed output.new) }
+{
+    let reply = core.reply_to_cell(request);
+    note(verdicts, output, &reply);
+}
+
+/// Judges an access of a reducer and tells the reply.
+#[inline(always)]
+fn tell_reducer<A: Allocator + Clone, W: Write>(
+    core: &mut Core<A>,
+    verdicts: &mut Verdicts<A>,
+    output: &mut Watched<W>,
+    request: Request,
+)
+    requires is { sort_of request.act ≡ Sort.Reducer }
+    requires core { IsCore core.old }
+    ensures { (start : State) (wrote : Option (List ℕ)) (requests : List SpecRequest) (replies : List SpecReply) →
+        HasJudged start requests replies core.old verdicts.old wrote (W.contents (held output.old)) (has_failed output.old) →
+        (reply : SpecReply) × HasJudged start (requests ++ request ∷ []) (replies ++ reply ∷ []) core.new verdicts.new
+        wrote (W.contents (held output.new)) (has_failed output.new) }
+{
+    let reply = core.reply_to_reducer(request);
+    note(verdicts, output, &reply);
 }
 
 /// Judges the requests of a trace in their order, and tells the replies one by one. All memory that this may fail for is taken first, so
@@ -105,8 +131,22 @@ fn judge<A: Allocator + Copy, W: Write>(
         met: Met::new(),
     };
     core.make_room(trace.lines.likely_strands());
+    // Code of its own for each kind of act, in the loop itself: so which replies there may be is known where their lines are put, and what
+    // the loop keeps stays where it is from one request to the next.
     for line in trace.lines.iter() {
-        tell(&mut core, &mut verdicts, output, line.request);
+        let asked = line.request;
+        match asked.act {
+            Act::Spawn => tell_control(&mut core, &mut verdicts, output, asked),
+            Act::Sync => tell_control(&mut core, &mut verdicts, output, asked),
+            Act::Call => tell_control(&mut core, &mut verdicts, output, asked),
+            Act::Return => tell_control(&mut core, &mut verdicts, output, asked),
+            Act::Read(_) => tell_cell(&mut core, &mut verdicts, output, asked),
+            Act::Write(_, _) => tell_cell(&mut core, &mut verdicts, output, asked),
+            Act::Bump(_, _) => tell_cell(&mut core, &mut verdicts, output, asked),
+            Act::Update(_, _) => tell_reducer(&mut core, &mut verdicts, output, asked),
+            Act::Put(_, _) => tell_reducer(&mut core, &mut verdicts, output, asked),
+            Act::Get(_) => tell_reducer(&mut core, &mut verdicts, output, asked),
+        }
     }
     Ok(verdicts)
 }

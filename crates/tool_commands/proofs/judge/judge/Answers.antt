@@ -1,5 +1,7 @@
 use Rattle.std.proofs.Common.{rules, [], ◌∷◌, ◌++◌, refl, sym, ap, map}
+use Rattle.model_accesses.specs.declared.kind.Kind.TheVariants.{Read, Write, Bump}
 use Rattle.trace_text.specs.Traces.{contents}
+use Rattle.race_gate.specs.Accesses.{sort_of}
 use Rattle.race_gate.specs.Shapes.{shape_of}
 use Rattle.tool_commands.proofs.Meeting.{none_told, judged_more, told_trace, taken_more, taken_all}
 use Rattle.tool_commands.proofs.judge.judge.Goals as goal
@@ -18,13 +20,100 @@ loop-line-init g c = rw c.make_room.ensures (record {
   whole = search rules;
 })
 
-pub tell-requires : goal.tell-requires
-tell-requires g c = (c.loop-line.invariant.judged.1.last, c.loop-line.invariant.judged.1.fits)
+pub tell_cell-requires-clause-is : goal.tell_cell-requires-clause-is
+tell_cell-requires-clause-is g c = (record { kind = Read; location = c.in-Read.field-0 }, ap sort_of c.in-Read.is)
+
+pub tell_cell-requires-in-Write-clause-is : goal.tell_cell-requires-in-Write-clause-is
+tell_cell-requires-in-Write-clause-is g c = (record { kind = Write; location = c.in-Write.field-0 }, ap sort_of c.in-Write.is)
+
+pub tell_cell-requires-in-Bump-clause-is : goal.tell_cell-requires-in-Bump-clause-is
+tell_cell-requires-in-Bump-clause-is g c = (record { kind = Bump; location = c.in-Bump.field-0 }, ap sort_of c.in-Bump.is)
+
+pub loop-line-preserved-in-Spawn : goal.loop-line-preserved-in-Spawn
+loop-line-preserved-in-Spawn g c =
+    let told = c.loop-line.invariant.judged in
+    let more = c.tell_control.ensures _ _ _ told.0 told.1 in
+    record {
+      judged = (told.0 ++ more.0 ∷ [], judged_more _ _ _ _ _ _ c.loop-line.yielded _ (told.0 ++ more.0 ∷ []) more.1);
+      whole = taken_more _ c.loop-line.yielded _ _ _ c.loop-line.invariant.whole c.in-Some.ensures.steps;
+    }
+
+pub loop-line-preserved-in-Sync : goal.loop-line-preserved-in-Sync
+loop-line-preserved-in-Sync g c =
+    let told = c.loop-line.invariant.judged in
+    let more = c.tell_control-in-Sync.ensures _ _ _ told.0 told.1 in
+    record {
+      judged = (told.0 ++ more.0 ∷ [], judged_more _ _ _ _ _ _ c.loop-line.yielded _ (told.0 ++ more.0 ∷ []) more.1);
+      whole = taken_more _ c.loop-line.yielded _ _ _ c.loop-line.invariant.whole c.in-Some.ensures.steps;
+    }
+
+pub loop-line-preserved-in-Call : goal.loop-line-preserved-in-Call
+loop-line-preserved-in-Call g c =
+    let told = c.loop-line.invariant.judged in
+    let more = c.tell_control-in-Call.ensures _ _ _ told.0 told.1 in
+    record {
+      judged = (told.0 ++ more.0 ∷ [], judged_more _ _ _ _ _ _ c.loop-line.yielded _ (told.0 ++ more.0 ∷ []) more.1);
+      whole = taken_more _ c.loop-line.yielded _ _ _ c.loop-line.invariant.whole c.in-Some.ensures.steps;
+    }
+
+pub loop-line-preserved-in-Return : goal.loop-line-preserved-in-Return
+loop-line-preserved-in-Return g c =
+    let told = c.loop-line.invariant.judged in
+    let more = c.tell_control-in-Return.ensures _ _ _ told.0 told.1 in
+    record {
+      judged = (told.0 ++ more.0 ∷ [], judged_more _ _ _ _ _ _ c.loop-line.yielded _ (told.0 ++ more.0 ∷ []) more.1);
+      whole = taken_more _ c.loop-line.yielded _ _ _ c.loop-line.invariant.whole c.in-Some.ensures.steps;
+    }
+
+pub loop-line-preserved-in-Read : goal.loop-line-preserved-in-Read
+loop-line-preserved-in-Read g c =
+    let told = c.loop-line.invariant.judged in
+    let more = c.tell_cell.ensures _ _ _ told.0 told.1 in
+    record {
+      judged = (told.0 ++ more.0 ∷ [], judged_more _ _ _ _ _ _ c.loop-line.yielded _ (told.0 ++ more.0 ∷ []) more.1);
+      whole = taken_more _ c.loop-line.yielded _ _ _ c.loop-line.invariant.whole c.in-Some.ensures.steps;
+    }
+
+pub loop-line-preserved-in-Write : goal.loop-line-preserved-in-Write
+loop-line-preserved-in-Write g c =
+    let told = c.loop-line.invariant.judged in
+    let more = c.tell_cell-in-Write.ensures _ _ _ told.0 told.1 in
+    record {
+      judged = (told.0 ++ more.0 ∷ [], judged_more _ _ _ _ _ _ c.loop-line.yielded _ (told.0 ++ more.0 ∷ []) more.1);
+      whole = taken_more _ c.loop-line.yielded _ _ _ c.loop-line.invariant.whole c.in-Some.ensures.steps;
+    }
+
+pub loop-line-preserved-in-Bump : goal.loop-line-preserved-in-Bump
+loop-line-preserved-in-Bump g c =
+    let told = c.loop-line.invariant.judged in
+    let more = c.tell_cell-in-Bump.ensures _ _ _ told.0 told.1 in
+    record {
+      judged = (told.0 ++ more.0 ∷ [], judged_more _ _ _ _ _ _ c.loop-line.yielded _ (told.0 ++ more.0 ∷ []) more.1);
+      whole = taken_more _ c.loop-line.yielded _ _ _ c.loop-line.invariant.whole c.in-Some.ensures.steps;
+    }
+
+pub loop-line-preserved-in-Update : goal.loop-line-preserved-in-Update
+loop-line-preserved-in-Update g c =
+    let told = c.loop-line.invariant.judged in
+    let more = c.tell_reducer.ensures _ _ _ told.0 told.1 in
+    record {
+      judged = (told.0 ++ more.0 ∷ [], judged_more _ _ _ _ _ _ c.loop-line.yielded _ (told.0 ++ more.0 ∷ []) more.1);
+      whole = taken_more _ c.loop-line.yielded _ _ _ c.loop-line.invariant.whole c.in-Some.ensures.steps;
+    }
+
+pub loop-line-preserved-in-Put : goal.loop-line-preserved-in-Put
+loop-line-preserved-in-Put g c =
+    let told = c.loop-line.invariant.judged in
+    let more = c.tell_reducer-in-Put.ensures _ _ _ told.0 told.1 in
+    record {
+      judged = (told.0 ++ more.0 ∷ [], judged_more _ _ _ _ _ _ c.loop-line.yielded _ (told.0 ++ more.0 ∷ []) more.1);
+      whole = taken_more _ c.loop-line.yielded _ _ _ c.loop-line.invariant.whole c.in-Some.ensures.steps;
+    }
 
 pub loop-line-preserved : goal.loop-line-preserved
 loop-line-preserved g c =
     let told = c.loop-line.invariant.judged in
-    let more = c.tell.ensures _ _ _ told.0 told.1 in
+    let more = c.tell_reducer-in-Get.ensures _ _ _ told.0 told.1 in
     record {
       judged = (told.0 ++ more.0 ∷ [], judged_more _ _ _ _ _ _ c.loop-line.yielded _ (told.0 ++ more.0 ∷ []) more.1);
       whole = taken_more _ c.loop-line.yielded _ _ _ c.loop-line.invariant.whole c.in-Some.ensures.steps;
