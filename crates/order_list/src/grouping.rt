@@ -11,9 +11,6 @@ use std::alloc::{AllocError, Allocator};
 /// Of so many items at most all are moved to a new group; of a larger group it is half.
 const MANY: u32 = 64;
 
-/// So many items that were made last are new.
-const NEW: u32 = 8;
-
 /// Items in groups, numbered as they were made.
 #[derive(Drop)]
 pub struct Grouping<A: Allocator> {
@@ -123,27 +120,13 @@ impl<A: Allocator> Grouping<A> {
         u32::MAX - here.local
     }
 
-    /// The first item of an item's group.
-    fn first_of(&self, item: u32) -> u32
-        requires { item < length (items_along self.now.places.items) }
-        ensures known { result < length (items_along self.now.places.items) }
-        ensures group { slice_index (groups_of self.now.places.items) result ≡ slice_index (groups_of self.now.places.items) item }
-    {
-        self.firsts[place_at(&self.places, item).group as usize]
-    }
-
-    /// Where the items of a group begin that are to be moved where there is no room behind this one. Behind a new item more are likely
-    /// to come, and it is not worth while to look at what stands before it: that is the item which follows in its group, or itself where
-    /// it is the last one or has no room before the end of the places. Behind an old item they are less likely, so that is the group's
-    /// first item, and a small group stays whole.
+    /// Where the items of a group begin that are to be moved where there is no room behind this one: at the item which follows in its
+    /// group, or at itself where it is the last one or has no room before the end of the places.
     fn tail_begin(&self, item: u32) -> u32
         requires { item < length (items_along self.now.places.items) }
         ensures known { result < length (items_along self.now.places.items) }
         ensures group { slice_index (groups_of self.now.places.items) result ≡ slice_index (groups_of self.now.places.items) item }
     {
-        if item + NEW < self.places.len() as u32 {
-            return self.first_of(item);
-        }
         let here = place_at(&self.places, item);
         if here.next != 0
             && here.local <= u32::MAX - 4
@@ -154,33 +137,30 @@ impl<A: Allocator> Grouping<A> {
         item
     }
 
-    /// The items to be moved where there is no room behind this one: from there on all of its group, or the second half of the group
-    /// where they are many. So what is walked over is halved where it is more than a few, and no group is walked over again and again.
-    /// It gives the first of them, and their number.
-    fn tail(&self, item: u32) -> (u32, u32)
+    /// The items to be moved where there is no room behind this one: from there on all of its group, or the second half of these where
+    /// they are more than `most`. It gives the first of them, and their number.
+    fn tail(&self, item: u32, most: u32) -> (u32, u32)
         requires { item < length (items_along self.now.places.items) }
         ensures group { slice_index (groups_of self.now.places.items) result.0 ≡ slice_index (groups_of self.now.places.items) item }
         ensures row { IsGroupRow self.now.places.items (items_along self.now.places.items) result.0 result.1 }
     {
         let begin = self.tail_begin(item);
         let count = count_from(&self.places, begin);
-        if count <= MANY {
+        if count <= most {
             return (begin, count);
         }
-        let first = self.first_of(item);
-        let whole = count_from(&self.places, first);
-        let half = whole / 2;
-        (item_ahead(&self.places, first, half), whole - half)
+        let half = count / 2;
+        (item_ahead(&self.places, begin, half), count - half)
     }
 
-    /// Moves a part of an item's group to a new group behind it, but for a whole group.
-    fn part(&mut self, item: u32)
+    /// Moves what follows an item in its group to a new group behind it, or the second half of it where that is more than `most` items.
+    fn part(&mut self, item: u32, most: u32)
         requires { item < length (items_along self.old.places.items) }
         ensures items { items_along self.new.places.items ≡ items_along self.old.places.items }
         ensures reserved { self.new.reserved ≡ self.old.reserved }
     {
         let group = place_at(&self.places, item).group;
-        let (begin, count) = self.tail(item);
+        let (begin, count) = self.tail(item, most);
         if begin == self.firsts[group as usize] || self.groups.reserved() == 0 {
             return;
         }
@@ -213,7 +193,13 @@ impl<A: Allocator> Grouping<A> {
         ensures some { 4 ≤ result }
         ensures room { HasRoom self.new.groups.items self.new.places.items item result }
     {
-        self.part(item);
+        // Where many follow, half of them go first, so that no group is walked over again and again.
+        self.part(item, MANY);
+        let gap = self.gap_behind(item);
+        if gap >= 4 {
+            return gap;
+        }
+        self.part(item, u32::MAX);
         let gap = self.gap_behind(item);
         if gap >= 4 {
             return gap;

@@ -5,11 +5,10 @@
 //! so. `reserve` answers `Full` only where there would be more than `MOST_ITEMS` items.
 //!
 //! Items lie in groups, and each has a place of 32 bits in its group. The groups have labels of 64 bits, which rise along
-//! their order (Dietz and Sleator 1987). Where an insertion finds no place behind an item that was made lately, the few that
-//! follow it in its group go to a new group, at equal distances; else half of a large group does, and those of a small one are
-//! given new places. Where there is no label for a new group, the smallest sparse enough stretch of groups around is given new
-//! ones (Bender, Cole, Demaine, Farach-Colton and Zito 2002). All of this is done in place. The items are numbered as they
-//! were made, and each knows the one that follows it.
+//! their order (Dietz and Sleator 1987). Where an insertion finds no place behind an item, those that follow it in its group go
+//! to a new group, at equal distances; where they are many, half of them go to another one first. Where there is no label for a
+//! new group, the smallest sparse enough stretch of groups around is given new ones (Bender, Cole, Demaine, Farach-Colton and
+//! Zito 2002). All of this is done in place. The items are numbered as they were made, and each knows the one that follows it.
 #![tactic(auto)]
 
 ghost use Rattle.std.specs.Prelude.{◌≡◌, [], ◌∷◌, ◌+◌, ◌<◌, ◌≤◌, ◌↔◌, length, max, insert, IsTrue, IfOk, IsErrOf, OnOk, OnErr};
