@@ -15,9 +15,9 @@ use std::time::Duration;
 use text_words::Request;
 
 /// For how many microseconds an asker dozes that finds the lock held: at first, and at most.
-const DOZE: u64 = 40;
+const DOZE: u64 = 200;
 
-const LONGEST_DOZE: u64 = 640;
+const LONGEST_DOZE: u64 = 3_200;
 
 /// Who asks does not know what stands behind it: a gate's lock, or something round one.
 pub trait Ask<L: Ledger> {

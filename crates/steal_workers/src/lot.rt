@@ -25,9 +25,9 @@ pub enum LotFault {
 }
 
 /// For how many microseconds a worker dozes that finds nothing to do: at first, and at most.
-pub(crate) const DOZE: u64 = 50;
+pub(crate) const DOZE: u64 = 200;
 
-const LONGEST_DOZE: u64 = 800;
+const LONGEST_DOZE: u64 = 3_200;
 
 /// The greatest join for which there is a mark. No gate has so many strands.
 const MOST_JOIN: u32 = 4_194_303;
