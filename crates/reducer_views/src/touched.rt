@@ -51,9 +51,10 @@ fn behind(earlier: Option<Touch>, later: Touch) -> Touch
 /// How many touches stand in a row.
 const PLACES: usize = 4;
 
-/// The touches of four reducers whose numbers follow one another.
+/// The touches of four reducers whose numbers follow one another: reducer n is at place n % 4 of row n / 4. Where there are no
+/// more than four, one slot has them all.
 #[derive(Clone, Copy)]
-pub struct Row {
+struct Row {
     touches: [Option<Touch>; PLACES],
 }
 
@@ -68,6 +69,7 @@ impl Row {
     }
 
     /// The touch at a place.
+    #[inline(always)]
     fn at(&self, place: usize) -> Option<Touch>
         requires { place < 4 }
         ensures { result ≡ touch_in self.now place }
@@ -76,6 +78,7 @@ impl Row {
     }
 
     /// Sets the touch at a place.
+    #[inline(always)]
     fn set(&mut self, place: usize, touch: Touch)
         requires { place < 4 }
         ensures { Changes (touch_in self.old) (touch_in self.new) place touch }
@@ -84,6 +87,7 @@ impl Row {
     }
 
     /// Combines a touch on the right of the one at a place.
+    #[inline(always)]
     fn gather(&mut self, place: usize, touch: Touch)
         requires { place < 4 }
         ensures { Changes (touch_in self.old) (touch_in self.new) place (added (touch_in self.old place) touch) }
@@ -117,13 +121,13 @@ pub struct Slot<A: Allocator> {
     even: Slots<A>,
 }
 
-/// A table of reducers, in which each is in the row of a fourth of its number, and the way to each row goes by at most 33 slots.
+/// A table of reducers, by the rows in which they stand. The way to a row goes by at most 31 slots.
 pub type Slots<A> = Option<Box<Slot<A>, A>>;
 
 /// Slots in reserve.
 pub type Spare<A> = Vec<Box<Slot<A>, A>, A>;
 
-/// As many slots as lie on the way to any row.
+/// How many slots a reserve is filled up to: more than lie on the way to any row.
 pub const DEPTH: usize = 33;
 
 /// A new slot, which is empty.
