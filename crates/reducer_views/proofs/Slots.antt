@@ -11,7 +11,7 @@ use Rattle.reducer_views.proofs.Touches.{columns, place_first, place_odd, place_
 abbrev Table : Type 0 → Type 0
 Table A = Option (Box (Slot A) A)
 
--- what a slot holds in place of its own record
+-- a slot by its parts
 abbrev pub opened : {A : Type 0} → Slot A → Columns
 opened {A} slot = columns (out-Slot A slot).row (column_of (out-Slot A slot).odd) (column_of (out-Slot A slot).even)
 
@@ -62,8 +62,8 @@ pub full : (now inside : Bool) (count : ℕ) (Rest : Type 0) → inside ≡ now 
 full true inside count Rest e t k = (k e).0
 full false inside count Rest e t k = absurd (let q : false ≡ true = t in cc)
 
-pub way_room : (number count : ℕ) → number < 2 ^ 32 → 33 ≤ count → number + 1 < 2 ^ count
-way_room number count small le =
+pub way_room : (reducer count : ℕ) → reducer < 2 ^ 32 → 33 ≤ count → reducer + 1 < 2 ^ count
+way_room reducer count small le =
     let more : 2 ^ 33 ≤ 2 ^ count = pow-le-pow_right (lit< tt) le in
     omega (arith, more)
 
@@ -128,7 +128,7 @@ module _ {A : Type 0} (slots : Table A) (box : Box (Slot A) A) (slot : Slot A) (
       (subst (λ (t : Option Touch). ChangesPlace (column_of (out-Slot A slot).even) (column_of even) ((number - 1) / 2) place (added t touch))
       (found_even slot place number ne o ∙ before_slot place number) change)
 
--- a place of a row, and the reducer that is there
+-- a reducer is known by its row and its place there
 same_reducer : (reducer other : ℕ) → other % 4 ≡ reducer % 4 → other / 4 ≡ reducer / 4 → other ≡ reducer
 same_reducer reducer other a b = omega (arith, a, b)
 
@@ -142,20 +142,21 @@ touches_change {A} old new reducer touch change = record {
   ];
 }
 
+-- what set and gather ask of the place and of the row of a reducer
 pub place_below : (reducer : ℕ) → reducer % 4 < 4
 place_below reducer = omega arith
 
 pub row_room : (reducer limit : ℕ) → reducer + 1 < limit → reducer / 4 + 1 < limit
 row_room reducer limit room = omega (arith, room)
 
-column_of_reducer : (place number : ℕ) → place < 4 → ((4 * number + place) % 4 ≡ place) × ((4 * number + place) / 4 ≡ number)
-column_of_reducer place number small = (omega (arith, small), omega (arith, small))
+reducer_at : (place number : ℕ) → place < 4 → ((4 * number + place) % 4 ≡ place) × ((4 * number + place) / 4 ≡ number)
+reducer_at place number small = (omega (arith, small), omega (arith, small))
 
 -- what two tables make of each reducer, they make at each place
 columns_both : {A : Type 0} (left right new : Table A) → ((reducer : ℕ) → touches_of new reducer ≡ both (touches_of left reducer) (touches_of right reducer)) →
     (place : ℕ) → place < 4 → (number : ℕ) → column_of new place number ≡ both (column_of left place number) (column_of right place number)
 columns_both {A} left right new made place small number =
-    let known = column_of_reducer place number small in
+    let known = reducer_at place number small in
     subst (λ (row : ℕ). column_of new place row ≡ both (column_of left place row) (column_of right place row)) known.1
     (subst (λ (at : ℕ). column_of new at ((4 * number + place) / 4) ≡ both (column_of left at ((4 * number + place) / 4)) (column_of right at ((4 * number + place) / 4))) known.0
     (made (4 * number + place)))

@@ -21,6 +21,7 @@ untouched = λ reducer. None
 abbrev pub Columns : Type 0
 Columns = ℕ → Touches
 
+-- the touch at this place of a row, which has four
 abbrev pub touch_in : Row → ℕ → Option Touch
 touch_in row place = slice_index_or row.touches place None
 
