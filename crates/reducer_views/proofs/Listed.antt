@@ -1,10 +1,10 @@
 -- A table of touches and its list agree.
-use Rattle.std.proofs.Common.{◌≡◌, ◌≢◌, ◌↔◌, inl, inr, ℕ, ◌+◌, ◌-◌, ◌*◌, ◌/◌, ◌%◌, [], ◌∷◌, ◌++◌, map, Option, Some, None, Box, refl, sym, ap, ap₂, ◌∙◌, arith}
+use Rattle.std.proofs.Common.{◌≡◌, ◌≢◌, ◌↔◌, inl, inr, ℕ, ◌+◌, ◌-◌, ◌*◌, ◌/◌, ◌%◌, [], ◌∷◌, ◌++◌, map, Option, Some, None, Box, refl, sym, ap, ap₂, ◌∙◌, arith, lit<, ◌<◌}
 use Rattle.std.proofs.lemmas.Bool.Decides.{eqb_tells}
 use Rattle.reducer_views.specs.declared.touched.Touch.{Touch}
 use Rattle.reducer_views.specs.declared.touched.Slot.{Slot, Slot', Held-Slot-odd, None', Some'}
-use Rattle.reducer_views.specs.Touched.{Touches, spread, touches_from, touches_behind, touches_of, Listed, look_up, alone, spread_list, listed_from, listed_behind, listed_of}
-use Rattle.reducer_views.proofs.Touches.{is_first, is_odd, is_even, way, spread_first, spread_odd, spread_even}
+use Rattle.reducer_views.specs.Touched.{touch_in, spread, column_from, column_behind, touches_of, Listed, look_up, alone, spread_list, listed_from, listed_behind, placed, of_columns, listed_of}
+use Rattle.reducer_views.proofs.Touches.{is_first, is_odd, is_even, way, spread_first, spread_odd, spread_even, spread_alike}
 
 abbrev or_else : Option Touch → Option Touch → Option Touch
 or_else None other = other
@@ -85,24 +85,67 @@ module _ (first : Option Touch) (odd even : Listed) (reducer : ℕ) where
         sym (spread_even first (look_up odd) (look_up even) reducer ne o))
   ]
 
-spread_alike : (first : Option Touch) (odd odd' even even' : Touches) → ((number : ℕ) → odd number ≡ odd' number) → ((number : ℕ) → even number ≡ even' number) →
-    (reducer : ℕ) → spread first odd even reducer ≡ spread first odd' even' reducer
-spread_alike first odd odd' even even' a b reducer = elim (way reducer) [
-  | is_first e ↦ spread_first first odd even reducer e ∙ sym (spread_first first odd' even' reducer e)
-  | is_odd ne o ↦ spread_odd first odd even reducer ne o ∙ (a ((reducer - 1) / 2) ∙ sym (spread_odd first odd' even' reducer ne o))
-  | is_even ne o ↦ spread_even first odd even reducer ne o ∙ (b ((reducer - 1) / 2) ∙ sym (spread_even first odd' even' reducer ne o))
-]
-
 mutual
-  look_up-listed_from : {A : Type 0} (slot : Slot A) (reducer : ℕ) → look_up (listed_from slot) reducer ≡ touches_from slot reducer
-  look_up-listed_from (Slot' touch odd even) reducer =
-      look_up-spread_list touch (listed_behind odd) (listed_behind even) reducer ∙
-      spread_alike touch (look_up (listed_behind odd)) (touches_behind odd) (look_up (listed_behind even)) (touches_behind even) (look_up-listed_behind odd) (look_up-listed_behind even) reducer
+  look_up-listed_from : {A : Type 0} (slot : Slot A) (place number : ℕ) → look_up (listed_from slot place) number ≡ column_from slot place number
+  look_up-listed_from (Slot' row odd even) place number =
+      look_up-spread_list (touch_in row place) (listed_behind odd place) (listed_behind even place) number ∙
+      spread_alike (touch_in row place) (touch_in row place) (look_up (listed_behind odd place)) (column_behind odd place) (look_up (listed_behind even place)) (column_behind even place) refl
+      (look_up-listed_behind odd place) (look_up-listed_behind even place) number
 
-  look_up-listed_behind : {A : Type 0} (slots : Held-Slot-odd A) (reducer : ℕ) → look_up (listed_behind slots) reducer ≡ touches_behind slots reducer
-  look_up-listed_behind None' reducer = refl
-  look_up-listed_behind (Some' p slot) reducer = look_up-listed_from slot reducer
+  look_up-listed_behind : {A : Type 0} (slots : Held-Slot-odd A) (place number : ℕ) → look_up (listed_behind slots place) number ≡ column_behind slots place number
+  look_up-listed_behind None' place number = refl
+  look_up-listed_behind (Some' p slot) place number = look_up-listed_from slot place number
+
+-- the entries of a column, by the reducers
+placed_here : (place : ℕ) (entries : Listed) (reducer : ℕ) → reducer % 4 ≡ place → look_up (placed place entries) reducer ≡ look_up entries (reducer / 4)
+placed_here place entries reducer e = look_up-renumbered (λ n. 4 * n + place) entries reducer (reducer / 4) (λ n. ((λ q. omega (arith, e, q)), (λ q. omega (arith, e, q))))
+
+placed_elsewhere : (place : ℕ) (entries : Listed) (reducer : ℕ) → place < 4 → reducer % 4 ≢ place → look_up (placed place entries) reducer ≡ None
+placed_elsewhere place entries reducer small ne = look_up-absent (λ n. 4 * n + place) entries reducer (λ n q. ne (omega (arith, small, q)))
+
+placed_apart : (place other : ℕ) (entries : Listed) (reducer : ℕ) → place < 4 → reducer % 4 ≡ other → other ≢ place → look_up (placed place entries) reducer ≡ None
+placed_apart place other entries reducer small e ne = placed_elsewhere place entries reducer small (λ q. ne (sym e ∙ q))
+
+data Fourth (reducer : ℕ) : Type 0 where
+  is_0 : reducer % 4 ≡ 0 → Fourth reducer
+  is_1 : reducer % 4 ≡ 1 → Fourth reducer
+  is_2 : reducer % 4 ≡ 2 → Fourth reducer
+  is_3 : reducer % 4 ≡ 3 → Fourth reducer
+
+fourth : (reducer : ℕ) → Fourth reducer
+fourth reducer = elim (eqb_tells (reducer % 4) 0) [
+  | inl t ↦ is_0 t.1
+  | inr t ↦ elim (eqb_tells (reducer % 4) 1) [
+    | inl u ↦ is_1 u.1
+    | inr u ↦ elim (eqb_tells (reducer % 4) 2) [ inl v ↦ is_2 v.1 | inr v ↦ is_3 (last reducer t.1 u.1 v.1) ]
+  ]
+]
+  where
+    last : (reducer : ℕ) → reducer % 4 ≢ 0 → reducer % 4 ≢ 1 → reducer % 4 ≢ 2 → reducer % 4 ≡ 3
+    last reducer a b c = omega arith
+
+module _ (column : ℕ → Listed) (reducer : ℕ) where
+  four : look_up (of_columns column) reducer ≡
+      or_else (look_up (placed 0 (column 0)) reducer) (or_else (look_up (placed 1 (column 1)) reducer) (or_else (look_up (placed 2 (column 2)) reducer) (look_up (placed 3 (column 3)) reducer)))
+  four =
+      look_up-append (placed 0 (column 0)) (placed 1 (column 1) ++ (placed 2 (column 2) ++ placed 3 (column 3))) reducer ∙
+      ap (or_else (look_up (placed 0 (column 0)) reducer)) (look_up-append (placed 1 (column 1)) (placed 2 (column 2) ++ placed 3 (column 3)) reducer ∙
+      ap (or_else (look_up (placed 1 (column 1)) reducer)) (look_up-append (placed 2 (column 2)) (placed 3 (column 3)) reducer))
+
+  in_place : (place : ℕ) → reducer % 4 ≡ place → look_up (placed place (column place)) reducer ≡ look_up (column (reducer % 4)) (reducer / 4)
+  in_place place e = placed_here place (column place) reducer e ∙ ap (λ (p : ℕ). look_up (column p) (reducer / 4)) (sym e)
+
+  apart : (place other : ℕ) → place < 4 → reducer % 4 ≡ other → other ≢ place → look_up (placed place (column place)) reducer ≡ None
+  apart place other small e ne = placed_apart place other (column place) reducer small e ne
+
+  look_up-of_columns : look_up (of_columns column) reducer ≡ look_up (column (reducer % 4)) (reducer / 4)
+  look_up-of_columns = elim (fourth reducer) [
+    | is_0 e ↦ four ∙ (ap₂ or_else (in_place 0 e) (ap₂ or_else (apart 1 0 (lit< tt) e (λ q. omega (arith, q))) (ap₂ or_else (apart 2 0 (lit< tt) e (λ q. omega (arith, q))) (apart 3 0 (lit< tt) e (λ q. omega (arith, q))))) ∙ or_else_none (look_up (column (reducer % 4)) (reducer / 4)))
+    | is_1 e ↦ four ∙ (ap₂ or_else (apart 0 1 (lit< tt) e (λ q. omega (arith, q))) (ap₂ or_else (in_place 1 e) (ap₂ or_else (apart 2 1 (lit< tt) e (λ q. omega (arith, q))) (apart 3 1 (lit< tt) e (λ q. omega (arith, q))))) ∙ or_else_none (look_up (column (reducer % 4)) (reducer / 4)))
+    | is_2 e ↦ four ∙ (ap₂ or_else (apart 0 2 (lit< tt) e (λ q. omega (arith, q))) (ap₂ or_else (apart 1 2 (lit< tt) e (λ q. omega (arith, q))) (ap₂ or_else (in_place 2 e) (apart 3 2 (lit< tt) e (λ q. omega (arith, q))))) ∙ or_else_none (look_up (column (reducer % 4)) (reducer / 4)))
+    | is_3 e ↦ four ∙ ap₂ or_else (apart 0 3 (lit< tt) e (λ q. omega (arith, q))) (ap₂ or_else (apart 1 3 (lit< tt) e (λ q. omega (arith, q))) (ap₂ or_else (apart 2 3 (lit< tt) e (λ q. omega (arith, q))) (in_place 3 e)))
+  ]
 
 pub look_up-listed_of : {A : Type 0} (slots : Option (Box (Slot A) A)) (reducer : ℕ) → look_up (listed_of slots) reducer ≡ touches_of slots reducer
 look_up-listed_of None reducer = refl
-look_up-listed_of (Some slot) reducer = look_up-listed_from slot.value reducer
+look_up-listed_of (Some slot) reducer = look_up-of_columns (listed_from slot.value) reducer ∙ look_up-listed_from slot.value (reducer % 4) (reducer / 4)

@@ -1,44 +1,61 @@
 -- A slot and the tables behind it.
-use Rattle.std.proofs.Common.{◌≡◌, ◌≢◌, ℕ, ◌+◌, ◌-◌, ◌*◌, ◌/◌, ◌%◌, ◌^◌, ◌<◌, ◌≤◌, suc, zero, Bool, true, false, IsTrue, Option, Some, None, Box, refl, sym, ap, ap₂, ◌∙◌, subst, arith, lit<}
+use Rattle.std.proofs.Common.{◌≡◌, ◌≢◌, ℕ, ◌+◌, ◌-◌, ◌*◌, ◌/◌, ◌%◌, ◌^◌, ◌<◌, ◌≤◌, suc, zero, inl, inr, Bool, true, false, IsTrue, Option, Some, None, Box, refl, sym, ap, ap₂, ◌∙◌, subst, arith, lit<}
 use Rattle.std.proofs.Math.Nat.{pow-le-pow_right, pow-succ'}
+use Rattle.std.proofs.lemmas.Bool.Decides.{eqb_tells}
 use Rattle.reducer_views.specs.declared.touched.Touch.{Touch}
+use Rattle.reducer_views.specs.declared.touched.Row.{Row}
 use Rattle.reducer_views.specs.declared.touched.Slot.{Slot, Slot', None', Some', out-Slot, roll-Slot}
-use Rattle.reducer_views.specs.Touched.{Touches, spread, touches_from, touches_of, Changes, added, both}
-use Rattle.reducer_views.proofs.Touches.{spread_odd, spread_even, changes_first, changes_odd, changes_even, spread_both}
+use Rattle.reducer_views.specs.Touched.{Columns, touch_in, column_from, column_of, touches_of, Changes, ChangesPlace, added, both}
+use Rattle.reducer_views.proofs.Touches.{columns, place_first, place_odd, place_even, spread_first, spread_odd, spread_even, spread_both}
 
-pub touches_out : {A : Type 0} (slot : Slot A) (reducer : ℕ) →
-    touches_from slot reducer ≡ spread (out-Slot A slot).touch (touches_of (out-Slot A slot).odd) (touches_of (out-Slot A slot).even) reducer
+abbrev Table : Type 0 → Type 0
+Table A = Option (Box (Slot A) A)
+
+-- a slot by its parts
+abbrev pub opened : {A : Type 0} → Slot A → Columns
+opened {A} slot = columns (out-Slot A slot).row (column_of (out-Slot A slot).odd) (column_of (out-Slot A slot).even)
+
+abbrev pub rolled : {A : Type 0} → Row → Table A → Table A → Slot A
+rolled {A} row odd even = roll-Slot A (record { row = row; odd = odd; even = even })
+
+pub columns_out : {A : Type 0} (slot : Slot A) (place number : ℕ) → column_from slot place number ≡ opened slot place number
 unfolding out-Slot denote.Hole.Carrier.out
-touches_out {A} (Slot' touch None' None') reducer = refl
-touches_out {A} (Slot' touch None' (Some' p even)) reducer = refl
-touches_out {A} (Slot' touch (Some' p odd) None') reducer = refl
-touches_out {A} (Slot' touch (Some' p odd) (Some' q even)) reducer = refl
+columns_out {A} (Slot' row None' None') place number = refl
+columns_out {A} (Slot' row None' (Some' p even)) place number = refl
+columns_out {A} (Slot' row (Some' p odd) None') place number = refl
+columns_out {A} (Slot' row (Some' p odd) (Some' q even)) place number = refl
 
-pub touches_roll : {A : Type 0} (touch : Option Touch) (odd even : Option (Box (Slot A) A)) (reducer : ℕ) →
-    touches_from (roll-Slot A (record { touch = touch; odd = odd; even = even })) reducer ≡ spread touch (touches_of odd) (touches_of even) reducer
+pub columns_roll : {A : Type 0} (row : Row) (odd even : Table A) (place number : ℕ) →
+    column_from (rolled row odd even) place number ≡ columns row (column_of odd) (column_of even) place number
 unfolding roll-Slot denote.Hole.Carrier.roll
-touches_roll {A} touch None None reducer = refl
-touches_roll {A} touch None (Some even) reducer = refl
-touches_roll {A} touch (Some odd) None reducer = refl
-touches_roll {A} touch (Some odd) (Some even) reducer = refl
+columns_roll {A} row None None place number = refl
+columns_roll {A} row None (Some even) place number = refl
+columns_roll {A} row (Some odd) None place number = refl
+columns_roll {A} row (Some odd) (Some even) place number = refl
 
--- where a reducer is found
-pub found_odd : {A : Type 0} (slot : Slot A) (number : ℕ) → number ≢ 0 → number % 2 ≡ 1 → touches_of (out-Slot A slot).odd ((number - 1) / 2) ≡ touches_from slot number
-found_odd {A} slot number ne o = sym (touches_out slot number ∙ spread_odd (out-Slot A slot).touch (touches_of (out-Slot A slot).odd) (touches_of (out-Slot A slot).even) number ne o)
+-- where a row is found
+pub found_first : {A : Type 0} (slot : Slot A) (place number : ℕ) → number ≡ 0 → touch_in (out-Slot A slot).row place ≡ column_from slot place number
+found_first {A} slot place number e =
+    sym (columns_out slot place number ∙ spread_first (touch_in (out-Slot A slot).row place) (column_of (out-Slot A slot).odd place) (column_of (out-Slot A slot).even place) number e)
 
-pub found_even : {A : Type 0} (slot : Slot A) (number : ℕ) → number ≢ 0 → number % 2 ≢ 1 → touches_of (out-Slot A slot).even ((number - 1) / 2) ≡ touches_from slot number
-found_even {A} slot number ne o = sym (touches_out slot number ∙ spread_even (out-Slot A slot).touch (touches_of (out-Slot A slot).odd) (touches_of (out-Slot A slot).even) number ne o)
+pub found_odd : {A : Type 0} (slot : Slot A) (place number : ℕ) → number ≢ 0 → number % 2 ≡ 1 → column_of (out-Slot A slot).odd place ((number - 1) / 2) ≡ column_from slot place number
+found_odd {A} slot place number ne o =
+    sym (columns_out slot place number ∙ spread_odd (touch_in (out-Slot A slot).row place) (column_of (out-Slot A slot).odd place) (column_of (out-Slot A slot).even place) number ne o)
+
+pub found_even : {A : Type 0} (slot : Slot A) (place number : ℕ) → number ≢ 0 → number % 2 ≢ 1 → column_of (out-Slot A slot).even place ((number - 1) / 2) ≡ column_from slot place number
+found_even {A} slot place number ne o =
+    sym (columns_out slot place number ∙ spread_even (touch_in (out-Slot A slot).row place) (column_of (out-Slot A slot).odd place) (column_of (out-Slot A slot).even place) number ne o)
 
 -- the reserve is enough for what is left of the way
-pub enough : (reducer before after : ℕ) → reducer ≢ 0 → reducer + 1 < 2 ^ before → before ≤ after + 1 → (reducer - 1) / 2 + 1 < 2 ^ after
-enough reducer before after ne room less =
+pub enough : (number before after : ℕ) → number ≢ 0 → number + 1 < 2 ^ before → before ≤ after + 1 → (number - 1) / 2 + 1 < 2 ^ after
+enough number before after ne room less =
     let more : 2 ^ before ≤ 2 ^ (after + 1) = pow-le-pow_right (lit< tt) less in
     let e : 2 ^ (after + 1) ≡ 2 * 2 ^ after = ap (λ n. 2 ^ n) (omega arith) ∙ pow-succ' 2 after in
     omega (arith, more, e, room)
 
-pub some_left : (reducer count : ℕ) → reducer + 1 < 2 ^ count → 0 < count
-some_left reducer zero room = absurd (omega arith)
-some_left reducer (suc count) room = omega arith
+pub some_left : (number count : ℕ) → number + 1 < 2 ^ count → 0 < count
+some_left number zero room = absurd (omega arith)
+some_left number (suc count) room = omega arith
 
 -- what has room has a full reserve
 pub full : (now inside : Bool) (count : ℕ) (Rest : Type 0) → inside ≡ now → IsTrue now → (inside ≡ true → (33 ≤ count) × Rest) → 33 ≤ count
@@ -51,130 +68,166 @@ way_room reducer count small le =
     omega (arith, more)
 
 -- one touch is set, by where it stands
-changes_through : {A : Type 0} (old now : Touches) (slot new : Slot A) (reducer : ℕ) (touch : Touch) → ((other : ℕ) → touches_from slot other ≡ old other) → ((other : ℕ) → touches_from new other ≡ now other) →
-    Changes (touches_from slot) now reducer touch → Changes old (touches_from new) reducer touch
-changes_through {A} old now slot new reducer touch before after change = record {
-  changed = after reducer ∙ change.changed;
-  others = λ other ne. after other ∙ (change.others other ne ∙ before other);
-}
+module _ {A : Type 0} (old : Columns) (slot : Slot A) (number place : ℕ) (touch : Touch) (before : (place number : ℕ) → column_from slot place number ≡ old place number) where
+  changes_through : (now : Columns) (new : Slot A) → ((place number : ℕ) → column_from new place number ≡ now place number) →
+      ChangesPlace (opened slot) now number place touch → ChangesPlace old (column_from new) number place touch
+  changes_through now new after change = record {
+    column = record {
+      changed = after place number ∙ change.column.changed;
+      others = λ other ne. after place other ∙ (change.column.others other ne ∙ (sym (columns_out slot place other) ∙ before place other));
+    };
+    others = λ other ne row. after other row ∙ (change.others other ne row ∙ (sym (columns_out slot other row) ∙ before other row));
+  }
 
-from_out : {A : Type 0} (slot : Slot A) (now : Touches) (reducer : ℕ) (touch : Touch) → Changes (spread (out-Slot A slot).touch (touches_of (out-Slot A slot).odd) (touches_of (out-Slot A slot).even)) now reducer touch →
-    Changes (touches_from slot) now reducer touch
-from_out {A} slot now reducer touch change = record { changed = change.changed; others = λ other ne. change.others other ne ∙ sym (touches_out slot other) }
+  pub set_first : (row : Row) → number ≡ 0 → Changes (touch_in (out-Slot A slot).row) (touch_in row) place touch →
+      ChangesPlace old (column_from (rolled row (out-Slot A slot).odd (out-Slot A slot).even)) number place touch
+  set_first row e change =
+      changes_through (columns row (column_of (out-Slot A slot).odd) (column_of (out-Slot A slot).even)) (rolled row (out-Slot A slot).odd (out-Slot A slot).even)
+      (columns_roll row (out-Slot A slot).odd (out-Slot A slot).even)
+      (place_first (out-Slot A slot).row row (column_of (out-Slot A slot).odd) (column_of (out-Slot A slot).even) number place touch e change)
 
-pub set_first : {A : Type 0} (old : Touches) (slot : Slot A) (reducer : ℕ) (touch : Touch) → ((other : ℕ) → touches_from slot other ≡ old other) → reducer ≡ 0 →
-    Changes old (touches_from (roll-Slot A (record { touch = Some touch; odd = (out-Slot A slot).odd; even = (out-Slot A slot).even }))) reducer touch
-set_first {A} old slot reducer touch before e =
-    changes_through old (spread (Some touch) (touches_of (out-Slot A slot).odd) (touches_of (out-Slot A slot).even)) slot (roll-Slot A (record { touch = Some touch; odd = (out-Slot A slot).odd; even = (out-Slot A slot).even })) reducer touch before
-    (touches_roll (Some touch) (out-Slot A slot).odd (out-Slot A slot).even)
-    (from_out slot (spread (Some touch) (touches_of (out-Slot A slot).odd) (touches_of (out-Slot A slot).even)) reducer touch
-    (changes_first (out-Slot A slot).touch (touches_of (out-Slot A slot).odd) (touches_of (out-Slot A slot).even) reducer touch e))
+  pub set_odd : (odd : Table A) → number ≢ 0 → number % 2 ≡ 1 → ChangesPlace (column_of (out-Slot A slot).odd) (column_of odd) ((number - 1) / 2) place touch →
+      ChangesPlace old (column_from (rolled (out-Slot A slot).row odd (out-Slot A slot).even)) number place touch
+  set_odd odd ne o change =
+      changes_through (columns (out-Slot A slot).row (column_of odd) (column_of (out-Slot A slot).even)) (rolled (out-Slot A slot).row odd (out-Slot A slot).even)
+      (columns_roll (out-Slot A slot).row odd (out-Slot A slot).even)
+      (place_odd (out-Slot A slot).row (column_of (out-Slot A slot).odd) (column_of odd) (column_of (out-Slot A slot).even) number place touch ne o change)
 
-pub set_odd : {A : Type 0} (old : Touches) (slot : Slot A) (odd : Option (Box (Slot A) A)) (reducer : ℕ) (touch : Touch) → ((other : ℕ) → touches_from slot other ≡ old other) → reducer ≢ 0 → reducer % 2 ≡ 1 →
-    Changes (touches_of (out-Slot A slot).odd) (touches_of odd) ((reducer - 1) / 2) touch →
-    Changes old (touches_from (roll-Slot A (record { touch = (out-Slot A slot).touch; odd = odd; even = (out-Slot A slot).even }))) reducer touch
-set_odd {A} old slot odd reducer touch before ne o change =
-    changes_through old (spread (out-Slot A slot).touch (touches_of odd) (touches_of (out-Slot A slot).even)) slot (roll-Slot A (record { touch = (out-Slot A slot).touch; odd = odd; even = (out-Slot A slot).even })) reducer touch before
-    (touches_roll (out-Slot A slot).touch odd (out-Slot A slot).even)
-    (from_out slot (spread (out-Slot A slot).touch (touches_of odd) (touches_of (out-Slot A slot).even)) reducer touch
-    (changes_odd (out-Slot A slot).touch (touches_of (out-Slot A slot).odd) (touches_of odd) (touches_of (out-Slot A slot).even) reducer touch ne o change))
-
-pub set_even : {A : Type 0} (old : Touches) (slot : Slot A) (even : Option (Box (Slot A) A)) (reducer : ℕ) (touch : Touch) → ((other : ℕ) → touches_from slot other ≡ old other) → reducer ≢ 0 → reducer % 2 ≢ 1 →
-    Changes (touches_of (out-Slot A slot).even) (touches_of even) ((reducer - 1) / 2) touch →
-    Changes old (touches_from (roll-Slot A (record { touch = (out-Slot A slot).touch; odd = (out-Slot A slot).odd; even = even }))) reducer touch
-set_even {A} old slot even reducer touch before ne o change =
-    changes_through old (spread (out-Slot A slot).touch (touches_of (out-Slot A slot).odd) (touches_of even)) slot (roll-Slot A (record { touch = (out-Slot A slot).touch; odd = (out-Slot A slot).odd; even = even })) reducer touch before
-    (touches_roll (out-Slot A slot).touch (out-Slot A slot).odd even)
-    (from_out slot (spread (out-Slot A slot).touch (touches_of (out-Slot A slot).odd) (touches_of even)) reducer touch
-    (changes_even (out-Slot A slot).touch (touches_of (out-Slot A slot).odd) (touches_of (out-Slot A slot).even) (touches_of even) reducer touch ne o change))
+  pub set_even : (even : Table A) → number ≢ 0 → number % 2 ≢ 1 → ChangesPlace (column_of (out-Slot A slot).even) (column_of even) ((number - 1) / 2) place touch →
+      ChangesPlace old (column_from (rolled (out-Slot A slot).row (out-Slot A slot).odd even)) number place touch
+  set_even even ne o change =
+      changes_through (columns (out-Slot A slot).row (column_of (out-Slot A slot).odd) (column_of even)) (rolled (out-Slot A slot).row (out-Slot A slot).odd even)
+      (columns_roll (out-Slot A slot).row (out-Slot A slot).odd even)
+      (place_even (out-Slot A slot).row (column_of (out-Slot A slot).odd) (column_of (out-Slot A slot).even) (column_of even) number place touch ne o change)
 
 -- a touch is combined behind a slot, by where it stands
-before_slot : {A : Type 0} (slots : Option (Box (Slot A) A)) (box : Box (Slot A) A) (slot : Slot A) → slots ≡ Some box → slot ≡ box.value → (other : ℕ) →
-    touches_from slot other ≡ touches_of slots other
-before_slot {A} slots box slot slots_is slot_is other =
-    ap (λ (s : Slot A). touches_from s other) slot_is ∙ sym (ap (λ (s : Option (Box (Slot A) A)). touches_of s other) slots_is)
+module _ {A : Type 0} (slots : Table A) (box : Box (Slot A) A) (slot : Slot A) (number place : ℕ) (touch : Touch) (slots_is : slots ≡ Some box) (slot_is : slot ≡ box.value) where
+  before_slot : (other row : ℕ) → column_from slot other row ≡ column_of slots other row
+  before_slot other row =
+      ap (λ (s : Slot A). column_from s other row) slot_is ∙ sym (ap (λ (s : Table A). column_of s other row) slots_is)
 
-pub gather_odd : {A : Type 0} (slots : Option (Box (Slot A) A)) (box : Box (Slot A) A) (slot : Slot A) (odd : Option (Box (Slot A) A)) (reducer : ℕ) (touch : Touch) →
-    slots ≡ Some box → slot ≡ box.value → reducer ≢ 0 → reducer % 2 ≡ 1 →
-    Changes (touches_of (out-Slot A slot).odd) (touches_of odd) ((reducer - 1) / 2) (added (touches_of (out-Slot A slot).odd ((reducer - 1) / 2)) touch) →
-    Changes (touches_of slots) (touches_from (roll-Slot A (record { touch = (out-Slot A slot).touch; odd = odd; even = (out-Slot A slot).even }))) reducer
-    (added (touches_of slots reducer) touch)
-gather_odd {A} slots box slot odd reducer touch slots_is slot_is ne o change =
-    let before = before_slot slots box slot slots_is slot_is in
-    set_odd (touches_of slots) slot odd reducer (added (touches_of slots reducer) touch) before ne o
-    (subst (λ (t : Option Touch). Changes (touches_of (out-Slot A slot).odd) (touches_of odd) ((reducer - 1) / 2) (added t touch))
-    (found_odd slot reducer ne o ∙ before reducer) change)
+  pub gather_first : (row : Row) → number ≡ 0 → Changes (touch_in (out-Slot A slot).row) (touch_in row) place (added (touch_in (out-Slot A slot).row place) touch) →
+      ChangesPlace (column_of slots) (column_from (rolled row (out-Slot A slot).odd (out-Slot A slot).even)) number place (added (column_of slots place number) touch)
+  gather_first row e change =
+      set_first (column_of slots) slot number place (added (column_of slots place number) touch) before_slot row e
+      (subst (λ (t : Option Touch). Changes (touch_in (out-Slot A slot).row) (touch_in row) place (added t touch)) (found_first slot place number e ∙ before_slot place number) change)
 
-pub gather_even : {A : Type 0} (slots : Option (Box (Slot A) A)) (box : Box (Slot A) A) (slot : Slot A) (even : Option (Box (Slot A) A)) (reducer : ℕ) (touch : Touch) →
-    slots ≡ Some box → slot ≡ box.value → reducer ≢ 0 → reducer % 2 ≢ 1 →
-    Changes (touches_of (out-Slot A slot).even) (touches_of even) ((reducer - 1) / 2) (added (touches_of (out-Slot A slot).even ((reducer - 1) / 2)) touch) →
-    Changes (touches_of slots) (touches_from (roll-Slot A (record { touch = (out-Slot A slot).touch; odd = (out-Slot A slot).odd; even = even }))) reducer
-    (added (touches_of slots reducer) touch)
-gather_even {A} slots box slot even reducer touch slots_is slot_is ne o change =
-    let before = before_slot slots box slot slots_is slot_is in
-    set_even (touches_of slots) slot even reducer (added (touches_of slots reducer) touch) before ne o
-    (subst (λ (t : Option Touch). Changes (touches_of (out-Slot A slot).even) (touches_of even) ((reducer - 1) / 2) (added t touch))
-    (found_even slot reducer ne o ∙ before reducer) change)
+  pub gather_odd : (odd : Table A) → number ≢ 0 → number % 2 ≡ 1 →
+      ChangesPlace (column_of (out-Slot A slot).odd) (column_of odd) ((number - 1) / 2) place (added (column_of (out-Slot A slot).odd place ((number - 1) / 2)) touch) →
+      ChangesPlace (column_of slots) (column_from (rolled (out-Slot A slot).row odd (out-Slot A slot).even)) number place (added (column_of slots place number) touch)
+  gather_odd odd ne o change =
+      set_odd (column_of slots) slot number place (added (column_of slots place number) touch) before_slot odd ne o
+      (subst (λ (t : Option Touch). ChangesPlace (column_of (out-Slot A slot).odd) (column_of odd) ((number - 1) / 2) place (added t touch))
+      (found_odd slot place number ne o ∙ before_slot place number) change)
+
+  pub gather_even : (even : Table A) → number ≢ 0 → number % 2 ≢ 1 →
+      ChangesPlace (column_of (out-Slot A slot).even) (column_of even) ((number - 1) / 2) place (added (column_of (out-Slot A slot).even place ((number - 1) / 2)) touch) →
+      ChangesPlace (column_of slots) (column_from (rolled (out-Slot A slot).row (out-Slot A slot).odd even)) number place (added (column_of slots place number) touch)
+  gather_even even ne o change =
+      set_even (column_of slots) slot number place (added (column_of slots place number) touch) before_slot even ne o
+      (subst (λ (t : Option Touch). ChangesPlace (column_of (out-Slot A slot).even) (column_of even) ((number - 1) / 2) place (added t touch))
+      (found_even slot place number ne o ∙ before_slot place number) change)
+
+-- a reducer is known by its row and its place there
+same_reducer : (reducer other : ℕ) → other % 4 ≡ reducer % 4 → other / 4 ≡ reducer / 4 → other ≡ reducer
+same_reducer reducer other a b = omega (arith, a, b)
+
+pub touches_change : {A : Type 0} (old new : Table A) (reducer : ℕ) (touch : Touch) → ChangesPlace (column_of old) (column_of new) (reducer / 4) (reducer % 4) touch →
+    Changes (touches_of old) (touches_of new) reducer touch
+touches_change {A} old new reducer touch change = record {
+  changed = change.column.changed;
+  others = λ other ne. elim (eqb_tells (other % 4) (reducer % 4)) [
+    | inl t ↦ subst (λ (place : ℕ). column_of new place (other / 4) ≡ column_of old place (other / 4)) (sym t.1) (change.column.others (other / 4) (λ e. ne (same_reducer reducer other t.1 e)))
+    | inr t ↦ change.others (other % 4) t.1 (other / 4)
+  ];
+}
+
+-- what set and gather ask of the place and of the row of a reducer
+pub place_below : (reducer : ℕ) → reducer % 4 < 4
+place_below reducer = omega arith
+
+pub row_room : (reducer limit : ℕ) → reducer + 1 < limit → reducer / 4 + 1 < limit
+row_room reducer limit room = omega (arith, room)
+
+reducer_at : (place number : ℕ) → place < 4 → ((4 * number + place) % 4 ≡ place) × ((4 * number + place) / 4 ≡ number)
+reducer_at place number small = (omega (arith, small), omega (arith, small))
+
+-- what two tables make of each reducer, they make at each place
+columns_both : {A : Type 0} (left right new : Table A) → ((reducer : ℕ) → touches_of new reducer ≡ both (touches_of left reducer) (touches_of right reducer)) →
+    (place : ℕ) → place < 4 → (number : ℕ) → column_of new place number ≡ both (column_of left place number) (column_of right place number)
+columns_both {A} left right new made place small number =
+    let known = reducer_at place number small in
+    subst (λ (row : ℕ). column_of new place row ≡ both (column_of left place row) (column_of right place row)) known.1
+    (subst (λ (at : ℕ). column_of new at ((4 * number + place) / 4) ≡ both (column_of left at ((4 * number + place) / 4)) (column_of right at ((4 * number + place) / 4))) known.0
+    (made (4 * number + place)))
 
 -- a slot that was written
-opened : (A : Type 0) (touch : Option Touch) (odd even : Option (Box (Slot A) A)) →
-    ((out-Slot A (roll-Slot A (record { touch = touch; odd = odd; even = even }))).touch ≡ touch) ×
-    ((number : ℕ) → touches_of (out-Slot A (roll-Slot A (record { touch = touch; odd = odd; even = even }))).odd number ≡ touches_of odd number) ×
-    ((number : ℕ) → touches_of (out-Slot A (roll-Slot A (record { touch = touch; odd = odd; even = even }))).even number ≡ touches_of even number)
+module _ {A : Type 0} (row : Row) (odd even : Table A) where
+  abbrev HoldsParts : Slot A → Type 0
+  HoldsParts slot =
+      ((out-Slot A slot).row ≡ row) × ((place number : ℕ) → column_of (out-Slot A slot).odd place number ≡ column_of odd place number) ×
+      ((place number : ℕ) → column_of (out-Slot A slot).even place number ≡ column_of even place number)
+
+reopened : {A : Type 0} (row : Row) (odd even : Table A) → HoldsParts row odd even (rolled row odd even)
 unfolding out-Slot roll-Slot denote.Hole.Carrier.out denote.Hole.Carrier.roll
-opened A touch None None = (refl, λ n. refl, λ n. refl)
-opened A touch None (Some even) = (refl, λ n. refl, λ n. refl)
-opened A touch (Some odd) None = (refl, λ n. refl, λ n. refl)
-opened A touch (Some odd) (Some even) = (refl, λ n. refl, λ n. refl)
+reopened {A} row None None = (refl, λ p n. refl, λ p n. refl)
+reopened {A} row None (Some even) = (refl, λ p n. refl, λ p n. refl)
+reopened {A} row (Some odd) None = (refl, λ p n. refl, λ p n. refl)
+reopened {A} row (Some odd) (Some even) = (refl, λ p n. refl, λ p n. refl)
 
-pub rolled : {A : Type 0} (slot : Slot A) (touch : Option Touch) (odd even : Option (Box (Slot A) A)) → slot ≡ roll-Slot A (record { touch = touch; odd = odd; even = even }) →
-    ((out-Slot A slot).touch ≡ touch) × ((number : ℕ) → touches_of (out-Slot A slot).odd number ≡ touches_of odd number) × ((number : ℕ) → touches_of (out-Slot A slot).even number ≡ touches_of even number)
-rolled {A} slot touch odd even e =
-    subst (λ (s : Slot A). ((out-Slot A s).touch ≡ touch) × ((number : ℕ) → touches_of (out-Slot A s).odd number ≡ touches_of odd number) × ((number : ℕ) → touches_of (out-Slot A s).even number ≡ touches_of even number))
-    (sym e) (opened A touch odd even)
+holds_parts : {A : Type 0} (slot : Slot A) (row : Row) (odd even : Table A) → slot ≡ rolled row odd even → HoldsParts row odd even slot
+holds_parts {A} slot row odd even e = subst (HoldsParts row odd even) (sym e) (reopened row odd even)
 
-pub both_out : {A : Type 0} (slot other : Slot A) (touch : Option Touch) (odd even : Option (Box (Slot A) A)) → touch ≡ both (out-Slot A slot).touch (out-Slot A other).touch →
-    ((number : ℕ) → touches_of odd number ≡ both (touches_of (out-Slot A slot).odd number) (touches_of (out-Slot A other).odd number)) →
-    ((number : ℕ) → touches_of even number ≡ both (touches_of (out-Slot A slot).even number) (touches_of (out-Slot A other).even number)) →
-    (reducer : ℕ) → touches_from (roll-Slot A (record { touch = touch; odd = odd; even = even })) reducer ≡ both (touches_from slot reducer) (touches_from other reducer)
-both_out {A} slot other touch odd even a b c reducer =
-    touches_roll touch odd even reducer ∙
-    (spread_both (out-Slot A slot).touch (out-Slot A other).touch touch (touches_of (out-Slot A slot).odd) (touches_of (out-Slot A other).odd) (touches_of odd) (touches_of (out-Slot A slot).even) (touches_of (out-Slot A other).even) (touches_of even) a b c reducer ∙
-    sym (ap₂ both (touches_out slot reducer) (touches_out other reducer)))
+both_out : {A : Type 0} (slot other : Slot A) (row : Row) (odd even : Table A) (place : ℕ) → touch_in row place ≡ both (touch_in (out-Slot A slot).row place) (touch_in (out-Slot A other).row place) →
+    ((number : ℕ) → column_of odd place number ≡ both (column_of (out-Slot A slot).odd place number) (column_of (out-Slot A other).odd place number)) →
+    ((number : ℕ) → column_of even place number ≡ both (column_of (out-Slot A slot).even place number) (column_of (out-Slot A other).even place number)) →
+    (number : ℕ) → column_from (rolled row odd even) place number ≡ both (column_from slot place number) (column_from other place number)
+both_out {A} slot other row odd even place a b c number =
+    columns_roll row odd even place number ∙
+    (spread_both (touch_in (out-Slot A slot).row place) (touch_in (out-Slot A other).row place) (touch_in row place) (column_of (out-Slot A slot).odd place) (column_of (out-Slot A other).odd place) (column_of odd place)
+    (column_of (out-Slot A slot).even place) (column_of (out-Slot A other).even place) (column_of even place) a b c number ∙
+    sym (ap₂ both (columns_out slot place number) (columns_out other place number)))
 
 -- a later table that was absorbed, slot by slot
-pub absorbed : {A : Type 0} (slots later : Option (Box (Slot A) A)) (slot other : Box (Slot A) A) (read other_read written touched other_touched second other_second : Slot A) (touch : Option Touch)
-    (odd even later_odd later_even rest : Option (Box (Slot A) A)) → slots ≡ Some slot → later ≡ Some other → read ≡ slot.value → other_read ≡ other.value → written ≡ slot.value →
-    touch ≡ both (out-Slot A read).touch (out-Slot A other_read).touch →
-    touched ≡ roll-Slot A (record { touch = touch; odd = (out-Slot A written).odd; even = (out-Slot A written).even }) → other_touched ≡ other.value →
-    later_odd ≡ (out-Slot A other_touched).odd → ((number : ℕ) → touches_of odd number ≡ both (touches_of (out-Slot A touched).odd number) (touches_of later_odd number)) →
-    second ≡ roll-Slot A (record { touch = (out-Slot A touched).touch; odd = odd; even = (out-Slot A touched).even }) →
-    other_second ≡ roll-Slot A (record { touch = (out-Slot A other_touched).touch; odd = rest; even = (out-Slot A other_touched).even }) →
-    later_even ≡ (out-Slot A other_second).even → ((number : ℕ) → touches_of even number ≡ both (touches_of (out-Slot A second).even number) (touches_of later_even number)) →
-    (reducer : ℕ) → touches_from (roll-Slot A (record { touch = (out-Slot A second).touch; odd = (out-Slot A second).odd; even = even })) reducer ≡ both (touches_of slots reducer) (touches_of later reducer)
-absorbed {A} slots later slot other read other_read written touched other_touched second other_second touch odd even later_odd later_even rest
-    slots_is later_is read_is other_is written_is touch_is touched_is other_touched_is later_odd_is odd_is second_is other_second_is later_even_is even_is reducer =
-    both_out slot.value other.value (out-Slot A second).touch (out-Slot A second).odd even first_is odds_are evens_are reducer ∙
-    sym (ap₂ both (ap (λ (s : Option (Box (Slot A) A)). touches_of s reducer) slots_is) (ap (λ (s : Option (Box (Slot A) A)). touches_of s reducer) later_is))
+pub absorbed : {A : Type 0} (slots later : Table A) (slot other : Box (Slot A) A) (read other_read written touched other_touched second other_second : Slot A) (row : Row)
+    (odd even later_odd later_even rest : Table A) → slots ≡ Some slot → later ≡ Some other → read ≡ slot.value → other_read ≡ other.value → written ≡ slot.value →
+    ((place : ℕ) → touch_in row place ≡ both (touch_in (out-Slot A read).row place) (touch_in (out-Slot A other_read).row place)) →
+    touched ≡ rolled row (out-Slot A written).odd (out-Slot A written).even → other_touched ≡ other.value →
+    later_odd ≡ (out-Slot A other_touched).odd → ((reducer : ℕ) → touches_of odd reducer ≡ both (touches_of (out-Slot A touched).odd reducer) (touches_of later_odd reducer)) →
+    second ≡ rolled (out-Slot A touched).row odd (out-Slot A touched).even →
+    other_second ≡ rolled (out-Slot A other_touched).row rest (out-Slot A other_touched).even →
+    later_even ≡ (out-Slot A other_second).even → ((reducer : ℕ) → touches_of even reducer ≡ both (touches_of (out-Slot A second).even reducer) (touches_of later_even reducer)) →
+    (reducer : ℕ) → column_from (rolled (out-Slot A second).row (out-Slot A second).odd even) (reducer % 4) (reducer / 4) ≡ both (touches_of slots reducer) (touches_of later reducer)
+absorbed {A} slots later slot other read other_read written touched other_touched second other_second row odd even later_odd later_even rest
+    slots_is later_is read_is other_is written_is row_is touched_is other_touched_is later_odd_is odd_is second_is other_second_is later_even_is even_is reducer =
+    both_out slot.value other.value (out-Slot A second).row (out-Slot A second).odd even place first_is odds_are evens_are (reducer / 4) ∙
+    sym (ap₂ both (ap (λ (s : Table A). touches_of s reducer) slots_is) (ap (λ (s : Table A). touches_of s reducer) later_is))
   where
-    first_step : ((out-Slot A touched).touch ≡ touch) × ((number : ℕ) → touches_of (out-Slot A touched).odd number ≡ touches_of (out-Slot A written).odd number) × ((number : ℕ) → touches_of (out-Slot A touched).even number ≡ touches_of (out-Slot A written).even number)
-    first_step = rolled touched touch (out-Slot A written).odd (out-Slot A written).even touched_is
+    place : ℕ
+    place = reducer % 4
 
-    second_step : ((out-Slot A second).touch ≡ (out-Slot A touched).touch) × ((number : ℕ) → touches_of (out-Slot A second).odd number ≡ touches_of odd number) × ((number : ℕ) → touches_of (out-Slot A second).even number ≡ touches_of (out-Slot A touched).even number)
-    second_step = rolled second (out-Slot A touched).touch odd (out-Slot A touched).even second_is
+    first_step : HoldsParts row (out-Slot A written).odd (out-Slot A written).even touched
+    first_step = holds_parts touched row (out-Slot A written).odd (out-Slot A written).even touched_is
 
-    other_step : ((out-Slot A other_second).touch ≡ (out-Slot A other_touched).touch) × ((number : ℕ) → touches_of (out-Slot A other_second).odd number ≡ touches_of rest number) × ((number : ℕ) → touches_of (out-Slot A other_second).even number ≡ touches_of (out-Slot A other_touched).even number)
-    other_step = rolled other_second (out-Slot A other_touched).touch rest (out-Slot A other_touched).even other_second_is
+    second_step : HoldsParts (out-Slot A touched).row odd (out-Slot A touched).even second
+    second_step = holds_parts second (out-Slot A touched).row odd (out-Slot A touched).even second_is
 
-    first_is : (out-Slot A second).touch ≡ both (out-Slot A slot.value).touch (out-Slot A other.value).touch
-    first_is = second_step.0 ∙ (first_step.0 ∙ (touch_is ∙ ap₂ both (ap (λ (s : Slot A). (out-Slot A s).touch) read_is) (ap (λ (s : Slot A). (out-Slot A s).touch) other_is)))
+    other_step : HoldsParts (out-Slot A other_touched).row rest (out-Slot A other_touched).even other_second
+    other_step = holds_parts other_second (out-Slot A other_touched).row rest (out-Slot A other_touched).even other_second_is
 
-    odds_are : (number : ℕ) → touches_of (out-Slot A second).odd number ≡ both (touches_of (out-Slot A slot.value).odd number) (touches_of (out-Slot A other.value).odd number)
+    first_is : touch_in (out-Slot A second).row place ≡ both (touch_in (out-Slot A slot.value).row place) (touch_in (out-Slot A other.value).row place)
+    first_is =
+        ap (λ (r : Row). touch_in r place) (second_step.0 ∙ first_step.0) ∙
+        (row_is place ∙ ap₂ both (ap (λ (s : Slot A). touch_in (out-Slot A s).row place) read_is) (ap (λ (s : Slot A). touch_in (out-Slot A s).row place) other_is))
+
+    odds_are : (number : ℕ) → column_of (out-Slot A second).odd place number ≡ both (column_of (out-Slot A slot.value).odd place number) (column_of (out-Slot A other.value).odd place number)
     odds_are number =
-        second_step.1 number ∙ (odd_is number ∙ ap₂ both (first_step.1 number ∙ ap (λ (s : Slot A). touches_of (out-Slot A s).odd number) written_is)
-        (ap (λ (s : Option (Box (Slot A) A)). touches_of s number) later_odd_is ∙ ap (λ (s : Slot A). touches_of (out-Slot A s).odd number) other_touched_is))
+        second_step.1 place number ∙ (columns_both (out-Slot A touched).odd later_odd odd odd_is place (place_below reducer) number ∙
+        ap₂ both (first_step.1 place number ∙ ap (λ (s : Slot A). column_of (out-Slot A s).odd place number) written_is)
+        (ap (λ (s : Table A). column_of s place number) later_odd_is ∙ ap (λ (s : Slot A). column_of (out-Slot A s).odd place number) other_touched_is))
 
-    evens_are : (number : ℕ) → touches_of even number ≡ both (touches_of (out-Slot A slot.value).even number) (touches_of (out-Slot A other.value).even number)
+    evens_are : (number : ℕ) → column_of even place number ≡ both (column_of (out-Slot A slot.value).even place number) (column_of (out-Slot A other.value).even place number)
     evens_are number =
-        even_is number ∙ ap₂ both (second_step.2 number ∙ (first_step.2 number ∙ ap (λ (s : Slot A). touches_of (out-Slot A s).even number) written_is))
-        (ap (λ (s : Option (Box (Slot A) A)). touches_of s number) later_even_is ∙ (other_step.2 number ∙ ap (λ (s : Slot A). touches_of (out-Slot A s).even number) other_touched_is))
+        columns_both (out-Slot A second).even later_even even even_is place (place_below reducer) number ∙
+        ap₂ both (second_step.2 place number ∙ (first_step.2 place number ∙ ap (λ (s : Slot A). column_of (out-Slot A s).even place number) written_is))
+        (ap (λ (s : Table A). column_of s place number) later_even_is ∙ (other_step.2 place number ∙ ap (λ (s : Slot A). column_of (out-Slot A s).even place number) other_touched_is))

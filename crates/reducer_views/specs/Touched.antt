@@ -1,10 +1,11 @@
 -- The reducers that a piece of the serial order has touched, each with its monoid and its view.
 use Rattle.std.specs.Prelude.{◌≡◌, ◌≢◌, ℕ, ◌+◌, ◌-◌, ◌*◌, ◌/◌, ◌%◌, List, [], ◌∷◌, ◌++◌, map}
-use Rattle.std.specs.Prelude.{Option, Some, None, ◌==◌, if◌then◌else◌, Box}
+use Rattle.std.specs.Prelude.{Option, Some, None, ◌==◌, if◌then◌else◌, Box, slice_index_or}
 use Rattle.model_reducers.specs.Products.{monoid_of, identity_of, product_of}
 use Rattle.model_reducers.specs.declared.monoid.Monoid.{Monoid}
 use Rattle.model_reducers.specs.declared.view.View.{View}
 use Rattle.reducer_views.specs.declared.touched.Touch.{Touch}
+use Rattle.reducer_views.specs.declared.touched.Row.{Row}
 use Rattle.reducer_views.specs.declared.touched.Slot.{Slot, Slot', Held-Slot-odd, None', Some'}
 use Rattle.reducer_views.specs.Products.{FitsMonoid}
 
@@ -16,22 +17,33 @@ Touches = ℕ → Option Touch
 abbrev pub untouched : Touches
 untouched = λ reducer. None
 
--- Reducer 0 is first. The others are those with odd numbers and those with even ones, both counted from 0 on.
+-- Reducer n is at place n % 4 of the row n / 4. A column is what one place of the rows holds, by the numbers of the rows.
+abbrev pub Columns : Type 0
+Columns = ℕ → Touches
+
+-- the touch at this place of a row, which has four
+abbrev pub touch_in : Row → ℕ → Option Touch
+touch_in row place = slice_index_or row.touches place None
+
+-- Row 0 is first. The others are those with odd numbers and those with even ones, both counted from 0 on.
 abbrev pub spread : Option Touch → Touches → Touches → Touches
-spread first odd even reducer =
-    if reducer == 0 then first else (if reducer % 2 == 1 then odd ((reducer - 1) / 2) else even ((reducer - 1) / 2))
+spread first odd even number =
+    if number == 0 then first else (if number % 2 == 1 then odd ((number - 1) / 2) else even ((number - 1) / 2))
 
 abbrev mutual
-  pub touches_from : {A : Type 0} → Slot A → Touches
-  touches_from (Slot' touch odd even) = spread touch (touches_behind odd) (touches_behind even)
+  pub column_from : {A : Type 0} → Slot A → Columns
+  column_from (Slot' row odd even) place = spread (touch_in row place) (column_behind odd place) (column_behind even place)
 
-  pub touches_behind : {A : Type 0} → Held-Slot-odd A → Touches
-  touches_behind None' = untouched
-  touches_behind (Some' p slot) = touches_from slot
+  pub column_behind : {A : Type 0} → Held-Slot-odd A → Columns
+  column_behind None' place = untouched
+  column_behind (Some' p slot) place = column_from slot place
+
+abbrev pub column_of : {A : Type 0} → Option (Box (Slot A) A) → Columns
+column_of None place = untouched
+column_of (Some slot) place = column_from slot.value place
 
 abbrev pub touches_of : {A : Type 0} → Option (Box (Slot A) A) → Touches
-touches_of None = untouched
-touches_of (Some slot) = touches_from slot.value
+touches_of slots reducer = column_of slots (reducer % 4) (reducer / 4)
 
 -- the same as a list of reducers with their touches
 
@@ -52,21 +64,33 @@ spread_list first odd even =
     alone first ++ (map (λ entry. (2 * entry.0 + 1, entry.1)) odd ++ map (λ entry. (2 * entry.0 + 2, entry.1)) even)
 
 abbrev mutual
-  pub listed_from : {A : Type 0} → Slot A → Listed
-  listed_from (Slot' touch odd even) = spread_list touch (listed_behind odd) (listed_behind even)
+  pub listed_from : {A : Type 0} → Slot A → ℕ → Listed
+  listed_from (Slot' row odd even) place = spread_list (touch_in row place) (listed_behind odd place) (listed_behind even place)
 
-  pub listed_behind : {A : Type 0} → Held-Slot-odd A → Listed
-  listed_behind None' = []
-  listed_behind (Some' p slot) = listed_from slot
+  pub listed_behind : {A : Type 0} → Held-Slot-odd A → ℕ → Listed
+  listed_behind None' place = []
+  listed_behind (Some' p slot) place = listed_from slot place
+
+-- a column's entries, by the reducers whose place it is
+abbrev pub placed : ℕ → Listed → Listed
+placed place entries = map (λ entry. (4 * entry.0 + place, entry.1)) entries
+
+abbrev pub of_columns : (ℕ → Listed) → Listed
+of_columns column = placed 0 (column 0) ++ (placed 1 (column 1) ++ (placed 2 (column 2) ++ placed 3 (column 3)))
 
 abbrev pub listed_of : {A : Type 0} → Option (Box (Slot A) A) → Listed
 listed_of None = []
-listed_of (Some slot) = listed_from slot.value
+listed_of (Some slot) = of_columns (listed_from slot.value)
 
 -- only this reducer's touch differs: it is now this one
 pub record Changes (old new : Touches) (reducer : ℕ) (touch : Touch) : Type 0 where
   pub changed : new reducer ≡ Some touch
   pub others : (other : ℕ) → other ≢ reducer → new other ≡ old other
+
+-- only the touch at this place of this row differs: it is now this one
+pub record ChangesPlace (old new : Columns) (number place : ℕ) (touch : Touch) : Type 0 where
+  pub column : Changes (old place) (new place) number touch
+  pub others : (other : ℕ) → other ≢ place → (row : ℕ) → new other row ≡ old other row
 
 -- the serially earlier one on the left
 abbrev pub combined : Touch → Touch → Touch

@@ -1,7 +1,7 @@
 //! The reducers that a piece of the serial order has touched, each with its view.
 
 ghost use Rattle.std.specs.Prelude.{◌≡◌, ◌+◌, ◌<◌, ◌≤◌, ◌^◌, ℕ, OnOk, vec_len};
-ghost use Rattle.reducer_views.specs.Touched.{Changes, added, both, combined, touches_of};
+ghost use Rattle.reducer_views.specs.Touched.{Changes, ChangesPlace, added, both, column_of, combined, touch_in, touches_of};
 
 use crate::view::product;
 use model_reducers::{Monoid, View};
@@ -38,28 +38,102 @@ fn joined(left: Option<Touch>, right: Option<Touch>) -> Option<Touch>
     }
 }
 
-/// Of a table of reducers that of number 0, and two tables: those of the odd numbers and of the other even ones, both counted
+/// The touch that a later one makes behind the one that there may be.
+fn behind(earlier: Option<Touch>, later: Touch) -> Touch
+    ensures { result ≡ added earlier later }
+{
+    match earlier {
+        Some(touch) => touch.with(later),
+        None => later,
+    }
+}
+
+/// How many touches stand in a row.
+const PLACES: usize = 4;
+
+/// The touches of four reducers whose numbers follow one another: reducer n is at place n % 4 of row n / 4. Where there are no
+/// more than four, one slot has them all.
+#[derive(Clone, Copy)]
+struct Row {
+    touches: [Option<Touch>; PLACES],
+}
+
+impl Row {
+    /// No touches.
+    fn empty() -> Row
+        ensures { (place : ℕ) → touch_in result place ≡ None }
+    {
+        Row {
+            touches: [None; PLACES],
+        }
+    }
+
+    /// The touch at a place.
+    #[inline(always)]
+    fn at(&self, place: usize) -> Option<Touch>
+        requires { place < 4 }
+        ensures { result ≡ touch_in self.now place }
+    {
+        self.touches[place]
+    }
+
+    /// Sets the touch at a place.
+    #[inline(always)]
+    fn set(&mut self, place: usize, touch: Touch)
+        requires { place < 4 }
+        ensures { Changes (touch_in self.old) (touch_in self.new) place touch }
+    {
+        self.touches[place] = Some(touch);
+    }
+
+    /// Combines a touch on the right of the one at a place.
+    #[inline(always)]
+    fn gather(&mut self, place: usize, touch: Touch)
+        requires { place < 4 }
+        ensures { Changes (touch_in self.old) (touch_in self.new) place (added (touch_in self.old place) touch) }
+    {
+        self.touches[place] = Some(behind(self.touches[place], touch));
+    }
+
+    /// The touches that two pieces of the serial order make, the earlier one on the left.
+    fn joined(&self, later: &Row) -> Row
+        ensures { (place : ℕ) → touch_in result place ≡ both (touch_in self.now place) (touch_in later.now place) }
+    {
+        let left = &self.touches;
+        let right = &later.touches;
+        Row {
+            touches: [
+                joined(left[0], right[0]),
+                joined(left[1], right[1]),
+                joined(left[2], right[2]),
+                joined(left[3], right[3]),
+            ],
+        }
+    }
+}
+
+/// Of a table of rows that of number 0, and two tables: those of the odd numbers and of the other even ones, both counted
 /// from 0 on.
 #[derive(Drop)]
 pub struct Slot<A: Allocator> {
-    touch: Option<Touch>,
+    row: Row,
     odd: Slots<A>,
     even: Slots<A>,
 }
 
-/// A table of reducers, in which the way to each goes by at most 33 slots.
+/// A table of reducers, by the rows in which they stand. The way to a row goes by at most 31 slots.
 pub type Slots<A> = Option<Box<Slot<A>, A>>;
 
 /// Slots in reserve.
 pub type Spare<A> = Vec<Box<Slot<A>, A>, A>;
 
-/// As many slots as lie on the way to any reducer.
+/// How many slots a reserve is filled up to: more than lie on the way to any row.
 pub const DEPTH: usize = 33;
 
 /// A new slot, which is empty.
 fn fresh<A: Allocator + Clone>(alloc: &A) -> Result<Box<Slot<A>, A>, AllocError> {
     let slot = Slot {
-        touch: None,
+        row: Row::empty(),
         odd: None,
         even: None,
     };
@@ -84,10 +158,10 @@ pub fn find<A: Allocator>(slots: &Slots<A>, reducer: u32) -> Option<Touch>
     ensures { result ≡ touches_of slots.now reducer }
 {
     let mut rest = slots;
-    let mut number = reducer;
+    let mut number = reducer / 4;
     while let Some(slot) = rest {
         if number == 0 {
-            return slot.touch;
+            return slot.row.at((reducer % 4) as usize);
         }
         rest = if number % 2 == 1 {
             &slot.odd
@@ -103,12 +177,12 @@ pub fn find<A: Allocator>(slots: &Slots<A>, reducer: u32) -> Option<Touch>
 fn blank<A: Allocator>(spare: &mut Spare<A>) -> Box<Slot<A>, A>
     requires { 0 < vec_len spare.old }
     ensures less { vec_len spare.new + 1 ≡ vec_len spare.old }
-    ensures empty { (reducer : ℕ) → touches_of (Some result) reducer ≡ None }
+    ensures empty { (place number : ℕ) → column_of (Some result) place number ≡ None }
 {
     let Some(mut slot) = spare.pop() else {
         unreachable!()
     };
-    slot.touch = None;
+    slot.row = Row::empty();
     slot.odd = None;
     slot.even = None;
     slot
@@ -118,7 +192,7 @@ fn blank<A: Allocator>(spare: &mut Spare<A>) -> Box<Slot<A>, A>
 fn take_first<A: Allocator>(slots: &mut Slots<A>, spare: &mut Spare<A>) -> Box<Slot<A>, A>
     requires { 0 < vec_len spare.old }
     ensures less { vec_len spare.old ≤ vec_len spare.new + 1 }
-    ensures same { (reducer : ℕ) → touches_of (Some result) reducer ≡ touches_of slots.old reducer }
+    ensures same { (place number : ℕ) → column_of (Some result) place number ≡ column_of slots.old place number }
 {
     match slots.take() {
         Some(slot) => slot,
@@ -126,29 +200,62 @@ fn take_first<A: Allocator>(slots: &mut Slots<A>, spare: &mut Spare<A>) -> Box<S
     }
 }
 
+/// Sets the touch at a place of a row, with slots of the reserve where there are none on the way.
+fn set_in<A: Allocator>(
+    slots: &mut Slots<A>,
+    spare: &mut Spare<A>,
+    number: u32,
+    place: usize,
+    touch: Touch,
+)
+    requires room { number + 1 < 2 ^ vec_len spare.old }
+    requires place { place < 4 }
+    ensures { ChangesPlace (column_of slots.old) (column_of slots.new) number place touch }
+{
+    let mut slot = take_first(slots, spare);
+    if number == 0 {
+        slot.row.set(place, touch);
+    } else if number % 2 == 1 {
+        set_in(&mut slot.odd, spare, (number - 1) / 2, place, touch);
+    } else {
+        set_in(&mut slot.even, spare, (number - 1) / 2, place, touch);
+    }
+    *slots = Some(slot);
+}
+
 /// Sets the touch of a reducer, with slots of the reserve where there are none on the way.
 pub fn set<A: Allocator>(slots: &mut Slots<A>, spare: &mut Spare<A>, reducer: u32, touch: Touch)
     requires { reducer + 1 < 2 ^ vec_len spare.old }
     ensures { Changes (touches_of slots.old) (touches_of slots.new) reducer touch }
 {
-    let mut slot = take_first(slots, spare);
-    if reducer == 0 {
-        slot.touch = Some(touch);
-    } else if reducer % 2 == 1 {
-        set(&mut slot.odd, spare, (reducer - 1) / 2, touch);
-    } else {
-        set(&mut slot.even, spare, (reducer - 1) / 2, touch);
-    }
-    *slots = Some(slot);
+    set_in(slots, spare, reducer / 4, (reducer % 4) as usize, touch);
 }
 
-/// The touch that a later one makes behind the one that there may be.
-fn behind(earlier: Option<Touch>, later: Touch) -> Touch
-    ensures { result ≡ added earlier later }
+/// Combines a touch on the right of the one at a place of a row, in its slot where there is one, and else with slots of the
+/// reserve.
+fn gather_in<A: Allocator>(
+    slots: &mut Slots<A>,
+    spare: &mut Spare<A>,
+    number: u32,
+    place: usize,
+    touch: Touch,
+)
+    requires room { number + 1 < 2 ^ vec_len spare.old }
+    requires place { place < 4 }
+    ensures { ChangesPlace (column_of slots.old) (column_of slots.new) number place
+        (added (column_of slots.old place number) touch) }
 {
-    match earlier {
-        Some(touch) => touch.with(later),
-        None => later,
+    let Some(slot) = slots else {
+        set_in(slots, spare, number, place, touch);
+        return;
+    };
+    let slot: &mut Slot<A> = slot;
+    if number == 0 {
+        slot.row.gather(place, touch);
+    } else if number % 2 == 1 {
+        gather_in(&mut slot.odd, spare, (number - 1) / 2, place, touch);
+    } else {
+        gather_in(&mut slot.even, spare, (number - 1) / 2, place, touch);
     }
 }
 
@@ -157,18 +264,7 @@ pub fn gather<A: Allocator>(slots: &mut Slots<A>, spare: &mut Spare<A>, reducer:
     requires { reducer + 1 < 2 ^ vec_len spare.old }
     ensures { Changes (touches_of slots.old) (touches_of slots.new) reducer (added (touches_of slots.old reducer) touch) }
 {
-    let Some(slot) = slots else {
-        set(slots, spare, reducer, touch);
-        return;
-    };
-    let slot: &mut Slot<A> = slot;
-    if reducer == 0 {
-        slot.touch = Some(behind(slot.touch, touch));
-    } else if reducer % 2 == 1 {
-        gather(&mut slot.odd, spare, (reducer - 1) / 2, touch);
-    } else {
-        gather(&mut slot.even, spare, (reducer - 1) / 2, touch);
-    }
+    gather_in(slots, spare, reducer / 4, (reducer % 4) as usize, touch);
 }
 
 /// Gives the slots of a table back to the reserve, as far as there is room for them.
@@ -195,7 +291,7 @@ pub fn absorb<A: Allocator>(slots: &mut Slots<A>, later: &mut Slots<A>)
     };
     let slot: &mut Slot<A> = slot;
     let other: &mut Slot<A> = other;
-    slot.touch = joined(slot.touch, other.touch);
+    slot.row = slot.row.joined(&other.row);
     absorb(&mut slot.odd, &mut other.odd);
     absorb(&mut slot.even, &mut other.even);
 }
