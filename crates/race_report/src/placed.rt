@@ -21,14 +21,29 @@ pub fn put_word(out: &mut [u8], at: usize, word: &str) -> usize
     end
 }
 
-/// Puts bytes at a place.
+/// Makes these bytes all that a slice holds. They are written as one value: a copy from slice to slice first asks whether the two lie
+/// apart.
 #[inline(always)]
-pub(crate) fn put_bytes(out: &mut [u8], at: usize, bytes: &[u8])
-    requires room { at + length bytes.now ≤ length out.old }
-    ensures len { length out.new ≡ length out.old }
-    ensures put { take (at + length bytes.now) out.new ≡ take at out.old ++ bytes.now }
+fn write_all<const N: usize>(out: &mut [u8], bytes: &[u8; N])
+    requires { length out.old ≡ N }
+    ensures { out.new ≡ bytes.now }
 {
-    out[at..at + bytes.len()].copy_from_slice(bytes);
+    let Some(place) = out.as_mut_array::<N>() else {
+        unreachable!()
+    };
+    *place = *bytes;
+}
+
+/// Puts bytes at a place of a slice, and answers the place behind them. What stands before the place stays.
+#[inline(always)]
+pub(crate) fn put_bytes<const N: usize>(out: &mut [u8], at: usize, bytes: &[u8; N]) -> usize
+    requires room { at + N ≤ length out.old }
+    ensures end { result ≡ at + N }
+    ensures len { length out.new ≡ length out.old }
+    ensures put { take result out.new ≡ take at out.old ++ bytes.now }
+{
+    write_all(&mut out[at..at + N], bytes);
+    at + N
 }
 
 /// Puts two digits at a place.

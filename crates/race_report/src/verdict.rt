@@ -8,7 +8,7 @@ ghost use Rattle.race_report.specs.VerdictText.{fault_word, numbers_text, line_o
 ghost use Rattle.race_report.specs.Rooms.{HasRoom, number_room, line_room};
 
 use crate::counted::Counted;
-use crate::placed::{put_mostly_small, put_number, put_word};
+use crate::placed::{put_bytes, put_mostly_small, put_number, put_word};
 use access_table::{Kind, access_table, rule_word};
 use itoa::Buffer;
 use model_accesses::Witness;
@@ -60,14 +60,14 @@ pub fn push_number<A: Allocator>(
 
 /// Puts a word, a number and a line feed at a place of a slice, and answers the place behind them. What stands before the place stays.
 #[inline(always)]
-pub fn put_told(out: &mut [u8], at: usize, word: &str, number: u64) -> usize
-    requires room { at + length word.now + 21 ≤ length out.old }
+pub fn put_told<const N: usize>(out: &mut [u8], at: usize, word: &[u8; N], number: u64) -> usize
+    requires room { at + N + 21 ≤ length out.old }
     ensures len { length out.new ≡ length out.old }
     ensures put { take result out.new ≡ take at out.old ++ (word.now ++ decimal number ++ codes "\n") }
 {
-    let place = put_word(out, at, word);
+    let place = put_bytes(out, at, word);
     let end = put_number(out, place, number);
-    put_word(out, end, "\n")
+    put_bytes(out, end, b"\n")
 }
 
 // What tells a spawn, a join or a refusal is a call of its own: so the rest of `put_answer` is short enough for the compiler to put it in
@@ -81,11 +81,11 @@ fn put_split(out: &mut [u8], at: usize, spawned: Spawned) -> usize
     ensures put { take result out.new
         ≡ take at out.old ++ (codes " split" ++ numbers_text (spawned.child ∷ spawned.next ∷ spawned.join ∷ []) ++ codes "\n") }
 {
-    let place = put_word(out, at, " split ");
+    let place = put_bytes(out, at, b" split ");
     let child = put_number(out, place, u64::from(spawned.child));
-    let between = put_word(out, child, " ");
+    let between = put_bytes(out, child, b" ");
     let next = put_number(out, between, u64::from(spawned.next));
-    put_told(out, next, " ", u64::from(spawned.join))
+    put_told(out, next, b" ", u64::from(spawned.join))
 }
 
 /// Puts the word of a refusal and that of the rule that an act and an earlier access of this kind come under, each behind a space, and a
@@ -131,7 +131,7 @@ fn put_refusal(out: &mut [u8], at: usize, act: Act, witness: Witness) -> usize
         (codes " refused " ++ unwrap_or (refusal_word act witness.kind) [] ++ codes " " ++ decimal witness.entry ++ codes "\n") }
 {
     let end = put_rule(out, at, act, witness.kind);
-    put_told(out, end, "", u64::from(witness.entry))
+    put_told(out, end, b"", u64::from(witness.entry))
 }
 
 /// Puts the end of a line that tells a join by a sync.
@@ -141,7 +141,7 @@ fn put_joined(out: &mut [u8], at: usize, join: u32) -> usize
     ensures len { length out.new ≡ length out.old }
     ensures put { take result out.new ≡ take at out.old ++ (codes " joined " ++ decimal join ++ codes "\n") }
 {
-    put_told(out, at, " joined ", u64::from(join))
+    put_told(out, at, b" joined ", u64::from(join))
 }
 
 /// Puts the end of a line that tells a join by a return.
@@ -151,7 +151,7 @@ fn put_ended_joined(out: &mut [u8], at: usize, join: u32) -> usize
     ensures len { length out.new ≡ length out.old }
     ensures put { take result out.new ≡ take at out.old ++ (codes " ended-joined " ++ decimal join ++ codes "\n") }
 {
-    put_told(out, at, " ended-joined ", u64::from(join))
+    put_told(out, at, b" ended-joined ", u64::from(join))
 }
 
 /// Puts the end of a line that tells a value.
@@ -161,9 +161,9 @@ fn put_value(out: &mut [u8], at: usize, value: u64) -> usize
     ensures len { length out.new ≡ length out.old }
     ensures put { take result out.new ≡ take at out.old ++ (codes " value " ++ decimal value ++ codes "\n") }
 {
-    let place = put_word(out, at, " value ");
+    let place = put_bytes(out, at, b" value ");
     let end = put_mostly_small(out, place, value);
-    put_word(out, end, "\n")
+    put_bytes(out, end, b"\n")
 }
 
 /// Puts the end of a line behind the entry's number: what the gate answered to an act.
@@ -176,17 +176,17 @@ fn put_answer(out: &mut [u8], at: usize, act: Act, answer: Answer) -> usize
 {
     match answer {
         Answer::Split(spawned) => put_split(out, at, spawned),
-        Answer::Same => put_word(out, at, " same\n"),
+        Answer::Same => put_bytes(out, at, b" same\n"),
         Answer::Joined(join) => put_joined(out, at, join),
-        Answer::Waits => put_word(out, at, " waits\n"),
-        Answer::Resumed => put_word(out, at, " resumed\n"),
-        Answer::Ended => put_word(out, at, " ended\n"),
+        Answer::Waits => put_bytes(out, at, b" waits\n"),
+        Answer::Resumed => put_bytes(out, at, b" resumed\n"),
+        Answer::Ended => put_bytes(out, at, b" ended\n"),
         Answer::EndedJoined(join) => put_ended_joined(out, at, join),
-        Answer::Finished => put_word(out, at, " finished\n"),
-        Answer::Granted => put_word(out, at, " granted\n"),
+        Answer::Finished => put_bytes(out, at, b" finished\n"),
+        Answer::Granted => put_bytes(out, at, b" granted\n"),
         Answer::Value(value) => put_value(out, at, value),
         Answer::Refused { witness, .. } => put_refusal(out, at, act, witness),
-        Answer::Unset => put_word(out, at, " refused unset\n"),
+        Answer::Unset => put_bytes(out, at, b" refused unset\n"),
     }
 }
 
@@ -197,12 +197,12 @@ fn put_fault(out: &mut [u8], at: usize, fault: GateFault) -> usize
     ensures put { take result out.new ≡ take at out.old ++ (codes "illegal " ++ fault_word fault ++ codes "\n") }
 {
     match fault {
-        GateFault::Stopped => put_word(out, at, "illegal stopped\n"),
-        GateFault::Limit => put_word(out, at, "illegal limit\n"),
-        GateFault::NotRunning => put_word(out, at, "illegal not-running\n"),
-        GateFault::BadName => put_word(out, at, "illegal bad-name\n"),
-        GateFault::Unsynced => put_word(out, at, "illegal unsynced\n"),
-        GateFault::Memory => put_word(out, at, "illegal memory\n"),
+        GateFault::Stopped => put_bytes(out, at, b"illegal stopped\n"),
+        GateFault::Limit => put_bytes(out, at, b"illegal limit\n"),
+        GateFault::NotRunning => put_bytes(out, at, b"illegal not-running\n"),
+        GateFault::BadName => put_bytes(out, at, b"illegal bad-name\n"),
+        GateFault::Unsynced => put_bytes(out, at, b"illegal unsynced\n"),
+        GateFault::Memory => put_bytes(out, at, b"illegal memory\n"),
     }
 }
 

@@ -73,7 +73,7 @@ fn put_cell(
     ensures put { take result out.new ≡ take at out.old ++ cell_line mem.now index value }
 {
     let end = put_name(out, at, mem, index, counted);
-    put_told(out, end, " ", value)
+    put_told(out, end, b" ", value)
 }
 
 impl<A: Allocator> LineBuffer<A> {
@@ -136,7 +136,7 @@ impl<A: Allocator> LineBuffer<A> {
         self.filled = put_told(
             self.bytes.as_mut_slice(),
             self.filled,
-            "requests ",
+            b"requests ",
             u64::from(requests),
         );
     }

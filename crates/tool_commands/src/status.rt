@@ -2,42 +2,10 @@
 
 ghost use Rattle.std.specs.Prelude.{◌≡◌, ◌++◌, ◌∷◌, [], List};
 ghost use Rattle.model_histories.specs.declared.reply.Reply.{Reply as SpecReply};
-ghost use Rattle.tool_commands.specs.Statuses.{is_memory as memory_spec, is_limit as limit_spec};
-ghost use Rattle.tool_commands.specs.Statuses.{is_illegal as illegal_spec, is_refusal as refusal_spec, status_of_replies};
+ghost use Rattle.tool_commands.specs.Statuses.{status_of_replies};
 ghost use Rattle.tool_commands.specs.Meetings.{HasMet};
 
 use race_gate::{Answer, GateFault, Reply};
-
-#[inline(always)]
-fn is_memory(reply: &Reply) -> bool
-    ensures { result ≡ memory_spec reply.now }
-{
-    matches!(reply, Reply::Illegal(GateFault::Memory))
-}
-
-#[inline(always)]
-fn is_limit(reply: &Reply) -> bool
-    ensures { result ≡ limit_spec reply.now }
-{
-    matches!(reply, Reply::Illegal(GateFault::Limit))
-}
-
-#[inline(always)]
-fn is_illegal(reply: &Reply) -> bool
-    ensures { result ≡ illegal_spec reply.now }
-{
-    matches!(reply, Reply::Illegal(_))
-}
-
-#[inline(always)]
-fn is_refusal(reply: &Reply) -> bool
-    ensures { result ≡ refusal_spec reply.now }
-{
-    match reply {
-        Reply::Done(receipt) => { matches!(receipt.answer, Answer::Refused { .. } | Answer::Unset) }
-        Reply::Illegal(_) => false,
-    }
-}
 
 /// What the replies so far have among them, as far as the exit status tells it.
 #[derive(Clone, Copy, Debug)]
@@ -66,10 +34,21 @@ impl Met {
     pub(crate) fn meet(&mut self, reply: &Reply)
         ensures { (replies : List SpecReply) → HasMet replies self.old → HasMet (replies ++ reply.now ∷ []) self.new }
     {
-        self.memory |= is_memory(reply);
-        self.limit |= is_limit(reply);
-        self.illegal |= is_illegal(reply);
-        self.refusal |= is_refusal(reply);
+        match reply {
+            Reply::Done(receipt) => {
+                if matches!(receipt.answer, Answer::Refused { .. } | Answer::Unset) {
+                    self.refusal = true;
+                }
+            }
+            Reply::Illegal(fault) => {
+                self.illegal = true;
+                match fault {
+                    GateFault::Memory => self.memory = true,
+                    GateFault::Limit => self.limit = true,
+                    _ => {}
+                }
+            }
+        }
     }
 
     /// The exit status of the replies.

@@ -15,7 +15,8 @@ returns-clause-put c =
     ] in
     let within : many ≤ length c.self-2.inside.digits = search rules in
     let room : c.args.at + many < length out = search rules in
-    let part = part_put out c.args.out.now c.self-2.inside.digits c.args.at many (omega (arith, c.requires.room)) within c.put_bytes.ensures.put in
+    let end : c.args.at + length c.self-2.inside.digits ≡ c.put_bytes.result = search rules in
+    let part = part_put out c.args.out.now c.self-2.inside.digits c.args.at many (omega (arith, c.requires.room)) within (ap (λ n. take n out) end ∙ c.put_bytes.ensures.put) in
     let head : take (c.args.at + many) out ≡ take c.args.at c.args.out.now ++ leading (c.args.number / 10) =
     part ∙ ap (λ d. take c.args.at c.args.out.now ++ d) (c.self-2.invariant.0 ∙ ap leading same) in
     rw (take_more_set out (c.args.at + many) (48 + c.args.number % 10) room, head, last_digit c.args.number (search rules), append_assoc) refl
