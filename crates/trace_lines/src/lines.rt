@@ -34,6 +34,19 @@ impl<A: Allocator> Model for TraceLines<A> {
     ghost invariant = { λ lines. AreWhole lines.heads.items lines.numbers.items lines.last };
 }
 
+/// Adds a head. Whether there is room for it is asked here, and not by a call for each line.
+#[inline(always)]
+fn add<A: Allocator>(heads: &mut Vec<u64, A>, head: u64) -> Result<(), AllocError>
+    ensures added { OnOk result (heads.new.items ≡ heads.old.items ++ head ∷ []) }
+    ensures unchanged { OnErr result (heads.new.items ≡ heads.old.items) }
+{
+    if heads.len() == heads.capacity() {
+        heads.reserve(1)?;
+    }
+    heads.push_reserved(head);
+    Ok(())
+}
+
 impl<A: Allocator> TraceLines<A> {
     /// No lines.
     pub fn new(alloc: A) -> TraceLines<A>
@@ -82,7 +95,7 @@ impl<A: Allocator> TraceLines<A> {
             let (head, value, who, spot) = numbers_of(line);
             return self.push_numbers(line.at, head, value, who, spot);
         };
-        self.heads.push(head)?;
+        add(&mut self.heads, head)?;
         self.last = line.at;
         Ok(())
     }
