@@ -13,6 +13,7 @@ ghost use Rattle.race_gate.specs.Shapes.{shape_of};
 ghost use Rattle.race_gate.specs.Cores.{IsCore};
 ghost use Rattle.model_histories.specs.States.{State};
 ghost use Rattle.model_histories.specs.declared.reply.Reply.{Reply as SpecReply};
+ghost use Rattle.model_histories.specs.declared.reply.Reply.TheVariants.{Illegal};
 ghost use Rattle.model_accesses.specs.declared.request.Request.{Request as SpecRequest};
 ghost use Rattle.tool_commands.specs.Watched.{held, has_failed, is_delivered, calls_of, IsCalledAtMost};
 ghost use Rattle.tool_commands.specs.Meetings.{HasJudged, Tells, TellsTrace};
@@ -29,7 +30,7 @@ use crate::line_buffer::LineBuffer;
 use crate::status::Met;
 use crate::streams::{deliver, read_trace};
 use crate::watched::Watched;
-use race_gate::{Core, Reply};
+use race_gate::{Core, GateFault, Reply};
 use std::alloc::{AllocError, Allocator};
 use std::io::{Read, Write};
 use text_words::{Act, Request};
@@ -54,6 +55,35 @@ fn note<A: Allocator, W: Write>(verdicts: &mut Verdicts<A>, output: &mut Watched
     verdicts.met.meet(reply);
 }
 
+/// Tells the reply to a request that is no entry. Few are, so this is a call of its own.
+#[cold]
+#[inline(never)]
+fn note_fault<A: Allocator, W: Write>(
+    verdicts: &mut Verdicts<A>,
+    output: &mut Watched<W>,
+    fault: GateFault,
+)
+    ensures { (wrote : Option (List ℕ)) (replies : List SpecReply) →
+        Tells replies verdicts.old wrote (W.contents (held output.old)) (has_failed output.old) →
+        Tells (replies ++ Illegal fault ∷ []) verdicts.new wrote (W.contents (held output.new)) (has_failed output.new) }
+{
+    note(verdicts, output, &Reply::Illegal(fault));
+}
+
+/// Tells a reply, by code of its own where it is an entry.
+#[inline(always)]
+fn tell<A: Allocator, W: Write>(verdicts: &mut Verdicts<A>, output: &mut Watched<W>, reply: &Reply)
+    requires { HasWords reply.now }
+    ensures { (wrote : Option (List ℕ)) (replies : List SpecReply) →
+        Tells replies verdicts.old wrote (W.contents (held output.old)) (has_failed output.old) →
+        Tells (replies ++ reply.now ∷ []) verdicts.new wrote (W.contents (held output.new)) (has_failed output.new) }
+{
+    match reply {
+        Reply::Done(_) => note(verdicts, output, reply),
+        Reply::Illegal(fault) => note_fault(verdicts, output, *fault),
+    }
+}
+
 /// Judges an act of control and tells the reply.
 #[inline(always)]
 fn tell_control<A: Allocator + Clone, W: Write>(
@@ -70,7 +100,7 @@ fn tell_control<A: Allocator + Clone, W: Write>(
         wrote (W.contents (held output.new)) (has_failed output.new) }
 {
     let reply = core.reply_to_control(request);
-    note(verdicts, output, &reply);
+    tell(verdicts, output, &reply);
 }
 
 /// Judges an access of a cell and tells the reply.
@@ -89,7 +119,7 @@ fn tell_cell<A: Allocator + Clone, W: Write>(
         wrote (W.contents (held output.new)) (has_failed output.new) }
 {
     let reply = core.reply_to_cell(request);
-    note(verdicts, output, &reply);
+    tell(verdicts, output, &reply);
 }
 
 /// Judges an access of a reducer and tells the reply.
@@ -108,7 +138,7 @@ fn tell_reducer<A: Allocator + Clone, W: Write>(
         wrote (W.contents (held output.new)) (has_failed output.new) }
 {
     let reply = core.reply_to_reducer(request);
-    note(verdicts, output, &reply);
+    tell(verdicts, output, &reply);
 }
 
 /// Judges the requests of a trace in their order, and tells the replies one by one. All memory that this may fail for is taken first, so

@@ -1,8 +1,8 @@
 use Rattle.tool_commands.proofs.Meeting.{has_words, judged_and_told}
 use Rattle.tool_commands.proofs.judge.tell_cell.Goals as goal
 
-pub note-requires : goal.note-requires
-note-requires g c =
+pub tell-requires : goal.tell-requires
+tell-requires g c =
     let next = c.reply_to_cell-reply.ensures c.requires.core.0 c.requires.core.1 in
     has_words c.requires.core.0 next.0 c.args.request c.reply_to_cell-reply.result next.1 next.2.kept.right.judged
 
@@ -10,5 +10,5 @@ pub returns : goal.returns
 returns g c start wrote requests replies judged = (
   c.reply_to_cell-reply.result,
   judged_and_told _ start requests replies _ _ _ _ wrote _ _ _ _ c.args.request c.reply_to_cell-reply.result judged (c.reply_to_cell-reply.ensures judged.last judged.fits)
-      (c.note.ensures wrote replies),
+      (c.tell.ensures wrote replies),
 )
