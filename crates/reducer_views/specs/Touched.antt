@@ -25,7 +25,7 @@ Columns = ℕ → Touches
 abbrev pub touch_in : Row → ℕ → Option Touch
 touch_in row place = slice_index_or row.touches place None
 
--- Row 0 is first. The others are those with odd numbers and those with even ones, both counted from 0 on.
+-- The row of number 0 is first. The others are those with odd numbers and those with even ones, both counted from 0 on.
 abbrev pub spread : Option Touch → Touches → Touches → Touches
 spread first odd even number =
     if number == 0 then first else (if number % 2 == 1 then odd ((number - 1) / 2) else even ((number - 1) / 2))
