@@ -8,7 +8,7 @@ use crate::groups::Groups;
 use crate::place::{Place, count_from, item_ahead, place_at, spread, tie};
 use std::alloc::{AllocError, Allocator};
 
-/// Of so many items at most all are moved to a new group; of a larger group it is half.
+/// Of the items that follow one, so many at most are moved to a new group; of more it is half.
 const MANY: u32 = 64;
 
 /// Items in groups, numbered as they were made.

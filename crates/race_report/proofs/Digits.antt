@@ -1,14 +1,10 @@
--- The table of the digits of numbers below 100, bytes put into a list, and the last digit of a number.
+-- The table of the digits of numbers below 100, and bytes put into a list.
 use Rattle.std.proofs.Common.{◌≡◌, ℕ, zero, suc, ◌+◌, ◌-◌, ◌*◌, ◌/◌, ◌%◌, ◌^◌, ◌<◌, ◌≤◌, Bool, true, false, ◌&&◌, T, eqb, List, [], ◌∷◌, ◌++◌, length, get_or, set, take, inl, inr, arith, ap, sym, ◌∙◌, append_assoc, length-set, eq-zero-or-pos, eqb→eq}
-use Rattle.std.proofs.lemmas.Bool.Decides.{nat_tests}
 use Rattle.std.proofs.lemmas.List.{take_more_set, take-take, length-take-le}
-use Rattle.std.proofs.lemmas.Fmt.{decimal_digit, decimal_step}
 use Rattle.std.proofs.lemmas.Grind.{take-set_at}
 use lib.Ieee.Fits.{and_l, and_r}
 use Rattle.std.proofs.Math.Seq.{take-append-add}
-use Rattle.std.specs.Prelude.{decimal, ◌==◌}
 use Rattle.race_report.specs.declared.placed.TheConstants.{PAIRS}
-use Rattle.race_report.specs.Counted.{leading}
 
 abbrev are_pairs : ℕ → Bool
 are_pairs zero = true
@@ -41,11 +37,3 @@ part_put new old bytes at part room within put =
     let seam = take-append-add (take at old) bytes part in
     let count : length (take at old) ≡ at = length-take-le at old room in
     sym whole ∙ ap (take (at + part)) put ∙ ap (λ n. take (n + part) (take at old ++ bytes)) (sym count) ∙ seam
-
--- a number's digits are those of its tenth, and one more
-pub last_digit : (n : ℕ) → n < 2 ^ 64 → decimal n ≡ leading (n / 10) ++ (48 + n % 10) ∷ []
-last_digit n small =
-    elim (eq-zero-or-pos (n / 10)) [
-      | inl none ↦ let few : n < 10 = omega (arith, none) in let same : n % 10 ≡ n = omega (arith, few) in rw (none, same) (decimal_digit n few)
-      | inr some ↦ let many : 10 ≤ n = omega (arith, some) in let other : (n / 10 == 0) ≡ false = grind (arith, nat_tests, some) in rw other (decimal_step n many small)
-    ]

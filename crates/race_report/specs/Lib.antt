@@ -1,4 +1,5 @@
 pub mod VerdictText
+pub mod RefusedText
 pub mod Rooms
 pub mod Counted
 pub mod Refusals

@@ -2,14 +2,14 @@
 
 ghost use Rattle.std.specs.Prelude.{◌≡◌, ◌+◌, ◌/◌, ◌≤◌, ◌++◌, decimal, length, take};
 
-use crate::placed::{put_bytes, put_number};
+use crate::placed::{put_bytes, put_few, put_number, put_pair};
 use std::marker::Model;
 
 /// How many bytes are put at once: more than a number has.
 const WIDTH: usize = 24;
 
-/// The digits of the last number that was put, but for its last one: nine of ten numbers behind it begin with them too. It changes nothing
-/// but how long it takes to put a number. Contracts see the tenth of that number.
+/// The digits of the last number that was put, but for its last two: of a hundred numbers behind it all but one begin with them too. It
+/// changes nothing but how long it takes to put a number. Contracts see the hundredth of that number.
 #[derive(Drop)]
 pub struct Counted {
     above: u64,
@@ -61,17 +61,20 @@ impl Counted {
     #[inline(always)]
     pub fn put(&mut self, out: &mut [u8], at: usize, number: u64) -> usize
         requires room { at + 24 ≤ length out.old }
-        ensures end { result ≤ at + 21 }
+        ensures end { result ≤ at + 22 }
         ensures len { length out.new ≡ length out.old }
         ensures put { take result out.new ≡ take at out.old ++ decimal number }
     {
-        let above = number / 10;
+        let above = number / 100;
         if above != self.above {
             self.renew(above);
         }
+        if above == 0 {
+            return put_few(out, at, number);
+        }
         put_bytes(out, at, &self.digits);
         let end = at + self.length;
-        out[end] = b'0' + (number % 10) as u8;
-        end + 1
+        put_pair(out, end, number % 100);
+        end + 2
     }
 }

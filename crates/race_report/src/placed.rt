@@ -48,7 +48,7 @@ pub(crate) fn put_bytes<const N: usize>(out: &mut [u8], at: usize, bytes: &[u8; 
 
 /// Puts two digits at a place.
 #[inline(always)]
-fn put_pair(out: &mut [u8], at: usize, pair: u64)
+pub(crate) fn put_pair(out: &mut [u8], at: usize, pair: u64)
     requires small { pair < 100 }
     requires room { at + 2 ≤ length out.old }
     ensures len { length out.new ≡ length out.old }
@@ -75,6 +75,19 @@ fn put_two(out: &mut [u8], at: usize, number: u64) -> usize
     }
     put_pair(out, at, number);
     at + 2
+}
+
+/// Puts a number below 100 as [`put_two`] does, in a call of its own.
+#[cold]
+#[inline(never)]
+pub(crate) fn put_few(out: &mut [u8], at: usize, number: u64) -> usize
+    requires small { number < 100 }
+    requires room { at + 2 ≤ length out.old }
+    ensures end { result ≤ at + 2 }
+    ensures len { length out.new ≡ length out.old }
+    ensures put { take result out.new ≡ take at out.old ++ decimal number }
+{
+    put_two(out, at, number)
 }
 
 /// Puts a number below 10,000 at a place, and answers the place behind it.

@@ -5,11 +5,12 @@ ghost use Rattle.std.specs.Prelude.{IsSome, codes, decimal, length, take, unwrap
 ghost use Rattle.std.specs.List.{All};
 ghost use Rattle.race_report.specs.VerdictText.{refusal_word, HasWord, HasWords, answer_text};
 ghost use Rattle.race_report.specs.VerdictText.{fault_word, numbers_text, line_of_reply, verdict_text};
+ghost use Rattle.race_report.specs.RefusedText.{earlier_told, new_told};
 ghost use Rattle.race_report.specs.Rooms.{HasRoom, number_room, line_room};
 
 use crate::counted::Counted;
 use crate::placed::{put_bytes, put_mostly_small, put_number, put_word};
-use access_table::{Kind, access_table, rule_word};
+use access_table::{Kind, rule_word};
 use itoa::Buffer;
 use model_accesses::Witness;
 use model_strands::Spawned;
@@ -88,37 +89,65 @@ fn put_split(out: &mut [u8], at: usize, spawned: Spawned) -> usize
     put_told(out, next, b" ", u64::from(spawned.join))
 }
 
+/// Puts so many of these bytes at a place of a slice, and answers the place behind them. What stands before the place stays. All the bytes
+/// are written, as one value, so that no length is asked: what stands behind the answered place is lost.
+#[inline(always)]
+fn put_head<const N: usize>(out: &mut [u8], at: usize, bytes: &[u8; N], count: usize) -> usize
+    requires room { at + N ≤ length out.old }
+    requires within { count ≤ N }
+    ensures end { result ≡ at + count }
+    ensures len { length out.new ≡ length out.old }
+    ensures put { take result out.new ≡ take at out.old ++ take count bytes.now }
+{
+    put_bytes(out, at, bytes);
+    at + count
+}
+
+/// What a refusal tells up to the kind of the earlier access, and how many bytes that is.
+#[inline(always)]
+fn earlier_text(earlier: Kind) -> (&'static [u8; 16], usize)
+    ensures within { result.1 ≤ 16 }
+    ensures text { take result.1 result.0.now ≡ earlier_told earlier }
+{
+    match earlier {
+        Kind::Write => (b" refused write- ", 15),
+        Kind::Bump => (b" refused bump-  ", 14),
+        Kind::Read => (b" refused read-  ", 14),
+        Kind::Update | Kind::Put | Kind::Get => (b" refused view-  ", 14),
+    }
+}
+
+/// What a refusal tells of the kind of the new access, and how many bytes that is.
+#[inline(always)]
+fn new_text(new: Kind) -> (&'static [u8; 8], usize)
+    ensures within { result.1 ≤ 8 }
+    ensures text { take result.1 result.0.now ≡ new_told new }
+{
+    match new {
+        Kind::Write => (b"write   ", 6),
+        Kind::Bump => (b"bump    ", 5),
+        Kind::Read => (b"read    ", 5),
+        Kind::Update | Kind::Put | Kind::Get => (b"read    ", 5),
+    }
+}
+
 /// Puts the word of a refusal and that of the rule that an act and an earlier access of this kind come under, each behind a space, and a
-/// space. So that no length is asked when it runs, all this is one text for each two kinds.
+/// space. A text for each of the two kinds is data, where a text for each pair of kinds would be a jump that no processor foresees.
 #[inline(always)]
 fn put_rule(out: &mut [u8], at: usize, act: Act, witness: Kind) -> usize
     requires word { IsSome (refusal_word act witness) }
     requires room { at + 26 ≤ length out.old }
-    ensures end { result ≤ at + 26 }
+    ensures end { result ≤ at + 24 }
     ensures len { length out.new ≡ length out.old }
     ensures put { take result out.new ≡ take at out.old ++ (codes " refused " ++ unwrap_or (refusal_word act witness) [] ++ codes " ") }
 {
     let Some(asked) = access_asked(act) else {
         unreachable!()
     };
-    let new = asked.kind;
-    macro_rules! text {
-        (Race $old:literal $new:literal) => {
-            concat!(" refused ", $old, "-", $new, " ")
-        };
-        (View $old:literal $new:literal) => {
-            " refused view-read "
-        };
-    }
-    macro_rules! texts {
-        ([] $({ $kind:ident $word:literal $sort:ident $([$earlier:ident $earlier_word:literal $rule:ident])* })*) => {
-            match (witness, new) {
-                $($((Kind::$earlier, Kind::$kind) => put_word(out, at, text!($rule $earlier_word $word)),)*)*
-                _ => unreachable!(),
-            }
-        };
-    }
-    access_table!(texts [])
+    let (earlier, count) = earlier_text(witness);
+    let place = put_head(out, at, earlier, count);
+    let (new, count) = new_text(asked.kind);
+    put_head(out, place, new, count)
 }
 
 /// Puts the end of a line that tells a refusal: that, the rule and the witness.

@@ -304,6 +304,7 @@ impl<A: Allocator> Strands<A> {
     }
 
     /// `strand` syncs in its innermost function.
+    #[inline(always)]
     pub fn sync(&mut self, strand: u32) -> Result<Synced, SpFault>
         ensures ok { IfOk result (λ synced.
             (history : History) → Follows self.old history → Follows self.new (event_of_sync strand synced ∷ history)) }
@@ -333,6 +334,7 @@ impl<A: Allocator> Strands<A> {
     }
 
     /// `strand` calls a function, and goes on in it.
+    #[inline(always)]
     pub fn call(&mut self, strand: u32) -> Result<(), SpFault>
         ensures ok { OnOk result ((history : History) → Follows self.old history → Follows self.new (call strand ∷ history)) }
         ensures room { OnOk result (self.new.has_room ≡ false) }
@@ -362,6 +364,7 @@ impl<A: Allocator> Strands<A> {
     }
 
     /// The innermost function of `strand` returns.
+    #[inline(always)]
     pub fn ret(&mut self, strand: u32) -> Result<Returned, SpFault>
         ensures ok { IfOk result (λ returned.
             (history : History) → Follows self.old history → Follows self.new (event_of_return strand returned ∷ history)) }

@@ -225,16 +225,6 @@ fn answer_trace<A: Allocator + Copy, W: Write>(
     finish(output, verdicts)
 }
 
-/// 32 MiB less two pages. With its head this is a page less than 32 MiB, and no greater block teaches the C library's heap anything.
-const GREAT: usize = 33_546_240;
-
-/// Takes and lets go a great block, of which no page is touched. From then on the C library's heap maps no list of its own that is
-/// smaller, but grows: a list at its end grows in place, and the pages of a text that is let go serve the lists behind it. Elsewhere,
-/// or where the block is refused, nothing comes of it.
-fn keep_pages<A: Allocator + Copy>(alloc: A) {
-    let _ = Vec::<u8, A>::with_capacity(alloc, GREAT);
-}
-
 /// Reads a trace to its end, judges its requests in their order by a gate with this limit on the entries of its history, and writes
 /// the verdict line of each reply. It answers the exit status of the replies: 3 where one is a want of memory, else 4 where one is
 /// beyond the limit, else 2 where one is illegal, else 1 where one is refused, else 0.
@@ -263,7 +253,6 @@ pub fn judge_stream<A: Allocator + Copy, R: Read, W: Write>(
     ensures reads { IsCalledAtMost most_reads (calls_of input.old) (calls_of input.new) }
     ensures unwritten { IfErr result (λ fault. fault ≢ CliFault.Write → output.new ≡ output.old) }
 {
-    keep_pages(alloc);
     let trace = read_trace(alloc, input)?;
     answer_trace(alloc, &trace, output, limit)
 }
