@@ -1,7 +1,7 @@
 -- What each event makes of the names.
-use Rattle.std.proofs.Common.{◌≡◌, ◌≢◌, ◌⊎◌, ◌↔◌, inl, inr, ℕ, suc, ◌+◌, ◌<◌, Bool, true, false, List, [], ◌∷◌, ◌++◌, length, get_or, refl, sym, ap, ◌∙◌, subst, arith, length-append}
+use Rattle.std.proofs.Common.{◌≡◌, ◌≢◌, ◌⊎◌, ◌↔◌, inl, inr, ℕ, suc, ◌+◌, ◌<◌, Bool, true, false, List, [], ◌∷◌, ◌++◌, length, refl, sym, ap, ◌∙◌, subst, arith, length-append}
 use Rattle.std.proofs.Math.ListN.{set}
-use Rattle.std.proofs.lemmas.List.{length-set, get_or_append_left, get_or_read}
+use Rattle.std.proofs.lemmas.List.{length-set, get_or_append_left}
 use Rattle.model_strands.specs.History.{Event, split, same, joined, waits, call, resumed, ended, ended_joined, finished, History}
 use Rattle.model_strands.specs.Updated.{updated}
 use Rattle.model_strands.specs.Strands.{Status, absent, reserved, running, over, status, unused, Begun, Running}
@@ -14,9 +14,7 @@ use Rattle.law_strands.proofs.Law.{begun_below}
 use Rattle.law_strands.proofs.Kept.{begun_stays}
 use Rattle.law_strands.proofs.Finish.{running_of}
 use Rattle.law_strands.proofs.Branches.{branch_names, branch_stays}
-use Rattle.branch_names.specs.declared.branches.BranchName.{BranchName}
-use Rattle.branch_names.specs.declared.branches.BranchName.TheVariants.{Given, Kept}
-use Rattle.branch_names.specs.Names.{Names, Follows, Takes, TakesJoin, Begins, OtherEventsLaw, number_of, name_at}
+use Rattle.branch_names.specs.Names.{BranchName, Given, Kept, Names, Follows, Takes, TakesJoin, Begins, OtherEventsLaw, number_of, name_at}
 use Rattle.branch_names.proofs.Tables.{Tells, tells-again, tells-given, tells-kept, tells-begun}
 
 -- a list of names is that of a legal history
@@ -183,6 +181,12 @@ follows-first names history spawner child next join kept are after kept_is = rec
 pub spawner-known : (branches : Names) (spawner child next join : ℕ) (first : Bool) → Takes branches (split spawner child next join first) → spawner < length branches.names
 spawner-known branches spawner child next join first (history, follows, after) = omega (arith, follows.count, (numbers-of history spawner child next join first follows.legal after).spawner_known)
 
+-- The strands that it begins are numbered by the names so far.
+pub begun-numbered : (branches : Names) (spawner child next join : ℕ) (first : Bool) → Takes branches (split spawner child next join first) → (child ≡ length branches.names) × (next ≡ suc (length branches.names))
+begun-numbered branches spawner child next join first (history, follows, after) =
+    let numbers = numbers-of history spawner child next join first follows.legal after in
+    (omega (arith, follows.count, numbers.child_is), omega (arith, follows.count, numbers.next_is))
+
 two-pushed : (items names one two : List BranchName) (child next : ℕ) → items ≡ names → one ≡ items ++ Given child ∷ [] → two ≡ one ++ Given next ∷ [] →
     two ≡ (names ++ Given child ∷ []) ++ Given next ∷ []
 two-pushed items names one two child next same_items first second = second ∙ ap (λ list. list ++ Given next ∷ []) (first ∙ ap (λ list. list ++ Given child ∷ []) same_items)
@@ -281,12 +285,6 @@ given-joined items branches new history event join kept same_items is_new follow
 -- The join that begins is known.
 pub joined-known : (branches : Names) (join : ℕ) → TakesJoin branches join → join < length branches.names
 joined-known branches join (event, at, (history, follows, after)) = omega (arith, follows.count, join-known history event join at after)
-
--- The number that was read is that of the name.
-pub number-read : (items names : List BranchName) (strand number : ℕ) (name : BranchName) → items ≡ names → strand < length names → name ≡ get_or items strand name → number ≡ number_of name →
-    number ≡ number_of (name_at names strand)
-number-read items names strand number name same_items lt read number_is =
-    number_is ∙ ap number_of (get_or_read items strand name (omega (arith, ap length same_items)) read (Kept 0) ∙ ap (λ list. name_at list strand) same_items)
 
 -- What any other event begins
 

@@ -1,3 +1,4 @@
+pub mod Stored
 pub mod Tables
 pub mod Events
 pub mod Queries

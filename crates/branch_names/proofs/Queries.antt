@@ -9,11 +9,15 @@ use Rattle.model_strands.specs.Peers.{HaveSamePeers}
 use Rattle.law_strands.proofs.Range.{ranges}
 use Rattle.law_strands.proofs.Law.{begun_below}
 use Rattle.law_strands.proofs.Branches.{branch_law}
-use Rattle.branch_names.specs.Names.{Names, Follows, IsNamed, number_of, name_at}
+use Rattle.branch_names.specs.Names.{Names, Follows, IsNamed, IsGiven, number_of, name_at}
 
 -- A begun strand has a name.
 pub named-known : (branches : Names) (strand : ℕ) → IsNamed branches strand → strand < length branches.names
 named-known branches strand (history, follows, begun) = omega (arith, follows.count, begun_below history (ranges follows.legal) strand begun)
+
+-- So its name is given.
+pub named-given : (branches : Names) (strand : ℕ) → IsNamed branches strand → IsGiven (name_at branches.names strand)
+named-given branches strand (history, follows, begun) = (follows.given strand (named-known branches strand (history, follows, begun))).1 begun
 
 -- A named strand has begun in each history that is followed.
 pub named-begun : (branches : Names) (history : History) → Follows branches history → (strand : ℕ) → IsNamed branches strand → Begun history strand

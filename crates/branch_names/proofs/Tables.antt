@@ -5,9 +5,7 @@ use Rattle.std.proofs.Math.ListN.{set}
 use Rattle.std.proofs.Common.{length-append}
 use Rattle.law_strands.specs.Branches.{Branch}
 use Rattle.law_strands.proofs.Updates.{same_or_not}
-use Rattle.branch_names.specs.declared.branches.BranchName.{BranchName}
-use Rattle.branch_names.specs.declared.branches.BranchName.TheVariants.{Given, Kept}
-use Rattle.branch_names.specs.Names.{number_of, IsGiven, name_at}
+use Rattle.branch_names.specs.Names.{BranchName, Given, Kept, number_of, IsGiven, name_at}
 
 -- the names tell which of these strands have begun and which have one of these branches
 pub record Tells (names : List BranchName) (HasBegun : ℕ → Type 0) (branch_of : ℕ → Branch) : Type 0 where

@@ -1,11 +1,16 @@
 -- The names of branches, and the control histories that they follow.
 use Rattle.std.specs.Prelude.{◌≡◌, ◌↔◌, ◌<◌, ◌≤◌, ◌+◌, ◌∷◌, ℕ, Bool, true, List, length, slice_index_or}
-use Rattle.branch_names.specs.declared.branches.BranchName.{BranchName}
-use Rattle.branch_names.specs.declared.branches.BranchName.TheVariants.{Given, Kept}
 use Rattle.model_strands.specs.History.{Event, split, joined, ended_joined, History}
 use Rattle.model_strands.specs.Strands.{unused, Begun}
 use Rattle.model_strands.specs.Legal.{Legal}
 use Rattle.law_strands.specs.Branches.{branch}
+
+-- The name of a strand's branch.
+pub data BranchName : Type 0 where
+  -- the strand has begun, and this number stands for its branch
+  Given : (number : ℕ) → BranchName
+  -- the join has not begun, and this number is kept for it
+  Kept : (number : ℕ) → BranchName
 
 -- The names of strands and of joins that have not begun, by their numbers, and whether the next event that begins strands
 -- needs no memory.
@@ -75,6 +80,10 @@ OtherEventsLaw =
     (branches : Names) (history : History) (event : Event) →
     Follows branches history → BeginsNone event → Legal (event ∷ history) → Follows branches (event ∷ history)
 
--- with room, an event finds all that it needs
+-- the numbers below this one have place in a name
+abbrev pub most_numbers : ℕ
+most_numbers = 2147483648
+
+-- with room, an event finds all that it needs: places, and numbers
 abbrev pub IsReady : Bool → (names names_fit : ℕ) → Type 0
-IsReady has_room names names_fit = has_room ≡ true → names + 3 ≤ names_fit
+IsReady has_room names names_fit = has_room ≡ true → (names + 3 ≤ names_fit) × (names + 3 ≤ most_numbers)

@@ -7,32 +7,13 @@ ghost use Rattle.model_strands.specs.Legal.{Legal};
 ghost use Rattle.model_strands.specs.Extensions.{Extends};
 ghost use Rattle.law_strands.specs.Branches.{branch};
 ghost use Rattle.model_strands.specs.Peers.{HaveSamePeers};
-ghost use Rattle.branch_names.specs.Names.{Names, Follows, FollowsSome, FollowsOn, IsNamed, Takes, TakesJoin, Begins, IsReady, number_of};
+ghost use Rattle.branch_names.specs.Names.{Names, Follows, FollowsSome, FollowsOn, IsNamed, Takes, TakesJoin, Begins, IsReady};
+ghost use Rattle.branch_names.specs.Packed.{names_of};
 
+use crate::packed::{MOST_NUMBERS, Packed};
 use model_strands::Spawned;
 use std::alloc::{AllocError, Allocator};
 use std::marker::Model;
-
-/// What is kept of a strand, in eight bytes.
-#[derive(Debug, Clone, Copy, PartialEq, Eq)]
-pub enum BranchName {
-    /// The strand has begun, and this number stands for its branch.
-    Given(u32),
-    /// The join has not begun, and this number is kept for it.
-    Kept(u32),
-}
-
-const _: () = prove!(size_of::<BranchName>() == 8);
-
-impl BranchName {
-    fn number(self) -> u32
-        ensures { result ≡ number_of self }
-    {
-        match self {
-            BranchName::Given(number) | BranchName::Kept(number) => number,
-        }
-    }
-}
 
 /// The branches of the strands of one spawn-sync program.
 ///
@@ -40,17 +21,17 @@ impl BranchName {
 /// the strand that opened its block.
 #[derive(Drop)]
 pub struct Branches<A: Allocator> {
-    names: Vec<BranchName, A>,
+    names: Vec<Packed, A>,
     has_room: bool,
 }
 
 impl<A: Allocator> Model for Branches<A> {
     ghost Value = { Names };
 
-    ghost view = { λ branches. record { names = branches.names.items; has_room = branches.has_room } };
+    ghost view = { λ branches. record { names = names_of branches.names.items; has_room = branches.has_room } };
 
     ghost invariant = { λ branches.
-        FollowsSome (record { names = branches.names.items; has_room = branches.has_room }) ×
+        FollowsSome (record { names = names_of branches.names.items; has_room = branches.has_room }) ×
         IsReady branches.has_room (vec_len branches.names) (vec_capacity branches.names) };
 }
 
@@ -61,7 +42,7 @@ impl<A: Allocator> Branches<A> {
         ensures room { IfOk result (λ branches. branches.has_room ≡ false) }
     {
         let mut names = Vec::with_capacity(alloc, 1)?;
-        names.push_reserved(BranchName::Given(0));
+        names.push_reserved(Packed::given(0));
         Ok(Branches {
             names,
             has_room: false,
@@ -75,7 +56,8 @@ impl<A: Allocator> Branches<A> {
         self.has_room
     }
 
-    /// Makes room for one event that begins strands. A refused growth answers `AllocError` and changes nothing.
+    /// Makes room for one event that begins strands. A refused growth answers `AllocError` and changes nothing, and so does
+    /// want of numbers.
     #[inline(always)]
     pub fn reserve_event(&mut self) -> Result<(), AllocError>
         ensures ok { OnOk result (self.new ≡ record self.old { has_room = true }) }
@@ -83,6 +65,9 @@ impl<A: Allocator> Branches<A> {
         ensures only_without_room { OnErr result (self.old.has_room ≡ false) }
     {
         if !self.has_room {
+            if self.names.len() > MOST_NUMBERS - 3 {
+                return Err(AllocError);
+            }
             self.names.reserve(3)?;
             self.has_room = true;
         }
@@ -108,10 +93,10 @@ impl<A: Allocator> Branches<A> {
     {
         self.has_room = false;
         let kept = self.names[strand as usize].number();
-        self.names.push_reserved(BranchName::Given(spawned.child));
-        self.names.push_reserved(BranchName::Given(spawned.next));
+        self.names.push_reserved(Packed::given(spawned.child));
+        self.names.push_reserved(Packed::given(spawned.next));
         if spawned.first {
-            self.names.push_reserved(BranchName::Kept(kept));
+            self.names.push_reserved(Packed::kept(kept));
         }
     }
 
@@ -123,8 +108,7 @@ impl<A: Allocator> Branches<A> {
         ensures room_used { self.new.has_room ≡ false }
     {
         self.has_room = false;
-        let kept = self.names[join as usize].number();
-        self.names[join as usize] = BranchName::Given(kept);
+        self.names[join as usize] = self.names[join as usize].begun();
     }
 
     /// Whether the strand has begun, so that its branch has its name. Takes no memory.
@@ -132,7 +116,7 @@ impl<A: Allocator> Branches<A> {
         ensures begun { (history : History) → Follows self.now history → IsTrue result ↔ Begun history strand }
         ensures named { IsTrue result ↔ IsNamed self.now strand }
     {
-        matches!(self.names.get(strand as usize), Some(BranchName::Given(_)))
+        matches!(self.names.get(strand as usize), Some(name) if name.is_given())
     }
 
     /// Whether two strands have one branch, and so the same peers, now and ever after. Takes no memory.
@@ -146,8 +130,7 @@ impl<A: Allocator> Branches<A> {
         ensures peers { (history longer : History) → Follows self.now history → Extends longer history → Legal longer →
             IsTrue result ↔ HaveSamePeers longer first second }
     {
-        let first_number = self.names[first as usize].number();
-        let second_number = self.names[second as usize].number();
-        first_number == second_number
+        // Both are given, so their codes agree just where their numbers do.
+        self.names[first as usize] == self.names[second as usize]
     }
 }

@@ -9,5 +9,6 @@
 
 mod branches;
 pub mod laws;
+mod packed;
 
 pub use branches::Branches;

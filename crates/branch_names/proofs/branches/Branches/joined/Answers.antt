@@ -1,27 +1,29 @@
-use Rattle.std.proofs.Common.{◌∷◌, length, refl, ap, arith}
-use Rattle.branch_names.specs.Names.{Names}
-use Rattle.branch_names.proofs.Events.{joined-known, number-read, given-joined}
+use Rattle.std.proofs.Common.{◌∷◌, length, ap, arith}
+use Rattle.branch_names.specs.Names.{Names, Given, number_of}
+use Rattle.branch_names.specs.Packed.{name_of, names_of}
+use Rattle.branch_names.proofs.Events.{joined-known, given-joined}
+use Rattle.branch_names.proofs.Stored.{length-names, name-read, names-set}
 use Rattle.branch_names.proofs.branches.Branches.joined.Goals as goal
 
 pub index-requires : goal.index-requires
 index-requires g c =
     let count = ap (λ (branches : Names). length branches.names) c.self.view_is in
-    omega (arith, count, joined-known c.args.self.now c.args.join c.requires.takes, c.self.inside.names.ok)
+    omega (arith, count, joined-known c.args.self.now c.args.join c.requires.takes, length-names c.self.inside.names.items, c.self.inside.names.ok)
 
 pub index_mut-requires : goal.index_mut-requires
 index_mut-requires g c =
     let count = ap (λ (branches : Names). length branches.names) c.self.view_is in
-    omega (arith, count, joined-known c.args.self.now c.args.join c.requires.takes, c.self.inside.names.ok)
+    omega (arith, count, joined-known c.args.self.now c.args.join c.requires.takes, length-names c.self.inside.names.items, c.self.inside.names.ok)
 
 pub returns-clause-follows : goal.returns-clause-follows
 returns-clause-follows g c event begins history follows legal =
     let items = ap (λ (branches : Names). branches.names) c.self.view_is in
-    let kept = number-read c.self.inside.names.items c.args.self.now.names c.args.join c.number-kept.result c.index.result.now items (joined-known c.args.self.now c.args.join c.requires.takes) c.index.ensures c.number-kept.ensures in
-    given-joined c.self.inside.names.items c.args.self.now _ history event c.args.join c.number-kept.result items refl follows begins legal kept
+    let kept = name-read c.self.inside.names.items c.args.self.now.names c.args.join c.index.result.now items (joined-known c.args.self.now c.args.join c.requires.takes) c.index.ensures in
+    given-joined (names_of c.self.inside.names.items) c.args.self.now _ history event c.args.join (number_of (name_of c.index.result.now)) items (names-set c.self.inside.names.items c.args.join c.begun.result (Given (number_of (name_of c.index.result.now))) c.begun.ensures) follows begins legal (ap number_of kept)
 
 pub invariant_of-self : goal.invariant_of-self
 invariant_of-self g c =
     let items = ap (λ (branches : Names). branches.names) c.self.view_is in
-    let kept = number-read c.self.inside.names.items c.args.self.now.names c.args.join c.number-kept.result c.index.result.now items (joined-known c.args.self.now c.args.join c.requires.takes) c.index.ensures c.number-kept.ensures in
+    let kept = name-read c.self.inside.names.items c.args.self.now.names c.args.join c.index.result.now items (joined-known c.args.self.now c.args.join c.requires.takes) c.index.ensures in
     let (event, begins, (history, follows, legal)) = c.requires.takes in
-    ((event ∷ history, given-joined c.self.inside.names.items c.args.self.now _ history event c.args.join c.number-kept.result items refl follows begins legal kept), (λ e. absurd (cc)))
+    ((event ∷ history, given-joined (names_of c.self.inside.names.items) c.args.self.now _ history event c.args.join (number_of (name_of c.index.result.now)) items (names-set c.self.inside.names.items c.args.join c.begun.result (Given (number_of (name_of c.index.result.now))) c.begun.ensures) follows begins legal (ap number_of kept)), (λ e. absurd (cc)))

@@ -3,7 +3,7 @@ use Rattle.branch_names.proofs.Events.{names-follow, opening}
 use Rattle.branch_names.proofs.branches.Branches.new.Goals as goal
 
 pub invariant_of-result : goal.invariant_of-result
-invariant_of-result g c = (([], names-follow _ [] (rw (c.push_reserved.ensures.items, c.in_ok-names.ensures.items) opening)), (λ e. absurd (cc)))
+invariant_of-result g c = (([], names-follow _ [] (rw (c.push_reserved.ensures.items, c.in_ok-names.ensures.items, c.given.ensures) opening)), (λ e. absurd (cc)))
 
 pub returns-clause-opening : goal.returns-clause-opening
-returns-clause-opening g c = names-follow _ [] (rw (c.push_reserved.ensures.items, c.in_ok-names.ensures.items) opening)
+returns-clause-opening g c = names-follow _ [] (rw (c.push_reserved.ensures.items, c.in_ok-names.ensures.items, c.given.ensures) opening)
