@@ -1,5 +1,6 @@
 pub mod Placed
 pub mod Puts
+pub mod Packed
 pub mod Scopes
 pub mod Counts
 pub mod Queries

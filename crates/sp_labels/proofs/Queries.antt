@@ -3,6 +3,7 @@ use mathlib.Core.Bool.{beq, not}
 use Rattle.std.proofs.Common.{Bool, true, false, IsTrue, ◌≡◌, ◌≢◌, ◌⊎◌, ◌↔◌, inl, inr, ℕ, ◌<◌, List, length, get_or, refl, sym, ap, ◌∙◌, subst, arith}
 use Rattle.sp_labels.specs.declared.record.Standing.{Standing}
 use Rattle.sp_labels.specs.declared.record.Standing.TheVariants.{Reserved, Awaited, Running as Runs, Over}
+use Rattle.sp_labels.specs.declared.record.Record.{Record}
 use Rattle.model_strands.specs.History.{History}
 use Rattle.model_strands.specs.Strands.{Status, reserved, running, over, unused, Running, Begun}
 use Rattle.model_strands.specs.Dag.{Reaches, IsParallel, stay}
@@ -43,6 +44,19 @@ pub running-known : (roster : Roster) (history : History) → Follows roster his
 running-known roster history f strand run =
     let lt = begun-known roster history f strand (inl run) in
     (lt, running-stands history strand _ (f.each strand lt).standing run)
+
+-- a record that says so is that of a strand that runs in each followed history
+pub running-kept : (roster : Roster) (history : History) → Follows roster history → (strand : ℕ) (kept : Record) → strand < length roster.records →
+    kept ≡ record_at roster.records strand → kept.standing ≡ Runs → Running history strand
+running-kept roster history f strand kept lt is runs =
+    subst (IsStanding history strand) (sym (ap (λ (k : Record). k.standing) is) ∙ runs) (f.each strand lt).standing
+
+-- as of one that has begun
+pub begun-kept : (roster : Roster) (history : History) → Follows roster history → (strand : ℕ) (kept : Record) → strand < length roster.records →
+    kept ≡ record_at roster.records strand → (kept.standing ≡ Runs) ⊎ (kept.standing ≡ Over) → Begun history strand
+begun-kept roster history f strand kept lt is (inl runs) = inl (running-kept roster history f strand kept lt is runs)
+begun-kept roster history f strand kept lt is (inr ended) =
+    inr (subst (IsStanding history strand) (sym (ap (λ (k : Record). k.standing) is) ∙ ended) (f.each strand lt).standing)
 
 -- the standings of strands that have begun
 abbrev pub IsBegunStanding : Standing → Type 0

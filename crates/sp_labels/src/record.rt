@@ -1,6 +1,7 @@
 //! What is kept of each strand.
 
-ghost use Rattle.std.specs.Prelude.{◌≡◌, ◌<◌, length, vec_len, vec_capacity};
+ghost use Rattle.std.specs.Prelude.{◌≡◌, ◌<◌, ◌+◌, ◌++◌, [], ◌∷◌, length, vec_len, vec_capacity};
+ghost use Rattle.sp_labels.specs.Packing.{unpacked, all_unpacked};
 ghost use Rattle.sp_labels.specs.Roster.{record_at, IsPut};
 
 use std::alloc::Allocator;
@@ -40,6 +41,7 @@ pub struct Record {
 
 impl Record {
     /// A strand that runs, with no block of its own.
+    #[inline(always)]
     pub fn running(scope: Scope) -> Record
         ensures { result ≡ record { standing = Standing.Running; scope = scope; children_left = 0 } }
     {
@@ -51,31 +53,105 @@ impl Record {
     }
 }
 
+/// The kind of a scope, without the number of its block, caller or join.
+#[derive(Clone, Copy)]
+pub enum ScopeKind {
+    Root,
+    Child,
+    Call,
+    Block,
+}
+
+/// How a record is kept, in twelve bytes: the kind of its scope and its standing lie side by side.
+#[derive(Clone, Copy)]
+pub struct Kept {
+    /// The block, caller or join of the scope; of the root function 0.
+    number: u32,
+    children_left: u32,
+    kind: ScopeKind,
+    standing: Standing,
+}
+
+// Each page of them costs a fault when it is first written.
+const _: () = prove!(size_of::<Kept>() == 12);
+
+impl Kept {
+    #[inline(always)]
+    pub fn of(seen: Record) -> Kept
+        ensures { unpacked result ≡ seen }
+    {
+        let (kind, number) = match seen.scope {
+            Scope::Root => (ScopeKind::Root, 0),
+            Scope::Child { block } => (ScopeKind::Child, block),
+            Scope::Call { caller } => (ScopeKind::Call, caller),
+            Scope::Block { join } => (ScopeKind::Block, join),
+        };
+        Kept {
+            number,
+            children_left: seen.children_left,
+            kind,
+            standing: seen.standing,
+        }
+    }
+
+    #[inline(always)]
+    fn unpack(self) -> Record
+        ensures { result ≡ unpacked self }
+    {
+        let number = self.number;
+        let scope = match self.kind {
+            ScopeKind::Root => Scope::Root,
+            ScopeKind::Child => Scope::Child { block: number },
+            ScopeKind::Call => Scope::Call { caller: number },
+            ScopeKind::Block => Scope::Block { join: number },
+        };
+        Record {
+            scope,
+            children_left: self.children_left,
+            standing: self.standing,
+        }
+    }
+}
+
 /// The record of a strand.
-pub fn record_of<A: Allocator>(records: &Vec<Record, A>, strand: u32) -> Record
-    requires { strand < length records.now.items }
-    ensures { result ≡ record_at records.now.items strand }
+#[inline(always)]
+pub fn record_of<A: Allocator>(records: &Vec<Kept, A>, strand: u32) -> Record
+    requires { strand < length (all_unpacked records.now.items) }
+    ensures { result ≡ record_at (all_unpacked records.now.items) strand }
 {
-    records[strand as usize]
+    records[strand as usize].unpack()
 }
 
 /// Replaces the record of a strand.
-pub fn put<A: Allocator>(records: &mut Vec<Record, A>, strand: u32, kept: Record)
-    requires { strand < length records.old.items }
-    ensures put { IsPut records.old.items strand kept records.new.items }
+#[inline(always)]
+pub fn put<A: Allocator>(records: &mut Vec<Kept, A>, strand: u32, kept: Record)
+    requires { strand < length (all_unpacked records.old.items) }
+    ensures put { IsPut (all_unpacked records.old.items) strand kept (all_unpacked records.new.items) }
     ensures len { vec_len records.new ≡ vec_len records.old }
     ensures capacity { vec_capacity records.new ≡ vec_capacity records.old }
 {
-    records[strand as usize] = kept;
+    records[strand as usize] = Kept::of(kept);
 }
 
 /// Changes how a strand stands.
-pub fn set_standing<A: Allocator>(records: &mut Vec<Record, A>, strand: u32, standing: Standing)
-    requires { strand < length records.old.items }
-    ensures put { IsPut records.old.items strand (record (record_at records.old.items strand) { standing = standing }) records.new.items }
+#[inline(always)]
+pub fn set_standing<A: Allocator>(records: &mut Vec<Kept, A>, strand: u32, standing: Standing)
+    requires { strand < length (all_unpacked records.old.items) }
+    ensures put { IsPut (all_unpacked records.old.items) strand
+        (record (record_at (all_unpacked records.old.items) strand) { standing = standing }) (all_unpacked records.new.items) }
     ensures len { vec_len records.new ≡ vec_len records.old }
     ensures capacity { vec_capacity records.new ≡ vec_capacity records.old }
 {
-    let kept = record_of(records, strand);
-    put(records, strand, Record { standing, ..kept });
+    records[strand as usize].standing = standing;
+}
+
+/// Adds the record of the next strand, for which there is room.
+#[inline(always)]
+pub fn push<A: Allocator>(records: &mut Vec<Kept, A>, kept: Record)
+    requires { vec_len records.old < vec_capacity records.old }
+    ensures items { all_unpacked records.new.items ≡ all_unpacked records.old.items ++ kept ∷ [] }
+    ensures len { vec_len records.new ≡ vec_len records.old + 1 }
+    ensures capacity { vec_capacity records.new ≡ vec_capacity records.old }
+{
+    records.push_reserved(Kept::of(kept));
 }

@@ -12,7 +12,7 @@ ghost use Rattle.order_list.specs.Order.{most_items};
 ghost use Rattle.sp_labels.specs.Roster.{most_callers, Follows, HasBegun, HasFewLeft, event_of_spawn, event_of_sync, event_of_return};
 
 use crate::answer::{Returned, SpFault, Synced};
-use crate::record::{Record, Scope, Standing, put, record_of, set_standing};
+use crate::record::{Kept, Record, Scope, Standing, push, put, record_of, set_standing};
 use model_strands::Spawned;
 use order_list::{OrderFault, OrderList};
 use slab::Slab;
@@ -62,7 +62,7 @@ fn reserve_caller<A: Allocator>(callers: &mut Slab<Scope, A>) -> Result<(), Allo
 
 /// The strands of one spawn-sync program.
 pub struct Strands<A: Allocator> {
-    records: Vec<Record, A>,
+    records: Vec<Kept, A>,
     /// The scope in which each called function was called, until it returns.
     callers: Slab<Scope, A>,
     english: OrderList<A>,
@@ -86,12 +86,13 @@ impl<A: Allocator> Drop for Strands<A> {
 impl<A: Allocator> Model for Strands<A> {
     ghost use Rattle.std.specs.Prelude.{vec_len, vec_capacity};
     ghost use Rattle.slab.specs.Slab.{slab_len};
+    ghost use Rattle.sp_labels.specs.Packing.{all_unpacked};
     ghost use Rattle.sp_labels.specs.Roster.{Roster, FollowsSome, IsReady};
 
     ghost Value = { Roster };
 
     ghost view = { λ v. record {
-      records = v.records.items;
+      records = all_unpacked v.records.items;
       callers = v.callers.slots;
       english = v.english.items;
       hebrew = v.hebrew.items;
@@ -100,7 +101,7 @@ impl<A: Allocator> Model for Strands<A> {
 
     ghost invariant = { λ v.
         FollowsSome (record {
-          records = v.records.items;
+          records = all_unpacked v.records.items;
           callers = v.callers.slots;
           english = v.english.items;
           hebrew = v.hebrew.items;
@@ -122,7 +123,7 @@ impl<A: Allocator> Strands<A> {
         let callers = Slab::new(alloc.clone()?);
         let english = OrderList::new(alloc.clone()?)?;
         let hebrew = OrderList::new(alloc)?;
-        records.push(Record::running(Scope::Root))?;
+        records.push(Kept::of(Record::running(Scope::Root)))?;
         Ok(Strands {
             records,
             callers,
@@ -180,6 +181,7 @@ impl<A: Allocator> Strands<A> {
     }
 
     /// Whether `strand` has begun and not ended.
+    #[inline(always)]
     pub fn is_running(&self, strand: u32) -> bool
         ensures running { (history : History) → Follows self.now history → IsTrue result ↔ Running history strand }
         ensures begun { IsTrue result → HasBegun self.now strand }
@@ -189,6 +191,7 @@ impl<A: Allocator> Strands<A> {
     }
 
     /// Whether `strand` has begun, and perhaps ended.
+    #[inline(always)]
     pub fn is_begun(&self, strand: u32) -> bool
         ensures each { (history : History) → Follows self.now history → IsTrue result ↔ Begun history strand }
         ensures begun { IsTrue result ↔ HasBegun self.now strand }
@@ -201,6 +204,7 @@ impl<A: Allocator> Strands<A> {
     }
 
     /// Whether the innermost function of a running strand has no open block.
+    #[inline(always)]
     pub fn is_synced(&self, strand: u32) -> bool
         requires { (history : History) → Follows self.now history → Running history strand }
         ensures { (history : History) → Follows self.now history → IsTrue result ↔ IsSynced (stack history strand) }
@@ -251,15 +255,19 @@ impl<A: Allocator> Strands<A> {
 
         let scope = record_of(&self.records, strand).scope;
         set_standing(&mut self.records, strand, Standing::Over);
-        self.records
-            .push_reserved(Record::running(Scope::Child { block: join }));
-        self.records
-            .push_reserved(Record::running(Scope::Block { join }));
-        self.records.push_reserved(Record {
-            standing: Standing::Reserved,
-            scope,
-            children_left: 1,
-        });
+        push(
+            &mut self.records,
+            Record::running(Scope::Child { block: join }),
+        );
+        push(&mut self.records, Record::running(Scope::Block { join }));
+        push(
+            &mut self.records,
+            Record {
+                standing: Standing::Reserved,
+                scope,
+                children_left: 1,
+            },
+        );
         Spawned {
             child,
             next,
@@ -291,10 +299,11 @@ impl<A: Allocator> Strands<A> {
                 ..joining
             },
         );
-        self.records
-            .push_reserved(Record::running(Scope::Child { block: join }));
-        self.records
-            .push_reserved(Record::running(Scope::Block { join }));
+        push(
+            &mut self.records,
+            Record::running(Scope::Child { block: join }),
+        );
+        push(&mut self.records, Record::running(Scope::Block { join }));
         Spawned {
             child,
             next,

@@ -4,6 +4,7 @@ use Rattle.model_strands.specs.Blocks.{enclosing}
 use Rattle.law_strands.specs.Counts.{children_left}
 use Rattle.sp_labels.specs.declared.record.Standing.TheVariants.{Over}
 use Rattle.sp_labels.specs.declared.record.Record.{Record}
+use Rattle.sp_labels.specs.Packing.{all_unpacked}
 use Rattle.sp_labels.specs.Roster.{Follows, record_at, IsPut}
 use Rattle.sp_labels.proofs.Queries.{running-known}
 use Rattle.sp_labels.proofs.Acting.{join-known}
@@ -48,8 +49,8 @@ returns-then-matches-clause-returned g c history now =
     let f = subst (λ r. Follows r history) (sym c.self.view_is) now in
     let run = c.requires.running history now in
     let at = c.requires.child history now in
-    let kept : Record = record_at c.self.inside.records.items c.args.strand in
-    let put : IsPut c.self.inside.records.items c.args.strand (record kept { standing = Over }) c.set_standing.new.records.items = c.set_standing.ensures.put in
+    let kept : Record = record_at (all_unpacked c.self.inside.records.items) c.args.strand in
+    let put : IsPut (all_unpacked c.self.inside.records.items) c.args.strand (record kept { standing = Over }) (all_unpacked c.set_standing.new.records.items) = c.set_standing.ensures.put in
     follows-ended-joined _ history c.args.strand at.0 c.args.join _ _ _ _ _ f run at.1 refl put c.record_of-joining.ensures refl c.put.ensures.put
     c.if-children_left-eq0.true (elim c.match-matches.branch [ in-Awaited w ↦ w.in-Awaited.is | in_default w ↦ absurd (let e = c.if-matches.true in let g = w.matches-is in cc) ])
 
@@ -63,8 +64,8 @@ returns-else-children_left-eq0-clause-returned g c history now =
     let f = subst (λ r. Follows r history) (sym c.self.view_is) now in
     let run = c.requires.running history now in
     let at = c.requires.child history now in
-    let kept : Record = record_at c.self.inside.records.items c.args.strand in
-    let put : IsPut c.self.inside.records.items c.args.strand (record kept { standing = Over }) c.set_standing.new.records.items = c.set_standing.ensures.put in
+    let kept : Record = record_at (all_unpacked c.self.inside.records.items) c.args.strand in
+    let put : IsPut (all_unpacked c.self.inside.records.items) c.args.strand (record kept { standing = Over }) (all_unpacked c.set_standing.new.records.items) = c.set_standing.ensures.put in
     follows-ended _ history c.args.strand at.0 c.args.join _ _ _ _ _ f run at.1 refl put c.record_of-joining.ensures refl c.put-else-children_left-eq0.ensures.put
     (elim c.else-children_left-eq0.branch [
       | else-children_left-eq0-via-then-children_left-eq0+else-matches w ↦ elim w.match-matches.branch [

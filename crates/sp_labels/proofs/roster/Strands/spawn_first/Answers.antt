@@ -1,6 +1,7 @@
 use Rattle.std.proofs.Common.{◌≡◌, ◌+◌, ◌∷◌, ◌<◌, ◌∙◌, ℕ, true, refl, sym, subst, length, arith}
 use Rattle.model_strands.specs.History.{split}
 use Rattle.order_list.specs.Order.{insert_behind}
+use Rattle.sp_labels.specs.Packing.{all_unpacked}
 use Rattle.sp_labels.specs.Roster.{Follows}
 use Rattle.sp_labels.proofs.Puts.{standing-put}
 use Rattle.sp_labels.proofs.Queries.{running-known}
@@ -39,7 +40,7 @@ returns-clause-spawned g c history now =
     let f = subst (λ r. Follows r history) (sym c.self.view_is) now in
     let strand : ℕ = c.args.strand in
     let child : ℕ = c.insert_three-child.result in
-    let count : ℕ = length c.self.inside.records.items in
+    let count : ℕ = length (all_unpacked c.self.inside.records.items) in
     let english = c.self.inside.english.items in
     let hebrew = c.self.inside.hebrew.items in
     let run = c.requires.running history now in
@@ -57,7 +58,7 @@ returns-clause-spawned g c history now =
     let hebrew_3 = order-grows _ _ _ (count + 1 + 1) child (child + 2) (child + 2) hebrew_2 (omega (arith, child_is)) (omega (arith, child_is)) (omega (arith, child_is, hebrew_2.len)) larger in
     let all : count + 1 + 1 + 1 ≡ count + 3 = omega arith in
     follows-first _ history strand child (child + 1) (child + 2) _ _ _ _ _ _ _ f run (c.requires.synced history now) child_is next_is join_is c.record_of-scope.ensures (standing-put _ _ _ _ _ c.record_of-scope.ensures c.set_standing.ensures.put)
-    (rw c.running.ensures at c.push_reserved.ensures.items) (rw c.running-2.ensures at c.push_reserved-2.ensures.items) c.push_reserved-3.ensures.items (rw all at english_3) (rw all at hebrew_3)
+    (rw c.running.ensures at c.push.ensures.items) (rw c.running-2.ensures at c.push-2.ensures.items) c.push-3.ensures.items (rw all at english_3) (rw all at hebrew_3)
 
 pub invariant_of-self : goal.invariant_of-self
 invariant_of-self g c =

@@ -6,6 +6,7 @@ use Rattle.law_strands.specs.Counts.{children_left}
 use Rattle.order_list.specs.Order.{insert_behind}
 use Rattle.sp_labels.specs.declared.record.Standing.TheVariants.{Over}
 use Rattle.sp_labels.specs.declared.record.Record.{Record}
+use Rattle.sp_labels.specs.Packing.{all_unpacked}
 use Rattle.sp_labels.specs.Roster.{Follows, record_at, IsPut}
 use Rattle.sp_labels.proofs.Queries.{running-known}
 use Rattle.sp_labels.proofs.Placed.{order-grows}
@@ -66,12 +67,12 @@ returns-clause-spawned g c history now =
     let strand : ℕ = c.args.strand in
     let child : ℕ = c.insert_two-child.result in
     let join : ℕ = c.args.join in
-    let count : ℕ = length c.self.inside.records.items in
+    let count : ℕ = length (all_unpacked c.self.inside.records.items) in
     let run = c.requires.running history now in
     let at = c.requires.in_block history now in
     let lt : strand < count = (running-known _ history f c.args.strand run).0 in
-    let kept : Record = record_at c.self.inside.records.items c.args.strand in
-    let put : IsPut c.self.inside.records.items c.args.strand (record kept { standing = Over }) c.set_standing.new.records.items = c.set_standing.ensures.put in
+    let kept : Record = record_at (all_unpacked c.self.inside.records.items) c.args.strand in
+    let put : IsPut (all_unpacked c.self.inside.records.items) c.args.strand (record kept { standing = Over }) (all_unpacked c.set_standing.new.records.items) = c.set_standing.ensures.put in
     let english = c.self.inside.english.items in
     let hebrew = c.self.inside.hebrew.items in
     let child_is : child ≡ count = c.insert_two-child.ensures.item ∙ f.english.len in
@@ -84,7 +85,7 @@ returns-clause-spawned g c history now =
     let hebrew_2 = order-grows _ _ _ (count + 1) strand (child + 1) (child + 1) hebrew_1 (omega (arith, lt)) next_is (next_is ∙ sym hebrew_1.len) larger in
     let all : count + 1 + 1 ≡ count + 2 = omega arith in
     follows-later _ history strand child (child + 1) join at.0 _ _ _ _ _ _ _ _ f run at.1 child_is next_is refl put c.record_of-joining.ensures c.put.ensures.put
-    (rw c.running.ensures at c.push_reserved.ensures.items) (rw c.running-2.ensures at c.push_reserved-2.ensures.items) (rw all at english_2) (rw all at hebrew_2)
+    (rw c.running.ensures at c.push.ensures.items) (rw c.running-2.ensures at c.push-2.ensures.items) (rw all at english_2) (rw all at hebrew_2)
 
 pub invariant_of-self : goal.invariant_of-self
 invariant_of-self g c =
