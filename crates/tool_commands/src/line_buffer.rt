@@ -44,7 +44,7 @@ impl<A: Allocator> Model for LineBuffer<A> {
 fn put_name(out: &mut [u8], at: usize, mem: &Mem, index: usize, counted: &mut Counted) -> usize
     requires short { HasShortName mem.now }
     requires room { at + 58 ≤ length out.old }
-    ensures end { result ≤ at + 55 }
+    ensures end { result ≤ at + 56 }
     ensures len { length out.new ≡ length out.old }
     ensures put { take result out.new ≡ take at out.old ++ name_in mem.now index }
 {
