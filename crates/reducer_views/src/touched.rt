@@ -1,7 +1,7 @@
 //! The reducers that a piece of the serial order has touched, each with its view.
 
-ghost use Rattle.std.specs.Prelude.{◌≡◌, ◌+◌, ◌<◌, ◌≤◌, ◌^◌, ℕ, OnOk, vec_len};
-ghost use Rattle.reducer_views.specs.Touched.{Changes, ChangesPlace, added, both, column_of, combined, touch_in, touches_of};
+ghost use Rattle.std.specs.Prelude.{◌≡◌, ◌+◌, ◌<◌, ◌≤◌, ◌^◌, ◌/◌, ◌%◌, ℕ, OnOk, vec_len};
+ghost use Rattle.reducer_views.specs.Touched.{Changes, ChangesPlace, added, both, column_from, column_of, combined, touch_in, touches_of};
 
 use crate::view::product;
 use model_reducers::{Monoid, View};
@@ -119,6 +119,8 @@ pub struct Slot<A: Allocator> {
     row: Row,
     odd: Slots<A>,
     even: Slots<A>,
+    /// In the first slot of a piece's table the later continuation that is kept of the piece; else it counts for nothing.
+    pub later: u32,
 }
 
 /// A table of reducers, by the rows in which they stand. The way to a row goes by at most 31 slots.
@@ -136,6 +138,7 @@ fn fresh<A: Allocator + Clone>(alloc: &A) -> Result<Box<Slot<A>, A>, AllocError>
         row: Row::empty(),
         odd: None,
         even: None,
+        later: 0,
     };
     Ok(Box::new(alloc.clone()?, slot)?)
 }
@@ -153,24 +156,23 @@ pub fn fill<A: Allocator + Clone>(spare: &mut Spare<A>, alloc: &A) -> Result<(),
     Ok(())
 }
 
-/// The touch of a reducer, if there is one.
-pub fn find<A: Allocator>(slots: &Slots<A>, reducer: u32) -> Option<Touch>
-    ensures { result ≡ touches_of slots.now reducer }
+/// The touch of a reducer in the table that begins with a slot, if there is one.
+pub fn find<A: Allocator>(first: &Slot<A>, reducer: u32) -> Option<Touch>
+    ensures { result ≡ column_from first.now (reducer % 4) (reducer / 4) }
 {
-    let mut rest = slots;
+    let mut slot = first;
     let mut number = reducer / 4;
-    while let Some(slot) = rest {
-        if number == 0 {
-            return slot.row.at((reducer % 4) as usize);
-        }
-        rest = if number % 2 == 1 {
+    while number != 0 {
+        let behind = if number % 2 == 1 {
             &slot.odd
         } else {
             &slot.even
         };
+        let Some(next) = behind else { return None };
+        slot = next;
         number = (number - 1) / 2;
     }
-    None
+    slot.row.at((reducer % 4) as usize)
 }
 
 /// Takes an empty slot from the reserve.
@@ -185,6 +187,7 @@ fn blank<A: Allocator>(spare: &mut Spare<A>) -> Box<Slot<A>, A>
     slot.row = Row::empty();
     slot.odd = None;
     slot.even = None;
+    slot.later = 0;
     slot
 }
 

@@ -17,4 +17,6 @@ pub offset_bounds-pieces-home : goal.offset_bounds-pieces-home
 offset_bounds-pieces-home g c = scaled_Fits _ _ _ c.requires.home_known (search rules)
 
 pub returns : goal.returns
-returns g c = takes_over _ _ _ _ _ _ _ _ c.requires.home_known c.requires.later_known c.requires.apart c.take-slots.ensures.value c.take-slots.ensures.after c.absorb.ensures
+returns g c =
+    takes_over _ _ _ _ _ _ _ _ _ _ _ c.requires.home_known c.requires.later_known c.requires.apart c.take_slots-taken.ensures.table c.take_slots-taken.ensures.rest
+    c.take_slots-slots.ensures.table c.take_slots-slots.ensures.rest c.absorb.ensures c.put_slots.ensures
