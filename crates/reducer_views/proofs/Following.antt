@@ -38,7 +38,7 @@ use Rattle.reducer_views.specs.Homes.{home, later, IsCurrent}
 use Rattle.reducer_views.specs.Held.{Holding, Holds, view_of, IsQuiet, QuietLaw}
 use Rattle.reducer_views.proofs.Associative.{product_of_assoc, product_of-fits, identity-right, identity_of-fits}
 use Rattle.reducer_views.proofs.Touches.{gathered_fits, added_touch, added_view}
-use Rattle.reducer_views.proofs.KeptLists.{length-all_kept, home_in_range, set_kept, set_changes}
+use Rattle.reducer_views.proofs.KeptLists.{home_in_range, set_kept, set_changes}
 use Rattle.reducer_views.proofs.Blocks.{continuations, blocks, old_home, not_new, follow_same, home_at_child, home_at_next, home_at_join, later_elsewhere, later_at_child, later_at_next, later_at_join, later_at_home}
 use Rattle.reducer_views.proofs.Currents.{Gathered, gathered_joined, gathered_ended, current_known, current_split, current_joined, current_ended_joined, current_finished, current_waits, current_ended, own_homes}
 
@@ -407,9 +407,6 @@ pub ended_joined_at : {A : Type 0} (monoids : List Monoid) (room new_room : Bool
 ended_joined_at monoids room new_room pieces new_pieces items now steps s j now_is items_is l k sound alike all a =
     subst (λ ps. Holds (held monoids ps new_room) (control (ended_joined s j) ∷ steps)) (sym items_is)
     (holds_ended_joined (held monoids pieces room) (held monoids new_pieces new_room) steps s j l (subst (λ v. Holds v steps) (sym now_is) k) sound refl alike all a)
-
-pub there_at : {A : Type 0} (monoids : List Monoid) (room : Bool) (pieces : List (Piece A)) (now : Holding) (strand : ℕ) → held monoids pieces room ≡ now → strand < length now.strands → strand < length pieces
-there_at monoids room pieces now strand now_is lt = subst (λ m. strand < m) (ap (λ v. length v.strands) (sym now_is) ∙ length-all_kept pieces) lt
 
 pub updated_at_home : {A : Type 0} (monoids : List Monoid) (room new_room : Bool) (pieces new_pieces items : List (Piece A)) (now : Holding) (steps : Steps) (s q number home : ℕ) (v : View) →
     held monoids pieces room ≡ now → items ≡ new_pieces → home ≡ home_at (all_kept pieces) s → v ≡ update_view (monoid_of monoids q) number →

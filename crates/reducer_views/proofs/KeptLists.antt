@@ -1,5 +1,6 @@
 -- What is kept of the strands, when what is touched at one number changes.
-use Rattle.std.proofs.Common.{◌≡◌, ◌≢◌, ◌⊎◌, inl, inr, ℕ, ◌-◌, ◌/◌, ◌%◌, ◌<◌, zero, suc, List, [], ◌∷◌, length, map, get_or, set, Option, Some, None, Box, refl, sym, ap, ap₂, ◌∙◌, subst, subst₂, arith}
+use Rattle.std.proofs.Common.{◌≡◌, ◌≢◌, ◌⊎◌, inl, inr, ℕ, ◌-◌, ◌/◌, ◌%◌, ◌<◌, false, zero, suc, List, [], ◌∷◌, length, map, get_or, set, Option, Some, None, Box, refl, sym, ap, ap₂, ◌∙◌, subst, subst₂, arith}
+use Rattle.std.specs.Option.{is_some}
 use Rattle.std.proofs.lemmas.List.{get_or-map, get_or-set_other, get_or-set_same, length-map, length-set, map-set}
 use Rattle.law_strands.proofs.Members.{Present, contains_present}
 use Rattle.model_reducers.specs.declared.monoid.Monoid.{Monoid}
@@ -8,10 +9,11 @@ use Rattle.reducer_views.specs.declared.pieces.Piece.TheVariants.{Touched}
 use Rattle.reducer_views.specs.declared.touched.Touch.{Touch}
 use Rattle.reducer_views.specs.declared.touched.Slot.{Slot}
 use Rattle.model_reducers.specs.Products.{identity_of, product_of, monoid_of}
-use Rattle.reducer_views.specs.Touched.{Touches, Listed, column_from, touches_of, look_up, listed_of, Changes, both, added, view_or, gathered, IsTouch, AreTouches}
-use Rattle.reducer_views.specs.Pieces.{Kept, kept_of, all_kept, kept_at, home_at, later_at, touches_at, view_in, AreKept, SameHomes, WithTouches, TakesOver, SetsAt, ChangesAt, AreLater, product_from, Combines}
+use Rattle.reducer_views.specs.Touched.{Touches, Listed, column_from, touches_of, look_up, listed_of, later_in, Changes, ChangesPlace, both, added, view_or, gathered, IsTouch, AreTouches}
+use Rattle.reducer_views.specs.Pieces.{Kept, kept_of, all_kept, kept_at, home_at, later_at, touches_at, view_in, AreKept, SameHomes, WithTouches, TakesOver, SetsAt, SetsIn, ChangesAt, AreLater, product_from, Combines}
 use Rattle.law_strands.proofs.Updates.{same_or_not}
 use Rattle.reducer_views.proofs.Listed.{look_up-listed_of}
+use Rattle.reducer_views.proofs.Slots.{touches_change}
 use Rattle.reducer_views.proofs.Touches.{both_touch, both_view}
 
 abbrev pub nothing_kept : Kept
@@ -311,45 +313,89 @@ fewer_at monoids start now new home first at next p sound same next_is positive 
     fewer_left (length now) (length new) at next e positive lt (goes_up monoids start (all_kept now) (all_kept new) home first at next p same next_is positive)
     (subst (λ n. next < n) e (later_in_range monoids new at next sound next_is))
 
--- one touch is written in a table
-sets_touch : (strands new : List Kept) (home reducer : ℕ) (touch : Touch) (before after : Touches) → WithTouches strands new home after → ((other : ℕ) → before other ≡ touches_at strands home other) →
-    Changes before after reducer touch → SetsAt strands new home reducer touch
-sets_touch strands new home reducer touch before after filled before_is change = record {
+-- one touch is written in a piece
+pub sets_at : {A : Type 0} (pieces : List (Piece A)) (home reducer : ℕ) (touch : Touch) (piece new : Piece A) → home < length pieces → SetsIn (kept_of (get_or pieces home piece)) (kept_of new) reducer touch →
+    SetsAt (all_kept pieces) (all_kept (set pieces home new)) home reducer touch
+sets_at {A} pieces home reducer touch piece new known sets = record {
   same = filled.same;
-  changed = ap (λ ts. ts reducer) filled.changed ∙ change.changed;
+  changed = ap (λ ts. ts reducer) filled.changed ∙ sets.touches.changed;
   others = λ strand other apart. elim (same_or_not strand home) [
     | inl e ↦ elim apart [
       | inl ne ↦ absurd (ne e)
-      | inr ne ↦ subst (λ y. touches_at new y other ≡ touches_at strands y other) (sym e)
-          (ap (λ ts. ts other) filled.changed ∙ (change.others other ne ∙ before_is other))
+      | inr ne ↦ subst (λ y. touches_at (all_kept (set pieces home new)) y other ≡ touches_at (all_kept pieces) y other) (sym e)
+          (ap (λ ts. ts other) filled.changed ∙ (sets.touches.others other ne ∙ sym (ap (λ k. look_up k.touches other) (kept_here pieces home piece known))))
     ]
     | inr ne ↦ ap (λ ts. ts other) (filled.others strand ne)
   ];
 }
+  where
+    filled : WithTouches (all_kept pieces) (all_kept (set pieces home new)) home (look_up (kept_of new).touches)
+    filled = with_piece pieces home piece new (kept_of new).touches known (ap₂ (λ home_is later_is. (let kept : Kept = record { home = home_is; later = later_is; touches = (kept_of new).touches } in kept)) sets.home sets.later)
 
-listed_changes : {A : Type 0} (before : Touches) (slots : Option (Box (Slot A) A)) (reducer : ℕ) (touch : Touch) → Changes before (touches_of slots) reducer touch → Changes before (look_up (listed_of slots)) reducer touch
-listed_changes before slots reducer touch change = record {
-  changed = look_up-listed_of slots reducer ∙ change.changed;
-  others = λ other ne. look_up-listed_of slots other ∙ change.others other ne;
+pub adds_at : {A : Type 0} (pieces : List (Piece A)) (home reducer : ℕ) (touch : Touch) (piece new : Piece A) → home < length pieces →
+    SetsIn (kept_of (get_or pieces home piece)) (kept_of new) reducer (added (look_up (kept_of (get_or pieces home piece)).touches reducer) touch) →
+    SetsAt (all_kept pieces) (all_kept (set pieces home new)) home reducer (added (touches_at (all_kept pieces) home reducer) touch)
+adds_at pieces home reducer touch piece new known sets =
+    subst (λ t. SetsAt (all_kept pieces) (all_kept (set pieces home new)) home reducer (added t touch)) (sym (ap (λ k. look_up k.touches reducer) (kept_here pieces home piece known)))
+    (sets_at pieces home reducer (added (look_up (kept_of (get_or pieces home piece)).touches reducer) touch) piece new known sets)
+
+-- a table was taken out, a touch set in it, and it was put back
+pub sets_table : {A : Type 0} (old bare new : Kept) (taken slots : Option (Box (Slot A) A)) (reducer : ℕ) (touch : Touch) → listed_of taken ≡ old.touches → bare ≡ record old { touches = [] } →
+    Changes (touches_of taken) (touches_of slots) reducer touch → new ≡ record bare { touches = listed_of slots } → SetsIn old new reducer touch
+sets_table {A} old bare new taken slots reducer touch taken_is bare_is change new_is = record {
+  home = ap (λ (k : Kept). k.home) new_is ∙ ap (λ (k : Kept). k.home) bare_is;
+  later = ap (λ (k : Kept). k.later) new_is ∙ ap (λ (k : Kept). k.later) bare_is;
+  touches = record {
+    changed = after reducer ∙ change.changed;
+    others = λ other ne. after other ∙ (change.others other ne ∙ (sym (look_up-listed_of taken other) ∙ ap (λ ts. look_up ts other) taken_is));
+  };
 }
+  where
+    after : (other : ℕ) → look_up new.touches other ≡ touches_of slots other
+    after other = ap (λ (k : Kept). look_up k.touches other) new_is ∙ look_up-listed_of slots other
 
--- one touch is written where a piece is lent
-module _ {A : Type 0} (pieces : List (Piece A)) (home reducer : ℕ) (touch : Touch) (piece new : Piece A) (bare : Kept) (taken slots : Option (Box (Slot A) A)) (known : home < length pieces)
-    (taken_is : listed_of taken ≡ (kept_of (get_or pieces home piece)).touches) (bare_is : bare ≡ record (kept_of (get_or pieces home piece)) { touches = [] })
-    (new_is : kept_of new ≡ record bare { touches = listed_of slots }) where
-  pub sets_at : Changes (touches_of taken) (touches_of slots) reducer touch → SetsAt (all_kept pieces) (all_kept (set pieces home new)) home reducer touch
-  sets_at change =
-      sets_touch (all_kept pieces) (all_kept (set pieces home new)) home reducer touch (touches_of taken) (look_up (listed_of slots))
-      (with_table pieces home piece new bare slots known bare_is new_is) (table_touches pieces home piece taken known taken_is) (listed_changes (touches_of taken) slots reducer touch change)
+-- a touch was combined in the table that begins with a slot
+pub gathers_table : {A : Type 0} (piece : Piece A) (home : ℕ) (box : Box (Slot A) A) (slot new : Slot A) (reducer : ℕ) (touch : Touch) → piece ≡ Touched home box → slot ≡ box.value →
+    ChangesPlace (column_from slot) (column_from new) (reducer / 4) (reducer % 4) (added (column_from slot (reducer % 4) (reducer / 4)) touch) → later_in new ≡ later_in slot →
+    SetsIn (kept_of piece) (kept_of (Touched home (record box { value = new }))) reducer (added (look_up (kept_of piece).touches reducer) touch)
+gathers_table {A} piece home box slot new reducer touch piece_is slot_is change later_is =
+    subst (λ (p : Piece A). SetsIn (kept_of p) (kept_of (Touched home filled)) reducer (added (look_up (kept_of p).touches reducer) touch)) (sym piece_is) (record {
+      home = refl;
+      later = later_is ∙ ap (λ (s : Slot A). later_in s) slot_is;
+      touches = record {
+        changed = look_up-listed_of (Some filled) reducer ∙ (whole.changed ∙ ap (λ t. Some (added t touch)) (sym (look_up-listed_of (Some box) reducer)));
+        others = λ other ne. look_up-listed_of (Some filled) other ∙ (whole.others other ne ∙ sym (look_up-listed_of (Some box) other));
+      };
+    })
+  where
+    filled : Box (Slot A) A
+    filled = record box { value = new }
 
-module _ {A : Type 0} (pieces : List (Piece A)) (home reducer : ℕ) (touch : Touch) (piece new : Piece A) (bare : Kept) (taken slots : Option (Box (Slot A) A)) (known : home < length pieces)
-    (taken_is : listed_of taken ≡ (kept_of (get_or pieces home piece)).touches) (bare_is : bare ≡ record (kept_of (get_or pieces home piece)) { touches = [] })
-    (new_is : kept_of new ≡ record bare { touches = listed_of slots }) where
-  pub adds_at : Changes (touches_of taken) (touches_of slots) reducer (added (touches_of taken reducer) touch) →
-      SetsAt (all_kept pieces) (all_kept (set pieces home new)) home reducer (added (touches_at (all_kept pieces) home reducer) touch)
-  adds_at change =
-      sets_at pieces home reducer (added (touches_at (all_kept pieces) home reducer) touch) piece new bare taken slots known taken_is bare_is new_is
-      (subst (λ t. Changes (touches_of taken) (touches_of slots) reducer (added t touch)) (table_touches pieces home piece taken known taken_is reducer) change)
+    whole : Changes (touches_of (Some box)) (touches_of (Some filled)) reducer (added (touches_of (Some box) reducer) touch)
+    whole = touches_change (Some box) (Some filled) reducer (added (touches_of (Some box) reducer) touch)
+        (subst (λ (s : Slot A). ChangesPlace (column_from s) (column_from new) (reducer / 4) (reducer % 4) (added (column_from s (reducer % 4) (reducer / 4)) touch)) slot_is change)
+
+both_none : (touch : Option Touch) → touch ≡ both touch None
+both_none None = refl
+both_none (Some touch) = refl
+
+is_none : {A : Type 0} (slots : Option (Box (Slot A) A)) → is_some slots ≡ false → slots ≡ None
+is_none None e = refl
+is_none (Some slot) e = absurd (cc)
+
+pub takes_nothing : {A : Type 0} (pieces : List (Piece A)) (home later : ℕ) (other emptied : Piece A) (taken : Option (Box (Slot A) A)) → later < length pieces → home < later →
+    listed_of taken ≡ (kept_of (get_or pieces later other)).touches → kept_of emptied ≡ record (kept_of (get_or pieces later other)) { touches = [] } → is_some taken ≡ false →
+    TakesOver (all_kept pieces) (all_kept (set pieces later emptied)) home later
+takes_nothing {A} pieces home later other emptied taken known apart taken_is emptied_is empty = record {
+  same = bare.same;
+  taken = λ r. ap (λ ts. ts r) (bare.others home (λ e. omega (arith, e, apart))) ∙ (both_none (touches_at (all_kept pieces) home r) ∙
+      ap (both (touches_at (all_kept pieces) home r)) (ap (λ (s : Option (Box (Slot A) A)). touches_of s r) (sym (is_none taken empty)) ∙ table_touches pieces later other taken known taken_is r));
+  emptied = λ r. ap (λ ts. ts r) bare.changed;
+  others = λ strand away off. bare.others strand off;
+}
+  where
+    bare : WithTouches (all_kept pieces) (all_kept (set pieces later emptied)) later (look_up [])
+    bare = with_piece pieces later other emptied [] known emptied_is
 
 pub takes_over : {A : Type 0} (pieces : List (Piece A)) (home later : ℕ) (other emptied piece new : Piece A) (bare : Kept) (taken slots absorbed : Option (Box (Slot A) A)) → home < length pieces → later < length pieces → home < later →
     listed_of taken ≡ (kept_of (get_or pieces later other)).touches → kept_of emptied ≡ record (kept_of (get_or pieces later other)) { touches = [] } →

@@ -101,32 +101,26 @@ module _ {A : Type 0} (old : Columns) (slot : Slot A) (number place : ℕ) (touc
       (place_even (out-Slot A slot).row (column_of (out-Slot A slot).odd) (column_of (out-Slot A slot).even) (column_of even) number place touch ne o change)
 
 -- a touch is combined behind a slot, by where it stands
-module _ {A : Type 0} (slots : Table A) (box : Box (Slot A) A) (slot : Slot A) (number place : ℕ) (touch : Touch) (slots_is : slots ≡ Some box) (slot_is : slot ≡ box.value) where
-  before_slot : (other row : ℕ) → column_from slot other row ≡ column_of slots other row
-  before_slot other row =
-      ap (λ (s : Slot A). column_from s other row) slot_is ∙ sym (ap (λ (s : Table A). column_of s other row) slots_is)
-
+module _ {A : Type 0} (slot : Slot A) (number place : ℕ) (touch : Touch) where
   pub gather_first : (row : Row) → number ≡ 0 → Changes (touch_in (out-Slot A slot).row) (touch_in row) place (added (touch_in (out-Slot A slot).row place) touch) →
-      ChangesPlace (column_of slots) (column_from (rolled row (out-Slot A slot).odd (out-Slot A slot).even (out-Slot A slot).later)) number place (added (column_of slots place number) touch)
+      ChangesPlace (column_from slot) (column_from (rolled row (out-Slot A slot).odd (out-Slot A slot).even (out-Slot A slot).later)) number place (added (column_from slot place number) touch)
   gather_first row e change =
-      set_first (column_of slots) slot number place (added (column_of slots place number) touch) before_slot row e
-      (subst (λ (t : Option Touch). Changes (touch_in (out-Slot A slot).row) (touch_in row) place (added t touch)) (found_first slot place number e ∙ before_slot place number) change)
+      set_first (column_from slot) slot number place (added (column_from slot place number) touch) (λ p n. refl) row e
+      (subst (λ (t : Option Touch). Changes (touch_in (out-Slot A slot).row) (touch_in row) place (added t touch)) (found_first slot place number e) change)
 
   pub gather_odd : (odd : Table A) → number ≢ 0 → number % 2 ≡ 1 →
       ChangesPlace (column_of (out-Slot A slot).odd) (column_of odd) ((number - 1) / 2) place (added (column_of (out-Slot A slot).odd place ((number - 1) / 2)) touch) →
-      ChangesPlace (column_of slots) (column_from (rolled (out-Slot A slot).row odd (out-Slot A slot).even (out-Slot A slot).later)) number place (added (column_of slots place number) touch)
+      ChangesPlace (column_from slot) (column_from (rolled (out-Slot A slot).row odd (out-Slot A slot).even (out-Slot A slot).later)) number place (added (column_from slot place number) touch)
   gather_odd odd ne o change =
-      set_odd (column_of slots) slot number place (added (column_of slots place number) touch) before_slot odd ne o
-      (subst (λ (t : Option Touch). ChangesPlace (column_of (out-Slot A slot).odd) (column_of odd) ((number - 1) / 2) place (added t touch))
-      (found_odd slot place number ne o ∙ before_slot place number) change)
+      set_odd (column_from slot) slot number place (added (column_from slot place number) touch) (λ p n. refl) odd ne o
+      (subst (λ (t : Option Touch). ChangesPlace (column_of (out-Slot A slot).odd) (column_of odd) ((number - 1) / 2) place (added t touch)) (found_odd slot place number ne o) change)
 
   pub gather_even : (even : Table A) → number ≢ 0 → number % 2 ≢ 1 →
       ChangesPlace (column_of (out-Slot A slot).even) (column_of even) ((number - 1) / 2) place (added (column_of (out-Slot A slot).even place ((number - 1) / 2)) touch) →
-      ChangesPlace (column_of slots) (column_from (rolled (out-Slot A slot).row (out-Slot A slot).odd even (out-Slot A slot).later)) number place (added (column_of slots place number) touch)
+      ChangesPlace (column_from slot) (column_from (rolled (out-Slot A slot).row (out-Slot A slot).odd even (out-Slot A slot).later)) number place (added (column_from slot place number) touch)
   gather_even even ne o change =
-      set_even (column_of slots) slot number place (added (column_of slots place number) touch) before_slot even ne o
-      (subst (λ (t : Option Touch). ChangesPlace (column_of (out-Slot A slot).even) (column_of even) ((number - 1) / 2) place (added t touch))
-      (found_even slot place number ne o ∙ before_slot place number) change)
+      set_even (column_from slot) slot number place (added (column_from slot place number) touch) (λ p n. refl) even ne o
+      (subst (λ (t : Option Touch). ChangesPlace (column_of (out-Slot A slot).even) (column_of even) ((number - 1) / 2) place (added t touch)) (found_even slot place number ne o) change)
 
 -- a reducer is known by its row and its place there
 same_reducer : (reducer other : ℕ) → other % 4 ≡ reducer % 4 → other / 4 ≡ reducer / 4 → other ≡ reducer

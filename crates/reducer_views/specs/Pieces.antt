@@ -7,7 +7,7 @@ use Rattle.reducer_views.specs.declared.pieces.Piece.{Piece}
 use Rattle.reducer_views.specs.declared.pieces.Piece.TheVariants.{Untouched, Touched}
 use Rattle.model_reducers.specs.Products.{product_of, monoid_of}
 use Rattle.reducer_views.specs.declared.touched.Touch.{Touch}
-use Rattle.reducer_views.specs.Touched.{Touches, Listed, look_up, listed_of, later_in, both, gathered, AreTouches}
+use Rattle.reducer_views.specs.Touched.{Touches, Listed, look_up, listed_of, later_in, Changes, both, gathered, AreTouches}
 
 -- of one strand: the strand under whose number its view is kept, the next continuation of a block, and the reducers that are touched there
 pub record Kept : Type 0 where
@@ -69,6 +69,12 @@ pub record TakesOver (old new : List Kept) (home later : ℕ) : Type 0 where
   pub taken : (reducer : ℕ) → touches_at new home reducer ≡ both (touches_at old home reducer) (touches_at old later reducer)
   pub emptied : (reducer : ℕ) → touches_at new later reducer ≡ None
   pub others : (strand : ℕ) → strand ≢ home → strand ≢ later → touches_at new strand ≡ touches_at old strand
+
+-- of this strand only the touch of the reducer differs: it is now this one
+pub record SetsIn (old new : Kept) (reducer : ℕ) (touch : Touch) : Type 0 where
+  pub home : new.home ≡ old.home
+  pub later : new.later ≡ old.later
+  pub touches : Changes (look_up old.touches) (look_up new.touches) reducer touch
 
 -- the touch of the reducer at this home is now this one, and all others are as before
 pub record SetsAt (old new : List Kept) (home reducer : ℕ) (touch : Touch) : Type 0 where

@@ -2,7 +2,7 @@
 
 ghost use Rattle.std.specs.Prelude.{◌≡◌, ◌+◌, ◌<◌, ◌≤◌, ◌^◌, ℕ, List, [], length, vec_len, vec_capacity, IfOk};
 ghost use Rattle.model_reducers.specs.declared.monoid.Monoid.{Monoid};
-ghost use Rattle.reducer_views.specs.Pieces.{AreKept, AreLater, Combines, Grown, SameHomes, SetsAt};
+ghost use Rattle.reducer_views.specs.Pieces.{AreKept, AreLater, Combines, Grown, SameHomes, SetsAt, SetsIn};
 ghost use Rattle.reducer_views.specs.Pieces.{TakesOver, all_kept, first_kept, home_at, kept_of, later_at, touches_at};
 ghost use Rattle.reducer_views.specs.Touched.{added, listed_of, look_up};
 
@@ -96,6 +96,30 @@ impl<A: Allocator> Piece<A> {
             };
         }
     }
+
+    /// Sets the touch of a reducer.
+    #[inline(always)]
+    fn set(&mut self, spare: &mut Spare<A>, reducer: u32, touch: Touch)
+        requires room { reducer + 1 < 2 ^ vec_len spare.old }
+        ensures { SetsIn (kept_of self.old) (kept_of self.new) reducer touch }
+    {
+        let mut slots = self.take_slots();
+        set(&mut slots, spare, reducer, touch);
+        self.put_slots(slots);
+    }
+
+    /// Combines a touch on the right of the reducer's.
+    #[inline(always)]
+    fn gather(&mut self, spare: &mut Spare<A>, reducer: u32, touch: Touch)
+        requires room { reducer + 1 < 2 ^ vec_len spare.old }
+        ensures { SetsIn (kept_of self.old) (kept_of self.new) reducer
+            (added (look_up (kept_of self.old).touches reducer) touch) }
+    {
+        match self {
+            Piece::Untouched { .. } => self.set(spare, reducer, touch),
+            Piece::Touched { slot, .. } => gather(slot, spare, reducer, touch),
+        }
+    }
 }
 
 /// The home of a strand.
@@ -166,10 +190,7 @@ pub fn gather_at<A: Allocator>(
     ensures { SetsAt (all_kept pieces.old) (all_kept pieces.new) home reducer
         (added (touches_at (all_kept pieces.old) home reducer) touch) }
 {
-    let piece = &mut pieces[home as usize];
-    let mut slots = piece.take_slots();
-    gather(&mut slots, spare, reducer, touch);
-    piece.put_slots(slots);
+    pieces[home as usize].gather(spare, reducer, touch);
 }
 
 /// Sets the touch that is kept at a home.
@@ -184,10 +205,7 @@ pub fn set_at<A: Allocator>(
     requires room { reducer + 1 < 2 ^ vec_len spare.old }
     ensures { SetsAt (all_kept pieces.old) (all_kept pieces.new) home reducer touch }
 {
-    let piece = &mut pieces[home as usize];
-    let mut slots = piece.take_slots();
-    set(&mut slots, spare, reducer, touch);
-    piece.put_slots(slots);
+    pieces[home as usize].set(spare, reducer, touch);
 }
 
 /// Combines what is touched at a later number on the right of what is at a home. What slots both had, go to the reserve.
@@ -198,6 +216,9 @@ fn take_over<A: Allocator>(pieces: &mut [Piece<A>], spare: &mut Spare<A>, home: 
     ensures { TakesOver (all_kept pieces.old) (all_kept pieces.new) home later }
 {
     let mut taken = pieces[later as usize].take_slots();
+    if taken.is_none() {
+        return;
+    }
     let piece = &mut pieces[home as usize];
     let mut slots = piece.take_slots();
     absorb(&mut slots, &mut taken);

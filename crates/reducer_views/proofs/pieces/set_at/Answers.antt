@@ -10,4 +10,4 @@ pub bounds-pieces-home : goal.bounds-pieces-home
 bounds-pieces-home g c = c.requires.home_known
 
 pub returns : goal.returns
-returns g c = sets_at _ _ _ _ _ _ _ _ _ c.requires.home_known c.take_slots-slots.ensures.table c.take_slots-slots.ensures.rest c.put_slots.ensures c.set.ensures
+returns g c = sets_at _ _ _ _ _ _ c.requires.home_known c.set.ensures
