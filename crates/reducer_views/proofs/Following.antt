@@ -32,13 +32,13 @@ use Rattle.reducer_views.specs.Products.{FitsMonoid}
 use Rattle.model_reducers.specs.Products.{identity_of, product_of, update_view, put_view, reducer_of, monoid_of}
 use Rattle.reducer_views.specs.declared.pieces.Piece.{Piece}
 use Rattle.reducer_views.specs.declared.touched.Touch.{Touch}
-use Rattle.reducer_views.specs.Touched.{touches_of, look_up, added, view_or, gathered, IsTouch}
+use Rattle.reducer_views.specs.Touched.{look_up, added, view_or, gathered, IsTouch}
 use Rattle.reducer_views.specs.Pieces.{Kept, all_kept, home_at, later_at, touches_at, view_in, AreKept, SameHomes, SetsAt, ChangesAt, AreLater, product_from, Combines, more_strands, Grown}
 use Rattle.reducer_views.specs.Homes.{home, later, IsCurrent}
 use Rattle.reducer_views.specs.Held.{Holding, Holds, view_of, IsQuiet, QuietLaw}
 use Rattle.reducer_views.proofs.Associative.{product_of_assoc, product_of-fits, identity-right, identity_of-fits}
 use Rattle.reducer_views.proofs.Touches.{gathered_fits, added_touch, added_view}
-use Rattle.reducer_views.proofs.KeptLists.{kept_here, touches_here, length-all_kept, home_in_range, set_kept, set_changes}
+use Rattle.reducer_views.proofs.KeptLists.{home_in_range, set_kept, set_changes}
 use Rattle.reducer_views.proofs.Blocks.{continuations, blocks, old_home, not_new, follow_same, home_at_child, home_at_next, home_at_join, later_elsewhere, later_at_child, later_at_next, later_at_join, later_at_home}
 use Rattle.reducer_views.proofs.Currents.{Gathered, gathered_joined, gathered_ended, current_known, current_split, current_joined, current_ended_joined, current_finished, current_waits, current_ended, own_homes}
 
@@ -408,54 +408,41 @@ ended_joined_at monoids room new_room pieces new_pieces items now steps s j now_
     subst (λ ps. Holds (held monoids ps new_room) (control (ended_joined s j) ∷ steps)) (sym items_is)
     (holds_ended_joined (held monoids pieces room) (held monoids new_pieces new_room) steps s j l (subst (λ v. Holds v steps) (sym now_is) k) sound refl alike all a)
 
-pub there_at : {A : Type 0} (monoids : List Monoid) (room : Bool) (pieces : List (Piece A)) (now : Holding) (strand : ℕ) → held monoids pieces room ≡ now → strand < length now.strands → strand < length pieces
-there_at monoids room pieces now strand now_is lt = subst (λ m. strand < m) (ap (λ v. length v.strands) (sym now_is) ∙ length-all_kept pieces) lt
-
-pub home_low : {A : Type 0} (monoids : List Monoid) (pieces : List (Piece A)) (strand : ℕ) (piece : Piece A) → AreKept monoids (all_kept pieces) → strand < length pieces → piece ≡ get_or pieces strand piece → piece.home < length pieces
-home_low monoids pieces strand piece sound lt e = subst (λ p. p.home < length pieces) (sym e) (home_in_range monoids pieces strand piece sound lt)
-
-pub home_is_at : {A : Type 0} (pieces : List (Piece A)) (strand : ℕ) (piece : Piece A) → strand < length pieces → piece ≡ get_or pieces strand piece → piece.home ≡ home_at (all_kept pieces) strand
-home_is_at pieces strand piece lt e = ap (λ p. p.home) e ∙ sym (ap (λ k. k.home) (kept_here pieces strand piece lt))
-
-pub updated_at_home : {A : Type 0} (monoids : List Monoid) (room new_room : Bool) (pieces new_pieces items : List (Piece A)) (now : Holding) (steps : Steps) (s q number : ℕ) (piece : Piece A) (v : View) →
-    held monoids pieces room ≡ now → items ≡ new_pieces → s < length pieces → piece ≡ get_or pieces s piece → v ≡ update_view (monoid_of monoids q) number →
-    ChangesAt monoids (all_kept pieces) (all_kept new_pieces) piece.home q (product_of (monoid_of monoids q) (view_in monoids (all_kept pieces) piece.home q) v) →
+pub updated_at_home : {A : Type 0} (monoids : List Monoid) (room new_room : Bool) (pieces new_pieces items : List (Piece A)) (now : Holding) (steps : Steps) (s q number home : ℕ) (v : View) →
+    held monoids pieces room ≡ now → items ≡ new_pieces → home ≡ home_at (all_kept pieces) s → v ≡ update_view (monoid_of monoids q) number →
+    ChangesAt monoids (all_kept pieces) (all_kept new_pieces) home q (product_of (monoid_of monoids q) (view_in monoids (all_kept pieces) home q) v) →
     AreLegal steps → Holds now steps → Running (control_steps steps) s → Holds (held monoids items new_room) (update s q number ∷ steps)
-updated_at_home monoids room new_room pieces new_pieces items now steps s q number piece v now_is items_is lt e v_is change l k run =
+updated_at_home monoids room new_room pieces new_pieces items now steps s q number home v now_is items_is home_is v_is change l k run =
     subst (λ ps. Holds (held monoids ps new_room) (update s q number ∷ steps)) (sym items_is)
     (holds_update (held monoids pieces room) (held monoids new_pieces new_room) steps s q number l (subst (λ w. Holds w steps) (sym now_is) k) run refl
-    (subst₂ (λ at w. ChangesAt monoids (all_kept pieces) (all_kept new_pieces) at q (product_of (monoid_of monoids q) (view_in monoids (all_kept pieces) at q) w)) (home_is_at pieces s piece lt e) v_is change))
+    (subst₂ (λ at w. ChangesAt monoids (all_kept pieces) (all_kept new_pieces) at q (product_of (monoid_of monoids q) (view_in monoids (all_kept pieces) at q) w)) home_is v_is change))
 
-pub put_at_home : {A : Type 0} (monoids : List Monoid) (room new_room : Bool) (pieces new_pieces items : List (Piece A)) (now : Holding) (steps : Steps) (s q number : ℕ) (piece : Piece A) (v : View) →
-    held monoids pieces room ≡ now → items ≡ new_pieces → s < length pieces → piece ≡ get_or pieces s piece → v ≡ put_view (monoid_of monoids q) number →
-    ChangesAt monoids (all_kept pieces) (all_kept new_pieces) piece.home q v →
+pub put_at_home : {A : Type 0} (monoids : List Monoid) (room new_room : Bool) (pieces new_pieces items : List (Piece A)) (now : Holding) (steps : Steps) (s q number home : ℕ) (v : View) →
+    held monoids pieces room ≡ now → items ≡ new_pieces → home ≡ home_at (all_kept pieces) s → v ≡ put_view (monoid_of monoids q) number →
+    ChangesAt monoids (all_kept pieces) (all_kept new_pieces) home q v →
     AreLegal steps → Holds now steps → Running (control_steps steps) s → Holds (held monoids items new_room) (put s q number ∷ steps)
-put_at_home monoids room new_room pieces new_pieces items now steps s q number piece v now_is items_is lt e v_is change l k run =
+put_at_home monoids room new_room pieces new_pieces items now steps s q number home v now_is items_is home_is v_is change l k run =
     subst (λ ps. Holds (held monoids ps new_room) (put s q number ∷ steps)) (sym items_is)
     (holds_put (held monoids pieces room) (held monoids new_pieces new_room) steps s q number l (subst (λ w. Holds w steps) (sym now_is) k) run refl
-    (subst₂ (λ at w. ChangesAt monoids (all_kept pieces) (all_kept new_pieces) at q w) (home_is_at pieces s piece lt e) v_is change))
+    (subst₂ (λ at w. ChangesAt monoids (all_kept pieces) (all_kept new_pieces) at q w) home_is v_is change))
 
 -- what a strand sees
-pub view_seen : {A : Type 0} (monoids : List Monoid) (room : Bool) (pieces : List (Piece A)) (now : Holding) (steps : Steps) (s q : ℕ) (piece touching : Piece A) →
-    held monoids pieces room ≡ now → AreKept monoids (all_kept pieces) → s < length pieces → piece ≡ get_or pieces s piece → touching ≡ get_or pieces piece.home touching → AreLegal steps → Holds now steps → IsCurrent (control_steps steps) s →
-    gathered monoids (touches_of touching.slots) q ≡ view_of now.monoids q steps s
-view_seen monoids room pieces now steps s q piece touching now_is sound lt e f l k current =
-    sym (ap (view_or (identity_of (monoid_of monoids q))) (touches_here pieces piece.home touching low q ∙ ap (λ p. touches_of p.slots q) (sym f))) ∙
-    (ap (λ y. view_in monoids (all_kept pieces) y q) (home_is_at pieces s piece lt e ∙ at.homes s (current_known (legal_steps steps l) s current)) ∙
-    (at.views s current q ∙ ap (λ v. view_of v.monoids q steps s) now_is))
+pub view_seen : {A : Type 0} (monoids : List Monoid) (room : Bool) (pieces : List (Piece A)) (now : Holding) (steps : Steps) (s q home : ℕ) →
+    held monoids pieces room ≡ now → home ≡ home_at (all_kept pieces) s → AreLegal steps → Holds now steps → IsCurrent (control_steps steps) s →
+    view_in monoids (all_kept pieces) home q ≡ view_of now.monoids q steps s
+view_seen monoids room pieces now steps s q home now_is home_is l k current =
+    ap (λ y. view_in monoids (all_kept pieces) y q) (home_is ∙ at.homes s (current_known (legal_steps steps l) s current)) ∙
+    (at.views s current q ∙ ap (λ v. view_of v.monoids q steps s) now_is)
   where
-    low : piece.home < length pieces
-    low = home_low monoids pieces s piece sound lt e
-
     at : Holds (held monoids pieces room) steps
     at = subst (λ w. Holds w steps) (sym now_is) k
 
-pub split_at : {A : Type 0} (monoids : List Monoid) (room new_room : Bool) (pieces new_pieces : List (Piece A)) (now : Holding) (steps : Steps) (s c n j : ℕ) (first : Bool) (piece : Piece A) → held monoids pieces room ≡ now →
-    s < length pieces → piece ≡ get_or pieces s piece → Grown (all_kept pieces) (all_kept new_pieces) piece.home first →
+pub split_at : {A : Type 0} (monoids : List Monoid) (room new_room : Bool) (pieces new_pieces : List (Piece A)) (now : Holding) (steps : Steps) (s c n j home : ℕ) (first : Bool) → held monoids pieces room ≡ now →
+    home ≡ home_at (all_kept pieces) s → Grown (all_kept pieces) (all_kept new_pieces) home first →
     AreLegal steps → Holds now steps → Allowed (control_steps steps) (split s c n j first) → Holds (held monoids new_pieces new_room) (control (split s c n j first) ∷ steps)
-split_at monoids room new_room pieces new_pieces now steps s c n j first piece now_is lt e grown l k a =
+split_at monoids room new_room pieces new_pieces now steps s c n j home first now_is home_is grown l k a =
     holds_split (held monoids pieces room) (held monoids new_pieces new_room) steps s c n j first l (subst (λ w. Holds w steps) (sym now_is) k) a refl
-    (subst (λ at. Grown (all_kept pieces) (all_kept new_pieces) at first) (home_is_at pieces s piece lt e) grown)
+    (subst (λ at. Grown (all_kept pieces) (all_kept new_pieces) at first) home_is grown)
 
 -- The same where a call was lent the pieces and the monoids.
 pub joined_lent : {A : Type 0} (monoids : List Monoid) (room new_room : Bool) (pieces lent new_pieces items : List (Piece A)) (now : Holding) (steps : Steps) (s j : ℕ) → held monoids pieces room ≡ now → items ≡ new_pieces →
@@ -490,67 +477,65 @@ touch_read : (monoids : List Monoid) (q : ℕ) (monoid : Monoid) (v : View) → 
 touch_read monoids q monoid v lt e fits = (monoid_read monoids q monoid lt e, subst (λ m. FitsMonoid m v) (monoid_read monoids q monoid lt e) fits)
 
 -- an update or a put where a call was lent the pieces
-module _ {A : Type 0} (monoids : List Monoid) (room : Bool) (pieces lent new_pieces items : List (Piece A)) (now : Holding) (s q : ℕ) (piece : Piece A) (monoid : Monoid) (v : View)
-    (now_is : held monoids pieces room ≡ now) (items_is : items ≡ new_pieces) (lent_is : lent ≡ pieces) (sound : AreKept monoids (all_kept pieces)) (there : s < length now.strands) (known : q < length now.monoids)
-    (piece_is : piece ≡ get_or pieces s piece) (monoid_is : monoid ≡ get_or monoids q monoid) (fits : FitsMonoid monoid v) where
+module _ {A : Type 0} (monoids : List Monoid) (room : Bool) (pieces lent new_pieces items : List (Piece A)) (now : Holding) (s q home : ℕ) (monoid : Monoid) (v : View)
+    (now_is : held monoids pieces room ≡ now) (items_is : items ≡ new_pieces) (lent_is : lent ≡ pieces) (sound : AreKept monoids (all_kept pieces)) (known : q < length now.monoids)
+    (home_is : home ≡ home_at (all_kept pieces) s) (monoid_is : monoid ≡ get_or monoids q monoid) (fits : FitsMonoid monoid v) where
   in_list : q < length monoids
   in_list = subst (λ n. q < n) (ap (λ h. length h.monoids) (sym now_is)) known
 
   is_touch : IsTouch (monoid_of monoids q) (Some (record { monoid = monoid; view = v }))
   is_touch = touch_read monoids q monoid v in_list monoid_is fits
 
-  here : s < length pieces
-  here = there_at monoids room pieces now s now_is there
-
   -- what an update leaves
-  module _ (sets : SetsAt (all_kept lent) (all_kept new_pieces) piece.home q (added (touches_at (all_kept lent) piece.home q) (record { monoid = monoid; view = v }))) where
-    sets_old : SetsAt (all_kept pieces) (all_kept new_pieces) piece.home q (added (touches_at (all_kept pieces) piece.home q) (record { monoid = monoid; view = v }))
-    sets_old = subst (λ given. SetsAt (all_kept given) (all_kept new_pieces) piece.home q (added (touches_at (all_kept given) piece.home q) (record { monoid = monoid; view = v }))) lent_is sets
+  module _ (sets : SetsAt (all_kept lent) (all_kept new_pieces) home q (added (touches_at (all_kept lent) home q) (record { monoid = monoid; view = v }))) where
+    sets_old : SetsAt (all_kept pieces) (all_kept new_pieces) home q (added (touches_at (all_kept pieces) home q) (record { monoid = monoid; view = v }))
+    sets_old = subst (λ given. SetsAt (all_kept given) (all_kept new_pieces) home q (added (touches_at (all_kept given) home q) (record { monoid = monoid; view = v }))) lent_is sets
 
     pub updated_sound : AreKept monoids (all_kept items)
     updated_sound = subst (λ ps. AreKept monoids (all_kept ps)) (sym items_is)
-        (set_kept monoids (all_kept pieces) (all_kept new_pieces) piece.home q (added (touches_at (all_kept pieces) piece.home q) (record { monoid = monoid; view = v })) sound sets_old
-        (added_touch (monoid_of monoids q) (touches_at (all_kept pieces) piece.home q) (record { monoid = monoid; view = v }) (sound.touched piece.home q) is_touch))
+        (set_kept monoids (all_kept pieces) (all_kept new_pieces) home q (added (touches_at (all_kept pieces) home q) (record { monoid = monoid; view = v })) sound sets_old
+        (added_touch (monoid_of monoids q) (touches_at (all_kept pieces) home q) (record { monoid = monoid; view = v }) (sound.touched home q) is_touch))
 
     pub updated_lent : (new_room : Bool) (number : ℕ) → v ≡ update_view monoid number → (steps : Steps) → AreLegal steps → Holds now steps → Running (control_steps steps) s → Holds (held monoids items new_room) (update s q number ∷ steps)
     updated_lent new_room number v_is steps l k run =
-        updated_at_home monoids room new_room pieces new_pieces items now steps s q number piece v now_is items_is here piece_is (v_is ∙ ap (λ m. update_view m number) (monoid_read monoids q monoid in_list monoid_is))
-        (subst (ChangesAt monoids (all_kept pieces) (all_kept new_pieces) piece.home q)
-        (added_view (monoid_of monoids q) (touches_at (all_kept pieces) piece.home q) (record { monoid = monoid; view = v }) (sound.touched piece.home q) is_touch)
-        (set_changes monoids (all_kept pieces) (all_kept new_pieces) piece.home q (added (touches_at (all_kept pieces) piece.home q) (record { monoid = monoid; view = v })) sets_old))
+        updated_at_home monoids room new_room pieces new_pieces items now steps s q number home v now_is items_is home_is (v_is ∙ ap (λ m. update_view m number) (monoid_read monoids q monoid in_list monoid_is))
+        (subst (ChangesAt monoids (all_kept pieces) (all_kept new_pieces) home q)
+        (added_view (monoid_of monoids q) (touches_at (all_kept pieces) home q) (record { monoid = monoid; view = v }) (sound.touched home q) is_touch)
+        (set_changes monoids (all_kept pieces) (all_kept new_pieces) home q (added (touches_at (all_kept pieces) home q) (record { monoid = monoid; view = v })) sets_old))
         l k run
 
   -- and a put
-  module _ (sets : SetsAt (all_kept lent) (all_kept new_pieces) piece.home q (record { monoid = monoid; view = v })) where
-    put_old : SetsAt (all_kept pieces) (all_kept new_pieces) piece.home q (record { monoid = monoid; view = v })
-    put_old = subst (λ given. SetsAt (all_kept given) (all_kept new_pieces) piece.home q (record { monoid = monoid; view = v })) lent_is sets
+  module _ (sets : SetsAt (all_kept lent) (all_kept new_pieces) home q (record { monoid = monoid; view = v })) where
+    put_old : SetsAt (all_kept pieces) (all_kept new_pieces) home q (record { monoid = monoid; view = v })
+    put_old = subst (λ given. SetsAt (all_kept given) (all_kept new_pieces) home q (record { monoid = monoid; view = v })) lent_is sets
 
     pub put_sound : AreKept monoids (all_kept items)
     put_sound = subst (λ ps. AreKept monoids (all_kept ps)) (sym items_is)
-        (set_kept monoids (all_kept pieces) (all_kept new_pieces) piece.home q (record { monoid = monoid; view = v }) sound put_old is_touch)
+        (set_kept monoids (all_kept pieces) (all_kept new_pieces) home q (record { monoid = monoid; view = v }) sound put_old is_touch)
 
     pub put_lent : (new_room : Bool) (number : ℕ) → v ≡ put_view monoid number → (steps : Steps) → AreLegal steps → Holds now steps → Running (control_steps steps) s → Holds (held monoids items new_room) (put s q number ∷ steps)
     put_lent new_room number v_is steps l k run =
-        put_at_home monoids room new_room pieces new_pieces items now steps s q number piece v now_is items_is here piece_is (v_is ∙ ap (λ m. put_view m number) (monoid_read monoids q monoid in_list monoid_is))
-        (set_changes monoids (all_kept pieces) (all_kept new_pieces) piece.home q (record { monoid = monoid; view = v }) put_old) l k run
+        put_at_home monoids room new_room pieces new_pieces items now steps s q number home v now_is items_is home_is (v_is ∙ ap (λ m. put_view m number) (monoid_read monoids q monoid in_list monoid_is))
+        (set_changes monoids (all_kept pieces) (all_kept new_pieces) home q (record { monoid = monoid; view = v }) put_old) l k run
 
-pub home_lent : {A : Type 0} (monoids : List Monoid) (room : Bool) (pieces lent : List (Piece A)) (now : Holding) (s : ℕ) (piece : Piece A) → held monoids pieces room ≡ now → AreKept monoids (all_kept pieces) → lent ≡ pieces → s < length now.strands →
-    piece ≡ get_or pieces s piece → piece.home < length lent
-home_lent monoids room pieces lent now s piece now_is sound ps lt e =
-    subst (λ given. piece.home < length given) (sym ps) (home_low monoids pieces s piece sound (there_at monoids room pieces now s now_is lt) e)
+pub home_read : {A : Type 0} (pieces lent : List (Piece A)) (s home : ℕ) → lent ≡ pieces → home ≡ home_at (all_kept lent) s → home ≡ home_at (all_kept pieces) s
+home_read pieces lent s home ps home_is = home_is ∙ ap (λ given. home_at (all_kept given) s) ps
 
-pub view_found : {A : Type 0} (monoids : List Monoid) (room : Bool) (pieces : List (Piece A)) (now : Holding) (steps : Steps) (s q : ℕ) (piece touching : Piece A) (found : Option Touch) (touch : Touch) →
-    held monoids pieces room ≡ now → AreKept monoids (all_kept pieces) → s < length now.strands → piece ≡ get_or pieces s piece → touching ≡ get_or pieces piece.home touching → found ≡ touches_of touching.slots q → found ≡ Some touch →
+pub touch_seen : {A : Type 0} (pieces lent : List (Piece A)) (home q : ℕ) (found : Option Touch) → lent ≡ pieces → found ≡ touches_at (all_kept lent) home q → found ≡ touches_at (all_kept pieces) home q
+touch_seen pieces lent home q found ps found_is = found_is ∙ ap (λ given. touches_at (all_kept given) home q) ps
+
+pub home_lent : {A : Type 0} (monoids : List Monoid) (pieces lent : List (Piece A)) (s home : ℕ) → AreKept monoids (all_kept pieces) → lent ≡ pieces → home ≡ home_at (all_kept pieces) s → home < length lent
+home_lent monoids pieces lent s home sound ps home_is = subst (λ given. home < length given) (sym ps) (home_in_range monoids pieces s home sound home_is)
+
+pub view_found : {A : Type 0} (monoids : List Monoid) (room : Bool) (pieces : List (Piece A)) (now : Holding) (steps : Steps) (s q home : ℕ) (found : Option Touch) (touch : Touch) →
+    held monoids pieces room ≡ now → home ≡ home_at (all_kept pieces) s → found ≡ touches_at (all_kept pieces) home q → found ≡ Some touch →
     AreLegal steps → Holds now steps → IsCurrent (control_steps steps) s → touch.view ≡ view_of now.monoids q steps s
-view_found monoids room pieces now steps s q piece touching found touch now_is sound lt e f found_is some l k run =
-    ap (view_or (identity_of (monoid_of monoids q))) (sym some ∙ found_is) ∙
-    view_seen monoids room pieces now steps s q piece touching now_is sound (there_at monoids room pieces now s now_is lt) e f l k run
+view_found monoids room pieces now steps s q home found touch now_is home_is found_is some l k current =
+    ap (view_or (identity_of (monoid_of monoids q))) (sym some ∙ found_is) ∙ view_seen monoids room pieces now steps s q home now_is home_is l k current
 
-pub view_untouched : {A : Type 0} (monoids : List Monoid) (room : Bool) (pieces : List (Piece A)) (now : Holding) (steps : Steps) (s q : ℕ) (piece touching : Piece A) (found : Option Touch) (monoid : Monoid) (v : View) →
-    held monoids pieces room ≡ now → AreKept monoids (all_kept pieces) → s < length now.strands → q < length now.monoids → piece ≡ get_or pieces s piece → touching ≡ get_or pieces piece.home touching →
-    found ≡ touches_of touching.slots q → found ≡ None → monoid ≡ get_or monoids q monoid → v ≡ identity_of monoid →
+pub view_untouched : {A : Type 0} (monoids : List Monoid) (room : Bool) (pieces : List (Piece A)) (now : Holding) (steps : Steps) (s q home : ℕ) (found : Option Touch) (monoid : Monoid) (v : View) →
+    held monoids pieces room ≡ now → q < length now.monoids → home ≡ home_at (all_kept pieces) s → found ≡ touches_at (all_kept pieces) home q → found ≡ None → monoid ≡ get_or monoids q monoid → v ≡ identity_of monoid →
     AreLegal steps → Holds now steps → IsCurrent (control_steps steps) s → v ≡ view_of now.monoids q steps s
-view_untouched monoids room pieces now steps s q piece touching found monoid v now_is sound lt known e f found_is none m_is v_is l k run =
+view_untouched monoids room pieces now steps s q home found monoid v now_is known home_is found_is none m_is v_is l k current =
     v_is ∙ (ap identity_of (monoid_read monoids q monoid (subst (λ n. q < n) (ap (λ h. length h.monoids) (sym now_is)) known) m_is) ∙
-    (ap (view_or (identity_of (monoid_of monoids q))) (sym none ∙ found_is) ∙
-    view_seen monoids room pieces now steps s q piece touching now_is sound (there_at monoids room pieces now s now_is lt) e f l k run))
+    (ap (view_or (identity_of (monoid_of monoids q))) (sym none ∙ found_is) ∙ view_seen monoids room pieces now steps s q home now_is home_is l k current))

@@ -3,7 +3,7 @@ use Rattle.std.proofs.Common.{◌≡◌, ◌≢◌, ◌⊎◌, inl, inr, ℕ, �
 use Rattle.std.proofs.lemmas.List.{get_or_append_left, get_or_past, get_or-set_other, get_or-set_same, length-set, map-append, map-set}
 use Rattle.std.proofs.Math.Seq.{get_or-append_seam}
 use Rattle.model_reducers.specs.declared.monoid.Monoid.{Monoid}
-use Rattle.reducer_views.specs.Touched.{look_up, listed_of, AreTouches}
+use Rattle.reducer_views.specs.Touched.{look_up, AreTouches}
 use Rattle.reducer_views.specs.Pieces.{Kept, kept_of, all_kept, kept_at, home_at, later_at, touches_at, AreKept, more_strands, Grown}
 use Rattle.law_strands.proofs.Updates.{same_or_not}
 use Rattle.reducer_views.specs.declared.pieces.Piece.{Piece}
@@ -208,14 +208,14 @@ pieces_first pieces one more all child next join home first a b d f c n j =
     (sym (ap all_kept d ∙ (all_kept-push more join ∙ ap₂ (λ ks k. ks ++ (k ∷ [])) (two_kept pieces one more child next home a b c n) j))) (sym f)
     (grown_first (all_kept pieces) home)
 
-pub pieces_later : {A : Type 0} (pieces one more : List (Piece A)) (child next piece : Piece A) (home number : ℕ) (first : Bool) → one ≡ pieces ++ (child ∷ []) → more ≡ one ++ (next ∷ []) → first ≡ false → home < length pieces → number ≡ 1 + length (all_kept pieces) →
+pub pieces_later : {A : Type 0} (pieces one more : List (Piece A)) (child next piece new : Piece A) (home number : ℕ) (first : Bool) → one ≡ pieces ++ (child ∷ []) → more ≡ one ++ (next ∷ []) → first ≡ false → home < length pieces → number ≡ 1 + length (all_kept pieces) →
     kept_of child ≡ record { home = home; later = 0; touches = [] } → kept_of next ≡ record { home = 1 + length (all_kept pieces); later = 0; touches = [] } → piece ≡ get_or more home piece →
-    Grown (all_kept pieces) (all_kept (set more home (record { home = piece.home; later = number; slots = piece.slots }))) home first
-pieces_later {A} pieces one more child next piece home number first a b f lt number_is c n e =
+    kept_of new ≡ record (kept_of piece) { later = number } → Grown (all_kept pieces) (all_kept (set more home new)) home first
+pieces_later {A} pieces one more child next piece new home number first a b f lt number_is c n e new_is =
     subst₂ (λ ks t. Grown (all_kept pieces) ks home t)
-    (sym (map-set kept_of more home (record { home = piece.home; later = number; slots = piece.slots }) ∙ ap (λ ks. set ks home (record { home = piece.home; later = number; touches = listed_of piece.slots })) more_is))
+    (sym (map-set kept_of more home new ∙ ap₂ (λ ks k. set ks home k) more_is new_is))
     (sym f)
-    (grown_later (all_kept pieces) home (record { home = piece.home; later = number; touches = listed_of piece.slots }) (subst (λ m. home < m) (sym (length-all_kept pieces)) lt)
+    (grown_later (all_kept pieces) home (record (kept_of piece) { later = number }) (subst (λ m. home < m) (sym (length-all_kept pieces)) lt)
     (ap (λ k. k.home) same_entry) number_is (ap (λ k. k.touches) same_entry))
   where
     more_is : all_kept more ≡ two (all_kept pieces) home

@@ -1,16 +1,19 @@
 -- What is kept of the strands, when what is touched at one number changes.
-use Rattle.std.proofs.Common.{◌≡◌, ◌≢◌, ◌⊎◌, inl, inr, ℕ, ◌-◌, ◌<◌, zero, suc, List, [], ◌∷◌, length, map, get_or, set, Option, Some, None, Box, refl, sym, ap, ap₂, ◌∙◌, subst, subst₂, arith}
+use Rattle.std.proofs.Common.{◌≡◌, ◌≢◌, ◌⊎◌, inl, inr, ℕ, ◌-◌, ◌/◌, ◌%◌, ◌<◌, false, zero, suc, List, [], ◌∷◌, length, map, get_or, set, Option, Some, None, Box, refl, sym, ap, ap₂, ◌∙◌, subst, subst₂, arith}
+use Rattle.std.specs.Option.{is_some}
 use Rattle.std.proofs.lemmas.List.{get_or-map, get_or-set_other, get_or-set_same, length-map, length-set, map-set}
 use Rattle.law_strands.proofs.Members.{Present, contains_present}
 use Rattle.model_reducers.specs.declared.monoid.Monoid.{Monoid}
 use Rattle.reducer_views.specs.declared.pieces.Piece.{Piece}
+use Rattle.reducer_views.specs.declared.pieces.Piece.TheVariants.{Touched}
 use Rattle.reducer_views.specs.declared.touched.Touch.{Touch}
 use Rattle.reducer_views.specs.declared.touched.Slot.{Slot}
 use Rattle.model_reducers.specs.Products.{identity_of, product_of, monoid_of}
-use Rattle.reducer_views.specs.Touched.{Touches, touches_of, look_up, listed_of, Changes, both, added, view_or, gathered, IsTouch, AreTouches}
-use Rattle.reducer_views.specs.Pieces.{Kept, kept_of, all_kept, kept_at, home_at, later_at, touches_at, view_in, AreKept, SameHomes, WithTouches, TakesOver, SetsAt, ChangesAt, AreLater, product_from, Combines}
+use Rattle.reducer_views.specs.Touched.{Touches, Listed, column_from, touches_of, look_up, listed_of, later_in, Changes, ChangesPlace, both, added, view_or, gathered, IsTouch, AreTouches}
+use Rattle.reducer_views.specs.Pieces.{Kept, kept_of, all_kept, kept_at, home_at, later_at, touches_at, view_in, AreKept, SameHomes, WithTouches, TakesOver, SetsAt, SetsIn, ChangesAt, AreLater, product_from, Combines}
 use Rattle.law_strands.proofs.Updates.{same_or_not}
 use Rattle.reducer_views.proofs.Listed.{look_up-listed_of}
+use Rattle.reducer_views.proofs.Slots.{touches_change}
 use Rattle.reducer_views.proofs.Touches.{both_touch, both_view}
 
 abbrev pub nothing_kept : Kept
@@ -19,11 +22,15 @@ nothing_kept = record { home = 0; later = 0; touches = [] }
 pub kept_here : {A : Type 0} (pieces : List (Piece A)) (strand : ℕ) (piece : Piece A) → strand < length pieces → kept_at (all_kept pieces) strand ≡ kept_of (get_or pieces strand piece)
 kept_here pieces strand piece lt = get_or-map kept_of pieces strand piece nothing_kept lt
 
-pub touches_here : {A : Type 0} (pieces : List (Piece A)) (strand : ℕ) (piece : Piece A) → strand < length pieces → (reducer : ℕ) → touches_at (all_kept pieces) strand reducer ≡ touches_of (get_or pieces strand piece).slots reducer
-touches_here pieces strand piece lt reducer = ap (λ k. look_up k.touches reducer) (kept_here pieces strand piece lt) ∙ look_up-listed_of (get_or pieces strand piece).slots reducer
-
 pub length-all_kept : {A : Type 0} (pieces : List (Piece A)) → length (all_kept pieces) ≡ length pieces
 length-all_kept pieces = length-map pieces kept_of
+
+-- what is found from the first slot of a piece on
+pub touch_kept : {A : Type 0} (piece : Piece A) (home : ℕ) (box : Box (Slot A) A) (slot : Slot A) (found : Option Touch) (reducer : ℕ) → piece ≡ Touched home box → slot ≡ box.value →
+    found ≡ column_from slot (reducer % 4) (reducer / 4) → found ≡ look_up (kept_of piece).touches reducer
+touch_kept {A} piece home box slot found reducer piece_is slot_is found_is =
+    found_is ∙ (ap (λ (s : Slot A). column_from s (reducer % 4) (reducer / 4)) slot_is ∙
+    (sym (look_up-listed_of (Some box) reducer) ∙ sym (ap (λ (p : Piece A). look_up (kept_of p).touches reducer) piece_is)))
 
 -- one entry is written
 pub with_kept : (strands : List Kept) (strand : ℕ) (kept : Kept) → strand < length strands → kept.home ≡ home_at strands strand → kept.later ≡ later_at strands strand →
@@ -48,15 +55,25 @@ with_kept strands strand kept lt same_home same_later = record {
     here x e = ap (kept_at (set strands strand kept)) e ∙ get_or-set_same strands strand kept nothing_kept lt
 
 -- a piece is written whose home and later number are as before
-pub with_piece : {A : Type 0} (pieces : List (Piece A)) (strand : ℕ) (piece : Piece A) (slots : Option (Box (Slot A) A)) → strand < length pieces →
-    WithTouches (all_kept pieces) (all_kept (set pieces strand (record { home = (get_or pieces strand piece).home; later = (get_or pieces strand piece).later; slots = slots }))) strand (look_up (listed_of slots))
-with_piece {A} pieces strand piece slots lt =
-    subst (λ new. WithTouches (all_kept pieces) new strand (look_up (listed_of slots))) (sym (map-set kept_of pieces strand new))
-    (with_kept (all_kept pieces) strand (kept_of new) (subst (λ n. strand < n) (sym (length-all_kept pieces)) lt)
+pub with_piece : {A : Type 0} (pieces : List (Piece A)) (strand : ℕ) (piece new : Piece A) (touches : Listed) → strand < length pieces → kept_of new ≡ record (kept_of (get_or pieces strand piece)) { touches = touches } →
+    WithTouches (all_kept pieces) (all_kept (set pieces strand new)) strand (look_up touches)
+with_piece {A} pieces strand piece new touches lt new_is =
+    subst (λ strands. WithTouches (all_kept pieces) strands strand (look_up touches)) (sym (map-set kept_of pieces strand new ∙ ap (set (all_kept pieces) strand) new_is))
+    (with_kept (all_kept pieces) strand (record (kept_of (get_or pieces strand piece)) { touches = touches }) (subst (λ n. strand < n) (sym (length-all_kept pieces)) lt)
     (sym (ap (λ k. k.home) (kept_here pieces strand piece lt))) (sym (ap (λ k. k.later) (kept_here pieces strand piece lt))))
-  where
-    new : Piece A
-    new = record { home = (get_or pieces strand piece).home; later = (get_or pieces strand piece).later; slots = slots }
+
+-- a table is put in the place of the one that was taken out
+pub with_table : {A : Type 0} (pieces : List (Piece A)) (strand : ℕ) (piece new : Piece A) (bare : Kept) (slots : Option (Box (Slot A) A)) → strand < length pieces →
+    bare ≡ record (kept_of (get_or pieces strand piece)) { touches = [] } → kept_of new ≡ record bare { touches = listed_of slots } →
+    WithTouches (all_kept pieces) (all_kept (set pieces strand new)) strand (look_up (listed_of slots))
+with_table pieces strand piece new bare slots lt bare_is new_is =
+    with_piece pieces strand piece new (listed_of slots) lt (new_is ∙ ap (λ (k : Kept). (let kept : Kept = record k { touches = listed_of slots } in kept)) bare_is)
+
+-- what a table that was taken out has
+pub table_touches : {A : Type 0} (pieces : List (Piece A)) (strand : ℕ) (piece : Piece A) (slots : Option (Box (Slot A) A)) → strand < length pieces → listed_of slots ≡ (kept_of (get_or pieces strand piece)).touches →
+    (reducer : ℕ) → touches_of slots reducer ≡ touches_at (all_kept pieces) strand reducer
+table_touches pieces strand piece slots lt slots_is reducer =
+    sym (look_up-listed_of slots reducer) ∙ (ap (λ ts. look_up ts reducer) slots_is ∙ sym (ap (λ k. look_up k.touches reducer) (kept_here pieces strand piece lt)))
 
 pub same_then : (first second third : List Kept) → SameHomes first second → SameHomes second third → SameHomes first third
 same_then first second third a b = record {
@@ -264,86 +281,132 @@ fewer_left count new_count (suc at) (suc next) e positive lt up below =
     let more : suc at < suc next = up (omega arith) in
     let a : new_count - suc next ≡ count - suc next = ap (λ n. n - suc next) e in omega (arith, a, more, below)
 
-pub later_in_range : {A : Type 0} (monoids : List Monoid) (pieces : List (Piece A)) (at : ℕ) (piece : Piece A) → AreKept monoids (all_kept pieces) → at < length pieces → (get_or pieces at piece).later < length pieces
-later_in_range monoids pieces at piece sound lt = subst₂ (λ y n. y < n) (ap (λ k. k.later) (kept_here pieces at piece lt)) (length-all_kept pieces) (sound.laters at)
+pub later_in_range : {A : Type 0} (monoids : List Monoid) (pieces : List (Piece A)) (at later : ℕ) → AreKept monoids (all_kept pieces) → later ≡ later_at (all_kept pieces) at → later < length pieces
+later_in_range monoids pieces at later sound e = subst₂ (λ y n. y < n) (sym e) (length-all_kept pieces) (sound.laters at)
 
-pub home_in_range : {A : Type 0} (monoids : List Monoid) (pieces : List (Piece A)) (at : ℕ) (piece : Piece A) → AreKept monoids (all_kept pieces) → at < length pieces → (get_or pieces at piece).home < length pieces
-home_in_range monoids pieces at piece sound lt = subst₂ (λ y n. y < n) (ap (λ k. k.home) (kept_here pieces at piece lt)) (length-all_kept pieces) (sound.homes at)
+pub home_in_range : {A : Type 0} (monoids : List Monoid) (pieces : List (Piece A)) (at home : ℕ) → AreKept monoids (all_kept pieces) → home ≡ home_at (all_kept pieces) at → home < length pieces
+home_in_range monoids pieces at home sound e = subst₂ (λ y n. y < n) (sym e) (length-all_kept pieces) (sound.homes at)
 
-pub goes_up : {A : Type 0} (monoids : List Monoid) (start : List Kept) (now new : List (Piece A)) (home first at : ℕ) (piece : Piece A) → Progress monoids start (all_kept now) home first at → SameHomes (all_kept now) (all_kept new) →
-    0 < at → at < length new → 0 < (get_or new at piece).later → at < (get_or new at piece).later
-goes_up monoids start now new home first at piece p same positive lt more =
+pub goes_up : (monoids : List Monoid) (start now new : List Kept) (home first at next : ℕ) → Progress monoids start now home first at → SameHomes now new → next ≡ later_at new at →
+    0 < at → 0 < next → at < next
+goes_up monoids start now new home first at next p same next_is positive more =
     subst (λ y. at < y) (sym e) (p.up positive (subst (λ y. 0 < y) e more))
   where
-    e : (get_or new at piece).later ≡ later_at start at
-    e = sym (ap (λ k. k.later) (kept_here new at piece lt)) ∙ (same.laters at ∙ p.same.laters at)
+    e : next ≡ later_at start at
+    e = next_is ∙ (same.laters at ∙ p.same.laters at)
 
-pub begins_at : {A : Type 0} (monoids : List Monoid) (pieces : List (Piece A)) (join : ℕ) (piece other : Piece A) → AreKept monoids (all_kept pieces) → join < length pieces →
-    Progress monoids (all_kept pieces) (all_kept pieces) (get_or pieces join piece).home (get_or pieces join other).later (get_or pieces join other).later
-begins_at monoids pieces join piece other sound lt =
-    subst₂ (λ home first. Progress monoids (all_kept pieces) (all_kept pieces) home first first) (ap (λ k. k.home) (kept_here pieces join piece lt)) (ap (λ k. k.later) (kept_here pieces join other lt))
-    (begins monoids (all_kept pieces) join sound)
+pub begins_at : (monoids : List Monoid) (strands : List Kept) (join home first : ℕ) → AreKept monoids strands → home ≡ home_at strands join → first ≡ later_at strands join →
+    Progress monoids strands strands home first first
+begins_at monoids strands join home first sound home_is first_is =
+    subst₂ (λ h f. Progress monoids strands strands h f f) (sym home_is) (sym first_is) (begins monoids strands join sound)
 
-pub finishes_at : {A : Type 0} (monoids : List Monoid) (pieces : List (Piece A)) (now : List Kept) (join : ℕ) (piece other : Piece A) (at : ℕ) → join < length pieces →
-    Progress monoids (all_kept pieces) now (get_or pieces join piece).home (get_or pieces join other).later at → at ≡ 0 →
-    (continuations : List ℕ) → AreLater (later_at (all_kept pieces)) (later_at (all_kept pieces) join) continuations → Combines monoids (all_kept pieces) now (home_at (all_kept pieces) join) continuations
-finishes_at monoids pieces now join piece other at lt p e continuations follow =
-    subst (λ home. Combines monoids (all_kept pieces) now home continuations) (sym (ap (λ k. k.home) (kept_here pieces join piece lt)))
-    (finishes monoids (all_kept pieces) now (get_or pieces join piece).home (get_or pieces join other).later at p e continuations
-    (subst (λ first. AreLater (later_at (all_kept pieces)) first continuations) (ap (λ k. k.later) (kept_here pieces join other lt)) follow))
+pub finishes_at : (monoids : List Monoid) (start now : List Kept) (join home first at : ℕ) → home ≡ home_at start join → first ≡ later_at start join →
+    Progress monoids start now home first at → at ≡ 0 →
+    (continuations : List ℕ) → AreLater (later_at start) (later_at start join) continuations → Combines monoids start now (home_at start join) continuations
+finishes_at monoids start now join home first at home_is first_is p e continuations follow =
+    subst (λ h. Combines monoids start now h continuations) home_is
+    (finishes monoids start now home first at p e continuations (subst (λ f. AreLater (later_at start) f continuations) (sym first_is) follow))
 
-pub fewer_at : {A : Type 0} (monoids : List Monoid) (start : List Kept) (now new : List (Piece A)) (home first at : ℕ) (piece : Piece A) → Progress monoids start (all_kept now) home first at → AreKept monoids (all_kept new) → SameHomes (all_kept now) (all_kept new) →
-    0 < at → at < length now → length new ≡ length now → numbers_left (length new) (get_or new at piece).later < numbers_left (length now) at
-fewer_at monoids start now new home first at piece p sound same positive lt e =
-    fewer_left (length now) (length new) at (get_or new at piece).later e positive lt (goes_up monoids start now new home first at piece p same positive known)
-    (subst (λ n. (get_or new at piece).later < n) e (later_in_range monoids new at piece sound known))
-  where
-    known : at < length new
-    known = subst (λ n. at < n) (sym e) lt
+pub fewer_at : {A : Type 0} (monoids : List Monoid) (start : List Kept) (now new : List (Piece A)) (home first at next : ℕ) → Progress monoids start (all_kept now) home first at → AreKept monoids (all_kept new) → SameHomes (all_kept now) (all_kept new) →
+    next ≡ later_at (all_kept new) at → 0 < at → at < length now → length new ≡ length now → numbers_left (length new) next < numbers_left (length now) at
+fewer_at monoids start now new home first at next p sound same next_is positive lt e =
+    fewer_left (length now) (length new) at next e positive lt (goes_up monoids start (all_kept now) (all_kept new) home first at next p same next_is positive)
+    (subst (λ n. next < n) e (later_in_range monoids new at next sound next_is))
 
--- one touch is written where a piece is lent
-pub sets_at : {A : Type 0} (pieces : List (Piece A)) (home reducer : ℕ) (touch : Touch) (piece : Piece A) (slots : Option (Box (Slot A) A)) → home < length pieces →
-    Changes (touches_of (get_or pieces home piece).slots) (touches_of slots) reducer touch →
-    SetsAt (all_kept pieces) (all_kept (set pieces home (record { home = (get_or pieces home piece).home; later = (get_or pieces home piece).later; slots = slots }))) home reducer touch
-sets_at {A} pieces home reducer touch piece slots lt change = record {
+-- one touch is written in a piece
+pub sets_at : {A : Type 0} (pieces : List (Piece A)) (home reducer : ℕ) (touch : Touch) (piece new : Piece A) → home < length pieces → SetsIn (kept_of (get_or pieces home piece)) (kept_of new) reducer touch →
+    SetsAt (all_kept pieces) (all_kept (set pieces home new)) home reducer touch
+sets_at {A} pieces home reducer touch piece new known sets = record {
   same = filled.same;
-  changed = ap (λ ts. ts reducer) filled.changed ∙ (look_up-listed_of slots reducer ∙ change.changed);
+  changed = ap (λ ts. ts reducer) filled.changed ∙ sets.touches.changed;
   others = λ strand other apart. elim (same_or_not strand home) [
     | inl e ↦ elim apart [
       | inl ne ↦ absurd (ne e)
-      | inr ne ↦ subst (λ y. touches_at new y other ≡ touches_at (all_kept pieces) y other) (sym e)
-          (ap (λ ts. ts other) filled.changed ∙ (look_up-listed_of slots other ∙ (change.others other ne ∙ sym (touches_here pieces home piece lt other))))
+      | inr ne ↦ subst (λ y. touches_at (all_kept (set pieces home new)) y other ≡ touches_at (all_kept pieces) y other) (sym e)
+          (ap (λ ts. ts other) filled.changed ∙ (sets.touches.others other ne ∙ sym (ap (λ k. look_up k.touches other) (kept_here pieces home piece known))))
     ]
     | inr ne ↦ ap (λ ts. ts other) (filled.others strand ne)
   ];
 }
   where
-    new : List Kept
-    new = all_kept (set pieces home (record { home = (get_or pieces home piece).home; later = (get_or pieces home piece).later; slots = slots }))
+    filled : WithTouches (all_kept pieces) (all_kept (set pieces home new)) home (look_up (kept_of new).touches)
+    filled = with_piece pieces home piece new (kept_of new).touches known (ap₂ (λ home_is later_is. (let kept : Kept = record { home = home_is; later = later_is; touches = (kept_of new).touches } in kept)) sets.home sets.later)
 
-    filled : WithTouches (all_kept pieces) (all_kept (set pieces home (record { home = (get_or pieces home piece).home; later = (get_or pieces home piece).later; slots = slots }))) home (look_up (listed_of slots))
-    filled = with_piece pieces home piece slots lt
+pub adds_at : {A : Type 0} (pieces : List (Piece A)) (home reducer : ℕ) (touch : Touch) (piece new : Piece A) → home < length pieces →
+    SetsIn (kept_of (get_or pieces home piece)) (kept_of new) reducer (added (look_up (kept_of (get_or pieces home piece)).touches reducer) touch) →
+    SetsAt (all_kept pieces) (all_kept (set pieces home new)) home reducer (added (touches_at (all_kept pieces) home reducer) touch)
+adds_at pieces home reducer touch piece new known sets =
+    subst (λ t. SetsAt (all_kept pieces) (all_kept (set pieces home new)) home reducer (added t touch)) (sym (ap (λ k. look_up k.touches reducer) (kept_here pieces home piece known)))
+    (sets_at pieces home reducer (added (look_up (kept_of (get_or pieces home piece)).touches reducer) touch) piece new known sets)
 
-pub adds_at : {A : Type 0} (pieces : List (Piece A)) (home reducer : ℕ) (touch : Touch) (piece : Piece A) (slots : Option (Box (Slot A) A)) → home < length pieces →
-    Changes (touches_of (get_or pieces home piece).slots) (touches_of slots) reducer (added (touches_of (get_or pieces home piece).slots reducer) touch) →
-    SetsAt (all_kept pieces) (all_kept (set pieces home (record { home = (get_or pieces home piece).home; later = (get_or pieces home piece).later; slots = slots }))) home reducer
-    (added (touches_at (all_kept pieces) home reducer) touch)
-adds_at pieces home reducer touch piece slots lt change =
-    sets_at pieces home reducer (added (touches_at (all_kept pieces) home reducer) touch) piece slots lt
-    (subst (λ t. Changes (touches_of (get_or pieces home piece).slots) (touches_of slots) reducer (added t touch)) (sym (touches_here pieces home piece lt reducer)) change)
-
-pub takes_over : {A : Type 0} (pieces : List (Piece A)) (home later : ℕ) (piece other : Piece A) (taken emptied absorbed : Option (Box (Slot A) A)) → home < length pieces → later < length pieces → home < later →
-    taken ≡ (get_or pieces later other).slots → emptied ≡ None →
-    ((reducer : ℕ) → touches_of absorbed reducer ≡
-    both (touches_of (get_or (set pieces later (record { home = (get_or pieces later other).home; later = (get_or pieces later other).later; slots = emptied })) home piece).slots reducer) (touches_of taken reducer)) →
-    TakesOver (all_kept pieces) (all_kept (set (set pieces later (record { home = (get_or pieces later other).home; later = (get_or pieces later other).later; slots = emptied })) home (record { home = (get_or (set pieces later (record { home = (get_or pieces later other).home; later = (get_or pieces later other).later; slots = emptied })) home piece).home; later = (get_or (set pieces later (record { home = (get_or pieces later other).home; later = (get_or pieces later other).later; slots = emptied })) home piece).later; slots = absorbed }))) home later
-takes_over {A} pieces home later piece other taken emptied absorbed home_known later_known apart taken_is emptied_is absorbed_is =
-    taken_over (all_kept pieces) (all_kept (set pieces later (record { home = (get_or pieces later other).home; later = (get_or pieces later other).later; slots = emptied }))) (all_kept (set (set pieces later (record { home = (get_or pieces later other).home; later = (get_or pieces later other).later; slots = emptied })) home (record { home = (get_or (set pieces later (record { home = (get_or pieces later other).home; later = (get_or pieces later other).later; slots = emptied })) home piece).home; later = (get_or (set pieces later (record { home = (get_or pieces later other).home; later = (get_or pieces later other).later; slots = emptied })) home piece).later; slots = absorbed }))) home later
-    (look_up (listed_of emptied)) (look_up (listed_of absorbed)) (λ e. omega (arith, e, apart)) (with_piece pieces later other emptied later_known)
-    (λ r. ap (λ (s : Option (Box (Slot A) A)). look_up (listed_of s) r) emptied_is)
-    (with_piece (set pieces later (record { home = (get_or pieces later other).home; later = (get_or pieces later other).later; slots = emptied })) home piece absorbed known)
-    (λ r. look_up-listed_of absorbed r ∙ (absorbed_is r ∙ ap₂ both (sym (touches_here (set pieces later (record { home = (get_or pieces later other).home; later = (get_or pieces later other).later; slots = emptied })) home piece known r))
-    (ap (λ (s : Option (Box (Slot A) A)). touches_of s r) taken_is ∙ sym (touches_here pieces later other later_known r))))
+-- a table was taken out, a touch set in it, and it was put back
+pub sets_table : {A : Type 0} (old bare new : Kept) (taken slots : Option (Box (Slot A) A)) (reducer : ℕ) (touch : Touch) → listed_of taken ≡ old.touches → bare ≡ record old { touches = [] } →
+    Changes (touches_of taken) (touches_of slots) reducer touch → new ≡ record bare { touches = listed_of slots } → SetsIn old new reducer touch
+sets_table {A} old bare new taken slots reducer touch taken_is bare_is change new_is = record {
+  home = ap (λ (k : Kept). k.home) new_is ∙ ap (λ (k : Kept). k.home) bare_is;
+  later = ap (λ (k : Kept). k.later) new_is ∙ ap (λ (k : Kept). k.later) bare_is;
+  touches = record {
+    changed = after reducer ∙ change.changed;
+    others = λ other ne. after other ∙ (change.others other ne ∙ (sym (look_up-listed_of taken other) ∙ ap (λ ts. look_up ts other) taken_is));
+  };
+}
   where
-    known : home < length (set pieces later (record { home = (get_or pieces later other).home; later = (get_or pieces later other).later; slots = emptied }))
-    known = subst (λ n. home < n) (sym (length-set pieces later (record { home = (get_or pieces later other).home; later = (get_or pieces later other).later; slots = emptied }))) home_known
+    after : (other : ℕ) → look_up new.touches other ≡ touches_of slots other
+    after other = ap (λ (k : Kept). look_up k.touches other) new_is ∙ look_up-listed_of slots other
+
+-- a touch was combined in the table that begins with a slot
+pub gathers_table : {A : Type 0} (piece : Piece A) (home : ℕ) (box : Box (Slot A) A) (slot new : Slot A) (reducer : ℕ) (touch : Touch) → piece ≡ Touched home box → slot ≡ box.value →
+    ChangesPlace (column_from slot) (column_from new) (reducer / 4) (reducer % 4) (added (column_from slot (reducer % 4) (reducer / 4)) touch) → later_in new ≡ later_in slot →
+    SetsIn (kept_of piece) (kept_of (Touched home (record box { value = new }))) reducer (added (look_up (kept_of piece).touches reducer) touch)
+gathers_table {A} piece home box slot new reducer touch piece_is slot_is change later_is =
+    subst (λ (p : Piece A). SetsIn (kept_of p) (kept_of (Touched home filled)) reducer (added (look_up (kept_of p).touches reducer) touch)) (sym piece_is) (record {
+      home = refl;
+      later = later_is ∙ ap (λ (s : Slot A). later_in s) slot_is;
+      touches = record {
+        changed = look_up-listed_of (Some filled) reducer ∙ (whole.changed ∙ ap (λ t. Some (added t touch)) (sym (look_up-listed_of (Some box) reducer)));
+        others = λ other ne. look_up-listed_of (Some filled) other ∙ (whole.others other ne ∙ sym (look_up-listed_of (Some box) other));
+      };
+    })
+  where
+    filled : Box (Slot A) A
+    filled = record box { value = new }
+
+    whole : Changes (touches_of (Some box)) (touches_of (Some filled)) reducer (added (touches_of (Some box) reducer) touch)
+    whole = touches_change (Some box) (Some filled) reducer (added (touches_of (Some box) reducer) touch)
+        (subst (λ (s : Slot A). ChangesPlace (column_from s) (column_from new) (reducer / 4) (reducer % 4) (added (column_from s (reducer % 4) (reducer / 4)) touch)) slot_is change)
+
+both_none : (touch : Option Touch) → touch ≡ both touch None
+both_none None = refl
+both_none (Some touch) = refl
+
+is_none : {A : Type 0} (slots : Option (Box (Slot A) A)) → is_some slots ≡ false → slots ≡ None
+is_none None e = refl
+is_none (Some slot) e = absurd (cc)
+
+pub takes_nothing : {A : Type 0} (pieces : List (Piece A)) (home later : ℕ) (other emptied : Piece A) (taken : Option (Box (Slot A) A)) → later < length pieces → home < later →
+    listed_of taken ≡ (kept_of (get_or pieces later other)).touches → kept_of emptied ≡ record (kept_of (get_or pieces later other)) { touches = [] } → is_some taken ≡ false →
+    TakesOver (all_kept pieces) (all_kept (set pieces later emptied)) home later
+takes_nothing {A} pieces home later other emptied taken known apart taken_is emptied_is empty = record {
+  same = bare.same;
+  taken = λ r. ap (λ ts. ts r) (bare.others home (λ e. omega (arith, e, apart))) ∙ (both_none (touches_at (all_kept pieces) home r) ∙
+      ap (both (touches_at (all_kept pieces) home r)) (ap (λ (s : Option (Box (Slot A) A)). touches_of s r) (sym (is_none taken empty)) ∙ table_touches pieces later other taken known taken_is r));
+  emptied = λ r. ap (λ ts. ts r) bare.changed;
+  others = λ strand away off. bare.others strand off;
+}
+  where
+    bare : WithTouches (all_kept pieces) (all_kept (set pieces later emptied)) later (look_up [])
+    bare = with_piece pieces later other emptied [] known emptied_is
+
+pub takes_over : {A : Type 0} (pieces : List (Piece A)) (home later : ℕ) (other emptied piece new : Piece A) (bare : Kept) (taken slots absorbed : Option (Box (Slot A) A)) → home < length pieces → later < length pieces → home < later →
+    listed_of taken ≡ (kept_of (get_or pieces later other)).touches → kept_of emptied ≡ record (kept_of (get_or pieces later other)) { touches = [] } →
+    listed_of slots ≡ (kept_of (get_or (set pieces later emptied) home piece)).touches → bare ≡ record (kept_of (get_or (set pieces later emptied) home piece)) { touches = [] } →
+    ((reducer : ℕ) → touches_of absorbed reducer ≡ both (touches_of slots reducer) (touches_of taken reducer)) → kept_of new ≡ record bare { touches = listed_of absorbed } →
+    TakesOver (all_kept pieces) (all_kept (set (set pieces later emptied) home new)) home later
+takes_over pieces home later other emptied piece new bare taken slots absorbed home_known later_known apart taken_is emptied_is slots_is bare_is absorbed_is new_is =
+    taken_over (all_kept pieces) (all_kept (set pieces later emptied)) (all_kept (set (set pieces later emptied) home new)) home later
+    (look_up []) (look_up (listed_of absorbed)) (λ e. omega (arith, e, apart)) (with_piece pieces later other emptied [] later_known emptied_is) (λ r. refl)
+    (with_table (set pieces later emptied) home piece new bare absorbed known bare_is new_is)
+    (λ r. look_up-listed_of absorbed r ∙ (absorbed_is r ∙ ap₂ both (table_touches (set pieces later emptied) home piece slots known slots_is r) (table_touches pieces later other taken later_known taken_is r)))
+  where
+    known : home < length (set pieces later emptied)
+    known = subst (λ n. home < n) (sym (length-set pieces later emptied)) home_known

@@ -87,7 +87,7 @@ module _ (first : Option Touch) (odd even : Listed) (reducer : ℕ) where
 
 mutual
   look_up-listed_from : {A : Type 0} (slot : Slot A) (place number : ℕ) → look_up (listed_from slot place) number ≡ column_from slot place number
-  look_up-listed_from (Slot' row odd even) place number =
+  look_up-listed_from (Slot' row odd even later) place number =
       look_up-spread_list (touch_in row place) (listed_behind odd place) (listed_behind even place) number ∙
       spread_alike (touch_in row place) (touch_in row place) (look_up (listed_behind odd place)) (column_behind odd place) (look_up (listed_behind even place)) (column_behind even place) refl
       (look_up-listed_behind odd place) (look_up-listed_behind even place) number

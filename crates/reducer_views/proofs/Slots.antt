@@ -15,23 +15,23 @@ Table A = Option (Box (Slot A) A)
 abbrev pub opened : {A : Type 0} → Slot A → Columns
 opened {A} slot = columns (out-Slot A slot).row (column_of (out-Slot A slot).odd) (column_of (out-Slot A slot).even)
 
-abbrev pub rolled : {A : Type 0} → Row → Table A → Table A → Slot A
-rolled {A} row odd even = roll-Slot A (record { row = row; odd = odd; even = even })
+abbrev pub rolled : {A : Type 0} → Row → Table A → Table A → ℕ → Slot A
+rolled {A} row odd even later = roll-Slot A (record { row = row; odd = odd; even = even; later = later })
 
 pub columns_out : {A : Type 0} (slot : Slot A) (place number : ℕ) → column_from slot place number ≡ opened slot place number
 unfolding out-Slot denote.Hole.Carrier.out
-columns_out {A} (Slot' row None' None') place number = refl
-columns_out {A} (Slot' row None' (Some' p even)) place number = refl
-columns_out {A} (Slot' row (Some' p odd) None') place number = refl
-columns_out {A} (Slot' row (Some' p odd) (Some' q even)) place number = refl
+columns_out {A} (Slot' row None' None' later) place number = refl
+columns_out {A} (Slot' row None' (Some' p even) later) place number = refl
+columns_out {A} (Slot' row (Some' p odd) None' later) place number = refl
+columns_out {A} (Slot' row (Some' p odd) (Some' q even) later) place number = refl
 
-pub columns_roll : {A : Type 0} (row : Row) (odd even : Table A) (place number : ℕ) →
-    column_from (rolled row odd even) place number ≡ columns row (column_of odd) (column_of even) place number
+pub columns_roll : {A : Type 0} (row : Row) (odd even : Table A) (later place number : ℕ) →
+    column_from (rolled row odd even later) place number ≡ columns row (column_of odd) (column_of even) place number
 unfolding roll-Slot denote.Hole.Carrier.roll
-columns_roll {A} row None None place number = refl
-columns_roll {A} row None (Some even) place number = refl
-columns_roll {A} row (Some odd) None place number = refl
-columns_roll {A} row (Some odd) (Some even) place number = refl
+columns_roll {A} row None None later place number = refl
+columns_roll {A} row None (Some even) later place number = refl
+columns_roll {A} row (Some odd) None later place number = refl
+columns_roll {A} row (Some odd) (Some even) later place number = refl
 
 -- where a row is found
 pub found_first : {A : Type 0} (slot : Slot A) (place number : ℕ) → number ≡ 0 → touch_in (out-Slot A slot).row place ≡ column_from slot place number
@@ -80,53 +80,47 @@ module _ {A : Type 0} (old : Columns) (slot : Slot A) (number place : ℕ) (touc
   }
 
   pub set_first : (row : Row) → number ≡ 0 → Changes (touch_in (out-Slot A slot).row) (touch_in row) place touch →
-      ChangesPlace old (column_from (rolled row (out-Slot A slot).odd (out-Slot A slot).even)) number place touch
+      ChangesPlace old (column_from (rolled row (out-Slot A slot).odd (out-Slot A slot).even (out-Slot A slot).later)) number place touch
   set_first row e change =
-      changes_through (columns row (column_of (out-Slot A slot).odd) (column_of (out-Slot A slot).even)) (rolled row (out-Slot A slot).odd (out-Slot A slot).even)
-      (columns_roll row (out-Slot A slot).odd (out-Slot A slot).even)
+      changes_through (columns row (column_of (out-Slot A slot).odd) (column_of (out-Slot A slot).even)) (rolled row (out-Slot A slot).odd (out-Slot A slot).even (out-Slot A slot).later)
+      (columns_roll row (out-Slot A slot).odd (out-Slot A slot).even (out-Slot A slot).later)
       (place_first (out-Slot A slot).row row (column_of (out-Slot A slot).odd) (column_of (out-Slot A slot).even) number place touch e change)
 
   pub set_odd : (odd : Table A) → number ≢ 0 → number % 2 ≡ 1 → ChangesPlace (column_of (out-Slot A slot).odd) (column_of odd) ((number - 1) / 2) place touch →
-      ChangesPlace old (column_from (rolled (out-Slot A slot).row odd (out-Slot A slot).even)) number place touch
+      ChangesPlace old (column_from (rolled (out-Slot A slot).row odd (out-Slot A slot).even (out-Slot A slot).later)) number place touch
   set_odd odd ne o change =
-      changes_through (columns (out-Slot A slot).row (column_of odd) (column_of (out-Slot A slot).even)) (rolled (out-Slot A slot).row odd (out-Slot A slot).even)
-      (columns_roll (out-Slot A slot).row odd (out-Slot A slot).even)
+      changes_through (columns (out-Slot A slot).row (column_of odd) (column_of (out-Slot A slot).even)) (rolled (out-Slot A slot).row odd (out-Slot A slot).even (out-Slot A slot).later)
+      (columns_roll (out-Slot A slot).row odd (out-Slot A slot).even (out-Slot A slot).later)
       (place_odd (out-Slot A slot).row (column_of (out-Slot A slot).odd) (column_of odd) (column_of (out-Slot A slot).even) number place touch ne o change)
 
   pub set_even : (even : Table A) → number ≢ 0 → number % 2 ≢ 1 → ChangesPlace (column_of (out-Slot A slot).even) (column_of even) ((number - 1) / 2) place touch →
-      ChangesPlace old (column_from (rolled (out-Slot A slot).row (out-Slot A slot).odd even)) number place touch
+      ChangesPlace old (column_from (rolled (out-Slot A slot).row (out-Slot A slot).odd even (out-Slot A slot).later)) number place touch
   set_even even ne o change =
-      changes_through (columns (out-Slot A slot).row (column_of (out-Slot A slot).odd) (column_of even)) (rolled (out-Slot A slot).row (out-Slot A slot).odd even)
-      (columns_roll (out-Slot A slot).row (out-Slot A slot).odd even)
+      changes_through (columns (out-Slot A slot).row (column_of (out-Slot A slot).odd) (column_of even)) (rolled (out-Slot A slot).row (out-Slot A slot).odd even (out-Slot A slot).later)
+      (columns_roll (out-Slot A slot).row (out-Slot A slot).odd even (out-Slot A slot).later)
       (place_even (out-Slot A slot).row (column_of (out-Slot A slot).odd) (column_of (out-Slot A slot).even) (column_of even) number place touch ne o change)
 
 -- a touch is combined behind a slot, by where it stands
-module _ {A : Type 0} (slots : Table A) (box : Box (Slot A) A) (slot : Slot A) (number place : ℕ) (touch : Touch) (slots_is : slots ≡ Some box) (slot_is : slot ≡ box.value) where
-  before_slot : (other row : ℕ) → column_from slot other row ≡ column_of slots other row
-  before_slot other row =
-      ap (λ (s : Slot A). column_from s other row) slot_is ∙ sym (ap (λ (s : Table A). column_of s other row) slots_is)
-
+module _ {A : Type 0} (slot : Slot A) (number place : ℕ) (touch : Touch) where
   pub gather_first : (row : Row) → number ≡ 0 → Changes (touch_in (out-Slot A slot).row) (touch_in row) place (added (touch_in (out-Slot A slot).row place) touch) →
-      ChangesPlace (column_of slots) (column_from (rolled row (out-Slot A slot).odd (out-Slot A slot).even)) number place (added (column_of slots place number) touch)
+      ChangesPlace (column_from slot) (column_from (rolled row (out-Slot A slot).odd (out-Slot A slot).even (out-Slot A slot).later)) number place (added (column_from slot place number) touch)
   gather_first row e change =
-      set_first (column_of slots) slot number place (added (column_of slots place number) touch) before_slot row e
-      (subst (λ (t : Option Touch). Changes (touch_in (out-Slot A slot).row) (touch_in row) place (added t touch)) (found_first slot place number e ∙ before_slot place number) change)
+      set_first (column_from slot) slot number place (added (column_from slot place number) touch) (λ p n. refl) row e
+      (subst (λ (t : Option Touch). Changes (touch_in (out-Slot A slot).row) (touch_in row) place (added t touch)) (found_first slot place number e) change)
 
   pub gather_odd : (odd : Table A) → number ≢ 0 → number % 2 ≡ 1 →
       ChangesPlace (column_of (out-Slot A slot).odd) (column_of odd) ((number - 1) / 2) place (added (column_of (out-Slot A slot).odd place ((number - 1) / 2)) touch) →
-      ChangesPlace (column_of slots) (column_from (rolled (out-Slot A slot).row odd (out-Slot A slot).even)) number place (added (column_of slots place number) touch)
+      ChangesPlace (column_from slot) (column_from (rolled (out-Slot A slot).row odd (out-Slot A slot).even (out-Slot A slot).later)) number place (added (column_from slot place number) touch)
   gather_odd odd ne o change =
-      set_odd (column_of slots) slot number place (added (column_of slots place number) touch) before_slot odd ne o
-      (subst (λ (t : Option Touch). ChangesPlace (column_of (out-Slot A slot).odd) (column_of odd) ((number - 1) / 2) place (added t touch))
-      (found_odd slot place number ne o ∙ before_slot place number) change)
+      set_odd (column_from slot) slot number place (added (column_from slot place number) touch) (λ p n. refl) odd ne o
+      (subst (λ (t : Option Touch). ChangesPlace (column_of (out-Slot A slot).odd) (column_of odd) ((number - 1) / 2) place (added t touch)) (found_odd slot place number ne o) change)
 
   pub gather_even : (even : Table A) → number ≢ 0 → number % 2 ≢ 1 →
       ChangesPlace (column_of (out-Slot A slot).even) (column_of even) ((number - 1) / 2) place (added (column_of (out-Slot A slot).even place ((number - 1) / 2)) touch) →
-      ChangesPlace (column_of slots) (column_from (rolled (out-Slot A slot).row (out-Slot A slot).odd even)) number place (added (column_of slots place number) touch)
+      ChangesPlace (column_from slot) (column_from (rolled (out-Slot A slot).row (out-Slot A slot).odd even (out-Slot A slot).later)) number place (added (column_from slot place number) touch)
   gather_even even ne o change =
-      set_even (column_of slots) slot number place (added (column_of slots place number) touch) before_slot even ne o
-      (subst (λ (t : Option Touch). ChangesPlace (column_of (out-Slot A slot).even) (column_of even) ((number - 1) / 2) place (added t touch))
-      (found_even slot place number ne o ∙ before_slot place number) change)
+      set_even (column_from slot) slot number place (added (column_from slot place number) touch) (λ p n. refl) even ne o
+      (subst (λ (t : Option Touch). ChangesPlace (column_of (out-Slot A slot).even) (column_of even) ((number - 1) / 2) place (added t touch)) (found_even slot place number ne o) change)
 
 -- a reducer is known by its row and its place there
 same_reducer : (reducer other : ℕ) → other % 4 ≡ reducer % 4 → other / 4 ≡ reducer / 4 → other ≡ reducer
@@ -168,22 +162,22 @@ module _ {A : Type 0} (row : Row) (odd even : Table A) where
       ((out-Slot A slot).row ≡ row) × ((place number : ℕ) → column_of (out-Slot A slot).odd place number ≡ column_of odd place number) ×
       ((place number : ℕ) → column_of (out-Slot A slot).even place number ≡ column_of even place number)
 
-reopened : {A : Type 0} (row : Row) (odd even : Table A) → HoldsParts row odd even (rolled row odd even)
+reopened : {A : Type 0} (row : Row) (odd even : Table A) (later : ℕ) → HoldsParts row odd even (rolled row odd even later)
 unfolding out-Slot roll-Slot denote.Hole.Carrier.out denote.Hole.Carrier.roll
-reopened {A} row None None = (refl, λ p n. refl, λ p n. refl)
-reopened {A} row None (Some even) = (refl, λ p n. refl, λ p n. refl)
-reopened {A} row (Some odd) None = (refl, λ p n. refl, λ p n. refl)
-reopened {A} row (Some odd) (Some even) = (refl, λ p n. refl, λ p n. refl)
+reopened {A} row None None later = (refl, λ p n. refl, λ p n. refl)
+reopened {A} row None (Some even) later = (refl, λ p n. refl, λ p n. refl)
+reopened {A} row (Some odd) None later = (refl, λ p n. refl, λ p n. refl)
+reopened {A} row (Some odd) (Some even) later = (refl, λ p n. refl, λ p n. refl)
 
-holds_parts : {A : Type 0} (slot : Slot A) (row : Row) (odd even : Table A) → slot ≡ rolled row odd even → HoldsParts row odd even slot
-holds_parts {A} slot row odd even e = subst (HoldsParts row odd even) (sym e) (reopened row odd even)
+holds_parts : {A : Type 0} (slot : Slot A) (row : Row) (odd even : Table A) (later : ℕ) → slot ≡ rolled row odd even later → HoldsParts row odd even slot
+holds_parts {A} slot row odd even later e = subst (HoldsParts row odd even) (sym e) (reopened row odd even later)
 
-both_out : {A : Type 0} (slot other : Slot A) (row : Row) (odd even : Table A) (place : ℕ) → touch_in row place ≡ both (touch_in (out-Slot A slot).row place) (touch_in (out-Slot A other).row place) →
+both_out : {A : Type 0} (slot other : Slot A) (row : Row) (odd even : Table A) (later place : ℕ) → touch_in row place ≡ both (touch_in (out-Slot A slot).row place) (touch_in (out-Slot A other).row place) →
     ((number : ℕ) → column_of odd place number ≡ both (column_of (out-Slot A slot).odd place number) (column_of (out-Slot A other).odd place number)) →
     ((number : ℕ) → column_of even place number ≡ both (column_of (out-Slot A slot).even place number) (column_of (out-Slot A other).even place number)) →
-    (number : ℕ) → column_from (rolled row odd even) place number ≡ both (column_from slot place number) (column_from other place number)
-both_out {A} slot other row odd even place a b c number =
-    columns_roll row odd even place number ∙
+    (number : ℕ) → column_from (rolled row odd even later) place number ≡ both (column_from slot place number) (column_from other place number)
+both_out {A} slot other row odd even later place a b c number =
+    columns_roll row odd even later place number ∙
     (spread_both (touch_in (out-Slot A slot).row place) (touch_in (out-Slot A other).row place) (touch_in row place) (column_of (out-Slot A slot).odd place) (column_of (out-Slot A other).odd place) (column_of odd place)
     (column_of (out-Slot A slot).even place) (column_of (out-Slot A other).even place) (column_of even place) a b c number ∙
     sym (ap₂ both (columns_out slot place number) (columns_out other place number)))
@@ -192,28 +186,28 @@ both_out {A} slot other row odd even place a b c number =
 pub absorbed : {A : Type 0} (slots later : Table A) (slot other : Box (Slot A) A) (read other_read written touched other_touched second other_second : Slot A) (row : Row)
     (odd even later_odd later_even rest : Table A) → slots ≡ Some slot → later ≡ Some other → read ≡ slot.value → other_read ≡ other.value → written ≡ slot.value →
     ((place : ℕ) → touch_in row place ≡ both (touch_in (out-Slot A read).row place) (touch_in (out-Slot A other_read).row place)) →
-    touched ≡ rolled row (out-Slot A written).odd (out-Slot A written).even → other_touched ≡ other.value →
+    touched ≡ rolled row (out-Slot A written).odd (out-Slot A written).even (out-Slot A written).later → other_touched ≡ other.value →
     later_odd ≡ (out-Slot A other_touched).odd → ((reducer : ℕ) → touches_of odd reducer ≡ both (touches_of (out-Slot A touched).odd reducer) (touches_of later_odd reducer)) →
-    second ≡ rolled (out-Slot A touched).row odd (out-Slot A touched).even →
-    other_second ≡ rolled (out-Slot A other_touched).row rest (out-Slot A other_touched).even →
+    second ≡ rolled (out-Slot A touched).row odd (out-Slot A touched).even (out-Slot A touched).later →
+    other_second ≡ rolled (out-Slot A other_touched).row rest (out-Slot A other_touched).even (out-Slot A other_touched).later →
     later_even ≡ (out-Slot A other_second).even → ((reducer : ℕ) → touches_of even reducer ≡ both (touches_of (out-Slot A second).even reducer) (touches_of later_even reducer)) →
-    (reducer : ℕ) → column_from (rolled (out-Slot A second).row (out-Slot A second).odd even) (reducer % 4) (reducer / 4) ≡ both (touches_of slots reducer) (touches_of later reducer)
+    (reducer : ℕ) → column_from (rolled (out-Slot A second).row (out-Slot A second).odd even (out-Slot A second).later) (reducer % 4) (reducer / 4) ≡ both (touches_of slots reducer) (touches_of later reducer)
 absorbed {A} slots later slot other read other_read written touched other_touched second other_second row odd even later_odd later_even rest
     slots_is later_is read_is other_is written_is row_is touched_is other_touched_is later_odd_is odd_is second_is other_second_is later_even_is even_is reducer =
-    both_out slot.value other.value (out-Slot A second).row (out-Slot A second).odd even place first_is odds_are evens_are (reducer / 4) ∙
+    both_out slot.value other.value (out-Slot A second).row (out-Slot A second).odd even (out-Slot A second).later place first_is odds_are evens_are (reducer / 4) ∙
     sym (ap₂ both (ap (λ (s : Table A). touches_of s reducer) slots_is) (ap (λ (s : Table A). touches_of s reducer) later_is))
   where
     place : ℕ
     place = reducer % 4
 
     first_step : HoldsParts row (out-Slot A written).odd (out-Slot A written).even touched
-    first_step = holds_parts touched row (out-Slot A written).odd (out-Slot A written).even touched_is
+    first_step = holds_parts touched row (out-Slot A written).odd (out-Slot A written).even (out-Slot A written).later touched_is
 
     second_step : HoldsParts (out-Slot A touched).row odd (out-Slot A touched).even second
-    second_step = holds_parts second (out-Slot A touched).row odd (out-Slot A touched).even second_is
+    second_step = holds_parts second (out-Slot A touched).row odd (out-Slot A touched).even (out-Slot A touched).later second_is
 
     other_step : HoldsParts (out-Slot A other_touched).row rest (out-Slot A other_touched).even other_second
-    other_step = holds_parts other_second (out-Slot A other_touched).row rest (out-Slot A other_touched).even other_second_is
+    other_step = holds_parts other_second (out-Slot A other_touched).row rest (out-Slot A other_touched).even (out-Slot A other_touched).later other_second_is
 
     first_is : touch_in (out-Slot A second).row place ≡ both (touch_in (out-Slot A slot.value).row place) (touch_in (out-Slot A other.value).row place)
     first_is =

@@ -4,9 +4,10 @@ use Rattle.std.specs.Prelude.{◌∷◌, length, slice_index_or, map, Some, None
 use Rattle.model_reducers.specs.declared.monoid.Monoid.{Monoid}
 use Rattle.model_reducers.specs.declared.view.View.{View}
 use Rattle.reducer_views.specs.declared.pieces.Piece.{Piece}
+use Rattle.reducer_views.specs.declared.pieces.Piece.TheVariants.{Untouched, Touched}
 use Rattle.model_reducers.specs.Products.{product_of, monoid_of}
 use Rattle.reducer_views.specs.declared.touched.Touch.{Touch}
-use Rattle.reducer_views.specs.Touched.{Touches, Listed, look_up, listed_of, both, gathered, AreTouches}
+use Rattle.reducer_views.specs.Touched.{Touches, Listed, look_up, listed_of, later_in, Changes, both, gathered, AreTouches}
 
 -- of one strand: the strand under whose number its view is kept, the next continuation of a block, and the reducers that are touched there
 pub record Kept : Type 0 where
@@ -15,7 +16,8 @@ pub record Kept : Type 0 where
   pub touches : Listed
 
 abbrev pub kept_of : {A : Type 0} → Piece A → Kept
-kept_of piece = record { home = piece.home; later = piece.later; touches = listed_of piece.slots }
+kept_of (Untouched home later) = record { home = home; later = later; touches = [] }
+kept_of (Touched home slot) = record { home = home; later = later_in slot.value; touches = listed_of (Some slot) }
 
 abbrev pub all_kept : {A : Type 0} → List (Piece A) → List Kept
 all_kept pieces = map kept_of pieces
@@ -67,6 +69,12 @@ pub record TakesOver (old new : List Kept) (home later : ℕ) : Type 0 where
   pub taken : (reducer : ℕ) → touches_at new home reducer ≡ both (touches_at old home reducer) (touches_at old later reducer)
   pub emptied : (reducer : ℕ) → touches_at new later reducer ≡ None
   pub others : (strand : ℕ) → strand ≢ home → strand ≢ later → touches_at new strand ≡ touches_at old strand
+
+-- of this strand only the touch of the reducer differs: it is now this one
+pub record SetsIn (old new : Kept) (reducer : ℕ) (touch : Touch) : Type 0 where
+  pub home : new.home ≡ old.home
+  pub later : new.later ≡ old.later
+  pub touches : Changes (look_up old.touches) (look_up new.touches) reducer touch
 
 -- the touch of the reducer at this home is now this one, and all others are as before
 pub record SetsAt (old new : List Kept) (home reducer : ℕ) (touch : Touch) : Type 0 where

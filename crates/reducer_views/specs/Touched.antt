@@ -32,7 +32,7 @@ spread first odd even number =
 
 abbrev mutual
   pub column_from : {A : Type 0} → Slot A → Columns
-  column_from (Slot' row odd even) place = spread (touch_in row place) (column_behind odd place) (column_behind even place)
+  column_from (Slot' row odd even later) place = spread (touch_in row place) (column_behind odd place) (column_behind even place)
 
   pub column_behind : {A : Type 0} → Held-Slot-odd A → Columns
   column_behind None' place = untouched
@@ -65,7 +65,7 @@ spread_list first odd even =
 
 abbrev mutual
   pub listed_from : {A : Type 0} → Slot A → ℕ → Listed
-  listed_from (Slot' row odd even) place = spread_list (touch_in row place) (listed_behind odd place) (listed_behind even place)
+  listed_from (Slot' row odd even later) place = spread_list (touch_in row place) (listed_behind odd place) (listed_behind even place)
 
   pub listed_behind : {A : Type 0} → Held-Slot-odd A → ℕ → Listed
   listed_behind None' place = []
@@ -81,6 +81,10 @@ of_columns column = placed 0 (column 0) ++ (placed 1 (column 1) ++ (placed 2 (co
 abbrev pub listed_of : {A : Type 0} → Option (Box (Slot A) A) → Listed
 listed_of None = []
 listed_of (Some slot) = of_columns (listed_from slot.value)
+
+-- the later continuation that the first slot of a piece's table keeps
+abbrev pub later_in : {A : Type 0} → Slot A → ℕ
+later_in (Slot' row odd even later) = later
 
 -- only this reducer's touch differs: it is now this one
 pub record Changes (old new : Touches) (reducer : ℕ) (touch : Touch) : Type 0 where

@@ -1,7 +1,7 @@
 //! The reducers that a piece of the serial order has touched, each with its view.
 
-ghost use Rattle.std.specs.Prelude.{◌≡◌, ◌+◌, ◌<◌, ◌≤◌, ◌^◌, ℕ, OnOk, vec_len};
-ghost use Rattle.reducer_views.specs.Touched.{Changes, ChangesPlace, added, both, column_of, combined, touch_in, touches_of};
+ghost use Rattle.std.specs.Prelude.{◌≡◌, ◌+◌, ◌<◌, ◌≤◌, ◌^◌, ◌/◌, ◌%◌, ℕ, OnOk, vec_len};
+ghost use Rattle.reducer_views.specs.Touched.{Changes, ChangesPlace, added, both, column_from, column_of, combined, later_in, touch_in, touches_of};
 
 use crate::view::product;
 use model_reducers::{Monoid, View};
@@ -119,6 +119,8 @@ pub struct Slot<A: Allocator> {
     row: Row,
     odd: Slots<A>,
     even: Slots<A>,
+    /// In the first slot of a piece's table the later continuation that is kept of the piece; else it counts for nothing.
+    pub later: u32,
 }
 
 /// A table of reducers, by the rows in which they stand. The way to a row goes by at most 31 slots.
@@ -136,6 +138,7 @@ fn fresh<A: Allocator + Clone>(alloc: &A) -> Result<Box<Slot<A>, A>, AllocError>
         row: Row::empty(),
         odd: None,
         even: None,
+        later: 0,
     };
     Ok(Box::new(alloc.clone()?, slot)?)
 }
@@ -153,24 +156,23 @@ pub fn fill<A: Allocator + Clone>(spare: &mut Spare<A>, alloc: &A) -> Result<(),
     Ok(())
 }
 
-/// The touch of a reducer, if there is one.
-pub fn find<A: Allocator>(slots: &Slots<A>, reducer: u32) -> Option<Touch>
-    ensures { result ≡ touches_of slots.now reducer }
+/// The touch of a reducer in the table that begins with a slot, if there is one.
+pub fn find<A: Allocator>(first: &Slot<A>, reducer: u32) -> Option<Touch>
+    ensures { result ≡ column_from first.now (reducer % 4) (reducer / 4) }
 {
-    let mut rest = slots;
+    let mut slot = first;
     let mut number = reducer / 4;
-    while let Some(slot) = rest {
-        if number == 0 {
-            return slot.row.at((reducer % 4) as usize);
-        }
-        rest = if number % 2 == 1 {
+    while number != 0 {
+        let behind = if number % 2 == 1 {
             &slot.odd
         } else {
             &slot.even
         };
+        let Some(next) = behind else { return None };
+        slot = next;
         number = (number - 1) / 2;
     }
-    None
+    slot.row.at((reducer % 4) as usize)
 }
 
 /// Takes an empty slot from the reserve.
@@ -185,6 +187,7 @@ fn blank<A: Allocator>(spare: &mut Spare<A>) -> Box<Slot<A>, A>
     slot.row = Row::empty();
     slot.odd = None;
     slot.even = None;
+    slot.later = 0;
     slot
 }
 
@@ -231,9 +234,34 @@ pub fn set<A: Allocator>(slots: &mut Slots<A>, spare: &mut Spare<A>, reducer: u3
     set_in(slots, spare, reducer / 4, (reducer % 4) as usize, touch);
 }
 
+/// Combines a touch on the right of the one at a place of a row of the table that begins with a slot.
+#[cycle(gather)]
+fn gather_in<A: Allocator>(
+    slot: &mut Slot<A>,
+    spare: &mut Spare<A>,
+    number: u32,
+    place: usize,
+    touch: Touch,
+)
+    requires room { number + 1 < 2 ^ vec_len spare.old }
+    requires place { place < 4 }
+    ensures touches { ChangesPlace (column_from slot.old) (column_from slot.new) number place
+        (added (column_from slot.old place number) touch) }
+    ensures later { later_in slot.new ≡ later_in slot.old }
+{
+    if number == 0 {
+        slot.row.gather(place, touch);
+    } else if number % 2 == 1 {
+        gather_behind(&mut slot.odd, spare, (number - 1) / 2, place, touch);
+    } else {
+        gather_behind(&mut slot.even, spare, (number - 1) / 2, place, touch);
+    }
+}
+
 /// Combines a touch on the right of the one at a place of a row, in its slot where there is one, and else with slots of the
 /// reserve.
-fn gather_in<A: Allocator>(
+#[cycle(gather)]
+fn gather_behind<A: Allocator>(
     slots: &mut Slots<A>,
     spare: &mut Spare<A>,
     number: u32,
@@ -245,26 +273,21 @@ fn gather_in<A: Allocator>(
     ensures { ChangesPlace (column_of slots.old) (column_of slots.new) number place
         (added (column_of slots.old place number) touch) }
 {
-    let Some(slot) = slots else {
-        set_in(slots, spare, number, place, touch);
-        return;
-    };
-    let slot: &mut Slot<A> = slot;
-    if number == 0 {
-        slot.row.gather(place, touch);
-    } else if number % 2 == 1 {
-        gather_in(&mut slot.odd, spare, (number - 1) / 2, place, touch);
-    } else {
-        gather_in(&mut slot.even, spare, (number - 1) / 2, place, touch);
+    match slots {
+        Some(slot) => gather_in(slot, spare, number, place, touch),
+        None => set_in(slots, spare, number, place, touch),
     }
 }
 
-/// Combines a touch on the right of the reducer's, in its slot where there is one, and else with slots of the reserve.
-pub fn gather<A: Allocator>(slots: &mut Slots<A>, spare: &mut Spare<A>, reducer: u32, touch: Touch)
+/// Combines a touch on the right of the reducer's in the table that begins with a slot, with slots of the reserve where there
+/// are none on the way.
+pub fn gather<A: Allocator>(first: &mut Slot<A>, spare: &mut Spare<A>, reducer: u32, touch: Touch)
     requires { reducer + 1 < 2 ^ vec_len spare.old }
-    ensures { Changes (touches_of slots.old) (touches_of slots.new) reducer (added (touches_of slots.old reducer) touch) }
+    ensures touches { ChangesPlace (column_from first.old) (column_from first.new) (reducer / 4) (reducer % 4)
+        (added (column_from first.old (reducer % 4) (reducer / 4)) touch) }
+    ensures later { later_in first.new ≡ later_in first.old }
 {
-    gather_in(slots, spare, reducer / 4, (reducer % 4) as usize, touch);
+    gather_in(first, spare, reducer / 4, (reducer % 4) as usize, touch);
 }
 
 /// Gives the slots of a table back to the reserve, as far as there is room for them.

@@ -10,8 +10,8 @@ ghost use Rattle.reducer_views.specs.Held.{Holds, split_of, view_of};
 ghost use Rattle.reducer_views.specs.Homes.{IsCurrent};
 ghost use Rattle.model_reducers.specs.Products.{number_of};
 
-use crate::pieces::{Piece, first_piece, gather_at, gather_block, grow, set_at};
-use crate::touched::{DEPTH, Spare, Touch, fill, find};
+use crate::pieces::{Piece, first_piece, gather_at, gather_block, grow, home_of, set_at, touch_of};
+use crate::touched::{DEPTH, Spare, Touch, fill};
 use crate::view::{identity, of_put, of_update, value};
 use model_reducers::Monoid;
 use model_strands::Spawned;
@@ -124,7 +124,7 @@ impl<A: Allocator + Clone> Views<A> {
             Allowed (control_steps steps) (split_of strand spawned.now) →
             Holds self.new (control (split_of strand spawned.now) ∷ steps) }
     {
-        let home = self.pieces[strand as usize].home;
+        let home = home_of(&self.pieces, strand);
         grow(&mut self.pieces, home, spawned.next, spawned.first);
         self.has_room = false;
     }
@@ -157,7 +157,7 @@ impl<A: Allocator + Clone> Views<A> {
         ensures follows { (steps : Steps) → AreLegal steps → Holds self.old steps → Running (control_steps steps) strand →
             Holds self.new (update strand reducer number ∷ steps) }
     {
-        let home = self.pieces[strand as usize].home;
+        let home = home_of(&self.pieces, strand);
         let monoid = self.monoids[reducer as usize];
         let view = of_update(monoid, number);
         let touch = Touch { monoid, view };
@@ -175,7 +175,7 @@ impl<A: Allocator + Clone> Views<A> {
         ensures follows { (steps : Steps) → AreLegal steps → Holds self.old steps → Running (control_steps steps) strand →
             Holds self.new (put strand reducer number ∷ steps) }
     {
-        let home = self.pieces[strand as usize].home;
+        let home = home_of(&self.pieces, strand);
         let monoid = self.monoids[reducer as usize];
         let view = of_put(monoid, number);
         let touch = Touch { monoid, view };
@@ -191,8 +191,8 @@ impl<A: Allocator + Clone> Views<A> {
         ensures { (steps : Steps) → AreLegal steps → Holds self.now steps → IsCurrent (control_steps steps) strand →
             result ≡ number_of (view_of self.now.monoids reducer steps strand) }
     {
-        let home = self.pieces[strand as usize].home;
-        match find(&self.pieces[home as usize].slots, reducer) {
+        let home = home_of(&self.pieces, strand);
+        match touch_of(&self.pieces, home, reducer) {
             Some(touch) => value(touch.view),
             None => value(identity(self.monoids[reducer as usize])),
         }

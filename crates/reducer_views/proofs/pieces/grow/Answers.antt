@@ -9,5 +9,5 @@ returns-then-first g c =
 
 pub returns : goal.returns
 returns g c =
-    pieces_later _ _ _ _ _ _ _ _ _ c.push_reserved.ensures.items c.push_reserved-2.ensures.items c.if-first.false c.requires.home_known (next_number c.args.pieces.now.items _ c.requires.next_is_new) refl
-    (next_kept_is c.args.pieces.now.items _ c.requires.next_is_new) c.index_mut.ensures.value
+    pieces_later _ _ _ _ _ _ _ _ _ _ c.push_reserved.ensures.items c.push_reserved-2.ensures.items c.if-first.false c.requires.home_known (next_number c.args.pieces.now.items _ c.requires.next_is_new) refl
+    (next_kept_is c.args.pieces.now.items _ c.requires.next_is_new) c.index_mut.ensures.value c.set_later.ensures

@@ -1,11 +1,11 @@
 use Rattle.std.proofs.Common.{ap, arith}
 use Rattle.std.proofs.lemmas.List.{with_items_is}
 use Rattle.reducer_views.proofs.Slots.{full, way_room}
-use Rattle.reducer_views.proofs.Following.{home_lent, put_sound, put_lent}
+use Rattle.reducer_views.proofs.Following.{home_read, home_lent, put_sound, put_lent}
 use Rattle.reducer_views.proofs.views.Views.put.Goals as goal
 
 pub set_at-requires-clause-home_known : goal.set_at-requires-clause-home_known
-set_at-requires-clause-home_known g c = home_lent _ _ _ _ _ _ _ c.self.view_is c.self.invariant.0 c.deref_mut.ensures.value c.requires.there c.index.ensures
+set_at-requires-clause-home_known g c = home_lent _ _ _ _ _ c.self.invariant.0 c.deref_mut.ensures.value (home_read _ _ _ _ c.deref.ensures.value c.home_of-home.ensures)
 
 pub set_at-requires-clause-room : goal.set_at-requires-clause-room
 set_at-requires-clause-room g c = way_room _ _ (omega arith) (full _ _ _ _ (ap (λ h. h.has_room) c.self.view_is) c.requires.room c.self.invariant.1)
@@ -13,11 +13,11 @@ set_at-requires-clause-room g c = way_room _ _ (omega arith) (full _ _ _ _ (ap (
 pub invariant_of-self : goal.invariant_of-self
 invariant_of-self g c = (
   put_sound _ _ _ _ _ _ _ _ _ _ _ _ c.self.view_is (with_items_is c.self.inside.pieces c.set_at.new.pieces (omega (arith, c.self.inside.pieces.ok))) c.deref_mut.ensures.value c.self.invariant.0
-      c.requires.there c.requires.known c.index.ensures c.index-monoid.ensures c.of_put-view.ensures.fits c.set_at.ensures,
+      c.requires.known (home_read _ _ _ _ c.deref.ensures.value c.home_of-home.ensures) c.index-monoid.ensures c.of_put-view.ensures.fits c.set_at.ensures,
   λ e. absurd (cc),
 )
 
 pub returns-clause-follows : goal.returns-clause-follows
 returns-clause-follows g c steps l k run =
     put_lent _ _ _ _ _ _ _ _ _ _ _ _ c.self.view_is (with_items_is c.self.inside.pieces c.set_at.new.pieces (omega (arith, c.self.inside.pieces.ok))) c.deref_mut.ensures.value c.self.invariant.0
-    c.requires.there c.requires.known c.index.ensures c.index-monoid.ensures c.of_put-view.ensures.fits c.set_at.ensures _ _ c.of_put-view.ensures.view steps l k run
+    c.requires.known (home_read _ _ _ _ c.deref.ensures.value c.home_of-home.ensures) c.index-monoid.ensures c.of_put-view.ensures.fits c.set_at.ensures _ _ c.of_put-view.ensures.view steps l k run

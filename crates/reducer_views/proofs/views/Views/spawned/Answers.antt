@@ -1,15 +1,15 @@
 use Rattle.std.proofs.Common.{refl}
 use Rattle.reducer_views.proofs.Grown.{grown_kept}
-use Rattle.reducer_views.proofs.Following.{home_lent, there_at, split_at}
+use Rattle.reducer_views.proofs.Following.{home_read, home_lent, split_at}
 use Rattle.reducer_views.proofs.views.Views.spawned.Goals as goal
 
 pub grow-requires-clause-home_known : goal.grow-requires-clause-home_known
-grow-requires-clause-home_known g c = home_lent _ _ _ _ _ _ _ c.self.view_is c.self.invariant.0 refl c.requires.there c.index.ensures
+grow-requires-clause-home_known g c = home_lent _ _ _ _ _ c.self.invariant.0 refl (home_read _ _ _ _ c.deref.ensures.value c.home_of-home.ensures)
 
 pub invariant_of-self : goal.invariant_of-self
 invariant_of-self g c =
-    (grown_kept _ _ _ _ _ (home_lent _ _ _ _ _ _ _ c.self.view_is c.self.invariant.0 refl c.requires.there c.index.ensures) c.grow.ensures c.self.invariant.0, λ e. absurd (cc))
+    (grown_kept _ _ _ _ _ (home_lent _ _ _ _ _ c.self.invariant.0 refl (home_read _ _ _ _ c.deref.ensures.value c.home_of-home.ensures)) c.grow.ensures c.self.invariant.0, λ e. absurd (cc))
 
 pub returns-clause-follows : goal.returns-clause-follows
 returns-clause-follows g c steps l k a =
-    split_at _ _ _ _ _ _ steps _ _ _ _ _ _ c.self.view_is (there_at _ _ _ _ _ c.self.view_is c.requires.there) c.index.ensures c.grow.ensures l k a
+    split_at _ _ _ _ _ _ steps _ _ _ _ _ _ c.self.view_is (home_read _ _ _ _ c.deref.ensures.value c.home_of-home.ensures) c.grow.ensures l k a
