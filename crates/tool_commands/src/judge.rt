@@ -84,23 +84,13 @@ fn tell<A: Allocator, W: Write>(verdicts: &mut Verdicts<A>, output: &mut Watched
     }
 }
 
-/// Judges an act of control and tells the reply.
-#[inline(always)]
-fn tell_control<A: Allocator + Clone, W: Write>(
-    core: &mut Core<A>,
-    verdicts: &mut Verdicts<A>,
-    output: &mut Watched<W>,
-    request: Request,
-)
-    requires is { sort_of request.act ≡ Sort.Control }
-    requires core { IsCore core.old }
-    ensures { (start : State) (wrote : Option (List ℕ)) (requests : List SpecRequest) (replies : List SpecReply) →
-        HasJudged start requests replies core.old verdicts.old wrote (W.contents (held output.old)) (has_failed output.old) →
-        (reply : SpecReply) × HasJudged start (requests ++ request ∷ []) (replies ++ reply ∷ []) core.new verdicts.new
-        wrote (W.contents (held output.new)) (has_failed output.new) }
-{
-    let reply = core.reply_to_control(request);
-    tell(verdicts, output, &reply);
+// Judges an act of control and tells the reply. It stands in the loop itself, since as a function it is longer than what the compiler
+// puts in line.
+macro_rules! tell_control {
+    ($core:ident, $verdicts:ident, $output:ident, $request:ident) => {{
+        let reply = $core.reply_to_control($request);
+        tell(&mut $verdicts, $output, &reply);
+    }};
 }
 
 /// Judges an access of a cell and tells the reply.
@@ -166,10 +156,10 @@ fn judge<A: Allocator + Copy, W: Write>(
     for line in trace.lines.iter() {
         let asked = line.request;
         match asked.act {
-            Act::Spawn => tell_control(&mut core, &mut verdicts, output, asked),
-            Act::Sync => tell_control(&mut core, &mut verdicts, output, asked),
-            Act::Call => tell_control(&mut core, &mut verdicts, output, asked),
-            Act::Return => tell_control(&mut core, &mut verdicts, output, asked),
+            Act::Spawn => tell_control!(core, verdicts, output, asked),
+            Act::Sync => tell_control!(core, verdicts, output, asked),
+            Act::Call => tell_control!(core, verdicts, output, asked),
+            Act::Return => tell_control!(core, verdicts, output, asked),
             Act::Read(_) => tell_cell(&mut core, &mut verdicts, output, asked),
             Act::Write(_, _) => tell_cell(&mut core, &mut verdicts, output, asked),
             Act::Bump(_, _) => tell_cell(&mut core, &mut verdicts, output, asked),

@@ -3,7 +3,7 @@ use Rattle.model_accesses.specs.declared.kind.Kind.TheVariants.{Read, Write, Bum
 use Rattle.trace_text.specs.Traces.{contents}
 use Rattle.race_gate.specs.Accesses.{sort_of}
 use Rattle.race_gate.specs.Shapes.{shape_of}
-use Rattle.tool_commands.proofs.Meeting.{none_told, judged_more, told_trace, taken_more, taken_all}
+use Rattle.tool_commands.proofs.Meeting.{none_told, judged_more, told_trace, taken_more, taken_all, has_words, judged_and_told}
 use Rattle.tool_commands.proofs.judge.judge.Goals as goal
 
 pub loop-line-init : goal.loop-line-init
@@ -29,39 +29,67 @@ tell_cell-requires-in-Write-clause-is g c = (record { kind = Write; location = c
 pub tell_cell-requires-in-Bump-clause-is : goal.tell_cell-requires-in-Bump-clause-is
 tell_cell-requires-in-Bump-clause-is g c = (record { kind = Bump; location = c.in-Bump.field-0 }, ap sort_of c.in-Bump.is)
 
+pub tell-requires : goal.tell-requires
+tell-requires g c =
+    let judged = c.loop-line.invariant.judged.1 in
+    let next = c.reply_to_control-reply.ensures judged.last judged.fits in
+    has_words judged.last next.0 _ c.reply_to_control-reply.result next.1 next.2.kept.right.judged
+
 pub loop-line-preserved-in-Spawn : goal.loop-line-preserved-in-Spawn
 loop-line-preserved-in-Spawn g c =
     let told = c.loop-line.invariant.judged in
-    let more = c.tell_control.ensures _ _ _ told.0 told.1 in
+    let reply = c.reply_to_control-reply in
+    let more = judged_and_told _ _ _ told.0 _ _ _ _ _ _ _ _ _ _ reply.result told.1 (reply.ensures told.1.last told.1.fits) (c.tell.ensures _ told.0) in
     record {
-      judged = (told.0 ++ more.0 ∷ [], judged_more _ _ _ _ _ _ c.loop-line.yielded _ (told.0 ++ more.0 ∷ []) more.1);
+      judged = (told.0 ++ reply.result ∷ [], judged_more _ _ _ _ _ _ c.loop-line.yielded _ (told.0 ++ reply.result ∷ []) more);
       whole = taken_more _ c.loop-line.yielded _ _ _ c.loop-line.invariant.whole c.in-Some.ensures.steps;
     }
+
+pub tell-requires-in-Sync : goal.tell-requires-in-Sync
+tell-requires-in-Sync g c =
+    let judged = c.loop-line.invariant.judged.1 in
+    let next = c.reply_to_control-reply-in-Sync.ensures judged.last judged.fits in
+    has_words judged.last next.0 _ c.reply_to_control-reply-in-Sync.result next.1 next.2.kept.right.judged
 
 pub loop-line-preserved-in-Sync : goal.loop-line-preserved-in-Sync
 loop-line-preserved-in-Sync g c =
     let told = c.loop-line.invariant.judged in
-    let more = c.tell_control-in-Sync.ensures _ _ _ told.0 told.1 in
+    let reply = c.reply_to_control-reply-in-Sync in
+    let more = judged_and_told _ _ _ told.0 _ _ _ _ _ _ _ _ _ _ reply.result told.1 (reply.ensures told.1.last told.1.fits) (c.tell-in-Sync.ensures _ told.0) in
     record {
-      judged = (told.0 ++ more.0 ∷ [], judged_more _ _ _ _ _ _ c.loop-line.yielded _ (told.0 ++ more.0 ∷ []) more.1);
+      judged = (told.0 ++ reply.result ∷ [], judged_more _ _ _ _ _ _ c.loop-line.yielded _ (told.0 ++ reply.result ∷ []) more);
       whole = taken_more _ c.loop-line.yielded _ _ _ c.loop-line.invariant.whole c.in-Some.ensures.steps;
     }
+
+pub tell-requires-in-Call : goal.tell-requires-in-Call
+tell-requires-in-Call g c =
+    let judged = c.loop-line.invariant.judged.1 in
+    let next = c.reply_to_control-reply-in-Call.ensures judged.last judged.fits in
+    has_words judged.last next.0 _ c.reply_to_control-reply-in-Call.result next.1 next.2.kept.right.judged
 
 pub loop-line-preserved-in-Call : goal.loop-line-preserved-in-Call
 loop-line-preserved-in-Call g c =
     let told = c.loop-line.invariant.judged in
-    let more = c.tell_control-in-Call.ensures _ _ _ told.0 told.1 in
+    let reply = c.reply_to_control-reply-in-Call in
+    let more = judged_and_told _ _ _ told.0 _ _ _ _ _ _ _ _ _ _ reply.result told.1 (reply.ensures told.1.last told.1.fits) (c.tell-in-Call.ensures _ told.0) in
     record {
-      judged = (told.0 ++ more.0 ∷ [], judged_more _ _ _ _ _ _ c.loop-line.yielded _ (told.0 ++ more.0 ∷ []) more.1);
+      judged = (told.0 ++ reply.result ∷ [], judged_more _ _ _ _ _ _ c.loop-line.yielded _ (told.0 ++ reply.result ∷ []) more);
       whole = taken_more _ c.loop-line.yielded _ _ _ c.loop-line.invariant.whole c.in-Some.ensures.steps;
     }
+
+pub tell-requires-in-Return : goal.tell-requires-in-Return
+tell-requires-in-Return g c =
+    let judged = c.loop-line.invariant.judged.1 in
+    let next = c.reply_to_control-reply-in-Return.ensures judged.last judged.fits in
+    has_words judged.last next.0 _ c.reply_to_control-reply-in-Return.result next.1 next.2.kept.right.judged
 
 pub loop-line-preserved-in-Return : goal.loop-line-preserved-in-Return
 loop-line-preserved-in-Return g c =
     let told = c.loop-line.invariant.judged in
-    let more = c.tell_control-in-Return.ensures _ _ _ told.0 told.1 in
+    let reply = c.reply_to_control-reply-in-Return in
+    let more = judged_and_told _ _ _ told.0 _ _ _ _ _ _ _ _ _ _ reply.result told.1 (reply.ensures told.1.last told.1.fits) (c.tell-in-Return.ensures _ told.0) in
     record {
-      judged = (told.0 ++ more.0 ∷ [], judged_more _ _ _ _ _ _ c.loop-line.yielded _ (told.0 ++ more.0 ∷ []) more.1);
+      judged = (told.0 ++ reply.result ∷ [], judged_more _ _ _ _ _ _ c.loop-line.yielded _ (told.0 ++ reply.result ∷ []) more);
       whole = taken_more _ c.loop-line.yielded _ _ _ c.loop-line.invariant.whole c.in-Some.ensures.steps;
     }
 
