@@ -15,7 +15,7 @@ use std::time::Duration;
 use text_words::Request;
 
 /// For how many microseconds an asker dozes that finds the lock held: at first, and at most.
-const DOZE: u64 = 200;
+const DOZE: u64 = 1_600;
 
 const LONGEST_DOZE: u64 = 3_200;
 

@@ -8,6 +8,8 @@ use Rattle.short_receipts.specs.declared.deed.Short.{Short}
 use Rattle.short_receipts.specs.declared.deed.Deed.{Deed}
 use Rattle.short_receipts.specs.declared.deed.Deed.TheVariants.{Open, Spawn, Call, Pass, Join, Wait, Resume, End, EndJoin, Finish}
 use Rattle.short_receipts.specs.declared.deed.Deed.TheVariants.{Read, Write, Bump, Update, Put, Get, Long}
+use Rattle.short_receipts.specs.declared.packed.Packed.{Packed}
+use Rattle.short_receipts.specs.Packing.{unpacked}
 use Rattle.short_receipts.specs.Shorts.{answer_of, index_of, is_long, plain}
 use Rattle.short_receipts.specs.Lists.{receipt_in, receipts_of}
 
@@ -28,19 +30,19 @@ clean_deed (Bump cell value) = tt
 clean_deed (Update reducer value) = tt
 clean_deed (Put reducer value) = tt
 clean_deed (Get reducer value) = tt
-clean_deed Long = tt
+clean_deed (Long low high) = tt
 
 -- where none is kept beside
-clean_in : (long : Bool) (short : Short) → IsCleanAnswer (if long then get_or [] (index_of short) (plain short) else plain short).answer
+clean_in : (long : Bool) (short : Short) → IsCleanAnswer (if long then get_or [] (index_of short.deed) (plain short) else plain short).answer
 clean_in true short = clean_deed short.deed
 clean_in false short = clean_deed short.deed
 
-none_beside : (shorts : List Short) → All (λ (receipt : Receipt). IsCleanAnswer receipt.answer) (receipts_of [] shorts)
+none_beside : (shorts : List Packed) → All (λ (receipt : Receipt). IsCleanAnswer receipt.answer) (receipts_of [] shorts)
 none_beside [] = All-nil (λ (receipt : Receipt). IsCleanAnswer receipt.answer)
-none_beside (short ∷ shorts) =
-    All-cons (λ (receipt : Receipt). IsCleanAnswer receipt.answer) (receipt_in [] short) (receipts_of [] shorts)
-    (clean_in (is_long short.deed) short) (none_beside shorts)
+none_beside (packed ∷ shorts) =
+    All-cons (λ (receipt : Receipt). IsCleanAnswer receipt.answer) (receipt_in [] packed) (receipts_of [] shorts)
+    (clean_in (is_long (unpacked packed).deed) (unpacked packed)) (none_beside shorts)
 
-pub all_short : (longs : List Receipt) (shorts : List Short) → longs ≡ [] → All (λ (receipt : Receipt). IsCleanAnswer receipt.answer) (receipts_of longs shorts)
+pub all_short : (longs : List Receipt) (shorts : List Packed) → longs ≡ [] → All (λ (receipt : Receipt). IsCleanAnswer receipt.answer) (receipts_of longs shorts)
 all_short longs shorts none =
     subst (λ (beside : List Receipt). All (λ (receipt : Receipt). IsCleanAnswer receipt.answer) (receipts_of beside shorts)) (sym none) (none_beside shorts)

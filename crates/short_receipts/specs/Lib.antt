@@ -1,2 +1,3 @@
 pub mod Shorts
+pub mod Packing
 pub mod Lists

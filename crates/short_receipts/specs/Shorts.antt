@@ -28,7 +28,7 @@ act_of (Bump cell value) = act.Bump cell value
 act_of (Update reducer value) = act.Update reducer value
 act_of (Put reducer value) = act.Put reducer value
 act_of (Get reducer value) = act.Get reducer
-act_of Long = act.Call
+act_of (Long low high) = act.Call
 
 -- what was answered; a spawner's next strand has the number behind its child's
 abbrev pub answer_of : Deed → Answer
@@ -48,15 +48,16 @@ answer_of (Bump cell value) = answer.Granted
 answer_of (Update reducer value) = answer.Granted
 answer_of (Put reducer value) = answer.Granted
 answer_of (Get reducer value) = answer.Value value
-answer_of Long = answer.Same
+answer_of (Long low high) = answer.Same
 
 -- whether the receipt is kept beside, and at which place
 abbrev pub is_long : Deed → Bool
-is_long Long = true
+is_long (Long low high) = true
 is_long _ = false
 
-abbrev pub index_of : Short → ℕ
-index_of short = short.strand * 2 ^ 32 + short.number
+abbrev pub index_of : Deed → ℕ
+index_of (Long low high) = high * 2 ^ 32 + low
+index_of _ = 0
 
 -- the receipt of these small numbers
 abbrev pub plain : Short → Receipt

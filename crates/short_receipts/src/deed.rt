@@ -1,4 +1,4 @@
-//! A receipt in few bytes.
+//! A receipt in small numbers.
 
 ghost use Rattle.std.specs.Prelude.{◌≡◌, ◌≢◌, ◌↔◌, ℕ, List, IsTrue, IfSome, true};
 ghost use Rattle.model_histories.specs.declared.reply.Receipt.{Receipt as SpecReceipt};
@@ -32,8 +32,8 @@ pub enum Deed {
     Update(u32, u32),
     Put(u32, u32),
     Get(u32, u32),
-    /// The receipt is kept beside, and its place stands in the other numbers.
-    Long,
+    /// The receipt is kept beside, at the place with these halves, the low one first.
+    Long(u32, u32),
 }
 
 /// A receipt in small numbers.
@@ -73,7 +73,7 @@ fn spawned(strands: Spawned) -> Option<Deed>
 
 /// What was asked and answered, where it is small.
 #[inline(always)]
-fn deed_of(act: Act, answer: Answer) -> Option<Deed>
+pub fn deed_of(act: Act, answer: Answer) -> Option<Deed>
     ensures { IfSome result (λ deed. IsShortOf act answer deed) }
 {
     match (act, answer) {
@@ -99,39 +99,14 @@ fn deed_of(act: Act, answer: Answer) -> Option<Deed>
     }
 }
 
-/// The receipt in small numbers, where it has such.
-#[inline(always)]
-pub fn short_of(receipt: Receipt) -> Option<Short>
-    ensures { IfSome result (λ short. (is_long_spec short.deed ≢ true) × (plain_spec short ≡ receipt)) }
-{
-    let deed = deed_of(receipt.request.act, receipt.answer)?;
-    Some(Short {
-        number: receipt.number,
-        strand: receipt.request.strand,
-        line: receipt.request.line,
-        deed,
-    })
-}
-
-/// Stands for the receipt that is kept beside at this place.
-pub fn long_at(place: usize) -> Short
-    ensures long { is_long_spec result.deed ≡ true }
-    ensures index { index_spec result ≡ place }
-{
-    let place = place as u64;
-    Short {
-        number: (place % 4_294_967_296) as u32,
-        strand: (place / 4_294_967_296) as u32,
-        line: 0,
-        deed: Deed::Long,
-    }
-}
-
 /// The place of a receipt that is kept beside.
-pub fn index_of(short: Short) -> u64
-    ensures { result ≡ index_spec short }
+pub fn index_of(deed: Deed) -> u64
+    ensures { result ≡ index_spec deed }
 {
-    u64::from(short.strand) * 4_294_967_296 + u64::from(short.number)
+    match deed {
+        Deed::Long(low, high) => u64::from(high) * 4_294_967_296 + u64::from(low),
+        _ => 0,
+    }
 }
 
 /// Whether the receipt is kept beside.
@@ -139,7 +114,7 @@ pub fn index_of(short: Short) -> u64
 pub fn is_long(deed: Deed) -> bool
     ensures { result ≡ is_long_spec deed }
 {
-    matches!(deed, Deed::Long)
+    matches!(deed, Deed::Long(..))
 }
 
 /// What was asked.
@@ -149,7 +124,7 @@ fn act_of(deed: Deed) -> Act
 {
     match deed {
         Deed::Open(..) | Deed::Spawn(..) => Act::Spawn,
-        Deed::Call | Deed::Long => Act::Call,
+        Deed::Call | Deed::Long(..) => Act::Call,
         Deed::Pass | Deed::Join(_) | Deed::Wait => Act::Sync,
         Deed::Resume | Deed::End | Deed::EndJoin(_) | Deed::Finish => Act::Return,
         Deed::Read(cell, _) => Act::Read(cell),
@@ -179,7 +154,7 @@ fn answer_of(deed: Deed) -> Answer
             join,
             first: false,
         }),
-        Deed::Call | Deed::Pass | Deed::Long => Answer::Same,
+        Deed::Call | Deed::Pass | Deed::Long(..) => Answer::Same,
         Deed::Join(join) => Answer::Joined(join),
         Deed::Wait => Answer::Waits,
         Deed::Resume => Answer::Resumed,
@@ -231,7 +206,7 @@ fn are_same(one: Act, other: Act, answer: Answer, another: Answer) -> bool
 
 /// Whether this was asked and answered. Case by case, so that the one side of each comparison is known.
 #[inline(always)]
-fn is_deed(deed: Deed, act: Act, answer: Answer) -> bool
+pub fn is_deed(deed: Deed, act: Act, answer: Answer) -> bool
     ensures { IsTrue result ↔ (act_spec deed ≡ act) × (answer_spec deed ≡ answer) }
 {
     match deed {
@@ -258,17 +233,6 @@ fn is_deed(deed: Deed, act: Act, answer: Answer) -> bool
         ),
         _ => are_same(act_of(deed), act, answer_of(deed), answer),
     }
-}
-
-/// Whether the receipt that these small numbers are of is this one.
-#[inline(always)]
-pub fn is_plain(short: Short, receipt: Receipt) -> bool
-    ensures { IsTrue result ↔ plain_spec short ≡ receipt }
-{
-    short.number == receipt.number
-        && short.strand == receipt.request.strand
-        && short.line == receipt.request.line
-        && is_deed(short.deed, receipt.request.act, receipt.answer)
 }
 
 #[inline(always)]

@@ -6,16 +6,17 @@ ghost use Rattle.model_histories.specs.declared.reply.Receipt.{Receipt as OneRec
 ghost use Rattle.model_histories.specs.Extensions.{IsCleanAnswer};
 ghost use Rattle.short_receipts.specs.Shorts.{index_of as index_spec, plain as plain_spec};
 
-use crate::deed::{Short, index_of, is_long, is_plain, is_same, long_at, plain, short_of};
+use crate::deed::{Short, index_of, is_long, is_same, plain};
+use crate::packed::{Packed, long_at, packed_of};
 use model_histories::Receipt;
 use std::alloc::{AllocError, Global};
 use std::marker::Model;
 
 /// The receipt that is kept beside.
 fn long_of(longs: &[Receipt], short: Short) -> Receipt
-    ensures { result ≡ get_or longs.now (index_spec short) (plain_spec short) }
+    ensures { result ≡ get_or longs.now (index_spec short.deed) (plain_spec short) }
 {
-    match longs.get(index_of(short) as usize) {
+    match longs.get(index_of(short.deed) as usize) {
         Some(receipt) => *receipt,
         None => plain(short),
     }
@@ -23,7 +24,7 @@ fn long_of(longs: &[Receipt], short: Short) -> Receipt
 
 /// Receipts in their order.
 pub struct Receipts {
-    shorts: Vec<Short>,
+    shorts: Vec<Packed>,
     longs: Vec<Receipt>,
     has_room: bool,
 }
@@ -89,7 +90,7 @@ impl Receipts {
         ensures { self.new.items ≡ self.old.items ++ receipt ∷ [] }
     {
         self.has_room = false;
-        match short_of(receipt) {
+        match packed_of(receipt) {
             Some(short) => self.shorts.push_reserved(short),
             None => {
                 let short = long_at(self.longs.len());
@@ -137,12 +138,23 @@ impl Receipts {
         requires { at < length self.now.items }
         ensures { slice_get self.now.items at ≡ Some result }
     {
-        let short = self.shorts[at];
+        let short = self.shorts[at].unpack();
         if is_long(short.deed) {
             long_of(self.longs.as_slice(), short)
         } else {
             plain(short)
         }
+    }
+
+    /// The number of a receipt that is kept beside, in a function of its own, so that where it is kept short no memory is made ready for
+    /// the whole receipt.
+    #[cold]
+    #[inline(never)]
+    fn number_beside(&self, at: usize) -> u32
+        requires { at < length self.now.items }
+        ensures { (d : OneReceipt) → (get_or self.now.items at d).number ≡ result }
+    {
+        self.either(at).number
     }
 
     /// The number of the receipt at a place.
@@ -151,10 +163,10 @@ impl Receipts {
         requires { at < length self.now.items }
         ensures { (d : OneReceipt) → (get_or self.now.items at d).number ≡ result }
     {
-        if is_long(self.shorts[at].deed) {
-            self.either(at).number
+        if self.shorts[at].is_long() {
+            self.number_beside(at)
         } else {
-            self.shorts[at].number
+            self.shorts[at].number()
         }
     }
 
@@ -164,10 +176,10 @@ impl Receipts {
         requires { at < length self.now.items }
         ensures { IsTrue result ↔ slice_get self.now.items at ≡ Some receipt }
     {
-        if is_long(self.shorts[at].deed) {
+        if self.shorts[at].is_long() {
             is_same(self.either(at), receipt)
         } else {
-            is_plain(self.shorts[at], receipt)
+            self.shorts[at].is_of(receipt)
         }
     }
 
@@ -177,10 +189,10 @@ impl Receipts {
         requires { at < length self.now.items }
         ensures { slice_get self.now.items at ≡ Some result }
     {
-        if is_long(self.shorts[at].deed) {
+        if self.shorts[at].is_long() {
             self.either(at)
         } else {
-            plain(self.shorts[at])
+            plain(self.shorts[at].unpack())
         }
     }
 }

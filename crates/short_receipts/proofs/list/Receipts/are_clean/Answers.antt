@@ -1,8 +1,4 @@
 use Rattle.std.proofs.Common.{rules, ◌≡◌, List, [], ◌∷◌, length, refl}
-use Rattle.std.specs.List.{All}
-use Rattle.model_histories.specs.declared.reply.Receipt.{Receipt}
-use Rattle.model_histories.specs.Extensions.{IsCleanAnswer}
-use Rattle.short_receipts.specs.Lists.{Listed}
 use Rattle.short_receipts.proofs.Clean.{all_short}
 use Rattle.short_receipts.proofs.list.Receipts.are_clean.Goals as goal
 
