@@ -1,8 +1,10 @@
 -- Requests in plain form mean what their lines mean.
-use Rattle.std.proofs.Common.{◌≡◌, ◌++◌, ◌∷◌, [], ◌+◌, ◌-◌, ◌≤◌, ◌∙◌, ℕ, suc, List, Bool, true, false, cond, length, take, drop, arith, refl, ap, sym, subst, inl, inr, slice_index_or, append_assoc}
+use Rattle.std.proofs.Common.{◌≡◌, ◌⊎◌, ◌++◌, ◌∷◌, [], ◌+◌, ◌-◌, ◌≤◌, ◌∙◌, ℕ, List, Bool, true, false, cond, length, take, drop, arith, refl, ap, sym, subst, inl, inr, slice_index_or, append_assoc}
 use Rattle.std.specs.Prelude.{Option, Some, None, option_map}
 use Rattle.std.specs.List.{All}
 use Rattle.std.proofs.lemmas.List.{take_all, append-nil}
+use Rattle.model_accesses.specs.declared.kind.Kind.{Kind}
+use Rattle.model_accesses.specs.declared.kind.Kind.TheVariants as kind
 use Rattle.model_accesses.specs.declared.request.Act.{Act}
 use Rattle.model_accesses.specs.declared.request.Act.TheVariants as act
 use Rattle.text_words.specs.declared.value.Mem.{Mem}
@@ -14,9 +16,11 @@ use Rattle.text_words.specs.Values.{Known}
 use Rattle.text_words.specs.Names.{memory_named, reducer_named, SingleMeans, ElementMeans, element_word}
 use Rattle.text_words.specs.Index.{IsInRange, named, named_by}
 use Rattle.trace_text.specs.declared.keyword.Keyword.{Keyword}
-use Rattle.trace_text.specs.Lines.{Place, Number, Cell, ReducerName, Mark, wanted, optional, Value, OfNumber, Says, asks, operands, if_there, a_strand, a_value, spelling, HasKeyword}
+use Rattle.trace_text.specs.declared.keyword.Keyword.TheVariants.{Access}
+use Rattle.trace_text.specs.Items.{place_of, access_of}
+use Rattle.trace_text.specs.Lines.{Place, Number, Cell, ReducerName, Mark, wanted, optional, Value, OfNumber, Says, asks, operands, if_there, a_strand, a_value, spelling, HasKeyword, IsControl}
 use Rattle.trace_text.specs.Printing.{behind_space, spaced}
-use Rattle.trace_text.specs.Plain.{ArePlain, HasNumber, HasNext, HasIndex, HasEnd, HasPlaces, HasRequest, BeginsRequest}
+use Rattle.trace_text.specs.Plain.{ArePlain, HasNumber, HasNext, HasValue, HasIndex, HasEnd, HasPlaces, HasRequest, BeginsRequest}
 use Rattle.trace_text.proofs.CellWords.{flat}
 use Rattle.trace_text.proofs.NamedWords.{element_means, array_end}
 use Rattle.trace_text.proofs.PlainWords.{digits_plain, name_plain, words_spaced, text_spaced}
@@ -36,25 +40,6 @@ behind_two (c ∷ []) a b some first second = absurd (omega arith)
 behind_two (c ∷ d ∷ bytes) a b some first second =
     ap (λ (n : ℕ). n ∷ d ∷ bytes) first ∙ (ap (λ (n : ℕ). a ∷ n ∷ bytes) second
     ∙ ap (λ (l : List ℕ). a ∷ b ∷ l) (sym (take_all (length (c ∷ d ∷ bytes) - 2) bytes (omega arith))))
-
--- these bytes stand from this place on
-abbrev pub StandAt : List ℕ → ℕ → List ℕ → Type 0
-StandAt bytes from [] = Unit {0}
-StandAt bytes from (b ∷ word) = (slice_index_or bytes from 0 ≡ b) × StandAt bytes (suc from) word
-
-stand_behind : (bytes word : List ℕ) (c from : ℕ) → StandAt (c ∷ bytes) (suc from) word → StandAt bytes from word
-stand_behind bytes [] c from stand = tt
-stand_behind bytes (b ∷ word) c from stand = (stand.0, stand_behind bytes word c (suc from) stand.1)
-
-pub behind_word : (bytes word : List ℕ) → length word ≤ length bytes → StandAt bytes 0 word
-    → bytes ≡ word ++ take (length bytes - length word) (drop (length word) bytes)
-behind_word bytes [] some stand = sym (take_all (length bytes - 0) bytes (omega arith))
-behind_word [] (b ∷ word) some stand = absurd (omega arith)
-behind_word (c ∷ bytes) (b ∷ word) some stand =
-    let rest = behind_word bytes word (omega arith) (stand_behind bytes word c 0 stand.1) in
-    let less : length (c ∷ bytes) - length (b ∷ word) ≡ length bytes - length word = omega arith in
-    ap (λ (n : ℕ). n ∷ bytes) stand.0 ∙ (ap (λ (l : List ℕ). b ∷ l) rest
-    ∙ ap (λ (n : ℕ). b ∷ (word ++ take n (drop (length word) bytes))) (sym less))
 
 -- ---- numbers
 
@@ -242,3 +227,42 @@ begins_request known act strand bytes behind rest has split places mark after en
     subst (λ (o : Option Place). HasEnd known (wanted (asks act)) o behind values after) (sym (mark_optional act)) marked in
     let line = line_says known (asks act) bytes behind after values has split whole in
     (line.0, line.1, line.2, λ at. (mark, line.3, refl, refl, refl))
+
+-- the same of a request without operands
+pub begins_control : (known : Known) (a : Act) (strand : ℕ) (bytes behind rest : List ℕ) → IsControl a
+    → bytes ≡ spelling (asks a) ++ behind → HasNext known a_strand behind (OfNumber strand) rest → BeginsRequest known bytes strand a rest
+begins_control known act.Spawn strand bytes behind rest is split next = begins_request known act.Spawn strand bytes behind rest tt split (one_place known a_strand behind rest (OfNumber strand) next)
+begins_control known act.Sync strand bytes behind rest is split next = begins_request known act.Sync strand bytes behind rest tt split (one_place known a_strand behind rest (OfNumber strand) next)
+begins_control known act.Call strand bytes behind rest is split next = begins_request known act.Call strand bytes behind rest tt split (one_place known a_strand behind rest (OfNumber strand) next)
+begins_control known act.Return strand bytes behind rest is split next = begins_request known act.Return strand bytes behind rest tt split (one_place known a_strand behind rest (OfNumber strand) next)
+begins_control known a strand bytes behind rest is split next = absurd is
+
+pub value_stands : (known : Known) (k : Kind) (bytes rest : List ℕ) (value : ℕ)
+    → (k ≡ kind.Write) ⊎ ((k ≡ kind.Bump) ⊎ ((k ≡ kind.Update) ⊎ (k ≡ kind.Put))) → HasNext known a_value bytes (OfNumber value) rest → HasValue known k bytes value rest
+value_stands known k bytes rest value is n = elim is [ inl e ↦ by kind.Write e n | inr b ↦ elim b [ inl e ↦ by kind.Bump e n | inr c ↦ elim c [ inl e ↦ by kind.Update e n | inr e ↦ by kind.Put e n ] ] ]
+  where
+    by : (other : Kind) → k ≡ other → HasValue known other bytes value rest → HasValue known k bytes value rest
+    by other e v = subst (λ (x : Kind). HasValue known x bytes value rest) (sym e) v
+
+-- the same of an access
+module _ (known : Known) (strand place value : ℕ) (bytes behind first second rest : List ℕ) (next : HasNext known a_strand behind (OfNumber strand) first) where
+  alone : (where_is : Place) → HasNext known where_is first (OfNumber place) second → rest ≡ second
+      → HasPlaces known (a_strand ∷ where_is ∷ []) behind (OfNumber strand ∷ OfNumber place ∷ []) rest
+  alone where_is p same =
+      two_places known a_strand where_is behind first rest (OfNumber strand) (OfNumber place) next
+      (subst (λ (bs : List ℕ). HasNext known where_is first (OfNumber place) bs) (sym same) p)
+
+  valued : (where_is : Place) → HasNext known where_is first (OfNumber place) second → HasNext known a_value second (OfNumber value) rest
+      → HasPlaces known (a_strand ∷ where_is ∷ a_value ∷ []) behind (OfNumber strand ∷ OfNumber place ∷ OfNumber value ∷ []) rest
+  valued where_is p v =
+      value_behind known (a_strand ∷ where_is ∷ []) behind second rest (OfNumber strand ∷ OfNumber place ∷ []) value
+      (two_places known a_strand where_is behind first second (OfNumber strand) (OfNumber place) next p) v
+
+  pub begins_access : (k : Kind) → HasKeyword known.version (Access k) → bytes ≡ spelling (Access k) ++ behind
+      → HasNext known (place_of k) first (OfNumber place) second → HasValue known k second value rest → BeginsRequest known bytes strand (access_of k place value) rest
+  begins_access kind.Write has split p v = begins_request known (act.Write place value) strand bytes behind rest has split (valued Cell p v)
+  begins_access kind.Bump has split p v = begins_request known (act.Bump place value) strand bytes behind rest has split (valued Cell p v)
+  begins_access kind.Read has split p v = begins_request known (act.Read place) strand bytes behind rest has split (alone Cell p v)
+  begins_access kind.Update has split p v = begins_request known (act.Update place value) strand bytes behind rest has split (valued ReducerName p v)
+  begins_access kind.Put has split p v = begins_request known (act.Put place value) strand bytes behind rest has split (valued ReducerName p v)
+  begins_access kind.Get has split p v = begins_request known (act.Get place) strand bytes behind rest has split (alone ReducerName p v)

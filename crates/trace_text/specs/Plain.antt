@@ -2,11 +2,13 @@
 use Rattle.std.specs.Prelude.{◌≡◌, ℕ, ◌+◌, ◌<◌, ◌≤◌, Bool, IsTrue, Option, Some, List, [], ◌∷◌, ◌++◌, length}
 use Rattle.std.specs.List.{AllByRecursion}
 use Rattle.std.specs.Int.{is_in_range}
+use Rattle.model_accesses.specs.declared.kind.Kind.{Kind}
+use Rattle.model_accesses.specs.declared.kind.Kind.TheVariants as kind
 use Rattle.model_accesses.specs.declared.request.Act.{Act}
 use Rattle.text_words.specs.Text.{words, IsTextLine, IsNumber}
 use Rattle.text_words.specs.Limits.{max_value}
 use Rattle.text_words.specs.Values.{Known}
-use Rattle.trace_text.specs.Lines.{Place, Placed, placed, Value, WordMeans, WordsMean, Mark, if_there}
+use Rattle.trace_text.specs.Lines.{Place, Placed, placed, Value, WordMeans, WordsMean, Mark, a_value, OfNumber, if_there}
 use Rattle.trace_text.specs.Grammar.{ItemMeans}
 use Rattle.trace_text.specs.Items.{line_asked}
 use Rattle.trace_text.specs.Printing.{behind_space}
@@ -32,6 +34,12 @@ HasWord known place bytes value rest = (word : List ℕ) × (bytes ≡ word ++ r
 -- The same behind one space.
 abbrev pub HasNext : Known → Place → List ℕ → Value → List ℕ → Type 0
 HasNext known place bytes value rest = (behind : List ℕ) × (bytes ≡ 32 ∷ behind) × HasWord known place behind value rest
+
+-- The same of the value of an access, where its kind has one. Where it has none, it stands nowhere.
+abbrev pub HasValue : Known → Kind → List ℕ → ℕ → List ℕ → Type 0
+HasValue known kind.Read bytes value rest = rest ≡ bytes
+HasValue known kind.Get bytes value rest = rest ≡ bytes
+HasValue known kind bytes value rest = HasNext known a_value bytes (OfNumber value) rest
 
 -- The bytes begin with an index in brackets, which is that of this cell of an array.
 abbrev pub HasIndex : List ℕ → ℕ → ℕ → ℕ → List ℕ → Type 0

@@ -1,6 +1,6 @@
 //! Names of cells.
 
-ghost use Rattle.std.specs.Prelude.{◌≡◌, ◌<◌, ◌≤◌, IfOk, IsTrue, length, option_copied, string_bytes};
+ghost use Rattle.std.specs.Prelude.{◌≡◌, ◌<◌, ◌≤◌, ◌++◌, IfOk, OnOk, IsTrue, length, option_copied, string_bytes};
 ghost use Rattle.std.specs.List.{find};
 ghost use Rattle.std.specs.List.Sorted.{IsPartitionPoint};
 ghost use Rattle.text_words.specs.Declarations.{cells_of};
@@ -37,15 +37,26 @@ pub fn memory_at(mems: &[Mem], location: u32) -> Option<&Mem>
     }
 }
 
+/// Appends the name of a memory's cell with this index.
+pub fn put_name<A: Allocator>(out: &mut String<A>, mem: &Mem, index: u32) -> Result<(), AllocError>
+    ensures { OnOk result (string_bytes out.new ≡ string_bytes out.old ++ name_in mem.now index) }
+{
+    out.push_str(mem.name.as_str())?;
+    if mem.array {
+        write!(out, "[{index}]")?;
+    }
+    Ok(())
+}
+
 /// The name of a memory's cell with this index.
 fn name_at<A: Allocator>(alloc: A, mem: &Mem, index: u32) -> Result<String<A>, AllocError>
     ensures { IfOk result (λ name. string_bytes name ≡ name_in mem.now index) }
 {
-    let mut name = String::from_str(alloc, mem.name.as_str())?;
-    if mem.array {
-        write!(name, "[{index}]")?;
+    let mut name = String::new(alloc);
+    match put_name(&mut name, mem, index) {
+        Ok(()) => Ok(name),
+        Err(error) => Err(error),
     }
-    Ok(name)
 }
 
 /// The name of the cell with this number, as `x` or `a[3]`. The memories are those of a trace or a program, or the first of them.

@@ -8,7 +8,7 @@ use access_table::{Kind, kind_of, word};
 use text_words::{Act, Version, access_asked};
 
 /// The first word of a line.
-#[derive(Clone, Copy, Debug)]
+#[derive(Clone, Copy)]
 pub enum Keyword {
     /// Declares a memory.
     Mem,
@@ -46,6 +46,7 @@ pub fn keyword_of(version: Version, word: &str) -> Option<Keyword>
 }
 
 /// The word of a keyword.
+#[inline(always)]
 pub fn keyword_word(keyword: Keyword) -> &'static str
     ensures { result.now ≡ spelling keyword }
 {
@@ -61,6 +62,7 @@ pub fn keyword_word(keyword: Keyword) -> &'static str
 }
 
 /// The keyword of an act.
+#[inline(always)]
 pub fn keyword_for(act: Act) -> Keyword
     ensures { result ≡ asks act }
 {

@@ -1,26 +1,23 @@
 //! One line of a trace.
 
-ghost use Rattle.std.specs.Prelude.{◌≡◌, ◌∷◌, [], Some, None, MatchResult};
-ghost use Rattle.model_accesses.specs.declared.kind.Kind.TheVariants as kind;
-ghost use Rattle.trace_text.specs.declared.keyword.Keyword.TheVariants.{Access};
+ghost use Rattle.std.specs.Prelude.{◌≡◌, ℕ, MatchResult};
+ghost use Rattle.trace_text.specs.declared.keyword.Keyword.TheVariants.{Mem, Reducer, Access};
 ghost use Rattle.text_words.specs.Values.{Known};
-ghost use Rattle.trace_text.specs.Lines.{Cell, ReducerName, FreshName, MonoidWord, Number, Mark, a_strand, a_value};
-ghost use Rattle.trace_text.specs.Lines.{OfName, OfNumber, OfMonoid, if_there, asks, IsControl, HasKeyword};
-ghost use Rattle.model_accesses.specs.Limits.{most_cells};
+ghost use Rattle.trace_text.specs.Lines.{OfNumber, asks, IsControl, HasKeyword};
 ghost use Rattle.trace_text.specs.Grammar.{Asked as AskedLine, ItemMeans};
 ghost use Rattle.text_words.specs.Causes.{IsLowest};
 ghost use Rattle.trace_text.specs.Faults.{WordsFault};
-ghost use Rattle.trace_text.specs.Outcome.{Fits};
-ghost use Rattle.trace_text.specs.Items.{item_of, line_asked, IsRead};
+ghost use Rattle.trace_text.specs.Outcome.{TakesWord, TakesValue};
+ghost use Rattle.trace_text.specs.Items.{item_of, line_asked, place_of, access_of, IsRead};
 
 use crate::keyword::{Keyword, keyword_of};
 use crate::place::{cell, end, fresh_name, length, mark, monoid, reducer, strand, value};
-use access_table::Kind;
+use access_table::{Kind, is_memory};
 use std::alloc::Allocator;
 use text_words::{Act, Cause, Monoid, Names, Request, TraceLine, Words, both};
 
 /// What a line says.
-#[derive(Clone, Copy, Debug)]
+#[derive(Clone, Copy)]
 pub enum Item<'a> {
     /// Nothing.
     Blank,
@@ -54,95 +51,35 @@ fn asked(at: u32, strand: u32, act: Act, mark: Option<u32>) -> Item<'static>
     Item::Asked(request_on(at, strand, act, mark))
 }
 
-/// The name and the length of a memory.
+/// What the words behind the keyword of a memory say.
 fn memory<'a, A: Allocator + Copy>(
     names: &Names<'_, A>,
     words: &mut Words<'a>,
-) -> Result<(&'a str, Option<u32>), Cause>
-    ensures { Fits names.now (FreshName ∷ []) (Some (Number 1 most_cells)) words.old result (λ r. OfName r.0.now ∷ if_there r.1) }
+) -> Result<Item<'a>, Cause>
+    ensures { (at : ℕ) → IsRead at names.now Mem words.old result }
 {
     let name = fresh_name(names, words);
     let cells = length(words);
-    both(name, cells)
+    match both(name, cells) {
+        Ok((name, length)) => Ok(Item::Declared { name, length }),
+        Err(why) => Err(why),
+    }
 }
 
-/// The name and the monoid of a reducer.
+/// What the words behind the keyword of a reducer say.
 fn reduction<'a, A: Allocator + Copy>(
     names: &Names<'_, A>,
     words: &mut Words<'a>,
-) -> Result<(&'a str, (Monoid, ())), Cause>
-    ensures { Fits names.now (FreshName ∷ MonoidWord ∷ []) None words.old result (λ r. OfName r.0.now ∷ OfMonoid r.1.0 ∷ []) }
+) -> Result<Item<'a>, Cause>
+    ensures { (at : ℕ) → IsRead at names.now Reducer words.old result }
 {
     let name = fresh_name(names, words);
     let monoid = monoid(names, words);
     let end = end(words);
-    both(name, both(monoid, end))
-}
-
-/// The strand and the mark of a request.
-fn plain(words: &mut Words<'_>) -> Result<(u32, Option<u32>), Cause>
-    ensures { (known : Known) → Fits known (a_strand ∷ []) (Some Mark) words.old result (λ r. OfNumber r.0 ∷ if_there r.1) }
-{
-    let by = strand(words);
-    let mark = mark(words);
-    both(by, mark)
-}
-
-/// The strand, the cell and the mark of a request.
-fn of_cell<A: Allocator + Copy>(
-    names: &Names<'_, A>,
-    words: &mut Words<'_>,
-) -> Result<(u32, (u32, Option<u32>)), Cause>
-    ensures { Fits names.now (a_strand ∷ Cell ∷ []) (Some Mark) words.old result (λ r. OfNumber r.0 ∷ OfNumber r.1.0 ∷ if_there r.1.1) }
-{
-    let by = strand(words);
-    let cell = cell(names, words);
-    let mark = mark(words);
-    both(by, both(cell, mark))
-}
-
-/// The strand, the cell, the value and the mark of a request.
-fn of_cell_and_value<A: Allocator + Copy>(
-    names: &Names<'_, A>,
-    words: &mut Words<'_>,
-) -> Result<(u32, (u32, (u64, Option<u32>))), Cause>
-    ensures { Fits names.now (a_strand ∷ Cell ∷ a_value ∷ []) (Some Mark) words.old result
-        (λ r. OfNumber r.0 ∷ OfNumber r.1.0 ∷ OfNumber r.1.1.0 ∷ if_there r.1.1.1) }
-{
-    let by = strand(words);
-    let cell = cell(names, words);
-    let value = value(words);
-    let mark = mark(words);
-    both(by, both(cell, both(value, mark)))
-}
-
-/// The strand, the reducer and the mark of a request.
-fn of_reducer<A: Allocator + Copy>(
-    names: &Names<'_, A>,
-    words: &mut Words<'_>,
-) -> Result<(u32, (u32, Option<u32>)), Cause>
-    ensures { Fits names.now (a_strand ∷ ReducerName ∷ []) (Some Mark) words.old result
-        (λ r. OfNumber r.0 ∷ OfNumber r.1.0 ∷ if_there r.1.1) }
-{
-    let by = strand(words);
-    let reducer = reducer(names, words);
-    let mark = mark(words);
-    both(by, both(reducer, mark))
-}
-
-/// The strand, the reducer, the value and the mark of a request.
-fn of_reducer_and_value<A: Allocator + Copy>(
-    names: &Names<'_, A>,
-    words: &mut Words<'_>,
-) -> Result<(u32, (u32, (u64, Option<u32>))), Cause>
-    ensures { Fits names.now (a_strand ∷ ReducerName ∷ a_value ∷ []) (Some Mark) words.old result
-        (λ r. OfNumber r.0 ∷ OfNumber r.1.0 ∷ OfNumber r.1.1.0 ∷ if_there r.1.1.1) }
-{
-    let by = strand(words);
-    let reducer = reducer(names, words);
-    let value = value(words);
-    let mark = mark(words);
-    both(by, both(reducer, both(value, mark)))
+    match both(name, both(monoid, end)) {
+        Ok((name, (monoid, ()))) => Ok(Item::Reduces { name, monoid }),
+        Err(why) => Err(why),
+    }
 }
 
 /// What the words behind the keyword of a request without operands say.
@@ -150,9 +87,51 @@ fn control(at: u32, act: Act, words: &mut Words<'_>) -> Result<Item<'static>, Ca
     requires { IsControl act }
     ensures { (known : Known) → IsRead at known (asks act) words.old result }
 {
-    match plain(words) {
+    let by = strand(words);
+    let mark = mark(words);
+    match both(by, mark) {
         Ok((by, mark)) => Ok(asked(at, by, act, mark)),
         Err(why) => Err(why),
+    }
+}
+
+/// Takes the name of what an access of this kind is of: a cell or a reducer.
+fn place<A: Allocator + Copy>(
+    names: &Names<'_, A>,
+    kind: Kind,
+    words: &mut Words<'_>,
+) -> Result<u32, Cause>
+    ensures { TakesWord names.now (place_of kind) words.old words.new result OfNumber }
+{
+    if is_memory(kind) {
+        cell(names, words)
+    } else {
+        reducer(names, words)
+    }
+}
+
+/// Takes the value of an access of this kind. Where the kind has none it takes nothing, and gives 0.
+fn value_for(kind: Kind, words: &mut Words<'_>) -> Result<u64, Cause>
+    ensures { (known : Known) → TakesValue known kind words.old words.new result }
+{
+    match kind {
+        Kind::Read | Kind::Get => Ok(0),
+        Kind::Write | Kind::Bump | Kind::Update | Kind::Put => value(words),
+    }
+}
+
+/// The access of this kind, to which the value belongs where the kind has one.
+#[inline(always)]
+pub fn act_of(kind: Kind, place: u32, value: u64) -> Act
+    ensures { result ≡ access_of kind place value }
+{
+    match kind {
+        Kind::Write => Act::Write(place, value),
+        Kind::Bump => Act::Bump(place, value),
+        Kind::Read => Act::Read(place),
+        Kind::Update => Act::Update(place, value),
+        Kind::Put => Act::Put(place, value),
+        Kind::Get => Act::Get(place),
     }
 }
 
@@ -166,33 +145,13 @@ fn access<A: Allocator + Copy>(
     requires { HasKeyword names.now.version (Access kind) }
     ensures { IsRead at names.now (Access kind) words.old result }
 {
-    match kind {
-        Kind::Read => match of_cell(names, words) {
-            Ok((by, (cell, mark))) => Ok(asked(at, by, Act::Read(cell), mark)),
-            Err(why) => Err(why),
-        },
-        Kind::Write => match of_cell_and_value(names, words) {
-            Ok((by, (cell, (value, mark)))) => Ok(asked(at, by, Act::Write(cell, value), mark)),
-            Err(why) => Err(why),
-        },
-        Kind::Bump => match of_cell_and_value(names, words) {
-            Ok((by, (cell, (value, mark)))) => Ok(asked(at, by, Act::Bump(cell, value), mark)),
-            Err(why) => Err(why),
-        },
-        Kind::Get => match of_reducer(names, words) {
-            Ok((by, (reducer, mark))) => Ok(asked(at, by, Act::Get(reducer), mark)),
-            Err(why) => Err(why),
-        },
-        Kind::Put => match of_reducer_and_value(names, words) {
-            Ok((by, (reducer, (value, mark)))) => Ok(asked(at, by, Act::Put(reducer, value), mark)),
-            Err(why) => Err(why),
-        },
-        Kind::Update => match of_reducer_and_value(names, words) {
-            Ok((by, (reducer, (value, mark)))) => {
-                Ok(asked(at, by, Act::Update(reducer, value), mark))
-            }
-            Err(why) => Err(why),
-        },
+    let by = strand(words);
+    let place = place(names, kind, words);
+    let value = value_for(kind, words);
+    let mark = mark(words);
+    match both(by, both(place, both(value, mark))) {
+        Ok((by, (place, (value, mark)))) => Ok(asked(at, by, act_of(kind, place, value), mark)),
+        Err(why) => Err(why),
     }
 }
 
@@ -207,14 +166,8 @@ fn behind_keyword<'a, A: Allocator + Copy>(
     ensures { IsRead at names.now keyword words.old result }
 {
     match keyword {
-        Keyword::Mem => match memory(names, words) {
-            Ok((name, length)) => Ok(Item::Declared { name, length }),
-            Err(why) => Err(why),
-        },
-        Keyword::Reducer => match reduction(names, words) {
-            Ok((name, (monoid, ()))) => Ok(Item::Reduces { name, monoid }),
-            Err(why) => Err(why),
-        },
+        Keyword::Mem => memory(names, words),
+        Keyword::Reducer => reduction(names, words),
         Keyword::Spawn => control(at, Act::Spawn, words),
         Keyword::Call => control(at, Act::Call, words),
         Keyword::Sync => control(at, Act::Sync, words),

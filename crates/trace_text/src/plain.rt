@@ -2,26 +2,36 @@
 //!
 //! None says nothing here: the line may still be a request, and is read in the general way.
 
-ghost use Rattle.std.specs.Prelude.{◌≡◌, ◌++◌, ◌∷◌, ◌+◌, ◌≤◌, [], Some, length};
+ghost use Rattle.std.specs.Prelude.{◌≡◌, ◌++◌, ◌+◌, ◌≤◌, [], Some, length};
 ghost use Rattle.std.specs.Option.{IfSome};
 ghost use Rattle.model_accesses.specs.Limits.{most_cells};
 ghost use Rattle.text_words.specs.Values.{Known};
 ghost use Rattle.trace_text.specs.Lines.{Cell, ReducerName, Mark, a_strand, a_value, OfNumber, if_there};
-ghost use Rattle.trace_text.specs.Plain.{HasNumber, HasNext, HasIndex, HasEnd, HasPlaces, BeginsRequest};
+ghost use Rattle.trace_text.specs.Plain.{HasNumber, HasNext, HasIndex, HasEnd, HasValue};
+ghost use Rattle.trace_text.specs.Items.{place_of};
 
 use crate::place::STRAND;
+use access_table::{Kind, is_memory};
 use std::alloc::Allocator;
-use text_words::{Act, Named, Names, Version};
+use text_words::{Named, Names};
 
-/// A request in plain form, but for its mark and the line feed.
-#[derive(Clone, Copy)]
-pub struct Plain<'b> {
-    /// The strand's number.
-    pub strand: u32,
-    /// What it asks for.
-    pub act: Act,
-    /// What stands behind the operands.
-    pub rest: &'b [u8],
+/// What stands behind the word, where the text begins with it.
+#[inline(always)]
+pub fn behind_word<'b>(word: &[u8], text: &'b [u8]) -> Option<&'b [u8]>
+    ensures { IfSome result (λ rest. text.now ≡ word.now ++ rest.now) }
+{
+    if text.len() < word.len() {
+        return None;
+    }
+    let mut length = 0;
+    while length < word.len() {
+        if text[length] != word[length] {
+            return None;
+        }
+        length += 1;
+    }
+    let (_, rest) = text.split_at(length);
+    Some(rest)
 }
 
 /// The value of a digit, and more than 9 of any other byte.
@@ -74,7 +84,7 @@ fn head_number(bytes: &[u8]) -> Option<(u64, &[u8])>
 
 /// The strand behind a space.
 #[inline(always)]
-fn strand(bytes: &[u8]) -> Option<(u32, &[u8])>
+pub fn strand(bytes: &[u8]) -> Option<(u32, &[u8])>
     ensures { (known : Known) → IfSome result (λ r. HasNext known a_strand bytes.now (OfNumber r.0) r.1.now) }
 {
     let [b' ', digits @ ..] = bytes else {
@@ -94,7 +104,9 @@ fn value(bytes: &[u8]) -> Option<(u64, &[u8])>
     let [b' ', digits @ ..] = bytes else {
         return None;
     };
-    let (value, rest) = head_number(digits)?;
+    let Some((value, rest)) = head_number(digits) else {
+        return None;
+    };
     Some((value, rest))
 }
 
@@ -122,7 +134,9 @@ pub fn mark(bytes: &[u8]) -> Option<(Option<u32>, &[u8])>
     if let [b'\n', rest @ ..] = bytes {
         return Some((None, rest));
     }
-    let (line, rest) = marked(bytes)?;
+    let Some((line, rest)) = marked(bytes) else {
+        return None;
+    };
     Some((Some(line), rest))
 }
 
@@ -189,237 +203,29 @@ fn reducer<'b, A: Allocator + Copy>(
     }
 }
 
-/// The strand and the cell, each behind a space.
+/// The cell or the reducer that an access of this kind is of, behind a space.
 #[inline(always)]
-fn of_cell<'b, A: Allocator + Copy>(
+pub fn place<'b, A: Allocator + Copy>(
+    kind: Kind,
     names: &Names<'_, A>,
     bytes: &'b [u8],
-) -> Option<(u32, u32, &'b [u8])>
-    ensures { IfSome result (λ r. HasPlaces names.now (a_strand ∷ Cell ∷ []) bytes.now (OfNumber r.0 ∷ OfNumber r.1 ∷ []) r.2.now) }
+) -> Option<(u32, &'b [u8])>
+    ensures { IfSome result (λ r. HasNext names.now (place_of kind) bytes.now (OfNumber r.0) r.1.now) }
 {
-    let (strand, rest) = strand(bytes)?;
-    let (cell, rest) = cell(names, rest)?;
-    Some((strand, cell, rest))
+    if is_memory(kind) {
+        cell(names, bytes)
+    } else {
+        reducer(names, bytes)
+    }
 }
 
-/// The strand, the cell and the value, each behind a space.
+/// The value of an access of this kind, behind a space. Where the kind has none it is 0, and stands nowhere.
 #[inline(always)]
-fn of_cell_and_value<'b, A: Allocator + Copy>(
-    names: &Names<'_, A>,
-    bytes: &'b [u8],
-) -> Option<(u32, u32, u64, &'b [u8])>
-    ensures { IfSome result (λ r. HasPlaces names.now (a_strand ∷ Cell ∷ a_value ∷ []) bytes.now
-        (OfNumber r.0 ∷ OfNumber r.1 ∷ OfNumber r.2 ∷ []) r.3.now) }
+pub fn value_for(kind: Kind, bytes: &[u8]) -> Option<(u64, &[u8])>
+    ensures { (known : Known) → IfSome result (λ r. HasValue known kind bytes.now r.0 r.1.now) }
 {
-    let (strand, cell, rest) = of_cell(names, bytes)?;
-    let (value, rest) = value(rest)?;
-    Some((strand, cell, value, rest))
-}
-
-/// The strand and the reducer, each behind a space.
-#[inline(always)]
-fn of_reducer<'b, A: Allocator + Copy>(
-    names: &Names<'_, A>,
-    bytes: &'b [u8],
-) -> Option<(u32, u32, &'b [u8])>
-    ensures { IfSome result (λ r. HasPlaces names.now (a_strand ∷ ReducerName ∷ []) bytes.now (OfNumber r.0 ∷ OfNumber r.1 ∷ []) r.2.now) }
-{
-    let (strand, rest) = strand(bytes)?;
-    let (reducer, rest) = reducer(names, rest)?;
-    Some((strand, reducer, rest))
-}
-
-/// The strand, the reducer and the value, each behind a space.
-#[inline(always)]
-fn of_reducer_and_value<'b, A: Allocator + Copy>(
-    names: &Names<'_, A>,
-    bytes: &'b [u8],
-) -> Option<(u32, u32, u64, &'b [u8])>
-    ensures { IfSome result (λ r. HasPlaces names.now (a_strand ∷ ReducerName ∷ a_value ∷ []) bytes.now
-        (OfNumber r.0 ∷ OfNumber r.1 ∷ OfNumber r.2 ∷ []) r.3.now) }
-{
-    let (strand, reducer, rest) = of_reducer(names, bytes)?;
-    let (value, rest) = value(rest)?;
-    Some((strand, reducer, value, rest))
-}
-
-/// The spawn that the first line asks for, where it stands in plain form up to its strand.
-#[inline(always)]
-pub fn spawn_request(bytes: &[u8]) -> Option<Plain<'_>>
-    ensures { (known : Known) → IfSome result (λ plain. BeginsRequest known bytes.now plain.strand plain.act plain.rest.now) }
-{
-    let [b's', b'p', b'a', b'w', b'n', rest @ ..] = bytes else {
-        return None;
-    };
-    let (strand, rest) = strand(rest)?;
-    Some(Plain {
-        strand,
-        act: Act::Spawn,
-        rest,
-    })
-}
-
-/// The sync that the first line asks for, where it stands in plain form up to its strand.
-#[inline(always)]
-pub fn sync_request(bytes: &[u8]) -> Option<Plain<'_>>
-    ensures { (known : Known) → IfSome result (λ plain. BeginsRequest known bytes.now plain.strand plain.act plain.rest.now) }
-{
-    let [b's', b'y', b'n', b'c', rest @ ..] = bytes else {
-        return None;
-    };
-    let (strand, rest) = strand(rest)?;
-    Some(Plain {
-        strand,
-        act: Act::Sync,
-        rest,
-    })
-}
-
-/// The call that the first line asks for, where it stands in plain form up to its strand.
-#[inline(always)]
-pub fn call_request(bytes: &[u8]) -> Option<Plain<'_>>
-    ensures { (known : Known) → IfSome result (λ plain. BeginsRequest known bytes.now plain.strand plain.act plain.rest.now) }
-{
-    let [b'c', b'a', b'l', b'l', rest @ ..] = bytes else {
-        return None;
-    };
-    let (strand, rest) = strand(rest)?;
-    Some(Plain {
-        strand,
-        act: Act::Call,
-        rest,
-    })
-}
-
-/// The return that the first line asks for, where it stands in plain form up to its strand.
-#[inline(always)]
-pub fn return_request(bytes: &[u8]) -> Option<Plain<'_>>
-    ensures { (known : Known) → IfSome result (λ plain. BeginsRequest known bytes.now plain.strand plain.act plain.rest.now) }
-{
-    let [b'r', b'e', b't', b'u', b'r', b'n', rest @ ..] = bytes else {
-        return None;
-    };
-    let (strand, rest) = strand(rest)?;
-    Some(Plain {
-        strand,
-        act: Act::Return,
-        rest,
-    })
-}
-
-/// The read that the first line asks for, where it stands in plain form up to its operands.
-#[inline(always)]
-pub fn read_request<'b, A: Allocator + Copy>(
-    names: &Names<'_, A>,
-    bytes: &'b [u8],
-) -> Option<Plain<'b>>
-    ensures { IfSome result (λ plain. BeginsRequest names.now bytes.now plain.strand plain.act plain.rest.now) }
-{
-    let [b'r', b'e', b'a', b'd', rest @ ..] = bytes else {
-        return None;
-    };
-    let (strand, cell, rest) = of_cell(names, rest)?;
-    Some(Plain {
-        strand,
-        act: Act::Read(cell),
-        rest,
-    })
-}
-
-/// The write that the first line asks for, where it stands in plain form up to its operands.
-#[inline(always)]
-pub fn write_request<'b, A: Allocator + Copy>(
-    names: &Names<'_, A>,
-    bytes: &'b [u8],
-) -> Option<Plain<'b>>
-    ensures { IfSome result (λ plain. BeginsRequest names.now bytes.now plain.strand plain.act plain.rest.now) }
-{
-    let [b'w', b'r', b'i', b't', b'e', rest @ ..] = bytes else {
-        return None;
-    };
-    let (strand, cell, value, rest) = of_cell_and_value(names, rest)?;
-    Some(Plain {
-        strand,
-        act: Act::Write(cell, value),
-        rest,
-    })
-}
-
-/// The bump that the first line asks for, where it stands in plain form up to its operands.
-#[inline(always)]
-pub fn bump_request<'b, A: Allocator + Copy>(
-    names: &Names<'_, A>,
-    bytes: &'b [u8],
-) -> Option<Plain<'b>>
-    ensures { IfSome result (λ plain. BeginsRequest names.now bytes.now plain.strand plain.act plain.rest.now) }
-{
-    let [b'b', b'u', b'm', b'p', rest @ ..] = bytes else {
-        return None;
-    };
-    let Version::Two = names.version() else {
-        return None;
-    };
-    let (strand, cell, value, rest) = of_cell_and_value(names, rest)?;
-    Some(Plain {
-        strand,
-        act: Act::Bump(cell, value),
-        rest,
-    })
-}
-
-/// The update that the first line asks for, where it stands in plain form up to its operands.
-#[inline(always)]
-pub fn update_request<'b, A: Allocator + Copy>(
-    names: &Names<'_, A>,
-    bytes: &'b [u8],
-) -> Option<Plain<'b>>
-    ensures { IfSome result (λ plain. BeginsRequest names.now bytes.now plain.strand plain.act plain.rest.now) }
-{
-    let [b'u', b'p', b'd', b'a', b't', b'e', rest @ ..] = bytes else {
-        return None;
-    };
-    let (strand, reducer, value, rest) = of_reducer_and_value(names, rest)?;
-    Some(Plain {
-        strand,
-        act: Act::Update(reducer, value),
-        rest,
-    })
-}
-
-/// The put that the first line asks for, where it stands in plain form up to its operands.
-#[inline(always)]
-pub fn put_request<'b, A: Allocator + Copy>(
-    names: &Names<'_, A>,
-    bytes: &'b [u8],
-) -> Option<Plain<'b>>
-    ensures { IfSome result (λ plain. BeginsRequest names.now bytes.now plain.strand plain.act plain.rest.now) }
-{
-    let [b'p', b'u', b't', rest @ ..] = bytes else {
-        return None;
-    };
-    let (strand, reducer, value, rest) = of_reducer_and_value(names, rest)?;
-    Some(Plain {
-        strand,
-        act: Act::Put(reducer, value),
-        rest,
-    })
-}
-
-/// The get that the first line asks for, where it stands in plain form up to its operands.
-#[inline(always)]
-pub fn get_request<'b, A: Allocator + Copy>(
-    names: &Names<'_, A>,
-    bytes: &'b [u8],
-) -> Option<Plain<'b>>
-    ensures { IfSome result (λ plain. BeginsRequest names.now bytes.now plain.strand plain.act plain.rest.now) }
-{
-    let [b'g', b'e', b't', rest @ ..] = bytes else {
-        return None;
-    };
-    let (strand, reducer, rest) = of_reducer(names, rest)?;
-    Some(Plain {
-        strand,
-        act: Act::Get(reducer),
-        rest,
-    })
+    match kind {
+        Kind::Read | Kind::Get => Some((0, bytes)),
+        Kind::Write | Kind::Bump | Kind::Update | Kind::Put => value(bytes),
+    }
 }

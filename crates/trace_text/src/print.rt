@@ -1,21 +1,21 @@
 //! A trace as text.
 
 ghost use Rattle.std.specs.Prelude.{◌≡◌, ◌++◌, ◌∷◌, ◌+◌, ◌-◌, ◌<◌, ◌≤◌, ℕ, [], List, OnOk};
-ghost use Rattle.std.specs.Prelude.{IfOk, IsTrue, replicate, string_bytes, cond, map};
+ghost use Rattle.std.specs.Prelude.{IfOk, IsTrue, replicate, string_bytes, codes, cond, map};
 ghost use Rattle.std.specs.Fmt.{decimal};
-ghost use Rattle.text_words.specs.declared.value.Version.{Version};
+ghost use Rattle.text_words.specs.declared.value.Version.{Version as SpecVersion};
 ghost use Rattle.text_words.specs.declared.value.Reducer.{Reducer};
-ghost use Rattle.text_words.specs.Values.{Known};
+ghost use Rattle.text_words.specs.Values.{Known, version_spelling};
 ghost use Rattle.trace_text.specs.Shapes.{is_numbered, name_of_cell};
 ghost use Rattle.trace_text.specs.Printing.{Entry, OfMemory, OfReducer, OfRequest, declarations, entry_text, name_of_reducer};
-ghost use Rattle.trace_text.specs.Printing.{operand_text, known_of, text_from, PrintsEntry, StartsPast, TakesReducers};
+ghost use Rattle.trace_text.specs.Printing.{spaced, operand_text, known_of, text_from, PrintsEntry, StartsPast, TakesReducers};
 
-use crate::cell::memory_at;
+use crate::cell::{memory_at, put_name};
 use crate::keyword::{keyword_for, keyword_word};
 use crate::trace::Trace;
 use std::alloc::{AllocError, Allocator};
 use std::fmt::Write;
-use text_words::{Act, Mem, Reducer, TraceLine, monoid_word, version_word};
+use text_words::{Act, Mem, Reducer, TraceLine, Version, monoid_word, version_word};
 use trace_lines::TraceLines;
 
 /// Appends a space and a number.
@@ -31,8 +31,7 @@ pub fn put_word<A: Allocator>(out: &mut String<A>, word: &str) -> Result<(), All
     ensures { OnOk result (string_bytes out.new ≡ string_bytes out.old ++ 32 ∷ word.now) }
 {
     out.push_str(" ")?;
-    out.push_str(word)?;
-    Ok(())
+    out.push_str(word)
 }
 
 /// Appends a space and the name of the cell with this number. The memories are those of a trace or a program, or the first of them.
@@ -44,16 +43,10 @@ pub fn put_cell<A: Allocator>(
     requires numbered { IsTrue (is_numbered 0 mems.now) }
     ensures { OnOk result (string_bytes out.new ≡ string_bytes out.old ++ 32 ∷ name_of_cell mems.now location) }
 {
+    out.push_str(" ")?;
     match memory_at(mems, location) {
-        Some(mem) => {
-            put_word(out, mem.name.as_str())?;
-            if mem.array {
-                let index = location - mem.first;
-                write!(out, "[{index}]")?;
-            }
-            Ok(())
-        }
-        None => put_word(out, ""),
+        Some(mem) => put_name(out, mem, location - mem.first),
+        None => Ok(()),
     }
 }
 
@@ -103,7 +96,7 @@ fn put_operands<A: Allocator>(
     act: Act,
 ) -> Result<(), AllocError>
     requires numbered { IsTrue (is_numbered 0 mems.now) }
-    ensures { (version : Version) →
+    ensures { (version : SpecVersion) →
         OnOk result (string_bytes out.new ≡ string_bytes out.old ++ operand_text (known_of version mems.now reducers.now) act) }
 {
     match act {
@@ -139,15 +132,14 @@ pub fn put_request<A: Allocator>(
     line: &TraceLine,
 ) -> Result<(), AllocError>
     requires numbered { IsTrue (is_numbered 0 mems.now) }
-    ensures { (version : Version) →
+    ensures { (version : SpecVersion) →
         OnOk result (string_bytes out.new
         ≡ string_bytes out.old ++ entry_text (known_of version mems.now reducers.now) (OfRequest line.now)) }
 {
     out.push_str(keyword_word(keyword_for(line.request.act)))?;
     put_number(out, u64::from(line.request.strand))?;
     put_operands(out, mems, reducers, line.request.act)?;
-    put_mark(out, line)?;
-    Ok(())
+    put_mark(out, line)
 }
 
 /// Appends the declaration of a memory.
@@ -157,9 +149,10 @@ pub fn put_memory<A: Allocator>(out: &mut String<A>, mem: &Mem) -> Result<(), Al
     out.push_str("mem")?;
     put_word(out, mem.name.as_str())?;
     if mem.array {
-        put_number(out, u64::from(mem.cells))?;
+        put_number(out, u64::from(mem.cells))
+    } else {
+        Ok(())
     }
-    Ok(())
 }
 
 /// Appends the declaration of a reducer.
@@ -182,6 +175,14 @@ pub fn put_feeds<A: Allocator>(out: &mut String<A>, from: u64, to: u64) -> Resul
     Ok(())
 }
 
+/// Appends the line feed of the line with this number, and gives the number of the line behind it.
+fn put_end<A: Allocator>(out: &mut String<A>, line: u32) -> Result<u64, AllocError>
+    ensures { IfOk result (λ next. (next ≡ line + 1) × (string_bytes out.new ≡ string_bytes out.old ++ 10 ∷ [])) }
+{
+    out.push_str("\n")?;
+    Ok(u64::from(line) + 1)
+}
+
 /// Appends the line of a memory, where the next line has the number `at`, and gives the number of the line behind it.
 fn put_memory_line<A: Allocator>(out: &mut String<A>, at: u64, mem: &Mem) -> Result<u64, AllocError>
     ensures { (known : Known) →
@@ -189,8 +190,7 @@ fn put_memory_line<A: Allocator>(out: &mut String<A>, at: u64, mem: &Mem) -> Res
 {
     put_feeds(out, at, u64::from(mem.line))?;
     put_memory(out, mem)?;
-    out.push_str("\n")?;
-    Ok(u64::from(mem.line) + 1)
+    put_end(out, mem.line)
 }
 
 /// Appends the line of a reducer in the same way.
@@ -204,8 +204,7 @@ fn put_reducer_line<A: Allocator>(
 {
     put_feeds(out, at, u64::from(reducer.line))?;
     put_reducer(out, reducer)?;
-    out.push_str("\n")?;
-    Ok(u64::from(reducer.line) + 1)
+    put_end(out, reducer.line)
 }
 
 /// Appends the line of a request in the same way.
@@ -217,14 +216,13 @@ fn put_request_line<A: Allocator>(
     line: &TraceLine,
 ) -> Result<u64, AllocError>
     requires numbered { IsTrue (is_numbered 0 mems.now) }
-    ensures { (version : Version) →
+    ensures { (version : SpecVersion) →
         IfOk result (λ next. PrintsEntry (known_of version mems.now reducers.now)
         (string_bytes out.old) at (OfRequest line.now) (string_bytes out.new) next) }
 {
     put_feeds(out, at, u64::from(line.at))?;
     put_request(out, mems, reducers, line)?;
-    out.push_str("\n")?;
-    Ok(u64::from(line.at) + 1)
+    put_end(out, line.at)
 }
 
 /// Appends the lines of the reducers up to the line `bound`, where the next line has the number `from`. It gives the number of the line
@@ -298,7 +296,7 @@ fn put_requests<A: Allocator, B: Allocator>(
     lines: &TraceLines<B>,
 ) -> Result<(), AllocError>
     requires numbered { IsTrue (is_numbered 0 mems.now) }
-    ensures { (version : Version) →
+    ensures { (version : SpecVersion) →
         OnOk result (string_bytes out.new
         ≡ string_bytes out.old ++ text_from (known_of version mems.now reducers.now) from (map OfRequest lines.now)) }
 {
@@ -309,22 +307,30 @@ fn put_requests<A: Allocator, B: Allocator>(
     Ok(())
 }
 
+/// Appends the first line.
+fn put_header<A: Allocator>(out: &mut String<A>, version: Version) -> Result<(), AllocError>
+    ensures { OnOk result (string_bytes out.new
+        ≡ string_bytes out.old ++ spaced (codes "cilk" ∷ version_spelling version ∷ []) ++ 10 ∷ []) }
+{
+    out.push_str("cilk")?;
+    put_word(out, version_word(version))?;
+    out.push_str("\n")
+}
+
 impl<A: Allocator> Trace<A> {
     ghost use Rattle.trace_text.specs.Grammar.{TextMeans};
     ghost use Rattle.trace_text.specs.Traces.{contents};
     ghost use Rattle.trace_text.specs.Printing.{plain_text};
 
-    fn text<B: Allocator>(&self, alloc: B) -> Result<Vec<u8, B>, AllocError>
-        ensures { IfOk result (λ text. text.items ≡ plain_text (contents self.now)) }
+    /// Appends the plain text.
+    fn put_text<B: Allocator>(&self, out: &mut String<B>) -> Result<(), AllocError>
+        ensures { OnOk result (string_bytes out.new ≡ string_bytes out.old ++ plain_text (contents self.now)) }
     {
-        let mut out = String::from_str(alloc, "cilk")?;
-        put_word(&mut out, version_word(self.version))?;
-        out.push_str("\n")?;
         let mems = self.mems.as_slice();
         let reducers = self.reducers.as_slice();
-        let at = put_declarations(&mut out, mems, reducers)?;
-        put_requests(&mut out, at, mems, reducers, &self.lines)?;
-        Ok(out.into_bytes())
+        put_header(out, self.version)?;
+        let at = put_declarations(out, mems, reducers)?;
+        put_requests(out, at, mems, reducers, &self.lines)
     }
 
     /// The plain text of the trace, which means this trace and no other: each item stands on its own line, with blank lines between
@@ -333,7 +339,10 @@ impl<A: Allocator> Trace<A> {
         ensures plain { IfOk result (λ text. text.items ≡ plain_text (contents self.now)) }
         ensures means { IfOk result (λ text. ∥ TextMeans text.items (contents self.now) ∥₁) }
     {
-        let text = self.text(alloc)?;
-        Ok(text)
+        let mut out = String::new(alloc);
+        match self.put_text(&mut out) {
+            Ok(()) => Ok(out.into_bytes()),
+            Err(error) => Err(error),
+        }
     }
 }

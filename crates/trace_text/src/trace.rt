@@ -1,6 +1,6 @@
 //! A trace from its text.
 
-ghost use Rattle.std.specs.Prelude.{◌≡◌, ◌≢◌, ◌<◌, ◌≤◌, ◌+◌, ℕ, List, [], length, IsTrue, IfOk, map, IsNone, MatchOption, MatchResult};
+ghost use Rattle.std.specs.Prelude.{◌≡◌, ◌≢◌, ◌<◌, ◌≤◌, ◌+◌, ◌∷◌, ℕ, List, [], length, codes, IsTrue, IfOk, map, IsNone, MatchOption, MatchResult};
 ghost use Rattle.std.specs.Option.{IfSome};
 ghost use Rattle.std.specs.List.{All};
 ghost use Rattle.model_accesses.specs.Limits.{most_cells};
@@ -9,23 +9,26 @@ ghost use Rattle.text_words.specs.Limits.{most_requests, most_lines};
 ghost use Rattle.trace_text.specs.Shapes.{is_numbered, IsWithin};
 ghost use Rattle.text_words.specs.Text.{lines, words, IsTextLine};
 ghost use Rattle.text_words.specs.Declarations.{cells_of};
-ghost use Rattle.trace_text.specs.Grammar.{Item as SpecItem, Declared, Reduces, Asked, LineMeans, ItemMeans};
-ghost use Rattle.trace_text.specs.Grammar.{LinesMean, TextMeans, extended, nothing, IsHeader};
+ghost use Rattle.text_words.specs.declared.value.Version.{Version as SpecVersion};
+ghost use Rattle.text_words.specs.Values.{version_spelling};
+ghost use Rattle.trace_text.specs.Grammar.{Declared, Reduces, Asked, ItemMeans};
+ghost use Rattle.trace_text.specs.Grammar.{LinesMean, TextMeans, nothing, IsHeader};
 ghost use Rattle.trace_text.specs.Items.{item_of};
+ghost use Rattle.trace_text.specs.Lines.{HasKeyword, IsControl};
+ghost use Rattle.trace_text.specs.declared.keyword.Keyword.TheVariants.{Access};
 ghost use Rattle.trace_text.specs.Plain.{BeginsRequest};
 ghost use Rattle.trace_text.specs.Drafts.{so_far, Extends, IsRoomFault, IsLineFault, IsHeaderFault};
 ghost use Rattle.trace_text.specs.Drafts.{IsLinesFault, IsBodyFault, IsTextFault, IsTaken, IsStopped, Goes, SaysSo};
 
-use crate::line::{Item, read_line, request_on};
+use crate::keyword::{keyword_for, keyword_word};
+use crate::line::{Item, act_of, read_line, request_on};
 use crate::place::CELLS;
-use crate::plain::{
-    Plain, bump_request, call_request, get_request, mark, put_request, read_request,
-    return_request, spawn_request, sync_request, update_request, write_request,
-};
+use crate::plain::{behind_word, mark, place, strand, value_for};
+use access_table::{Kind, word};
 use std::alloc::{AllocError, Allocator};
 use text_words::{
-    Cause, Mems, Monoid, Monoids, Names, Reducers, Shape, TextFault, TraceLine, Version, Words,
-    as_text, split_line, without_return,
+    Act, Cause, Mem, Mems, Monoid, Monoids, Names, Reducer, Reducers, Shape, TextFault, TraceLine,
+    Version, Words, as_text, split_line, without_return,
 };
 use trace_lines::TraceLines;
 
@@ -77,8 +80,10 @@ impl<'a, A: Allocator + Copy> Draft<'a, A> {
         if at > LINES || u64::from(self.names.cells()) + u64::from(length.unwrap_or(1)) > CELLS {
             return Err(fault(at, Cause::TooMany));
         }
-        self.names.add_memory(at, name, length)?;
-        Ok(())
+        match self.names.add_memory(at, name, length) {
+            Ok(()) => Ok(()),
+            Err(_) => Err(TextFault::Memory),
+        }
     }
 
     /// Adds a reducer.
@@ -94,8 +99,10 @@ impl<'a, A: Allocator + Copy> Draft<'a, A> {
         if at > LINES || self.names.reducer_count() >= REDUCERS {
             return Err(fault(at, Cause::TooMany));
         }
-        self.names.add_reducer(at, name, monoid)?;
-        Ok(())
+        match self.names.add_reducer(at, name, monoid) {
+            Ok(()) => Ok(()),
+            Err(_) => Err(TextFault::Memory),
+        }
     }
 
     /// Adds a request.
@@ -108,8 +115,10 @@ impl<'a, A: Allocator + Copy> Draft<'a, A> {
         if at > LINES || self.lines.len() >= REQUESTS {
             return Err(fault(at, Cause::TooMany));
         }
-        self.lines.push(line)?;
-        Ok(())
+        match self.lines.push(line) {
+            Ok(()) => Ok(()),
+            Err(_) => Err(TextFault::Memory),
+        }
     }
 
     /// Adds what the line with the number `at` says.
@@ -169,33 +178,6 @@ impl<'a, A: Allocator + Copy> Draft<'a, A> {
         }
     }
 
-    /// Reads the line with the number `at`.
-    fn take(&mut self, at: u32, line: &'a [u8]) -> Result<(), TextFault>
-        ensures { MatchResult result
-            (λ _. (item : SpecItem) × LineMeans at (so_far self.old.names self.old.lines) line.now item
-            × (so_far self.new.names self.new.lines ≡ extended at (so_far self.old.names self.old.lines) item))
-            (IsLineFault at (so_far self.old.names self.old.lines) line.now) }
-    {
-        match self.said(at, line) {
-            Ok(item) => self.add(at, item),
-            Err(fault) => Err(fault),
-        }
-    }
-
-    /// Reads the line with the number `at`, behind a request.
-    fn take_behind(&mut self, at: u32, line: &[u8]) -> Result<(), TextFault>
-        requires some { self.old.lines ≢ [] }
-        ensures { MatchResult result
-            (λ _. (item : SpecItem) × LineMeans at (so_far self.old.names self.old.lines) line.now item
-            × (so_far self.new.names self.new.lines ≡ extended at (so_far self.old.names self.old.lines) item))
-            (IsLineFault at (so_far self.old.names self.old.lines) line.now) }
-    {
-        match self.said(at, line) {
-            Ok(item) => self.add_behind(at, item),
-            Err(fault) => Err(fault),
-        }
-    }
-
     /// Reads the first line of the text, which has the number `at`, and gives what stands behind it, or the fault of the line.
     fn take_first(&mut self, at: u32, text: &'a [u8]) -> (&'a [u8], Option<TextFault>)
         requires { 0 < length text.now }
@@ -204,38 +186,94 @@ impl<'a, A: Allocator + Copy> Draft<'a, A> {
             (IsStopped at (so_far self.old.names self.old.lines) text.now) }
     {
         let (line, rest) = split_line(text);
-        match self.take(at, without_return(line)) {
+        let item = match self.said(at, without_return(line)) {
+            Ok(item) => item,
+            Err(fault) => return (rest, Some(fault)),
+        };
+        match self.add(at, item) {
             Ok(()) => (rest, None),
             Err(fault) => (rest, Some(fault)),
         }
     }
 
-    /// Adds a request in plain form, and gives what stands behind its line, or the fault of the line too. None, which changes nothing,
-    /// where the line does not end in plain form.
+    /// Adds a request in plain form, of which the mark and the line feed are left, and gives what stands behind its line, or the fault of
+    /// the line too. None, which changes nothing, where the line does not end in plain form.
     #[inline(always)]
-    fn ask_plain<'b>(&mut self, at: u32, plain: Plain<'b>) -> Option<(&'b [u8], Option<TextFault>)>
-        ensures asked { IfSome result (λ r. (text : List ℕ) →
-            BeginsRequest self.old.names text plain.entry.strand plain.entry.act plain.entry.rest.now → MatchOption r.1
-            (IsTaken at (so_far self.old.names self.old.lines) text r.0.now (so_far self.new.names self.new.lines))
-            (IsStopped at (so_far self.old.names self.old.lines) text)) }
+    fn ask_plain<'b>(
+        &mut self,
+        at: u32,
+        strand: u32,
+        act: Act,
+        bytes: &'b [u8],
+    ) -> Option<(&'b [u8], Option<TextFault>)>
+        ensures asked { IfSome result (λ r. (text : List ℕ) → BeginsRequest self.old.names text strand act bytes.now →
+            Goes at (so_far self.old.names self.old.lines) text r.0.now r.1 (so_far self.new.names self.new.lines)) }
         ensures unchanged { IsNone result → self.new ≡ self.old }
     {
-        let (mark, rest) = mark(plain.rest)?;
-        let line = request_on(at, plain.strand, plain.act, mark);
-        match self.ask(at, line) {
+        let Some((mark, rest)) = mark(bytes) else {
+            return None;
+        };
+        match self.ask(at, request_on(at, strand, act, mark)) {
             Ok(()) => Some((rest, None)),
             Err(fault) => Some((rest, Some(fault))),
         }
     }
 
-    /// Adds the spawn that the first line of the text is, and gives what stands behind the line, or its fault too. None, which changes nothing,
-    /// where the line is no spawn in plain form.
+    /// Adds the request without operands that the first line of the text is, and gives what stands behind the line, or its fault too. None,
+    /// which changes nothing, where the line is no such request in plain form.
+    #[inline(always)]
+    fn take_control<'b>(
+        &mut self,
+        at: u32,
+        act: Act,
+        text: &'b [u8],
+    ) -> Option<(&'b [u8], Option<TextFault>)>
+        requires { IsControl act }
+        ensures taken { IfSome result (λ r. Goes at (so_far self.old.names self.old.lines) text.now r.0.now r.1 (so_far self.new.names self.new.lines)) }
+        ensures unchanged { IsNone result → self.new ≡ self.old }
+    {
+        let Some(rest) = behind_word(keyword_word(keyword_for(act)).as_bytes(), text) else {
+            return None;
+        };
+        let Some((strand, rest)) = strand(rest) else {
+            return None;
+        };
+        self.ask_plain(at, strand, act, rest)
+    }
+
+    /// The same of an access.
+    #[inline(always)]
+    fn take_access<'b>(
+        &mut self,
+        at: u32,
+        kind: Kind,
+        text: &'b [u8],
+    ) -> Option<(&'b [u8], Option<TextFault>)>
+        requires { HasKeyword self.old.names.version (Access kind) }
+        ensures taken { IfSome result (λ r. Goes at (so_far self.old.names self.old.lines) text.now r.0.now r.1 (so_far self.new.names self.new.lines)) }
+        ensures unchanged { IsNone result → self.new ≡ self.old }
+    {
+        let Some(rest) = behind_word(word(kind).as_bytes(), text) else {
+            return None;
+        };
+        let Some((strand, rest)) = strand(rest) else {
+            return None;
+        };
+        let Some((place, rest)) = place(kind, &self.names, rest) else {
+            return None;
+        };
+        let Some((value, rest)) = value_for(kind, rest) else {
+            return None;
+        };
+        self.ask_plain(at, strand, act_of(kind, place, value), rest)
+    }
+
+    /// The spawn, by a function without a hint, as for each keyword: so each has code of its own, which knows its case.
     fn take_spawn<'b>(&mut self, at: u32, text: &'b [u8]) -> Option<(&'b [u8], Option<TextFault>)>
         ensures taken { IfSome result (λ r. Goes at (so_far self.old.names self.old.lines) text.now r.0.now r.1 (so_far self.new.names self.new.lines)) }
         ensures unchanged { IsNone result → self.new ≡ self.old }
     {
-        let plain = spawn_request(text)?;
-        self.ask_plain(at, plain)
+        self.take_control(at, Act::Spawn, text)
     }
 
     /// The same of a sync.
@@ -243,8 +281,7 @@ impl<'a, A: Allocator + Copy> Draft<'a, A> {
         ensures taken { IfSome result (λ r. Goes at (so_far self.old.names self.old.lines) text.now r.0.now r.1 (so_far self.new.names self.new.lines)) }
         ensures unchanged { IsNone result → self.new ≡ self.old }
     {
-        let plain = sync_request(text)?;
-        self.ask_plain(at, plain)
+        self.take_control(at, Act::Sync, text)
     }
 
     /// The same of a call.
@@ -252,8 +289,7 @@ impl<'a, A: Allocator + Copy> Draft<'a, A> {
         ensures taken { IfSome result (λ r. Goes at (so_far self.old.names self.old.lines) text.now r.0.now r.1 (so_far self.new.names self.new.lines)) }
         ensures unchanged { IsNone result → self.new ≡ self.old }
     {
-        let plain = call_request(text)?;
-        self.ask_plain(at, plain)
+        self.take_control(at, Act::Call, text)
     }
 
     /// The same of a return.
@@ -261,8 +297,7 @@ impl<'a, A: Allocator + Copy> Draft<'a, A> {
         ensures taken { IfSome result (λ r. Goes at (so_far self.old.names self.old.lines) text.now r.0.now r.1 (so_far self.new.names self.new.lines)) }
         ensures unchanged { IsNone result → self.new ≡ self.old }
     {
-        let plain = return_request(text)?;
-        self.ask_plain(at, plain)
+        self.take_control(at, Act::Return, text)
     }
 
     /// The same of a read.
@@ -270,8 +305,7 @@ impl<'a, A: Allocator + Copy> Draft<'a, A> {
         ensures taken { IfSome result (λ r. Goes at (so_far self.old.names self.old.lines) text.now r.0.now r.1 (so_far self.new.names self.new.lines)) }
         ensures unchanged { IsNone result → self.new ≡ self.old }
     {
-        let plain = read_request(&self.names, text)?;
-        self.ask_plain(at, plain)
+        self.take_access(at, Kind::Read, text)
     }
 
     /// The same of a write.
@@ -279,17 +313,18 @@ impl<'a, A: Allocator + Copy> Draft<'a, A> {
         ensures taken { IfSome result (λ r. Goes at (so_far self.old.names self.old.lines) text.now r.0.now r.1 (so_far self.new.names self.new.lines)) }
         ensures unchanged { IsNone result → self.new ≡ self.old }
     {
-        let plain = write_request(&self.names, text)?;
-        self.ask_plain(at, plain)
+        self.take_access(at, Kind::Write, text)
     }
 
-    /// The same of a bump.
+    /// The same of a bump, which version 2 alone has.
     fn take_bump<'b>(&mut self, at: u32, text: &'b [u8]) -> Option<(&'b [u8], Option<TextFault>)>
         ensures taken { IfSome result (λ r. Goes at (so_far self.old.names self.old.lines) text.now r.0.now r.1 (so_far self.new.names self.new.lines)) }
         ensures unchanged { IsNone result → self.new ≡ self.old }
     {
-        let plain = bump_request(&self.names, text)?;
-        self.ask_plain(at, plain)
+        let Version::Two = self.names.version() else {
+            return None;
+        };
+        self.take_access(at, Kind::Bump, text)
     }
 
     /// The same of an update.
@@ -297,8 +332,7 @@ impl<'a, A: Allocator + Copy> Draft<'a, A> {
         ensures taken { IfSome result (λ r. Goes at (so_far self.old.names self.old.lines) text.now r.0.now r.1 (so_far self.new.names self.new.lines)) }
         ensures unchanged { IsNone result → self.new ≡ self.old }
     {
-        let plain = update_request(&self.names, text)?;
-        self.ask_plain(at, plain)
+        self.take_access(at, Kind::Update, text)
     }
 
     /// The same of a put.
@@ -306,8 +340,7 @@ impl<'a, A: Allocator + Copy> Draft<'a, A> {
         ensures taken { IfSome result (λ r. Goes at (so_far self.old.names self.old.lines) text.now r.0.now r.1 (so_far self.new.names self.new.lines)) }
         ensures unchanged { IsNone result → self.new ≡ self.old }
     {
-        let plain = put_request(&self.names, text)?;
-        self.ask_plain(at, plain)
+        self.take_access(at, Kind::Put, text)
     }
 
     /// The same of a get.
@@ -315,8 +348,7 @@ impl<'a, A: Allocator + Copy> Draft<'a, A> {
         ensures taken { IfSome result (λ r. Goes at (so_far self.old.names self.old.lines) text.now r.0.now r.1 (so_far self.new.names self.new.lines)) }
         ensures unchanged { IsNone result → self.new ≡ self.old }
     {
-        let plain = get_request(&self.names, text)?;
-        self.ask_plain(at, plain)
+        self.take_access(at, Kind::Get, text)
     }
 
     /// The same of any request, whose keyword the first bytes tell. So it is told here, and nowhere below.
@@ -351,7 +383,11 @@ impl<'a, A: Allocator + Copy> Draft<'a, A> {
             (IsStopped at (so_far self.old.names self.old.lines) text.now) }
     {
         let (line, rest) = split_line(text);
-        match self.take_behind(at, without_return(line)) {
+        let item = match self.said(at, without_return(line)) {
+            Ok(item) => item,
+            Err(fault) => return (rest, Some(fault)),
+        };
+        match self.add_behind(at, item) {
             Ok(()) => (rest, None),
             Err(fault) => (rest, Some(fault)),
         }
@@ -419,6 +455,26 @@ impl<'a, A: Allocator + Copy> Draft<'a, A> {
     }
 }
 
+/// The version that the words of the first line name.
+fn version_named(words: &mut Words<'_>) -> Option<Version>
+    ensures { MatchOption result
+        ((version : SpecVersion) → words.old ≢ codes "cilk" ∷ version_spelling version ∷ [])
+        (λ version. words.old ≡ codes "cilk" ∷ version_spelling version ∷ []) }
+{
+    let Some("cilk") = words.take() else {
+        return None;
+    };
+    let version = match words.take() {
+        Some("1") => Version::One,
+        Some("2") => Version::Two,
+        _ => return None,
+    };
+    match words.take() {
+        None => Some(version),
+        Some(_) => None,
+    }
+}
+
 /// Reads the first line.
 pub fn header(line: &[u8]) -> Result<Version, TextFault>
     ensures { MatchResult result (IsHeader line.now) (IsHeaderFault line.now) }
@@ -426,11 +482,9 @@ pub fn header(line: &[u8]) -> Result<Version, TextFault>
     let Some(text) = as_text(line) else {
         return Err(fault(1, Cause::NotText));
     };
-    let mut words = Words::of_line(text);
-    match (words.take(), words.take(), words.take()) {
-        (Some("cilk"), Some("1"), None) => Ok(Version::One),
-        (Some("cilk"), Some("2"), None) => Ok(Version::Two),
-        _ => Err(fault(1, Cause::BadHeader)),
+    match version_named(&mut Words::of_line(text)) {
+        Some(version) => Ok(version),
+        None => Err(fault(1, Cause::BadHeader)),
     }
 }
 
@@ -473,6 +527,29 @@ pub(crate) fn whole<'a, A: Allocator + Copy>(
         Err(fault) => return Err(fault),
     };
     body(alloc, version, rest)
+}
+
+/// How many cells the memories have.
+fn cells_in(mems: &[Mem]) -> u32
+    requires few { cells_of mems.now ≤ most_cells }
+    ensures { result ≡ cells_of mems.now }
+{
+    let mut cells = 0;
+    for mem in mems {
+        cells += mem.cells;
+    }
+    cells
+}
+
+/// The monoids of the reducers.
+fn monoids_of<A: Allocator>(alloc: A, reducers: &[Reducer]) -> Result<Monoids<A>, AllocError>
+    ensures { IfOk result (λ monoids. monoids ≡ map (λ reducer. reducer.monoid) reducers.now) }
+{
+    let mut monoids = Vec::new(alloc);
+    for reducer in reducers {
+        monoids.push(reducer.monoid)?;
+    }
+    Ok(Monoids::new(monoids))
 }
 
 /// The meaning of a text, made by [`Trace::parse`] and [`BegunTrace::end`] alone. Some text means it, its cells are numbered without a gap, and its requests
@@ -541,14 +618,10 @@ impl<A: Allocator + Copy> Trace<A> {
         ensures cells { IfOk result (λ shape. shape.cells ≡ cells_of self.now.mems) }
         ensures monoids { IfOk result (λ shape. shape.monoids ≡ map (λ reducer. reducer.monoid) self.now.reducers) }
     {
-        let cells = self.mems.as_slice().iter().map(|mem| mem.cells).sum();
-        let mut monoids = Vec::new(alloc);
-        for reducer in self.reducers.as_slice() {
-            monoids.push(reducer.monoid)?;
+        let cells = cells_in(self.mems.as_slice());
+        match monoids_of(alloc, self.reducers.as_slice()) {
+            Ok(monoids) => Ok(Shape { cells, monoids }),
+            Err(error) => Err(error),
         }
-        Ok(Shape {
-            cells,
-            monoids: Monoids::new(monoids),
-        })
     }
 }

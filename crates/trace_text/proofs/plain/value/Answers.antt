@@ -6,5 +6,5 @@ use Rattle.trace_text.proofs.plain.value.Goals as goal
 pub returns : goal.returns
 returns c =
     let space : slice_index_or c.args.bytes.now 0 0 ≡ 32 = omega arith in
-    let number = c.in_ok-value in
+    let number = c.in-Some in
     λ known. next_number known c.args.bytes.now number.rest.now 0 max_value number.value c.in-32.len_at_least space number.ensures (omega arith) number.ensures.3

@@ -1,5 +1,5 @@
 use Rattle.std.proofs.Common.{rules}
 use Rattle.trace_text.proofs.trace.Draft.ask.Goals as goal
 
-pub returns : goal.returns
-returns g c = search rules
+pub returns-in-Ok : goal.returns-in-Ok
+returns-in-Ok g c = search rules

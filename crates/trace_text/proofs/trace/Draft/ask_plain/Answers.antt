@@ -8,15 +8,13 @@ pub returns-in-Ok-clause-asked : goal.returns-in-Ok-clause-asked
 returns-in-Ok-clause-asked g c text begins =
     let before = so_far c.args.self.now.names c.args.self.now.lines in
     let after = so_far c.ask.new.self.names c.ask.new.self.lines in
-    let plain = c.args.plain in
-    let end = c.in_ok-mark in
-    plain_taken c.args.at before after text end.rest.now plain.strand plain.act end.mark (begins end.mark end.rest.now (end.ensures before.known))
-    (subst (λ (item : Item). Extends c.args.at before item after) c.request_on-line.ensures c.in-Ok.ensures)
+    let end = c.in-Some in
+    plain_taken c.args.at before after text end.rest.now c.args.strand c.args.act end.mark (begins end.mark end.rest.now (end.ensures before.known))
+    (subst (λ (item : Item). Extends c.args.at before item after) c.request_on.ensures c.in-Ok.ensures)
 
 pub returns-in-Err-clause-asked : goal.returns-in-Err-clause-asked
 returns-in-Err-clause-asked g c text begins =
     let before = so_far c.args.self.now.names c.args.self.now.lines in
-    let plain = c.args.plain in
-    let end = c.in_ok-mark in
-    plain_stopped c.args.at before before text end.rest.now plain.strand plain.act end.mark (begins end.mark end.rest.now (end.ensures before.known)) c.in-Err.fault
-    (subst (λ (item : Item). IsRoomFault c.args.at before item c.in-Err.fault) c.request_on-line.ensures c.in-Err.ensures)
+    let end = c.in-Some in
+    plain_stopped c.args.at before before text end.rest.now c.args.strand c.args.act end.mark (begins end.mark end.rest.now (end.ensures before.known)) c.in-Err.fault
+    (subst (λ (item : Item). IsRoomFault c.args.at before item c.in-Err.fault) c.request_on.ensures c.in-Err.ensures)

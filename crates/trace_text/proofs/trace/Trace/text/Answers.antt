@@ -1,5 +1,0 @@
-use Rattle.std.proofs.Common.{rules}
-use Rattle.trace_text.proofs.trace.Trace.text.Goals as goal
-
-pub returns : goal.returns
-returns g c = search rules
