@@ -98,10 +98,10 @@ macro_rules! witness {
 type Found = (u32, Act, Option<Witness>);
 
 /// Each act, by its strand, finds the witness beside it.
-fn finds_all(
+fn finds_all<A: Allocator>(
     rt: &impl Abort,
     strands: &mut Strands<Global>,
-    shadow: &mut Shadow<Global>,
+    shadow: &mut Shadow<A>,
     acts: &[Found],
 )
     requires stands { StandsOn shadow.old strands.old }
@@ -202,47 +202,33 @@ fn an_access_finds_the_access_that_it_races_with(rt: HostRuntime) -> Result<(), 
     check(&rt, rt.alloc(), RUNS)
 }
 
-/// The bytes that the shadow history of so many locations takes from a heap of 64 bytes for each.
-fn bytes_of(alloc: Global, locations: u32) -> Result<usize, AllocError> {
-    let heap = LocalHeap::new(alloc, 64 * locations as usize)?;
-    let _shadow = Shadow::new(&heap, locations)?;
-    Ok(heap.used())
+/// The bytes that the shadow history of so many locations takes from a heap of so many bytes: 0 where it is refused, and none without a
+/// heap.
+fn taken(alloc: Global, bytes: usize, locations: u32) -> Option<usize> {
+    match LocalHeap::new(alloc, bytes) {
+        Ok(heap) => Some(taken_from(&heap, locations)),
+        Err(_) => None,
+    }
 }
 
-/// The strand's access of location 1 finds nothing.
-fn finds_nothing<A: Allocator>(
-    rt: &impl Abort,
-    strands: &mut Strands<Global>,
-    shadow: &mut Shadow<A>,
-    kind: Kind,
-)
-    requires stands { StandsOn shadow.old strands.old }
-    requires locations { 2 ≤ length shadow.old }
-    ensures stands { StandsOn shadow.new strands.new }
-    ensures locations { length shadow.new ≡ length shadow.old }
-{
-    let found = step(strands, shadow, 1, 0, Access(kind, 1));
-    equal(rt, &kind, &found, &None);
+fn taken_from(heap: &LocalHeap, locations: u32) -> usize {
+    match Shadow::new(heap, locations) {
+        Ok(_shadow) => heap.used(),
+        Err(_) => 0,
+    }
 }
 
 /// The heap has used up so many bytes, and has no room for a second shadow history.
 fn is_used_up(rt: &impl Abort, heap: &LocalHeap, bytes: usize) {
-    equal(rt, &"bytes", &heap.used(), &bytes);
-    assert!(rt; Shadow::new(heap, 1).is_err());
+    let found = (heap.used(), Shadow::new(heap, 1).is_err());
+    equal(rt, &"bytes", &found, &(bytes, true));
 }
 
 /// A write and a read of location 1 find nothing.
-fn finds_nothing_twice<A: Allocator>(
-    rt: &impl Abort,
-    strands: &mut Strands<Global>,
-    shadow: &mut Shadow<A>,
-)
-    requires stands { StandsOn shadow.old strands.old }
-    requires locations { 2 ≤ length shadow.old }
-{
-    finds_nothing(rt, strands, shadow, Kind::Write);
-    finds_nothing(rt, strands, shadow, Kind::Read);
-}
+const NOTHING: &[Found] = &[
+    (0, Access(Kind::Write, 1), None),
+    (0, Access(Kind::Read, 1), None),
+];
 
 /// Accesses of so many locations take no bytes of the heap beyond so many, which their cells take.
 fn takes_no_more(
@@ -256,7 +242,7 @@ fn takes_no_more(
 {
     let (mut strands, mut shadow) = opening(alloc, heap, locations)?;
     is_used_up(rt, heap, bytes);
-    finds_nothing_twice(rt, &mut strands, &mut shadow);
+    finds_all(rt, &mut strands, &mut shadow, NOTHING);
     equal(rt, &"bytes", &heap.used(), &bytes);
     Ok(())
 }
@@ -279,42 +265,30 @@ fn laws_hold() {
     laws::place_law();
 }
 
-/// The bytes of a million locations, a thousand times those of a thousand.
-fn bytes_of_many(rt: &impl Abort, alloc: Global) -> Result<usize, AllocError> {
-    let thousand = bytes_of(alloc, 1_000)?;
-    let bytes = bytes_of(alloc, 1_000_000)?;
-    assert!(rt; 16 < bytes && bytes <= 64_000_000);
-    equal(rt, &"bytes", &thousand.saturating_mul(1_000), &bytes);
-    Ok(bytes)
+/// The bytes of a million locations, a thousand times those of a thousand. A heap of as many has room for them, and one of 16 bytes less
+/// has none.
+fn bytes_of_many(rt: &impl Abort, alloc: Global) -> usize {
+    let bytes = taken(alloc, 64_000_000, 1_000_000).unwrap_or(0);
+    assert!(rt; 16 < bytes && bytes % 1_000 == 0);
+    let found = [
+        taken(alloc, 64_000, 1_000),
+        taken(alloc, bytes, 1_000_000),
+        taken(alloc, bytes.saturating_sub(16), 1_000_000),
+    ];
+    equal(
+        rt,
+        &bytes,
+        &found,
+        &[Some(bytes / 1_000), Some(bytes), Some(0)],
+    );
+    bytes
 }
 
 #[test]
-fn many_locations_take_one_allocation(rt: HostRuntime) -> Result<(), Fail> {
+fn many_locations_take_one_allocation_or_are_refused(rt: HostRuntime) -> Result<(), Fail> {
     laws_hold();
-    let bytes = bytes_of_many(&rt, rt.alloc())?;
+    let bytes = bytes_of_many(&rt, rt.alloc());
     takes_only(&rt, rt.alloc(), 1_000_000, bytes)?;
-    Ok(())
-}
-
-/// Whether a heap of so many bytes has room for a million locations.
-fn has_room(alloc: Global, bytes: usize) -> Result<bool, AllocError> {
-    let heap = LocalHeap::new(alloc, bytes)?;
-    Ok(Shadow::new(&heap, 1_000_000).is_ok())
-}
-
-/// The same of a heap of 16 bytes less as well.
-fn have_room(alloc: Global, bytes: usize) -> Result<(bool, bool), AllocError> {
-    Ok((
-        has_room(alloc, bytes)?,
-        has_room(alloc, bytes.saturating_sub(16))?,
-    ))
-}
-
-#[test]
-fn a_heap_without_room_for_all_locations_is_refused(rt: HostRuntime) -> Result<(), Fail> {
-    let bytes = bytes_of_many(&rt, rt.alloc())?;
-    let rooms = have_room(rt.alloc(), bytes)?;
-    equal(&rt, &bytes, &rooms, &(true, false));
     Ok(())
 }
 

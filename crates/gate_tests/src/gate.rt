@@ -101,11 +101,6 @@ fn answers(rt: &impl Abort, gate: &mut Gate<Global>, expected: Receipt) {
     equal(rt, &request, &gate.judge(request), &Ok(expected));
 }
 
-/// Whether the gate has so many entries.
-fn has_entries(gate: &Gate<Global>, entries: usize) -> bool {
-    gate.history().len() == entries
-}
-
 /// A strand's act, and how a gate answers it.
 type Asked = (u32, Act, Answer);
 
@@ -116,7 +111,7 @@ fn answers_all(rt: &impl Abort, gate: &mut Gate<Global>, acts: &[Asked]) {
         number = number.wrapping_add(1);
         answers(rt, gate, receipt(number, *strand, *act, *answer));
     }
-    assert!(rt; has_entries(gate, acts.len()));
+    equal(rt, &"entries", &gate.history().len(), &acts.len());
 }
 
 /// A request, and what the gate makes of it.
@@ -161,7 +156,7 @@ fn ask(
         }
         Asks::Faults => answers_faults(rt, gate),
         Asks::SpawnsLong => spawns_long(rt, gate),
-        Asks::Drawn(seed, state) => agrees_in(rt, alloc, gate, monoids, seed, state)?,
+        Asks::Drawn(seed, state) => agrees_in(rt, gate, monoids, seed, state),
     }
     Ok(())
 }
@@ -173,10 +168,8 @@ fn check_new(
     monoids: &[Monoid],
     limit: u32,
     asks: Asks<'_>,
-) -> Result<(), Fail>
-    requires entries { limit ≤ most_entries }
-    requires reducers { length monoids.now ≤ most_reducers }
-{
+) -> Result<(), Fail> {
+    assert!(rt; limit <= 1_000_000 && monoids.len() <= 2);
     let mut gate = opening_with(alloc, monoids, limit)?;
     ask(rt, alloc, &mut gate, monoids, asks)
 }
@@ -184,16 +177,10 @@ fn check_new(
 /// The reducers of a program, and its acts with their answers.
 type Run<'a> = (&'a [Monoid], &'a [Asked]);
 
-/// Each act, by its strand, is answered by what stands beside it.
-fn check_run(rt: &impl Abort, alloc: Global, run: &Run<'_>) -> Result<(), Fail> {
-    assert!(rt; run.0.len() <= 2);
-    check_new(rt, alloc, run.0, 1_000_000, Asks::Acts(run.1))
-}
-
-/// The same of each program, by a gate of its own.
+/// Each act of each program, by its strand, is answered by what stands beside it.
 fn check(rt: &impl Abort, alloc: Global, runs: &[Run<'_>]) -> Result<(), Fail> {
-    for run in runs {
-        check_run(rt, alloc, run)?;
+    for (monoids, acts) in runs {
+        check_new(rt, alloc, monoids, 1_000_000, Asks::Acts(acts))?;
     }
     Ok(())
 }
@@ -205,32 +192,22 @@ fn judges(rt: &impl Abort, gate: &mut Gate<Global>, outcomes: &[Outcome]) {
     }
 }
 
-/// Whether the gate has so many entries, is finished, and is stopped.
-fn stands(gate: &Gate<Global>, entries: usize, finished: bool, stopped: bool) -> bool {
-    has_entries(gate, entries) && gate.is_finished() == finished && gate.is_stopped() == stopped
-}
-
-/// Whether these numbers are in the gate's cells.
-fn holds(gate: &Gate<Global>, memory: &[u64]) -> bool {
-    gate.memory() == memory
+/// The gate has so many entries, is finished or not, and is stopped or not.
+fn stands(rt: &impl Abort, gate: &Gate<Global>, wanted: (usize, bool, bool)) {
+    let found = (gate.history().len(), gate.is_finished(), gate.is_stopped());
+    equal(rt, &"gate", &found, &wanted);
 }
 
 /// The gate has one cell and the limit 7, and was asked nothing.
 fn is_new(rt: &impl Abort, gate: &Gate<Global>) {
     ends(rt, gate, (0, false, 0));
-    assert!(rt; gate.limit() == 7 && gate.shape().cells == 1);
-}
-
-/// A strand reads what it wrote.
-const VALUES: &[Asked] = &[(0, Write(0, 5), Granted), (0, Read(0), Value(5))];
-
-#[test]
-fn values_go_along_a_strand(rt: HostRuntime) -> Result<(), Fail> {
-    check_run(&rt, rt.alloc(), &(&[], VALUES))
+    equal(rt, &"limit", &(gate.limit(), gate.shape().cells), &(7, 1));
 }
 
 /// Accesses of cells, and control.
 const RUNS: &[Run<'static>] = &[
+    // A strand reads what it wrote.
+    (&[], &[(0, Write(0, 5), Granted), (0, Read(0), Value(5))]),
     // Parallel reads are granted, and a parallel write is refused.
     (
         &[],
@@ -343,7 +320,8 @@ const RUNS: &[Run<'static>] = &[
 
 #[test]
 fn accesses_race_where_no_path_joins_their_strands(rt: HostRuntime) -> Result<(), Fail> {
-    check(&rt, rt.alloc(), RUNS)
+    check(&rt, rt.alloc(), RUNS)?;
+    check(&rt, rt.alloc(), reducers::RUNS)
 }
 
 /// The first fault of each request, by a gate of the limit 2.
@@ -368,7 +346,7 @@ fn answers_faults(rt: &impl Abort, gate: &mut Gate<Global>) {
     judges(rt, gate, FAULTS);
     gate.stop();
     judges(rt, gate, STOPPED);
-    assert!(rt; stands(gate, 2, false, true));
+    stands(rt, gate, (2, false, true));
 }
 
 /// The gate replies so to the requests, one to each.
@@ -385,8 +363,8 @@ fn check_replies(
 
 /// The gate has so many entries, has finished or not, is not stopped, and holds this number.
 fn ends(rt: &impl Abort, gate: &Gate<Global>, end: End) {
-    assert!(rt; stands(gate, end.0, end.1, false));
-    assert!(rt; holds(gate, &[end.2]));
+    stands(rt, gate, (end.0, end.1, false));
+    equal(rt, &"cells", &gate.memory(), &[end.2].as_slice());
 }
 
 /// Four writes, by a gate of the limit 3.
@@ -481,17 +459,11 @@ const GATES: &[(u32, Asks<'static>)] = &[
     (1_000_000, Asks::SpawnsLong),
 ];
 
-/// A new gate with this limit is asked, and answers so.
-fn check_gate(rt: &impl Abort, alloc: Global, gate: &(u32, Asks<'_>)) -> Result<(), Fail> {
-    assert!(rt; gate.0 <= 1_000_000);
-    check_new(rt, alloc, &[], gate.0, gate.1)
-}
-
 #[test]
 fn a_gate_enters_from_its_begin_to_its_limit_or_end(rt: HostRuntime) -> Result<(), Fail> {
     laws_hold();
-    for gate in GATES {
-        check_gate(&rt, rt.alloc(), gate)?;
+    for (limit, asks) in GATES {
+        check_new(&rt, rt.alloc(), &[], *limit, *asks)?;
     }
     Ok(())
 }

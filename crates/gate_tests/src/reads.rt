@@ -14,6 +14,18 @@ use std::process::Abort;
 use std::test::Fail;
 use view_read_rule::{ReadPeers, ViewVerdict};
 
+/// The verdicts on a get before each put, on a put, on a get with other peers, and on one with the same peers.
+const VERDICTS: [ViewVerdict; 4] = [
+    ViewVerdict::Unset,
+    ViewVerdict::Granted,
+    ViewVerdict::Refused(Witness {
+        entry: 2,
+        strand: 1,
+        kind: Kind::Put,
+    }),
+    ViewVerdict::Granted,
+];
+
 // Strand 0 spawns 1 and 2, strand 1 puts, strand 2 asks for a get and spawns, strand 1 gets.
 fn judges_reads(
     rt: &impl Abort,
@@ -24,18 +36,8 @@ fn judges_reads(
     requires reducers { length peers.old ≡ 1 }
     requires empty { Remembers peers.old [] }
 {
-    equal(
-        rt,
-        &1,
-        &peers.judge(branches, 0, Kind::Get, 0),
-        &ViewVerdict::Unset,
-    );
-    equal(
-        rt,
-        &2,
-        &peers.judge(branches, 0, Kind::Put, 0),
-        &ViewVerdict::Granted,
-    );
+    let unset = peers.judge(branches, 0, Kind::Get, 0);
+    let first = peers.judge(branches, 0, Kind::Put, 0);
 
     branches.reserve_event()?;
     branches.spawned(
@@ -48,17 +50,7 @@ fn judges_reads(
         },
     );
     peers.add(0, Kind::Put, 1, 2);
-    let put = Witness {
-        entry: 2,
-        strand: 1,
-        kind: Kind::Put,
-    };
-    equal(
-        rt,
-        &3,
-        &peers.judge(branches, 0, Kind::Get, 2),
-        &ViewVerdict::Refused(put),
-    );
+    let other = peers.judge(branches, 0, Kind::Get, 2);
 
     branches.reserve_event()?;
     branches.spawned(
@@ -70,18 +62,15 @@ fn judges_reads(
             first: false,
         },
     );
-    equal(
-        rt,
-        &4,
-        &peers.judge(branches, 0, Kind::Get, 1),
-        &ViewVerdict::Granted,
-    );
+    let same = peers.judge(branches, 0, Kind::Get, 1);
+
+    equal(rt, &"verdicts", &[unset, first, other, same], &VERDICTS);
     Ok(())
 }
 
 #[test]
 fn judges_by_the_first_read(rt: HostRuntime) -> Result<(), Fail> {
-    let mut branches = Branches::new(rt.alloc())?;
     let mut peers = ReadPeers::new(rt.alloc(), 1)?;
+    let mut branches = Branches::new(rt.alloc())?;
     judges_reads(&rt, &mut branches, &mut peers)
 }

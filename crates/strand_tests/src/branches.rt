@@ -3,6 +3,7 @@
 ghost use Rattle.std.specs.Prelude.{[]};
 ghost use Rattle.branch_names.specs.Names.{Follows};
 
+use crate::checks::equal;
 use branch_names::Branches;
 use sp_labels::Spawned;
 use std::alloc::Global;
@@ -14,7 +15,7 @@ fn names_two_joins(rt: &impl Abort, branches: &mut Branches<Global>) -> Result<(
     requires { Follows branches.old [] }
 {
     branches.reserve_event()?;
-    assert!(rt; branches.has_room());
+    let has_room = branches.has_room();
     branches.spawned(
         0,
         &Spawned {
@@ -24,14 +25,14 @@ fn names_two_joins(rt: &impl Abort, branches: &mut Branches<Global>) -> Result<(
             first: true,
         },
     );
-    assert!(rt; !branches.is_named(3));
+    let is_early = branches.is_named(3);
 
     branches.reserve_event()?;
     branches.joined(3);
-    assert!(rt; branches.is_named(3));
-    assert!(rt; branches.same(0, 3));
-    assert!(rt; !branches.same(1, 2));
-    assert!(rt; !branches.same(0, 1));
+    let is_named = branches.is_named(3);
+    let with_join = branches.same(0, 3);
+    let children = branches.same(1, 2);
+    let with_child = branches.same(0, 1);
 
     branches.reserve_event()?;
     branches.spawned(
@@ -45,7 +46,12 @@ fn names_two_joins(rt: &impl Abort, branches: &mut Branches<Global>) -> Result<(
     );
     branches.reserve_event()?;
     branches.joined(6);
-    assert!(rt; branches.same(0, 6));
+    let with_last = branches.same(0, 6);
+
+    equal(rt, &"room", &has_room, &true);
+    equal(rt, &"join 3", &(is_early, is_named), &(false, true));
+    let found = (with_join, children, with_child, with_last);
+    equal(rt, &"branches", &found, &(true, false, false, true));
     Ok(())
 }
 

@@ -19,92 +19,47 @@ fn reserves(
     equal(rt, &count, &list.reserve(count), &wanted);
 }
 
+/// The item that is placed behind this one, or none without it or without room.
+fn placed(list: &mut OrderList<Global>, after: u32) -> Option<u32> {
+    if list.reserved() > 0 && (after as usize) < list.len() {
+        Some(list.insert_reserved(after))
+    } else {
+        None
+    }
+}
+
 /// The item that is placed behind this one has this number.
 fn places(rt: &impl Abort, list: &mut OrderList<Global>, after: u32, wanted: u32) {
-    assert!(rt; list.reserved() > 0 && (after as usize) < list.len());
-    equal(rt, &after, &list.insert_reserved(after), &wanted);
+    equal(rt, &after, &placed(list, after), &Some(wanted));
 }
 
-/// Whether an item stands before another.
-fn is_before(rt: &impl Abort, list: &OrderList<Global>, a: u32, b: u32) -> bool {
-    assert!(rt; (a as usize) < list.len() && (b as usize) < list.len());
-    list.is_before(a, b)
+/// Whether an item stands before another, if both are there.
+fn is_before(list: &OrderList<Global>, a: u32, b: u32) -> Option<bool> {
+    if (a as usize) < list.len() && (b as usize) < list.len() {
+        Some(list.is_before(a, b))
+    } else {
+        None
+    }
 }
 
-/// The list has so many items, and reserved room for so many more.
-fn has_items(rt: &impl Abort, list: &OrderList<Global>, items: usize, reserved: u32) {
-    equal(rt, &items, &list.len(), &items);
-    assert!(rt; list.reserved() >= reserved);
+/// Whether the first item of two stands before the second one, and whether the second one does.
+fn stand(rt: &impl Abort, list: &OrderList<Global>, pair: (u32, u32), wanted: [bool; 2]) {
+    let (a, b) = pair;
+    let found = [is_before(list, a, b), is_before(list, b, a)];
+    equal(rt, &pair, &found, &[Some(wanted[0]), Some(wanted[1])]);
 }
 
 /// The first item of each pair stands before the second one, and not behind it.
 fn stand_before(rt: &impl Abort, list: &OrderList<Global>, pairs: &[(u32, u32)]) {
-    for (a, b) in pairs {
-        assert!(rt; is_before(rt, list, *a, *b));
-        assert!(rt; !is_before(rt, list, *b, *a));
+    for pair in pairs {
+        stand(rt, list, *pair, [true, false]);
     }
 }
 
-/// A new list keeps its order while three items are placed.
-fn places_three(rt: &impl Abort, list: &mut OrderList<Global>) {
-    has_items(rt, list, 1, 0);
-    assert!(rt; list.reserved() == 0);
-    reserves(rt, list, 3_000_001, Err(OrderFault::Full));
-    reserves(rt, list, 0, Ok(()));
-    reserves(rt, list, 3, Ok(()));
-    has_items(rt, list, 1, 3);
-    places(rt, list, 0, 1);
-    places(rt, list, 0, 2);
-    places(rt, list, 1, 3);
-    has_items(rt, list, 4, 0);
-}
-
-#[test]
-fn places_items_behind_others(rt: HostRuntime) -> Result<(), Fail> {
-    let mut list = OrderList::new(rt.alloc())?;
-    places_three(&rt, &mut list);
-    stand_before(
-        &rt,
-        &list,
-        &[(0, 2), (2, 1), (1, 3), (0, 1), (0, 3), (2, 3)],
-    );
-    assert!(rt; !is_before(&rt, &list, 3, 3));
-    Ok(())
-}
-
-/// A new list takes room for as many items as there may be, and not for one more.
-fn takes_most(rt: &impl Abort, list: &mut OrderList<Global>) {
-    reserves(rt, list, 3_000_000, Ok(()));
-    has_items(rt, list, 1, 3_000_000);
-    reserves(rt, list, 3_000_001, Err(OrderFault::Full));
-    has_items(rt, list, 1, 3_000_000);
-}
-
-#[test]
-fn has_room_for_so_many_items(rt: HostRuntime) -> Result<(), Fail> {
-    let mut list = OrderList::new(rt.alloc())?;
-    takes_most(&rt, &mut list);
-    Ok(())
-}
-
-/// A new list keeps its order while many items are placed behind its first one.
-fn places_many(rt: &impl Abort, list: &mut OrderList<Global>) {
-    reserves(rt, list, 100_000, Ok(()));
-    for item in 1..100_001u32 {
-        places(rt, list, 0, item);
-    }
-    has_items(rt, list, 100_001, 0);
-    for item in 1..100_000u32 {
-        assert!(rt; is_before(rt, list, item + 1, item));
-    }
-    assert!(rt; is_before(rt, list, 0, 1));
-}
-
-#[test]
-fn orders_many_items_at_one_place(rt: HostRuntime) -> Result<(), Fail> {
-    let mut list = OrderList::new(rt.alloc())?;
-    places_many(&rt, &mut list);
-    Ok(())
+/// The list has so many items, and reserved room for so many more.
+fn has_items(rt: &impl Abort, list: &OrderList<Global>, items: usize, reserved: u32) {
+    let found = (list.len(), list.reserved() >= reserved);
+    equal(rt, &items, &found, &(items, true));
 }
 
 /// Where a spawn places its strands.
@@ -141,27 +96,109 @@ fn spawns_long(rt: &impl Abort, list: &mut OrderList<Global>, order: Order) {
     }
 }
 
-/// The strands of ten thousand spawns are all in the order, which has these pairs among others.
-fn orders_spawns(
-    rt: &impl Abort,
-    alloc: Global,
-    order: Order,
-    pairs: &[(u32, u32)],
-) -> Result<(), Fail> {
+/// A hundred thousand items are placed behind the first one.
+fn places_many(rt: &impl Abort, list: &mut OrderList<Global>) {
+    for item in 1..100_001u32 {
+        places(rt, list, 0, item);
+    }
+}
+
+/// They stand in the other order.
+fn stand_as_placed(rt: &impl Abort, list: &OrderList<Global>) {
+    for item in 1..100_000u32 {
+        stand(rt, list, (item + 1, item), [true, false]);
+    }
+}
+
+/// What is done with a list, or seen in it.
+#[derive(Clone, Copy)]
+enum Step {
+    /// Room is asked for so many items, with this outcome.
+    Reserves(u32, Result<(), OrderFault>),
+    /// An item is placed behind this one, and has this number.
+    Places(u32, u32),
+    /// There are so many items, and reserved room for so many more at least.
+    Has(usize, u32),
+    /// There is no reserved room.
+    HasNoRoom,
+    /// The first item of each pair stands before the second one.
+    Stand(&'static [(u32, u32)]),
+    /// An item does not stand before itself.
+    IsNotBefore(u32),
+    /// A hundred thousand items are placed behind the first one.
+    PlacesMany,
+    /// The strands of ten thousand spawns are placed.
+    SpawnsLong(Order),
+}
+
+use Step::{Has, HasNoRoom, IsNotBefore, Places, PlacesMany, Reserves, SpawnsLong, Stand};
+
+/// Takes a step.
+fn take(rt: &impl Abort, list: &mut OrderList<Global>, step: Step) {
+    match step {
+        Reserves(count, wanted) => reserves(rt, list, count, wanted),
+        Places(after, wanted) => places(rt, list, after, wanted),
+        Has(items, reserved) => has_items(rt, list, items, reserved),
+        HasNoRoom => equal(rt, &"room", &list.reserved(), &0),
+        Stand(pairs) => stand_before(rt, list, pairs),
+        IsNotBefore(item) => stand(rt, list, (item, item), [false, false]),
+        PlacesMany => {
+            places_many(rt, list);
+            stand_as_placed(rt, list);
+        }
+        SpawnsLong(order) => spawns_long(rt, list, order),
+    }
+}
+
+/// Takes the steps, one after another.
+fn take_all(rt: &impl Abort, list: &mut OrderList<Global>, steps: &[Step]) {
+    for step in steps {
+        take(rt, list, *step);
+    }
+}
+
+/// Takes the steps with a new list.
+fn check(rt: &impl Abort, alloc: Global, steps: &[Step]) -> Result<(), AllocError> {
     let mut list = OrderList::new(alloc)?;
-    spawns_long(rt, &mut list, order);
-    has_items(rt, &list, 20_002, 0);
-    stand_before(rt, &list, pairs);
+    take_all(rt, &mut list, steps);
     Ok(())
 }
 
-#[test]
-fn orders_the_strands_of_many_spawns(rt: HostRuntime) -> Result<(), Fail> {
-    orders_spawns(
-        &rt,
-        rt.alloc(),
-        Order::English,
-        &[
+const RUNS: &[&[Step]] = &[
+    // Items are placed behind others.
+    &[
+        Has(1, 0),
+        HasNoRoom,
+        Reserves(3_000_001, Err(OrderFault::Full)),
+        Reserves(0, Ok(())),
+        Reserves(3, Ok(())),
+        Has(1, 3),
+        Places(0, 1),
+        Places(0, 2),
+        Places(1, 3),
+        Has(4, 0),
+        Stand(&[(0, 2), (2, 1), (1, 3), (0, 1), (0, 3), (2, 3)]),
+        IsNotBefore(3),
+    ],
+    // There is room for as many items as there may be, and not for one more.
+    &[
+        Reserves(3_000_000, Ok(())),
+        Has(1, 3_000_000),
+        Reserves(3_000_001, Err(OrderFault::Full)),
+        Has(1, 3_000_000),
+    ],
+    // Many items at one place.
+    &[
+        Reserves(100_000, Ok(())),
+        PlacesMany,
+        Has(100_001, 0),
+        Stand(&[(0, 1)]),
+    ],
+    // The strands of many spawns are all in the order, which has these pairs among others.
+    &[
+        SpawnsLong(Order::English),
+        Has(20_002, 0),
+        Stand(&[
             (0, 1),
             (1, 2),
             (2, 4),
@@ -169,13 +206,12 @@ fn orders_the_strands_of_many_spawns(rt: HostRuntime) -> Result<(), Fail> {
             (1, 20_001),
             (20_000, 20_001),
             (20_001, 3),
-        ],
-    )?;
-    orders_spawns(
-        &rt,
-        rt.alloc(),
-        Order::Hebrew,
-        &[
+        ]),
+    ],
+    &[
+        SpawnsLong(Order::Hebrew),
+        Has(20_002, 0),
+        Stand(&[
             (0, 2),
             (2, 5),
             (5, 4),
@@ -183,21 +219,31 @@ fn orders_the_strands_of_many_spawns(rt: HostRuntime) -> Result<(), Fail> {
             (20_001, 20_000),
             (20_000, 4),
             (1, 3),
-        ],
-    )
+        ]),
+    ],
+];
+
+#[test]
+fn places_items_behind_others(rt: HostRuntime) -> Result<(), Fail> {
+    for steps in RUNS {
+        check(&rt, rt.alloc(), steps)?;
+    }
+    Ok(())
 }
 
 /// Whether there is room for twenty items more. A refusal changes nothing.
 fn grows<A: Allocator>(rt: &impl Abort, list: &mut OrderList<A>) -> bool {
     let outcome = list.reserve(20);
-    if outcome.is_ok() {
-        assert!(rt; list.reserved() >= 20);
-        return true;
-    }
-    equal(rt, &"room", &outcome, &Err(OrderFault::Memory));
-    assert!(rt; list.len() == 1 && list.reserved() == 0);
-    assert!(rt; list.reserve(0).is_ok());
-    false
+    let is_grown = outcome.is_ok();
+    let wanted = if is_grown {
+        (Ok(()), 1, 20)
+    } else {
+        (Err(OrderFault::Memory), 1, 0)
+    };
+    let found = (outcome, list.len(), list.reserved().min(20));
+    equal(rt, &"room", &found, &wanted);
+    equal(rt, &"none", &list.reserve(0), &Ok(()));
+    is_grown
 }
 
 /// Whether a list in a new heap grows, or none where there is no list.
@@ -230,26 +276,15 @@ fn refused_growth_changes_nothing(rt: HostRuntime) -> Result<(), Fail> {
             grown = grown.saturating_add(u32::from(is_grown));
         }
     }
-    assert!(rt; 0 < grown && grown < lists && lists < 59);
-    Ok(())
-}
-
-/// The fault's text is this one.
-fn is_told(
-    rt: &impl Abort,
-    alloc: Global,
-    fault: OrderFault,
-    wanted: &str,
-) -> Result<(), AllocError> {
-    let told = format!(in alloc; "{fault}")?;
-    equal(rt, &wanted, &told.as_str(), &wanted);
+    let found = (0 < grown, grown < lists, lists < 59);
+    equal(&rt, &(grown, lists), &found, &(true, true, true));
     Ok(())
 }
 
 #[test]
 fn says_why_there_is_no_room(rt: HostRuntime) -> Result<(), Fail> {
-    let alloc = rt.alloc();
-    is_told(&rt, alloc, OrderFault::Full, "the order list is full")?;
-    is_told(&rt, alloc, OrderFault::Memory, "out of memory")?;
+    let told = format!(in rt.alloc(); "{}; {}", OrderFault::Full, OrderFault::Memory)?;
+    let wanted = "the order list is full; out of memory";
+    equal(&rt, &"faults", &told.as_str(), &wanted);
     Ok(())
 }

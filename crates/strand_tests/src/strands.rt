@@ -6,47 +6,49 @@ use std::alloc::Global;
 use std::process::Abort;
 use std::test::Fail;
 
-fn split(child: u32, next: u32, join: u32, first: bool) -> Result<Spawned, SpFault> {
-    Ok(Spawned {
-        child,
-        next,
-        join,
-        first,
-    })
+/// The outcome of a spawn that begins these strands, the first of its block or not.
+macro_rules! split {
+    ($child:expr, $next:expr, $join:expr, $first:expr) => {
+        Ok(Spawned {
+            child: $child,
+            next: $next,
+            join: $join,
+            first: $first,
+        })
+    };
 }
 
-#[derive(Debug, Clone, Copy, PartialEq)]
-struct Relation {
-    english: bool,
-    hebrew: bool,
-    precedes: bool,
-    parallel: bool,
-}
+/// Whether a strand is before another in the English order, whether it is in the Hebrew one, whether it precedes it, and whether the two are
+/// parallel.
+type Relation = [bool; 4];
 
-const PARALLEL: Relation = Relation {
-    english: true,
-    hebrew: false,
-    precedes: false,
-    parallel: true,
-};
+const PARALLEL: Relation = [true, false, false, true];
 
-const PATH: Relation = Relation {
-    english: true,
-    hebrew: true,
-    precedes: true,
-    parallel: false,
-};
+const SWAPPED: Relation = [false, true, false, true];
+
+const ALIKE: Relation = [false, false, false, false];
+
+const PATH: Relation = [true, true, true, false];
 
 fn compare(strands: &Strands<Global>, a: u32, b: u32) -> Option<Relation> {
     if !strands.is_begun(a) || !strands.is_begun(b) {
         return None;
     }
-    Some(Relation {
-        english: strands.english_before(a, b),
-        hebrew: strands.hebrew_before(a, b),
-        precedes: strands.precedes(a, b),
-        parallel: strands.parallel(a, b),
-    })
+    Some([
+        strands.english_before(a, b),
+        strands.hebrew_before(a, b),
+        strands.precedes(a, b),
+        strands.parallel(a, b),
+    ])
+}
+
+/// Whether a strand has begun, whether it runs, and whether there is room.
+fn standing(strands: &Strands<Global>, strand: u32) -> [bool; 3] {
+    [
+        strands.is_begun(strand),
+        strands.is_running(strand),
+        strands.has_room(),
+    ]
 }
 
 /// What is asked of strands or seen in them. What is asked has its outcome last.
@@ -62,10 +64,8 @@ enum Step {
     Returns(u32, Result<Returned, SpFault>),
     /// Room is asked for.
     Reserves(Result<(), SpFault>),
-    /// There is room, or none.
-    HasRoom(bool),
-    /// A strand has begun, or not, and runs, or not.
-    Stands(u32, bool, bool),
+    /// A strand has begun or not, runs or not, and there is room or none.
+    Stands(u32, [bool; 3]),
     /// Two strands are told apart so, or one has not begun.
     Relates(u32, u32, Option<Relation>),
     /// Ten thousand spawns by the root function, whose children return.
@@ -74,7 +74,7 @@ enum Step {
     Fills,
 }
 
-use Step::{Calls, Fills, HasRoom, Relates, Reserves, Returns, Spawns, SpawnsLong, Stands, Syncs};
+use Step::{Calls, Fills, Relates, Reserves, Returns, Spawns, SpawnsLong, Stands, Syncs};
 
 /// The strand spawns, with this outcome.
 fn spawns(
@@ -100,7 +100,7 @@ fn spawns_long(rt: &impl Abort, strands: &mut Strands<Global>) {
     let mut newest = 0;
     for k in 1..10_001u32 {
         let child = if k == 1 { 1 } else { 2 * k };
-        spawns(rt, strands, newest, split(child, child + 1, 3, k == 1));
+        spawns(rt, strands, newest, split!(child, child + 1, 3, k == 1));
         returns(rt, strands, child, Ok(Returned::Ended));
         newest = child + 1;
     }
@@ -109,7 +109,7 @@ fn spawns_long(rt: &impl Abort, strands: &mut Strands<Global>) {
 fn fills(rt: &impl Abort, strands: &mut Strands<Global>) {
     let mut newest = 0;
     for k in 0..1_000_000u32 {
-        let spawned = split(3 * k + 1, 3 * k + 2, 3 * k + 3, true);
+        let spawned = split!(3 * k + 1, 3 * k + 2, 3 * k + 3, true);
         spawns(rt, strands, newest, spawned);
         newest = 3 * k + 1;
     }
@@ -123,11 +123,7 @@ fn take(rt: &impl Abort, strands: &mut Strands<Global>, step: Step) {
         Calls(strand) => equal(rt, &strand, &strands.call(strand), &Ok(())),
         Returns(strand, wanted) => returns(rt, strands, strand, wanted),
         Reserves(wanted) => equal(rt, &"room", &strands.reserve_event(), &wanted),
-        HasRoom(wanted) => equal(rt, &"room", &strands.has_room(), &wanted),
-        Stands(strand, begun, running) => {
-            let found = (strands.is_begun(strand), strands.is_running(strand));
-            equal(rt, &strand, &found, &(begun, running));
-        }
+        Stands(strand, wanted) => equal(rt, &strand, &standing(strands, strand), &wanted),
         Relates(a, b, wanted) => equal(rt, &(a, b), &compare(strands, a, b), &wanted),
         SpawnsLong => spawns_long(rt, strands),
         Fills => fills(rt, strands),
@@ -148,101 +144,73 @@ fn check(rt: &impl Abort, alloc: Global, steps: &[Step]) -> Result<(), Fail> {
     Ok(())
 }
 
-#[test]
-fn tells_parallel_strands(rt: HostRuntime) -> Result<(), Fail> {
-    let swapped = Relation {
-        english: false,
-        hebrew: true,
-        ..PARALLEL
-    };
-    let alike = Relation {
-        parallel: false,
-        english: false,
-        ..PARALLEL
-    };
-    check(
-        &rt,
-        rt.alloc(),
-        &[
-            Spawns(0, split(1, 2, 3, true)),
-            Relates(1, 2, Some(PARALLEL)),
-            Relates(2, 1, Some(swapped)),
-            Relates(0, 0, Some(alike)),
-            Relates(0, 1, Some(PATH)),
-            Relates(0, 3, None),
-            Returns(0, Err(SpFault::NotRunning)),
-            Returns(2, Err(SpFault::Unsynced)),
-            Syncs(2, Ok(Synced::Waits)),
-            Returns(1, Ok(Returned::EndedJoined(3))),
-            Relates(1, 3, Some(PATH)),
-            Stands(3, true, true),
-            Stands(1, true, false),
-        ],
-    )
-}
+const RUNS: &[&[Step]] = &[
+    // Parallel strands are told.
+    &[
+        Spawns(0, split!(1, 2, 3, true)),
+        Relates(1, 2, Some(PARALLEL)),
+        Relates(2, 1, Some(SWAPPED)),
+        Relates(0, 0, Some(ALIKE)),
+        Relates(0, 1, Some(PATH)),
+        Relates(0, 3, None),
+        Returns(0, Err(SpFault::NotRunning)),
+        Returns(2, Err(SpFault::Unsynced)),
+        Syncs(2, Ok(Synced::Waits)),
+        Returns(1, Ok(Returned::EndedJoined(3))),
+        Relates(1, 3, Some(PATH)),
+        Stands(3, [true, true, false]),
+        Stands(1, [true, false, false]),
+    ],
+    // A sync ends the block of its own function.
+    &[
+        Spawns(0, split!(1, 2, 3, true)),
+        Calls(2),
+        Spawns(2, split!(4, 5, 6, true)),
+        Returns(4, Ok(Returned::Ended)),
+        Syncs(5, Ok(Synced::Joined(6))),
+        Returns(6, Ok(Returned::Resumed)),
+        Syncs(6, Ok(Synced::Waits)),
+        Returns(1, Ok(Returned::EndedJoined(3))),
+        Returns(3, Ok(Returned::Finished)),
+    ],
+    // Spawns in a long loop.
+    &[
+        SpawnsLong,
+        Syncs(20_001, Ok(Synced::Joined(3))),
+        Returns(3, Ok(Returned::Finished)),
+        Stands(20_001, [true, false, false]),
+        Stands(20_002, [false, false, false]),
+    ],
+    // Room is kept until the next event.
+    &[
+        Stands(0, [true, true, false]),
+        Reserves(Ok(())),
+        Syncs(1, Err(SpFault::NotRunning)),
+        Stands(0, [true, true, true]),
+        Syncs(0, Ok(Synced::Same)),
+        Stands(0, [true, true, false]),
+    ],
+];
 
 #[test]
-fn syncs_the_block_of_its_own_function(rt: HostRuntime) -> Result<(), Fail> {
-    check(
-        &rt,
-        rt.alloc(),
-        &[
-            Spawns(0, split(1, 2, 3, true)),
-            Calls(2),
-            Spawns(2, split(4, 5, 6, true)),
-            Returns(4, Ok(Returned::Ended)),
-            Syncs(5, Ok(Synced::Joined(6))),
-            Returns(6, Ok(Returned::Resumed)),
-            Syncs(6, Ok(Synced::Waits)),
-            Returns(1, Ok(Returned::EndedJoined(3))),
-            Returns(3, Ok(Returned::Finished)),
-        ],
-    )
+fn strands_are_told_apart_numbered_and_joined(rt: HostRuntime) -> Result<(), Fail> {
+    for steps in RUNS {
+        check(&rt, rt.alloc(), steps)?;
+    }
+    Ok(())
 }
 
-#[test]
-fn spawns_in_a_long_loop(rt: HostRuntime) -> Result<(), Fail> {
-    check(
-        &rt,
-        rt.alloc(),
-        &[
-            SpawnsLong,
-            Syncs(20_001, Ok(Synced::Joined(3))),
-            Returns(3, Ok(Returned::Finished)),
-            Stands(20_001, true, false),
-            Stands(20_002, false, false),
-        ],
-    )
-}
-
-#[test]
-fn keeps_room_until_the_next_event(rt: HostRuntime) -> Result<(), Fail> {
-    check(
-        &rt,
-        rt.alloc(),
-        &[
-            HasRoom(false),
-            Reserves(Ok(())),
-            Syncs(1, Err(SpFault::NotRunning)),
-            HasRoom(true),
-            Syncs(0, Ok(Synced::Same)),
-            HasRoom(false),
-        ],
-    )
-}
+/// A million first spawns, and there is no room for another.
+const FULL: &[Step] = &[
+    Fills,
+    Reserves(Err(SpFault::Full)),
+    Spawns(2_999_998, Err(SpFault::Full)),
+    Spawns(0, Err(SpFault::NotRunning)),
+    Calls(2_999_998),
+    Returns(2_999_998, Ok(Returned::Resumed)),
+];
 
 #[test]
 fn is_full_after_a_million_first_spawns(rt: HostRuntime) -> Result<(), Fail> {
-    check(
-        &rt,
-        rt.alloc(),
-        &[
-            Fills,
-            Reserves(Err(SpFault::Full)),
-            Spawns(2_999_998, Err(SpFault::Full)),
-            Spawns(0, Err(SpFault::NotRunning)),
-            Calls(2_999_998),
-            Returns(2_999_998, Ok(Returned::Resumed)),
-        ],
-    )
+    check(&rt, rt.alloc(), FULL)
 }

@@ -1,6 +1,6 @@
 //! Worked views, with values from the definitions of the monoids.
 
-ghost use Rattle.std.specs.Prelude.{◌≡◌, ◌+◌, ◌<◌, length};
+ghost use Rattle.std.specs.Prelude.{◌≡◌, ◌<◌, IsTrue, OnOk, length};
 
 use crate::checks::equal;
 use model_reducers::Monoid;
@@ -24,43 +24,15 @@ fn check_gathered(rt: &impl Abort, cases: &[(Monoid, [u64; 3], u64)]) {
     }
 }
 
-#[test]
-fn views_gather_updates(rt: HostRuntime) {
-    check_gathered(
-        &rt,
-        &[
-            (Monoid::Sum, [u64::MAX, 1, 1], 1),
-            (Monoid::Min, [9, 4, 6], 4),
-            (Monoid::Max, [3, 9, 4], 9),
-            (Monoid::Last, [1, 5, 7], 7),
-            (Monoid::Digits, [0, 1, 2], 33),
-        ],
-    );
-}
+/// Two views of a monoid, and their product.
+type Product = (Monoid, View, View, View);
 
-/// The product of two views, which fit the monoid.
-fn check_product(rt: &impl Abort, monoid: Monoid, left: View, right: View, wanted: View) {
-    assert!(rt; fits(monoid, left) && fits(monoid, right));
-    equal(rt, &monoid, &combine(monoid, left, right), &wanted);
-}
-
-#[test]
-fn views_combine_in_serial_order(rt: HostRuntime) {
-    check_product(
-        &rt,
-        Monoid::Sum,
-        View::One(u64::MAX),
-        View::One(2),
-        View::One(1),
-    );
-    check_product(&rt, Monoid::Last, View::One(5), View::Nothing, View::One(5));
-    check_product(
-        &rt,
-        Monoid::Digits,
-        View::Pair(31, 1),
-        View::Pair(31, 2),
-        View::Pair(961, 33),
-    );
+/// The views fit their monoid, and have the product beside them.
+fn check_products(rt: &impl Abort, cases: &[Product]) {
+    for (monoid, left, right, wanted) in cases {
+        assert!(rt; fits(*monoid, *left) && fits(*monoid, *right));
+        equal(rt, monoid, &combine(*monoid, *left, *right), wanted);
+    }
 }
 
 /// Whether the identity changes a view on neither side.
@@ -71,25 +43,18 @@ fn is_neutral(monoid: Monoid, number: u64) -> bool {
     left == view && right == view
 }
 
-#[test]
-fn identities_change_nothing(rt: HostRuntime) {
-    let monoids = [
-        Monoid::Sum,
-        Monoid::Min,
-        Monoid::Max,
-        Monoid::Last,
-        Monoid::Digits,
-    ];
-    for monoid in monoids {
-        assert!(rt; is_neutral(monoid, 0), "{monoid:?}");
-        assert!(rt; is_neutral(monoid, 1), "{monoid:?}");
-        assert!(rt; is_neutral(monoid, u64::MAX), "{monoid:?}");
+/// Each identity changes no view, and has the value beside it.
+fn check_identities(rt: &impl Abort, cases: &[(Monoid, Option<u64>)]) {
+    for (monoid, wanted) in cases {
+        let monoid = *monoid;
+        let neutral = [
+            is_neutral(monoid, 0),
+            is_neutral(monoid, 1),
+            is_neutral(monoid, u64::MAX),
+        ];
+        equal(rt, &monoid, &neutral, &[true, true, true]);
+        equal(rt, &monoid, &value(identity(monoid)), wanted);
     }
-    assert_eq!(rt;
-        value(identity(Monoid::Min)),
-        Some(18_446_744_073_709_551_615)
-    );
-    assert_eq!(rt; value(identity(Monoid::Last)), None);
 }
 
 /// Whether each view fits the monoid beside it.
@@ -99,121 +64,77 @@ fn check_fits(rt: &impl Abort, cases: &[(Monoid, View, bool)]) {
     }
 }
 
-#[test]
-fn views_fit_their_monoids(rt: HostRuntime) {
-    check_fits(
-        &rt,
-        &[
-            (Monoid::Last, View::Nothing, true),
-            (Monoid::Sum, View::Nothing, false),
-            (Monoid::Max, View::One(7), true),
-            (Monoid::Digits, View::One(7), false),
-            (Monoid::Digits, View::Pair(1, 7), true),
-            (Monoid::Sum, View::Pair(1, 7), false),
-        ],
-    );
-}
+const GATHERED: &[(Monoid, [u64; 3], u64)] = &[
+    (Monoid::Sum, [18_446_744_073_709_551_615, 1, 1], 1),
+    (Monoid::Min, [9, 4, 6], 4),
+    (Monoid::Max, [3, 9, 4], 9),
+    (Monoid::Last, [1, 5, 7], 7),
+    (Monoid::Digits, [0, 1, 2], 33),
+];
+
+const PRODUCTS: &[Product] = &[
+    (
+        Monoid::Sum,
+        View::One(18_446_744_073_709_551_615),
+        View::One(2),
+        View::One(1),
+    ),
+    (Monoid::Last, View::One(5), View::Nothing, View::One(5)),
+    (
+        Monoid::Digits,
+        View::Pair(31, 1),
+        View::Pair(31, 2),
+        View::Pair(961, 33),
+    ),
+];
+
+const IDENTITIES: &[(Monoid, Option<u64>)] = &[
+    (Monoid::Sum, Some(0)),
+    (Monoid::Min, Some(18_446_744_073_709_551_615)),
+    (Monoid::Max, Some(0)),
+    (Monoid::Last, None),
+    (Monoid::Digits, Some(0)),
+];
+
+const FITS: &[(Monoid, View, bool)] = &[
+    (Monoid::Last, View::Nothing, true),
+    (Monoid::Sum, View::Nothing, false),
+    (Monoid::Max, View::One(7), true),
+    (Monoid::Digits, View::One(7), false),
+    (Monoid::Digits, View::Pair(1, 7), true),
+    (Monoid::Sum, View::Pair(1, 7), false),
+];
 
 #[test]
-fn products_obey_the_law() {
+fn views_combine_in_serial_order(rt: HostRuntime) {
+    check_gathered(&rt, GATHERED);
+    check_products(&rt, PRODUCTS);
+    check_identities(&rt, IDENTITIES);
+    check_fits(&rt, FITS);
     reducer_views::laws::monoid_law();
     reducer_views::laws::quiet_law();
     reducer_views::laws::get_law();
 }
 
-/// The spawn that begins this child and the strand after it: the first of its block where no join is given.
-fn spawn(
-    rt: &impl Abort,
-    views: &mut Views<Global>,
-    strand: u32,
-    child: u32,
-    join: Option<u32>,
-) -> Result<(), AllocError>
-    requires small { child < 100 }
-    requires positive { 0 < child }
-    ensures { views.new.monoids ≡ views.old.monoids }
-{
-    views.reserve_event()?;
-    assert!(rt; views.has_room() && views.is_there(strand));
-    assert!(rt; views.is_there(child - 1) && !views.is_there(child));
-    let spawned = Spawned {
-        child,
-        next: child + 1,
-        join: join.unwrap_or(child + 2),
-        first: join.is_none(),
-    };
-    views.spawned(strand, &spawned);
-    Ok(())
-}
-
-/// The join begins.
-fn begin(rt: &impl Abort, views: &mut Views<Global>, join: u32) -> Result<(), AllocError>
-    ensures { views.new.monoids ≡ views.old.monoids }
-{
-    views.reserve_event()?;
-    assert!(rt; views.has_room() && views.is_there(join));
-    views.joined(join);
-    Ok(())
-}
-
-/// The strand updates a reducer.
-fn add_to(
-    rt: &impl Abort,
-    views: &mut Views<Global>,
-    strand: u32,
-    reducer: u32,
-    number: u64,
-) -> Result<(), AllocError>
-    requires { reducer < length views.old.monoids }
-    ensures { views.new.monoids ≡ views.old.monoids }
-{
-    views.reserve_event()?;
-    assert!(rt; views.has_room() && views.is_there(strand));
-    views.update(strand, reducer, number);
-    Ok(())
-}
-
-/// The strand sets a reducer.
-fn put_to(
-    rt: &impl Abort,
-    views: &mut Views<Global>,
-    strand: u32,
-    reducer: u32,
-    number: u64,
-) -> Result<(), AllocError>
-    requires { reducer < length views.old.monoids }
-    ensures { views.new.monoids ≡ views.old.monoids }
-{
-    views.reserve_event()?;
-    assert!(rt; views.has_room() && views.is_there(strand));
-    views.put(strand, reducer, number);
-    Ok(())
-}
-
-/// Checks what the strand sees in a reducer.
-fn sees(rt: &impl Abort, views: &Views<Global>, strand: u32, reducer: u32, wanted: Option<u64>)
-    requires { reducer < length views.now.monoids }
-{
-    assert!(rt; views.is_there(strand));
-    equal(rt, &(strand, reducer), &views.get(strand, reducer), &wanted);
-}
-
-/// What is done with views. Strands and joins come first, then reducers.
+/// What is done with the views of a strand or a join, or seen in them. Reducers come first.
 #[derive(Clone, Copy)]
-enum Step {
-    /// A strand spawns a child, in the block with this join, or as the first of its block.
-    Spawn(u32, u32, Option<u32>),
-    /// A join begins.
-    Begin(u32),
-    /// A strand updates a reducer.
-    Add(u32, u32, u64),
-    /// A strand sets a reducer.
-    Put(u32, u32, u64),
-    /// A strand sees this in a reducer.
-    Sees(u32, u32, Option<u64>),
+enum Act {
+    /// The strand spawns a child, in the block with this join, or as the first of its block.
+    Spawn(u32, Option<u32>),
+    /// The join begins.
+    Begin,
+    /// The strand updates a reducer.
+    Add(u32, u64),
+    /// The strand sets a reducer.
+    Put(u32, u64),
+    /// The strand sees this in a reducer.
+    Sees(u32, Option<u64>),
 }
 
-use Step::{Add, Begin, Put, Sees, Spawn};
+use Act::{Add, Begin, Put, Sees, Spawn};
+
+/// A strand or a join, and what it does or sees.
+type Step = (u32, Act);
 
 /// Views of so many reducers.
 #[derive(Drop)]
@@ -223,32 +144,74 @@ struct Run {
     ghost counted: { count ≡ length views.monoids },
 }
 
-/// Does a step, or checks what is seen.
-fn take(rt: &impl Abort, run: &mut Run, step: Step) -> Result<(), AllocError> {
-    match step {
-        Spawn(strand, child, join) => {
-            assert!(rt; 0 < child && child < 100);
-            spawn(rt, &mut run.views, strand, child, join)
-        }
-        Begin(join) => begin(rt, &mut run.views, join),
-        Add(strand, reducer, number) => {
+/// There is room for an event of a strand or a join, which is there.
+fn reserve(rt: &impl Abort, run: &mut Run, strand: u32) -> Result<(), AllocError>
+    ensures room { OnOk result (IsTrue run.new.views.has_room) }
+    ensures there { OnOk result (strand < length run.new.views.strands) }
+{
+    run.views.reserve_event()?;
+    assert!(rt; run.views.has_room() && run.views.is_there(strand));
+    Ok(())
+}
+
+/// The spawn that begins this child and the strand after it: the first of its block where no join is given.
+fn spawn(rt: &impl Abort, run: &mut Run, strand: u32, child: u32, join: Option<u32>)
+    requires room { IsTrue run.old.views.has_room }
+    requires there { strand < length run.old.views.strands }
+{
+    assert!(rt; 0 < child && child < 100);
+    assert!(rt; run.views.is_there(child - 1) && !run.views.is_there(child));
+    let spawned = Spawned {
+        child,
+        next: child + 1,
+        join: join.unwrap_or(child + 2),
+        first: join.is_none(),
+    };
+    run.views.spawned(strand, &spawned);
+}
+
+/// Checks what the strand sees in a reducer.
+fn sees(rt: &impl Abort, run: &Run, strand: u32, reducer: u32, wanted: Option<u64>) {
+    assert!(rt; run.views.is_there(strand) && (reducer as usize) < run.count);
+    let found = run.views.get(strand, reducer);
+    equal(rt, &(strand, reducer), &found, &wanted);
+}
+
+/// Does what takes room.
+fn act_on(rt: &impl Abort, run: &mut Run, strand: u32, act: Act)
+    requires room { IsTrue run.old.views.has_room }
+    requires there { strand < length run.old.views.strands }
+{
+    match act {
+        Spawn(child, join) => spawn(rt, run, strand, child, join),
+        Begin => run.views.joined(strand),
+        Add(reducer, number) => {
             assert!(rt; (reducer as usize) < run.count);
-            add_to(rt, &mut run.views, strand, reducer, number)
+            run.views.update(strand, reducer, number);
         }
-        Put(strand, reducer, number) => {
+        Put(reducer, number) => {
             assert!(rt; (reducer as usize) < run.count);
-            put_to(rt, &mut run.views, strand, reducer, number)
+            run.views.put(strand, reducer, number);
         }
-        Sees(strand, reducer, wanted) => {
-            assert!(rt; (reducer as usize) < run.count);
-            sees(rt, &run.views, strand, reducer, wanted);
-            Ok(())
-        }
+        Sees(_, _) => assert!(rt; false),
     }
 }
 
-/// Takes the steps, one after another.
+/// Takes a step.
+fn take(rt: &impl Abort, run: &mut Run, step: Step) -> Result<(), AllocError> {
+    let (strand, act) = step;
+    if let Sees(reducer, wanted) = act {
+        sees(rt, run, strand, reducer, wanted);
+        return Ok(());
+    }
+    reserve(rt, run, strand)?;
+    act_on(rt, run, strand, act);
+    Ok(())
+}
+
+/// Takes the steps, one after another, with views that have no room for an event yet.
 fn take_all(rt: &impl Abort, run: &mut Run, steps: &[Step]) -> Result<(), AllocError> {
+    equal(rt, &"room", &run.views.has_room(), &false);
     for step in steps {
         take(rt, run, *step)?;
     }
@@ -256,177 +219,134 @@ fn take_all(rt: &impl Abort, run: &mut Run, steps: &[Step]) -> Result<(), AllocE
 }
 
 /// Takes the steps with new views of these reducers.
-fn check(rt: &impl Abort, alloc: Global, monoids: &[Monoid], steps: &[Step]) -> Result<(), Fail> {
+fn check(
+    rt: &impl Abort,
+    alloc: Global,
+    monoids: &[Monoid],
+    steps: &[Step],
+) -> Result<(), AllocError> {
     let views = Views::new(alloc, monoids)?;
     let mut run = Run {
         views,
         count: monoids.len(),
     };
-    take_all(rt, &mut run, steps)?;
-    Ok(())
-}
-
-/// The same of views of one reducer, in turn.
-fn check_each(rt: &impl Abort, alloc: Global, runs: &[(Monoid, &[Step])]) -> Result<(), Fail> {
-    for (monoid, steps) in runs {
-        check(rt, alloc, &[*monoid], steps)?;
-    }
-    Ok(())
+    take_all(rt, &mut run, steps)
 }
 
 /// A join combines the update of a child, which comes later, with that of its continuation.
-fn check_join(
-    rt: &impl Abort,
-    alloc: Global,
-    monoid: Monoid,
-    numbers: [u64; 3],
-    wanted: u64,
-) -> Result<(), Fail> {
-    let [put, later, earlier] = numbers;
-    check(
-        rt,
-        alloc,
-        &[monoid],
-        &[
-            Put(0, 0, put),
-            Spawn(0, 1, None),
-            Add(2, 0, later),
-            Add(1, 0, earlier),
-            Begin(3),
-            Sees(3, 0, Some(wanted)),
-        ],
-    )
+macro_rules! join {
+    ($monoid:expr, $put:literal, $later:literal, $earlier:literal, $wanted:literal) => {
+        (
+            &[$monoid],
+            &[
+                (0, Put(0, $put)),
+                (0, Spawn(1, None)),
+                (2, Add(0, $later)),
+                (1, Add(0, $earlier)),
+                (3, Begin),
+                (3, Sees(0, Some($wanted))),
+            ],
+        )
+    };
 }
 
-#[test]
-fn a_join_combines_in_order_of_spawning(rt: HostRuntime) -> Result<(), Fail> {
-    check_join(&rt, rt.alloc(), Monoid::Last, [1, 7, 5], 7)?;
-    check_join(&rt, rt.alloc(), Monoid::Min, [9, 6, 4], 4)?;
-    check_join(&rt, rt.alloc(), Monoid::Digits, [0, 2, 1], 33)
-}
-
-#[test]
-fn the_child_that_returns_first_is_not_combined_first(rt: HostRuntime) -> Result<(), Fail> {
-    check(
-        &rt,
-        rt.alloc(),
+/// Reducers, and steps of strands and joins.
+const RUNS: &[(&[Monoid], &[Step])] = &[
+    // A join combines in order of spawning.
+    join!(Monoid::Last, 1, 7, 5, 7),
+    join!(Monoid::Min, 9, 6, 4, 4),
+    join!(Monoid::Digits, 0, 2, 1, 33),
+    // The child that returns first is not combined first.
+    (
         &[Monoid::Last],
         &[
-            Put(0, 0, 1),
-            Spawn(0, 1, None),
-            Spawn(2, 4, Some(3)),
-            Add(1, 0, 5),
-            Add(4, 0, 7),
-            Begin(3),
-            Sees(3, 0, Some(7)),
+            (0, Put(0, 1)),
+            (0, Spawn(1, None)),
+            (2, Spawn(4, Some(3))),
+            (1, Add(0, 5)),
+            (4, Add(0, 7)),
+            (3, Begin),
+            (3, Sees(0, Some(7))),
         ],
-    )
-}
-
-#[test]
-fn a_put_in_a_child_is_gone_on_with(rt: HostRuntime) -> Result<(), Fail> {
-    check(
-        &rt,
-        rt.alloc(),
+    ),
+    // A put in a child is gone on with.
+    (
         &[Monoid::Sum],
         &[
-            Spawn(0, 1, None),
-            Put(1, 0, 5),
-            Spawn(1, 4, None),
-            Add(4, 0, 1),
-            Begin(6),
-            Sees(6, 0, Some(6)),
-            Sees(2, 0, Some(0)),
+            (0, Spawn(1, None)),
+            (1, Put(0, 5)),
+            (1, Spawn(4, None)),
+            (4, Add(0, 1)),
+            (6, Begin),
+            (6, Sees(0, Some(6))),
+            (2, Sees(0, Some(0))),
         ],
-    )
-}
-
-#[test]
-fn other_strands_keep_their_views(rt: HostRuntime) -> Result<(), Fail> {
-    check_each(
-        &rt,
-        rt.alloc(),
+    ),
+    // Other strands keep their views.
+    (
+        &[Monoid::Sum],
         &[
-            (
-                Monoid::Sum,
-                &[
-                    Put(0, 0, 1),
-                    Spawn(0, 1, None),
-                    Begin(3),
-                    Sees(3, 0, Some(1)),
-                ],
-            ),
-            (
-                Monoid::Sum,
-                &[
-                    Spawn(0, 1, None),
-                    Put(1, 0, 5),
-                    Spawn(2, 4, Some(3)),
-                    Sees(1, 0, Some(5)),
-                ],
-            ),
+            (0, Put(0, 1)),
+            (0, Spawn(1, None)),
+            (3, Begin),
+            (3, Sees(0, Some(1))),
         ],
-    )
-}
-
-/// New views have no room for an event.
-fn has_no_room(rt: &impl Abort, alloc: Global) -> Result<(), Fail> {
-    let views = Views::new(alloc, &[Monoid::Sum])?;
-    assert!(rt; !views.has_room());
-    Ok(())
-}
-
-#[test]
-fn a_strand_sees_its_own_updates(rt: HostRuntime) -> Result<(), Fail> {
-    has_no_room(&rt, rt.alloc())?;
-    check_each(
-        &rt,
-        rt.alloc(),
+    ),
+    (
+        &[Monoid::Sum],
         &[
-            (
-                Monoid::Sum,
-                &[
-                    Sees(0, 0, Some(0)),
-                    Put(0, 0, 18_446_744_073_709_551_615),
-                    Add(0, 0, 2),
-                    Sees(0, 0, Some(1)),
-                ],
-            ),
-            (
-                Monoid::Max,
-                &[
-                    Put(0, 0, 3),
-                    Add(0, 0, 9),
-                    Add(0, 0, 4),
-                    Sees(0, 0, Some(9)),
-                ],
-            ),
-            (Monoid::Last, &[Sees(0, 0, None)]),
+            (0, Spawn(1, None)),
+            (1, Put(0, 5)),
+            (2, Spawn(4, Some(3))),
+            (1, Sees(0, Some(5))),
         ],
-    )
-}
-
-#[test]
-fn reducers_keep_apart(rt: HostRuntime) -> Result<(), Fail> {
-    check(
-        &rt,
-        rt.alloc(),
+    ),
+    // A strand sees its own updates.
+    (
+        &[Monoid::Sum],
+        &[
+            (0, Sees(0, Some(0))),
+            (0, Put(0, 18_446_744_073_709_551_615)),
+            (0, Add(0, 2)),
+            (0, Sees(0, Some(1))),
+        ],
+    ),
+    (
+        &[Monoid::Max],
+        &[
+            (0, Put(0, 3)),
+            (0, Add(0, 9)),
+            (0, Add(0, 4)),
+            (0, Sees(0, Some(9))),
+        ],
+    ),
+    (&[Monoid::Last], &[(0, Sees(0, None))]),
+    // Reducers keep apart.
+    (
         &[Monoid::Sum, Monoid::Sum, Monoid::Sum, Monoid::Sum],
         &[
-            Add(0, 2, 3000),
-            Spawn(0, 1, None),
-            Add(1, 0, 1),
-            Add(1, 2, 20),
-            Add(1, 3, 300),
-            Add(2, 3, 5),
-            Add(2, 1, 7),
-            Add(2, 2, 9),
-            Sees(2, 0, Some(0)),
-            Begin(3),
-            Sees(3, 0, Some(1)),
-            Sees(3, 1, Some(7)),
-            Sees(3, 2, Some(3029)),
-            Sees(3, 3, Some(305)),
+            (0, Add(2, 3000)),
+            (0, Spawn(1, None)),
+            (1, Add(0, 1)),
+            (1, Add(2, 20)),
+            (1, Add(3, 300)),
+            (2, Add(3, 5)),
+            (2, Add(1, 7)),
+            (2, Add(2, 9)),
+            (2, Sees(0, Some(0))),
+            (3, Begin),
+            (3, Sees(0, Some(1))),
+            (3, Sees(1, Some(7))),
+            (3, Sees(2, Some(3029))),
+            (3, Sees(3, Some(305))),
         ],
-    )
+    ),
+];
+
+#[test]
+fn strands_keep_their_views_and_joins_combine_them(rt: HostRuntime) -> Result<(), Fail> {
+    for (monoids, steps) in RUNS {
+        check(&rt, rt.alloc(), monoids, steps)?;
+    }
+    Ok(())
 }

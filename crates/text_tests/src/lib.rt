@@ -4,6 +4,22 @@
 //! tests, and the tests of a layer are proved as soon as it is.
 #![tactic(auto)]
 
+/// A line with this number that a strand's act stands on, for this line of the program, which it names or not.
+#[cfg(test)]
+macro_rules! line {
+    ($at:expr, $strand:expr, $act:expr, $program_line:expr, $marked:literal) => {
+        TraceLine {
+            request: Request {
+                strand: $strand,
+                line: $program_line,
+                act: $act,
+            },
+            at: $at,
+            marked: $marked,
+        }
+    };
+}
+
 #[cfg(test)]
 mod checks;
 #[cfg(test)]
@@ -12,6 +28,8 @@ mod kept;
 mod kinds;
 #[cfg(test)]
 mod lines;
+#[cfg(test)]
+mod many;
 #[cfg(test)]
 mod pieces;
 #[cfg(test)]

@@ -3,248 +3,178 @@
 use crate::checks::equal;
 use crate::registers::at;
 use program_lines::{
-    Expression, FUNCTION_NAMES, FunctionNames, Item, NameScope, Operand, Register, Statement,
-    meaning_or_fault, one_meaning, plain_meaning, put_statement, read_line, room_for_registers,
+    Expression, FunctionNames, Item, NameScope, Operand, Statement, meaning_or_fault, one_meaning,
+    plain_meaning, put_statement, read_line, room_for_registers,
 };
 use std::alloc::Global;
 use std::process::Abort;
 use std::test::Fail;
-use text_words::{Cause, Monoid, Name, Names, Version, Words, as_text};
+use text_words::{Cause, Name, Names, Version, Words, as_text};
+
+/// A line, and what it says, as it is shown, or the cause why it says nothing.
+type Line = (&'static [u8], &'static str);
+
+/// What a line says, or the cause why it says nothing.
+fn item_of<'a>(scope: &NameScope<'_, '_, Global>, line: &'a [u8]) -> Result<Item<'a>, Cause> {
+    match as_text(line) {
+        Some(text) => read_line(7, scope, &mut Words::of_line(text)),
+        None => Err(Cause::NotText),
+    }
+}
+
+/// Each line says what is shown beside it in this scope.
+fn check_lines(
+    rt: &impl Abort,
+    alloc: Global,
+    scope: &NameScope<'_, '_, Global>,
+    cases: &[Line],
+) -> Result<(), Fail> {
+    for (line, wanted) in cases {
+        let shown = format!(in alloc; "{:?}", item_of(scope, line))?;
+        equal(rt, line, &shown.as_str(), wanted);
+    }
+    Ok(())
+}
 
 /// The functions `main` and `fib`.
 fn functions(alloc: Global) -> Result<FunctionNames<'static, Global>, Fail> {
     let mut functions = FunctionNames::new(alloc);
-    for name in ["main", "fib"] {
-        if functions.len() < FUNCTION_NAMES {
-            functions.add(name)?;
-        }
-    }
+    functions.add("main")?;
+    functions.add("fib")?;
     Ok(functions)
 }
 
-/// The statement that a line says, the cause why it says nothing, or neither where it says something else.
-fn statement_of(
-    scope: &NameScope<'_, '_, Global>,
-    line: &[u8],
-) -> Option<Result<Statement, Cause>> {
-    let text = as_text(line)?;
-    match read_line(7, scope, &mut Words::of_line(text)) {
-        Ok(
-            Item::Does {
-                statement,
-                named: _,
-            },
-        ) => Some(Ok(statement)),
-        Ok(_) => None,
-        Err(why) => Some(Err(why)),
-    }
-}
-
-/// Each line says what stands beside it in this scope.
-fn check_lines(
-    rt: &impl Abort,
-    scope: &NameScope<'_, '_, Global>,
-    cases: &[(&[u8], Result<Statement, Cause>)],
-) {
-    for (line, wanted) in cases {
-        equal(rt, line, &statement_of(scope, line), &Some(*wanted));
-    }
-}
-
-/// What each line says where these functions are named, of which the first has begun, and the registers `n` and `t`.
-fn reads_with(
-    rt: &impl Abort,
-    names: &Names<Global>,
-    functions: &FunctionNames<'_, Global>,
-    cases: &[(&[u8], Result<Statement, Cause>)],
-) {
-    let registers = [Name::new("n"), Name::new("t")];
-    let scope = NameScope::new(names, functions, 1, registers.as_slice());
-    check_lines(rt, &scope, cases);
-}
-
-/// What each line says in a text of that version that declares nothing, with the functions `main` and `fib`, of which the first has begun,
-/// and the registers `n` and `t`.
-fn reads(
+/// What each line says in a text of that version that declares nothing, where the functions `main` and `fib` are named, of which the first
+/// has begun, and the registers `n` and `t`.
+fn check_inside(
     rt: &impl Abort,
     alloc: Global,
     version: Version,
-    cases: &[(&[u8], Result<Statement, Cause>)],
+    cases: &[Line],
 ) -> Result<(), Fail> {
-    let names = Names::new(alloc, version);
     let functions = functions(alloc)?;
-    reads_with(rt, &names, &functions, cases);
-    Ok(())
+    let names = Names::new(alloc, version);
+    let registers = [Name::new("n"), Name::new("t")];
+    let scope = NameScope::new(&names, &functions, 1, &registers);
+    check_lines(rt, alloc, &scope, cases)
 }
 
-#[test]
-fn statements(rt: HostRuntime) -> Result<(), Fail> {
-    let line = 7;
-    let less = Expression::Less(Operand::Held(at(1)), Operand::Number(2));
-    let plain = Expression::Plain(Operand::Number(0));
-    let argument = Operand::Held(at(0));
-    let count = Operand::Number(4);
-    let less = Statement::Let {
-        line,
-        register: at(2),
-        value: less,
-    };
-    let plain = Statement::Let {
-        line,
-        register: at(3),
-        value: plain,
-    };
-    let spawn = Statement::Spawn {
-        line,
-        function: 1,
-        argument,
-    };
-    let call = Statement::Call {
-        line,
-        function: 0,
-        argument,
-    };
-    let turns = Statement::ParallelFor {
-        line,
-        register: at(3),
-        count,
-        function: 1,
-    };
-    reads(
-        &rt,
-        rt.alloc(),
-        Version::One,
-        &[
-            (b"let t = n < 2", Ok(less)),
-            (b"  let new = 0 # c", Ok(plain)),
-            (b"spawn fib ok", Ok(spawn)),
-            (b"call main ok", Ok(call)),
-            (b"sync", Ok(Statement::Sync { line })),
-        ],
-    )?;
-    reads(
-        &rt,
-        rt.alloc(),
-        Version::Two,
-        &[(b"pfor i 4 fib", Ok(turns))],
-    )
-}
-
-#[test]
-fn causes(rt: HostRuntime) -> Result<(), Fail> {
-    reads(
-        &rt,
-        rt.alloc(),
-        Version::One,
-        &[
-            (b"foo", Err(Cause::BadWord)),
-            (b"pfor i 4 fib", Err(Cause::BadWord)),
-            (b"bump x 4", Err(Cause::BadWord)),
-            (b"let ok = 1", Err(Cause::BadWord)),
-            (b"func f ok", Err(Cause::BadWord)),
-            (b"let r = 1 +", Err(Cause::BadWord)),
-            (b"let r = 5x", Err(Cause::BadNumber)),
-            (b"write a[5x] q", Err(Cause::BadNumber)),
-            (b"let r = r", Err(Cause::UnknownName)),
-            (b"spawn g 1", Err(Cause::UnknownName)),
-            (b"write x 1", Err(Cause::UnknownName)),
-            (b"func main z", Err(Cause::TwiceNamed)),
-            (b"mem main", Err(Cause::TwiceNamed)),
-        ],
-    )
-}
-
-/// Whether a line is to say this.
-fn is_wanted(item: Item<'_>, line: &str) -> bool {
-    match item {
-        Item::Blank => line == "",
-        Item::Declared { name, length } => name == "a" && length == Some(4),
-        Item::Reduces { name, monoid } => name == "h" && monoid == Monoid::Last,
-        Item::Begins { name, parameter } => name == "f" && parameter == "n",
-        Item::Does {
-            statement: _,
-            named,
-        } => named == Some("r"),
-        Item::Decides { register } => register.index == 0,
-        Item::Otherwise => line == "else",
-        Item::Ends => line == "end",
-    }
-}
-
-/// Whether a line says what it is to say in this scope.
-fn says(scope: &NameScope<'_, '_, Global>, line: &str) -> bool {
-    let Some(text) = as_text(line.as_bytes()) else {
-        return false;
-    };
-    match read_line(2, scope, &mut Words::of_line(text)) {
-        Ok(item) => is_wanted(item, line),
-        Err(_) => false,
-    }
-}
-
-/// Each line says what it is to say in this scope.
-fn check_items(rt: &impl Abort, scope: &NameScope<'_, '_, Global>, lines: &[&str]) {
-    for line in lines {
-        assert!(rt; says(scope, line), "{line}");
-    }
-}
-
-#[test]
-fn items(rt: HostRuntime) {
-    let names = Names::new(rt.alloc(), Version::One);
-    let functions = FunctionNames::new(rt.alloc());
+/// What each line says where no function is named and no register.
+fn check_outside(rt: &impl Abort, alloc: Global, cases: &[Line]) -> Result<(), Fail> {
+    let functions = FunctionNames::new(alloc);
+    let names = Names::new(alloc, Version::One);
     let scope = NameScope::new(&names, &functions, 0, &[]);
-    check_items(
-        &rt,
-        &scope,
-        &[
-            "",
-            "mem a 4",
-            "reducer h last",
-            "func f n",
-            "let r = 1 * 2",
-            "if ok",
-            "else",
-            "end",
-        ],
-    );
+    check_lines(rt, alloc, &scope, cases)
+}
+
+/// Statements of the first version.
+const FIRST: &[Line] = &[
+    (
+        b"let t = n < 2",
+        "Ok(Does { statement: Let { line: 7, register: Register { index: 2 }, value: Less(Held(Register { index: 1 }), Number(2)) }, named: None })",
+    ),
+    (
+        b"  let new = 0 # c",
+        "Ok(Does { statement: Let { line: 7, register: Register { index: 3 }, value: Plain(Number(0)) }, named: Some(\"new\") })",
+    ),
+    (
+        b"spawn fib ok",
+        "Ok(Does { statement: Spawn { line: 7, function: 1, argument: Held(Register { index: 0 }) }, named: None })",
+    ),
+    (
+        b"call main ok",
+        "Ok(Does { statement: Call { line: 7, function: 0, argument: Held(Register { index: 0 }) }, named: None })",
+    ),
+    (
+        b"sync",
+        "Ok(Does { statement: Sync { line: 7 }, named: None })",
+    ),
+];
+
+/// The statement that the second version adds.
+const SECOND: &[Line] = &[(
+    b"pfor i 4 fib",
+    "Ok(Does { statement: ParallelFor { line: 7, register: Register { index: 3 }, count: Number(4), function: 1 }, named: Some(\"i\") })",
+)];
+
+const CAUSES: &[Line] = &[
+    (b"foo", "Err(BadWord)"),
+    (b"pfor i 4 fib", "Err(BadWord)"),
+    (b"bump x 4", "Err(BadWord)"),
+    (b"let ok = 1", "Err(BadWord)"),
+    (b"func f ok", "Err(BadWord)"),
+    (b"let r = 1 +", "Err(BadWord)"),
+    (b"let r = 5x", "Err(BadNumber)"),
+    (b"write a[5x] q", "Err(BadNumber)"),
+    (b"let r = r", "Err(UnknownName)"),
+    (b"spawn g 1", "Err(UnknownName)"),
+    (b"write x 1", "Err(UnknownName)"),
+    (b"func main z", "Err(TwiceNamed)"),
+    (b"mem main", "Err(TwiceNamed)"),
+];
+
+/// Lines of each kind.
+const KINDS: &[Line] = &[
+    (b"", "Ok(Blank)"),
+    (b"mem a 4", "Ok(Declared { name: \"a\", length: Some(4) })"),
+    (
+        b"reducer h last",
+        "Ok(Reduces { name: \"h\", monoid: Last })",
+    ),
+    (b"func f n", "Ok(Begins { name: \"f\", parameter: \"n\" })"),
+    (
+        b"let r = 1 * 2",
+        "Ok(Does { statement: Let { line: 7, register: Register { index: 1 }, value: Product(Number(1), Number(2)) }, named: Some(\"r\") })",
+    ),
+    (b"if ok", "Ok(Decides { register: Register { index: 0 } })"),
+    (b"else", "Ok(Otherwise)"),
+    (b"end", "Ok(Ends)"),
+];
+
+#[test]
+fn lines(rt: HostRuntime) -> Result<(), Fail> {
+    let alloc = rt.alloc();
+    check_inside(&rt, alloc, Version::One, FIRST)?;
+    check_inside(&rt, alloc, Version::Two, SECOND)?;
+    check_inside(&rt, alloc, Version::One, CAUSES)?;
+    check_outside(&rt, alloc, KINDS)
+}
+
+/// A statement of a function with the registers `n` and `t`, printed. If it names a function, it is this one.
+fn printed_of(alloc: Global, function: &str, statement: &Statement) -> Result<String, Fail> {
+    let registers = [Name::new("n"), Name::new("t")];
+    let mut out = String::new(alloc);
+    put_statement(&mut out, &[], &[], &registers, function, statement)?;
+    Ok(out)
+}
+
+/// Checks that a statement is printed so.
+fn prints(
+    rt: &impl Abort,
+    alloc: Global,
+    function: &str,
+    statement: &Statement,
+    wanted: &str,
+) -> Result<(), Fail> {
+    let text = printed_of(alloc, function, statement)?;
+    equal(rt, &function, &text.as_str(), &wanted);
+    Ok(())
 }
 
 #[test]
 fn printed(rt: HostRuntime) -> Result<(), Fail> {
-    let alloc = rt.alloc();
-    let registers = [Name::new("n"), Name::new("t")];
-    let mut out = String::new(alloc);
-    let value = Expression::Difference(Operand::Held(at(1)), Operand::Number(1));
-    put_statement(
-        &mut out,
-        &[],
-        &[],
-        registers.as_slice(),
-        "",
-        &Statement::Let {
-            line: 2,
-            register: at(2),
-            value,
-        },
-    )?;
-    assert_eq!(rt; out.as_str(), "let t = n - 1");
-    let argument = Operand::Held(at(0));
-    let mut call = String::new(alloc);
-    put_statement(
-        &mut call,
-        &[],
-        &[],
-        registers.as_slice(),
-        "fib",
-        &Statement::Call {
-            line: 3,
-            function: 1,
-            argument,
-        },
-    )?;
-    assert_eq!(rt; call.as_str(), "call fib ok");
-    Ok(())
+    let difference = Statement::Let {
+        line: 2,
+        register: at(2),
+        value: Expression::Difference(Operand::Held(at(1)), Operand::Number(1)),
+    };
+    prints(&rt, rt.alloc(), "", &difference, "let t = n - 1")?;
+    let call = Statement::Call {
+        line: 3,
+        function: 1,
+        argument: Operand::Held(at(0)),
+    };
+    prints(&rt, rt.alloc(), "fib", &call, "call fib ok")
 }
 
 #[test]

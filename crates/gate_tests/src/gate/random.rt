@@ -7,7 +7,7 @@ use crate::dag::Dag;
 use crate::draws::draw;
 use access_table::Rule;
 use race_gate::{Answer, Entry, Gate};
-use std::alloc::{AllocError, Global};
+use std::alloc::Global;
 use std::process::Abort;
 use std::test::Fail;
 use text_words::{Act, Monoid, Request};
@@ -90,37 +90,26 @@ fn is_race(answer: Answer) -> bool {
 /// The entry, behind these and at this place in the trace of this seed, was answered as the reference answers it in the finished dag.
 fn compare_one(
     rt: &impl Abort,
-    alloc: Global,
     dag: &Dag,
     earlier: &[Entry],
     entry: &Entry,
     monoids: &[Monoid],
     case: (usize, u64),
-) -> Result<(), AllocError> {
+) {
     let strand = entry.request.strand;
     let act = entry.request.act;
     let is_refused = races(dag, earlier, strand, act);
     equal(rt, &case, &is_race(entry.answer), &is_refused);
-    if let Some(answer) = answer_to_read(dag, alloc, earlier, monoids, strand, act)? {
-        equal(rt, &case, &entry.answer, &answer);
-    }
-    Ok(())
+    let answer = answer_to_read(dag, earlier, monoids, strand, act).unwrap_or(entry.answer);
+    equal(rt, &case, &entry.answer, &answer);
 }
 
 /// Each access among the entries was answered as the reference answers it.
-fn compare(
-    rt: &impl Abort,
-    alloc: Global,
-    dag: &Dag,
-    entries: &[Entry],
-    monoids: &[Monoid],
-    seed: u64,
-) -> Result<(), AllocError> {
+fn compare(rt: &impl Abort, dag: &Dag, entries: &[Entry], monoids: &[Monoid], seed: u64) {
     for (place, entry) in entries.iter().enumerate() {
         let earlier = entries.get(..place).unwrap_or(&[]);
-        compare_one(rt, alloc, dag, earlier, entry, monoids, (place, seed))?;
+        compare_one(rt, dag, earlier, entry, monoids, (place, seed));
     }
-    Ok(())
 }
 
 /// One drawn act of a drawn strand, and the next state of the generator.
@@ -154,16 +143,15 @@ fn play(gate: &mut Gate<Global>, dag: &mut Dag, is_put: bool, state: u64) {
 /// A new gate's trace of this seed, from this state of the generator, is the reference's.
 pub(super) fn agrees_in(
     rt: &impl Abort,
-    alloc: Global,
     gate: &mut Gate<Global>,
     monoids: &[Monoid],
     seed: u64,
     state: u64,
-) -> Result<(), AllocError> {
+) {
     let mut dag = Dag::new();
     play(gate, &mut dag, seed % 2 == 0, state);
-    assert!(rt; gate.is_finished());
-    compare(rt, alloc, &dag, gate.history(), monoids, seed)
+    equal(rt, &seed, &gate.is_finished(), &true);
+    compare(rt, &dag, gate.history(), monoids, seed);
 }
 
 /// The trace of this seed.

@@ -1,6 +1,6 @@
 //! Worked rows with one reducer.
 
-use super::{Run, check};
+use super::Run;
 use Act::{Get, Put, Return, Spawn, Sync, Update};
 use Answer::{Ended, EndedJoined, Granted, Joined, Unset, Value, Waits};
 use Monoid::{Digits, Last, Max, Min, Sum};
@@ -8,11 +8,10 @@ use access_table::{Kind, Rule};
 use race_gate::Answer;
 use shadow_history::Witness;
 use sp_labels::Spawned;
-use std::test::Fail;
 use text_words::{Act, Monoid};
 
-/// Programs with reducers.
-const RUNS: &[Run<'static>] = &[
+/// Programs with reducers: reads want equal peers, and combine views.
+pub(super) const RUNS: &[Run<'static>] = &[
     // A get by the continuation is refused by the first put.
     (
         &[Sum],
@@ -152,8 +151,3 @@ const RUNS: &[Run<'static>] = &[
         ],
     ),
 ];
-
-#[test]
-fn reads_want_equal_peers_and_combine_views(rt: HostRuntime) -> Result<(), Fail> {
-    check(&rt, rt.alloc(), RUNS)
-}

@@ -4,52 +4,48 @@ use crate::dag::Dag;
 use access_table::{Kind, Rule, rule};
 use race_gate::{Answer, Entry};
 use shadow_history::Witness;
-use std::alloc::{AllocError, Global};
 use text_words::{Act, Monoid};
 
 /// The right answer to a put or a get, by the entries before it.
 pub fn answer_to_read(
     dag: &Dag,
-    alloc: Global,
     earlier: &[Entry],
     monoids: &[Monoid],
     strand: u32,
     act: Act,
-) -> Result<Option<Answer>, AllocError> {
-    match act {
-        Act::Put(reducer, _) => Ok(Some(answer_to_put(dag, earlier, reducer, strand))),
-        Act::Get(reducer) => {
-            let answer = answer_to_get(dag, alloc, earlier, monoids, strand, reducer)?;
-            Ok(Some(answer))
-        }
-        _ => Ok(None),
-    }
-}
-
-fn answer_to_put(dag: &Dag, earlier: &[Entry], reducer: u32, strand: u32) -> Answer {
+) -> Option<Answer> {
+    let reducer = match act {
+        Act::Put(reducer, _) | Act::Get(reducer) => reducer,
+        _ => return None,
+    };
     if differs(dag, earlier, reducer, strand) {
-        return refused(earlier, reducer);
+        return Some(refused(earlier, reducer));
     }
-    Answer::Granted
+    match act {
+        Act::Get(_) => Some(answer_to_get(dag, earlier, monoids, strand, reducer)),
+        _ => Some(Answer::Granted),
+    }
 }
 
+/// The right answer to a get by a strand with the peers of those that read the reducer.
 fn answer_to_get(
     dag: &Dag,
-    alloc: Global,
     earlier: &[Entry],
     monoids: &[Monoid],
     strand: u32,
     reducer: u32,
-) -> Result<Answer, AllocError> {
-    if differs(dag, earlier, reducer, strand) {
-        return Ok(refused(earlier, reducer));
+) -> Answer {
+    match last_put(earlier, reducer) {
+        Some(put) => {
+            let read = Read {
+                reducer,
+                put,
+                strand,
+            };
+            Answer::Value(value_read(dag, earlier, monoid_of(monoids, reducer), read))
+        }
+        None => Answer::Unset,
     }
-    let Some(put) = last_put(earlier, reducer) else {
-        return Ok(Answer::Unset);
-    };
-    let updates = updates_behind(dag, alloc, earlier, put, reducer, strand)?;
-    let monoid = monoid_of(monoids, reducer);
-    Ok(Answer::Value(combined(monoid, put_value(earlier, put), updates.as_slice())))
 }
 
 fn monoid_of(monoids: &[Monoid], reducer: u32) -> Monoid {
@@ -76,116 +72,103 @@ fn refused(earlier: &[Entry], reducer: u32) -> Answer {
     for entry in earlier {
         number = number.wrapping_add(1);
         if let Some(kind) = granted_read(entry, reducer) {
-            return refused_by(number, entry.request.strand, kind);
+            let witness = Witness {
+                entry: number,
+                strand: entry.request.strand,
+                kind,
+            };
+            return Answer::Refused {
+                rule: Rule::View,
+                witness,
+            };
         }
     }
     Answer::Unset
 }
 
-fn refused_by(entry: u32, strand: u32, kind: Kind) -> Answer {
-    Answer::Refused {
-        rule: Rule::View,
-        witness: Witness {
-            entry,
-            strand,
-            kind,
-        },
-    }
+/// A put or an update of a reducer: its strand, its place among the entries, and its number.
+#[derive(Clone, Copy)]
+struct Change {
+    strand: u32,
+    place: usize,
+    number: u64,
 }
 
-/// The place of the last put to the reducer.
-fn last_put(earlier: &[Entry], reducer: u32) -> Option<usize> {
+/// The last put to the reducer.
+fn last_put(earlier: &[Entry], reducer: u32) -> Option<Change> {
     let mut put = None;
     for (place, entry) in earlier.iter().enumerate() {
-        if granted_read(entry, reducer) == Some(Kind::Put) {
-            put = Some(place);
+        if let (Act::Put(read, number), Answer::Granted) = (entry.request.act, entry.answer) {
+            if read == reducer {
+                put = Some(Change {
+                    strand: entry.request.strand,
+                    place,
+                    number,
+                });
+            }
         }
     }
     put
 }
 
-/// The strand and the value of the put at this place.
-fn put_at(earlier: &[Entry], put: usize) -> (u32, u64) {
-    match earlier.get(put) {
-        Some(entry) => match entry.request.act {
-            Act::Put(_, value) => (entry.request.strand, value),
-            _ => (0, 0),
-        },
-        None => (0, 0),
-    }
-}
-
-fn put_value(earlier: &[Entry], put: usize) -> u64 {
-    put_at(earlier, put).1
-}
-
-/// The updates of the reducer between the put and the strand, in serial order.
-fn updates_behind(
-    dag: &Dag,
-    alloc: Global,
-    earlier: &[Entry],
-    put: usize,
+/// A get of a reducer by a strand, and the last put before it.
+#[derive(Clone, Copy)]
+struct Read {
     reducer: u32,
+    put: Change,
     strand: u32,
-) -> Result<Vec<(u32, u64)>, AllocError> {
-    let put_by = put_at(earlier, put).0;
-    let mut updates = Vec::new(alloc);
+}
+
+/// What the entry at this place updates, if it is an update of the reducer between the put and the get.
+fn update_at(dag: &Dag, place: usize, entry: &Entry, read: Read) -> Option<Change> {
+    let strand = entry.request.strand;
+    match entry.request.act {
+        Act::Update(reducer, number)
+            if reducer == read.reducer
+                && place > read.put.place
+                && dag.reaches(read.put.strand, strand)
+                && dag.reaches(strand, read.strand) => {
+            Some(Change {
+                strand,
+                place,
+                number,
+            })
+        }
+        _ => None,
+    }
+}
+
+/// Whether an update comes before another in serial order, if there are both. Of one strand they come in the order of their places.
+fn comes_before(dag: &Dag, first: Option<Change>, second: Option<Change>) -> bool {
+    match (first, second) {
+        (Some(first), Some(second)) if first.strand == second.strand => first.place < second.place,
+        (Some(first), Some(second)) => dag.is_before(true, first.strand, second.strand),
+        _ => true,
+    }
+}
+
+/// The first update behind this one, if one is given, in serial order.
+fn next_update(dag: &Dag, earlier: &[Entry], read: Read, last: Option<Change>) -> Option<Change> {
+    let mut next = None;
     for (place, entry) in earlier.iter().enumerate() {
-        if place > put {
-            take_update(dag, &mut updates, entry, reducer, (put_by, strand))?;
+        let update = update_at(dag, place, entry, read);
+        if update.is_some() && comes_before(dag, last, update) && comes_before(dag, update, next) {
+            next = update;
         }
     }
-    Ok(updates)
+    next
 }
 
-/// Takes in an update of the reducer by a strand between these two.
-fn take_update(
-    dag: &Dag,
-    updates: &mut Vec<(u32, u64)>,
-    entry: &Entry,
-    reducer: u32,
-    ends: (u32, u32),
-) -> Result<(), AllocError> {
-    if let Act::Update(updated, number) = entry.request.act {
-        let by = entry.request.strand;
-        if updated == reducer && dag.reaches(ends.0, by) && dag.reaches(by, ends.1) {
-            put_in_order(dag, updates, by, number)?;
-        }
-    }
-    Ok(())
-}
-
-/// Puts an update by the strand in its place. Of one strand the updates stand in the order of their numbers.
-fn put_in_order(
-    dag: &Dag,
-    updates: &mut Vec<(u32, u64)>,
-    by: u32,
-    number: u64,
-) -> Result<(), AllocError> {
-    let at = place_of(dag, updates.as_slice(), by);
-    if at <= updates.len() {
-        updates.insert(at, (by, number))?;
-    }
-    Ok(())
-}
-
-/// How many updates stand before the first by a strand that is behind this one.
-fn place_of(dag: &Dag, updates: &[(u32, u64)], by: u32) -> usize {
-    let mut place = 0usize;
-    for (other, _) in updates {
-        if dag.is_before(true, by, *other) {
+/// What the updates between the put and the get make of the put's number.
+fn value_read(dag: &Dag, earlier: &[Entry], monoid: Monoid, read: Read) -> u64 {
+    let mut value = read.put.number;
+    let mut last = None;
+    for _ in earlier {
+        let Some(update) = next_update(dag, earlier, read, last) else {
             break;
-        }
-        place = place.wrapping_add(1);
-    }
-    place
-}
-
-/// What the updates make of a value.
-fn combined(monoid: Monoid, put: u64, updates: &[(u32, u64)]) -> u64 {
-    let mut value = put;
-    for (_, number) in updates {
-        value = combined_once(monoid, value, *number);
+        };
+        value = combined_once(monoid, value, update.number);
+        last = Some(update);
     }
     value
 }

@@ -12,29 +12,34 @@ pub joined-requires-clause-takes : goal.joined-requires-clause-takes
 joined-requires-clause-takes g c =
     (joined 2 3, refl, (first_return, returned-once _ _ _ _ c.requires c.in_ok-reserve_event.ensures.ok c.spawned.ensures.follows c.in_ok-reserve_event-2.ensures.ok, first_join_legal))
 
-pub same-requires-clause-first_named : goal.same-requires-clause-first_named
+pub same-with_join-requires-clause-first_named : goal.same-with_join-requires-clause-first_named
 unfolding updated
-same-requires-clause-first_named g c =
+same-with_join-requires-clause-first_named g c =
     (first_join, joined-once _ _ _ _ _ c.requires c.in_ok-reserve_event.ensures.ok c.spawned.ensures.follows c.in_ok-reserve_event-2.ensures.ok c.joined.ensures.follows, inr refl)
 
-pub same-requires-2-clause-first_named : goal.same-requires-2-clause-first_named
+pub same-with_join-requires-clause-second_named : goal.same-with_join-requires-clause-second_named
 unfolding updated
-same-requires-2-clause-first_named g c =
+same-with_join-requires-clause-second_named g c =
+    (first_join, joined-once _ _ _ _ _ c.requires c.in_ok-reserve_event.ensures.ok c.spawned.ensures.follows c.in_ok-reserve_event-2.ensures.ok c.joined.ensures.follows, inl refl)
+
+pub same-children-requires-clause-first_named : goal.same-children-requires-clause-first_named
+unfolding updated
+same-children-requires-clause-first_named g c =
     (first_join, joined-once _ _ _ _ _ c.requires c.in_ok-reserve_event.ensures.ok c.spawned.ensures.follows c.in_ok-reserve_event-2.ensures.ok c.joined.ensures.follows, inr refl)
 
-pub same-requires-2-clause-second_named : goal.same-requires-2-clause-second_named
+pub same-children-requires-clause-second_named : goal.same-children-requires-clause-second_named
 unfolding updated
-same-requires-2-clause-second_named g c =
+same-children-requires-clause-second_named g c =
     (first_join, joined-once _ _ _ _ _ c.requires c.in_ok-reserve_event.ensures.ok c.spawned.ensures.follows c.in_ok-reserve_event-2.ensures.ok c.joined.ensures.follows, inr refl)
 
-pub same-requires-3-clause-first_named : goal.same-requires-3-clause-first_named
+pub same-with_child-requires-clause-first_named : goal.same-with_child-requires-clause-first_named
 unfolding updated
-same-requires-3-clause-first_named g c =
+same-with_child-requires-clause-first_named g c =
     (first_join, joined-once _ _ _ _ _ c.requires c.in_ok-reserve_event.ensures.ok c.spawned.ensures.follows c.in_ok-reserve_event-2.ensures.ok c.joined.ensures.follows, inr refl)
 
-pub same-requires-3-clause-second_named : goal.same-requires-3-clause-second_named
+pub same-with_child-requires-clause-second_named : goal.same-with_child-requires-clause-second_named
 unfolding updated
-same-requires-3-clause-second_named g c =
+same-with_child-requires-clause-second_named g c =
     (first_join, joined-once _ _ _ _ _ c.requires c.in_ok-reserve_event.ensures.ok c.spawned.ensures.follows c.in_ok-reserve_event-2.ensures.ok c.joined.ensures.follows, inr refl)
 
 pub spawned-requires-2-clause-takes : goal.spawned-requires-2-clause-takes
@@ -45,12 +50,12 @@ pub joined-requires-2-clause-takes : goal.joined-requires-2-clause-takes
 joined-requires-2-clause-takes g c =
     (joined 5 6, refl, (second_return, returned-twice _ _ _ _ (joined-once _ _ _ _ _ c.requires c.in_ok-reserve_event.ensures.ok c.spawned.ensures.follows c.in_ok-reserve_event-2.ensures.ok c.joined.ensures.follows) c.in_ok-reserve_event-3.ensures.ok c.spawned-2.ensures.follows c.in_ok-reserve_event-4.ensures.ok, second_join_legal))
 
-pub same-requires-4-clause-first_named : goal.same-requires-4-clause-first_named
+pub same-with_last-requires-clause-first_named : goal.same-with_last-requires-clause-first_named
 unfolding updated
-same-requires-4-clause-first_named g c =
+same-with_last-requires-clause-first_named g c =
     (second_join, joined-twice _ _ _ _ _ (joined-once _ _ _ _ _ c.requires c.in_ok-reserve_event.ensures.ok c.spawned.ensures.follows c.in_ok-reserve_event-2.ensures.ok c.joined.ensures.follows) c.in_ok-reserve_event-3.ensures.ok c.spawned-2.ensures.follows c.in_ok-reserve_event-4.ensures.ok c.joined-2.ensures.follows, inr refl)
 
-pub same-requires-4-clause-second_named : goal.same-requires-4-clause-second_named
+pub same-with_last-requires-clause-second_named : goal.same-with_last-requires-clause-second_named
 unfolding updated
-same-requires-4-clause-second_named g c =
+same-with_last-requires-clause-second_named g c =
     (second_join, joined-twice _ _ _ _ _ (joined-once _ _ _ _ _ c.requires c.in_ok-reserve_event.ensures.ok c.spawned.ensures.follows c.in_ok-reserve_event-2.ensures.ok c.joined.ensures.follows) c.in_ok-reserve_event-3.ensures.ok c.spawned-2.ensures.follows c.in_ok-reserve_event-4.ensures.ok c.joined-2.ensures.follows, inl refl)
