@@ -1,5 +1,5 @@
 -- Where two strands part, and what would order them.
-use Rattle.std.specs.Prelude.{ℕ, ◌==◌, List, [], ◌∷◌, ◌++◌, codes, Option, Some, None, decimal, if◌then◌else◌}
+use Rattle.std.specs.Prelude.{ℕ, ◌==◌, List, [], ◌++◌, codes, Option, Some, None, decimal, if◌then◌else◌}
 use Rattle.source_quotes.specs.Quotes.{noted, gutter}
 use Rattle.spawn_chains.specs.declared.lineage.Parting.{Parting}
 use Rattle.spawn_chains.specs.declared.lineage.OpenSpawn.{OpenSpawn}

@@ -1,6 +1,6 @@
 -- What is told of the entries of a run.
-use Rattle.std.specs.Prelude.{ℕ, ◌≡◌, ◌+◌, ◌-◌, nat_lt, Bool, List, [], ◌∷◌, ◌++◌, codes}
-use Rattle.std.specs.Prelude.{length, take, filter, is_some, decimal, if◌then◌else◌}
+use Rattle.std.specs.Prelude.{ℕ, ◌≡◌, ◌-◌, nat_lt, Bool, List, [], ◌∷◌, ◌++◌, codes}
+use Rattle.std.specs.Prelude.{length, take, filter, is_some, Option, Some, IfSome, if◌then◌else◌}
 use Rattle.std.specs.Global.{Global}
 use Rattle.program_text.specs.Drafts.{Contents}
 use Rattle.model_histories.specs.declared.answer.Entry.{Entry}
@@ -12,6 +12,7 @@ use Rattle.race_pairs.specs.Encounters.{chain_at, PartAt, GoesOn, IsOpenAt}
 use Rattle.race_pairs.specs.declared.tally.Pair.{Pair}
 use Rattle.race_pairs.specs.declared.encounter.Encounter.{Encounter}
 use Rattle.race_explanations.specs.Settings.{Setting}
+use Rattle.race_explanations.specs.Accounts.{added}
 use Rattle.race_explanations.specs.Messages.{message}
 
 -- How the strands of a pair's first refusal and its witness came about.
@@ -36,6 +37,14 @@ pub data AllTold (setting : Setting) : List Pair → List ℕ → Type 0 where
   none : AllTold setting [] []
   more : {pairs : List Pair} {text : List ℕ} (pair : Pair) (part : List ℕ) → AllTold setting pairs text → Tells setting pair part →
       AllTold setting (pairs ++ pair ∷ []) (text ++ part)
+
+-- a text that tells of each pair is told, in their order, where there was memory for it
+abbrev pub AreTold : Setting → List Pair → Option (List ℕ) → Type 0
+AreTold setting pairs told = IfSome told (λ text. AllTold setting pairs text)
+
+-- a text that tells of the pair is told behind what was told before, where there was memory for it
+pub record TellsMore (setting : Setting) (pair : Pair) (old new : Option (List ℕ)) : Type 0 where
+  pub tells : IfSome new (λ text. (part : List ℕ) × Tells setting pair part × added old part ≡ Some text)
 
 abbrev pub is_refusal : Entry → Bool
 is_refusal entry = is_some (refusal_told entry)

@@ -1,4 +1,5 @@
 pub mod Settings
+pub mod Accounts
 pub mod Names
 pub mod Titles
 pub mod Paths

@@ -1,5 +1,5 @@
 -- What is told of a pair of lines that raced.
-use Rattle.std.specs.Prelude.{ℕ, List, [], ◌∷◌, ◌++◌, codes, unwrap_or}
+use Rattle.std.specs.Prelude.{ℕ, List, [], ◌++◌, codes, unwrap_or}
 use Rattle.std.specs.Global.{Global}
 use Rattle.race_pairs.specs.Refusals.{line_at}
 use Rattle.race_pairs.specs.declared.refusal.Reason.{Reason}

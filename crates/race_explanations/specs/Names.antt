@@ -1,5 +1,5 @@
 -- Words for what stands in a program and in a run of it.
-use Rattle.std.specs.Prelude.{ℕ, ◌<◌, nat_lt, List, [], ◌∷◌, codes, take, drop, Option, Some, None, option_and_then, if◌then◌else◌}
+use Rattle.std.specs.Prelude.{ℕ, nat_lt, List, [], ◌∷◌, codes, take, drop, Option, Some, None, if◌then◌else◌}
 use Rattle.model_accesses.specs.Table.{spelling}
 use Rattle.model_accesses.specs.declared.asked.Asked.{Asked}
 use Rattle.model_accesses.specs.declared.request.Act.{Act}

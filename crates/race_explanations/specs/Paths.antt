@@ -1,5 +1,5 @@
 -- An access shown in the program's text, and the spawns and calls that led there.
-use Rattle.std.specs.Prelude.{ℕ, ◌-◌, nat_lt, List, [], ◌∷◌, ◌++◌, codes, flat_map, length, take, decimal, if◌then◌else◌}
+use Rattle.std.specs.Prelude.{ℕ, ◌-◌, nat_lt, List, [], ◌++◌, codes, flat_map, length, take, decimal, if◌then◌else◌}
 use Rattle.source_quotes.specs.Lines.{line_in}
 use Rattle.source_quotes.specs.Quotes.{marked, noted}
 use Rattle.race_pairs.specs.Refusals.{line_at}

@@ -1,10 +1,9 @@
 -- The first lines of what is told of a race: the kind, on what, how often, and where.
-use Rattle.std.specs.Prelude.{ℕ, ◌-◌, nat_lt, Bool, List, [], ◌∷◌, ◌++◌, codes, flat_map, length, take, drop, decimal, if◌then◌else◌}
+use Rattle.std.specs.Prelude.{ℕ, ◌-◌, nat_lt, List, [], ◌∷◌, ◌++◌, codes, flat_map, length, take, decimal, if◌then◌else◌}
 use Rattle.model_accesses.specs.Table.{spelling}
 use Rattle.trace_text.specs.Shapes.{name_of_cell}
 use Rattle.race_report.specs.Refusals.{name_of_reducer}
 use Rattle.text_words.specs.Values.{Known}
-use Rattle.source_quotes.specs.declared.look.Look.{Look}
 use Rattle.source_quotes.specs.declared.look.Paint.TheVariants.{Red}
 use Rattle.source_quotes.specs.Quotes.{painted, counted, place}
 use Rattle.race_pairs.specs.declared.refusal.Reason.{Reason}

@@ -6,6 +6,7 @@
 //! `race_pairs` and `spawn_chains` define these; and the text is a function of these values, letter by letter, in `specs/`.
 #![tactic(auto)]
 
+mod account;
 mod advice;
 mod message;
 mod paths;

@@ -1,151 +1,92 @@
 //! An access shown in the program's text, and the spawns and calls that led there.
 
-ghost use Rattle.std.specs.Prelude.{◌≡◌, ◌++◌, OnOk, codes};
+ghost use Rattle.std.specs.Prelude.{◌++◌, codes};
 ghost use Rattle.source_quotes.specs.Lines.{line_in};
 ghost use Rattle.race_explanations.specs.Names.{statement};
-ghost use Rattle.race_explanations.specs.Paths.{more_words, at_words, in_words, marked_line, within};
-ghost use Rattle.race_explanations.specs.Paths.{access_text, link_text, links_text, links_left_out, chain_text};
+ghost use Rattle.race_explanations.specs.Accounts.{Adds};
+ghost use Rattle.race_explanations.specs.Paths.{within, access_text, link_text, links_text, links_left_out, chain_text};
 
+use crate::account::Account;
 use crate::scene::Scene;
-use crate::words::{function_at, push_told, way_at, word_at};
-use race_pairs::line_at;
-use race_report::{push_number, push_words};
-use source_quotes::{push_noted, statement_of};
-use std::alloc::{AllocError, Allocator};
+use crate::words::{function_at, line_of, way_at, word_at};
+use source_quotes::statement_of;
+use std::alloc::Global;
 
 /// How many spawns and calls are told at most.
 const LINKS: usize = 8;
 
-/// Adds a line of the source, and below it this sign.
-pub(crate) fn push_marked<A: Allocator>(
-    text: &mut Vec<u8, A>,
-    scene: &Scene<'_, '_, A>,
-    line: u32,
-    mark: u8,
-) -> Result<(), AllocError>
-    ensures { OnOk result (text.new.items ≡ text.old.items ++ marked_line scene.now line mark) }
-{
-    source_quotes::push_marked(text, scene.look, scene.source, line, mark)
-}
-
 /// Adds in which function a line stands.
-fn push_within<A: Allocator>(
-    text: &mut Vec<u8, A>,
-    scene: &Scene<'_, '_, A>,
-    line: u32,
-) -> Result<(), AllocError>
-    ensures { OnOk result (text.new.items ≡ text.old.items ++ within scene.now line) }
+fn push_within(account: &mut Account, scene: &Scene<'_, '_, Global>, line: u32)
+    ensures { Adds account.old (within scene.now line) account.new }
 {
-    push_words(text, in_words())?;
-    push_words(text, function_at(scene.program, line))?;
-    push_words(text, "`")
+    account.words(", in `");
+    account.words(function_at(scene, line));
+    account.words("`");
 }
 
 /// Adds the line of the entry with this number, and below it what it did and in which function.
-pub(crate) fn push_access<A: Allocator>(
-    text: &mut Vec<u8, A>,
-    scene: &Scene<'_, '_, A>,
+pub(crate) fn push_access(
+    account: &mut Account,
+    scene: &Scene<'_, '_, Global>,
     number: usize,
     mark: u8,
-) -> Result<(), AllocError>
-    ensures { OnOk result (text.new.items ≡ text.old.items ++ access_text scene.now number mark) }
+)
+    ensures { Adds account.old (access_text scene.now number mark) account.new }
 {
-    let line = line_at(scene.entries, number);
-    push_marked(text, scene, line, mark)?;
-    push_words(text, " this ")?;
-    push_words(text, word_at(scene.entries, number))?;
-    push_within(text, scene, line)
+    let line = line_of(scene, number);
+    account.marked(scene, line, mark);
+    account.words(" this ");
+    account.words(word_at(scene, number));
+    push_within(account, scene, line);
 }
 
 /// Adds the statement of a line.
-fn push_statement<A: Allocator>(
-    text: &mut Vec<u8, A>,
-    scene: &Scene<'_, '_, A>,
-    line: u32,
-) -> Result<(), AllocError>
-    ensures { OnOk result (text.new.items ≡ text.old.items ++ (codes ": " ++ statement (line_in scene.now.source line) ++ codes "\n")) }
+fn push_statement(account: &mut Account, scene: &Scene<'_, '_, Global>, line: u32)
+    ensures { Adds account.old (codes ": " ++ statement (line_in scene.now.source line) ++ codes "\n") account.new }
 {
-    push_words(text, ": ")?;
-    text.extend_from_slice(statement_of(scene.source.line(line)))?;
-    push_words(text, "\n")
+    account.words(": ");
+    account.bytes(statement_of(scene.source.line(line)));
+    account.words("\n");
 }
 
 /// Adds a spawn or a call on the way to an access.
-fn push_link<A: Allocator>(
-    text: &mut Vec<u8, A>,
-    scene: &Scene<'_, '_, A>,
-    number: usize,
-) -> Result<(), AllocError>
-    ensures { OnOk result (text.new.items ≡ text.old.items ++ link_text scene.now number) }
+fn push_link(account: &mut Account, scene: &Scene<'_, '_, Global>, number: usize)
+    ensures { Adds account.old (link_text scene.now number) account.new }
 {
-    let line = line_at(scene.entries, number);
-    push_noted(text, scene.look)?;
-    push_words(text, way_at(scene.entries, number))?;
-    push_told(text, at_words(), line)?;
-    push_within(text, scene, line)?;
-    push_statement(text, scene, line)
+    let line = line_of(scene, number);
+    account.noted(scene);
+    account.words(way_at(scene, number));
+    account.line(" at line ", line);
+    push_within(account, scene, line);
+    push_statement(account, scene, line);
 }
 
 /// Adds spawns and calls on the way to an access.
-fn push_links<A: Allocator>(
-    text: &mut Vec<u8, A>,
-    scene: &Scene<'_, '_, A>,
-    chain: &[usize],
-) -> Result<(), AllocError>
-    ensures { OnOk result (text.new.items ≡ text.old.items ++ links_text scene.now chain.now) }
+fn push_links(account: &mut Account, scene: &Scene<'_, '_, Global>, chain: &[usize])
+    ensures { Adds account.old (links_text scene.now chain.now) account.new }
 {
     for number in chain {
-        push_link(text, scene, *number)?;
+        push_link(account, scene, *number);
     }
-    Ok(())
-}
-
-/// What is said before the line of a spawn or a call.
-fn at_words() -> &'static str
-    ensures { result.now ≡ at_words }
-{
-    " at line "
-}
-
-/// What is said before the name of a function.
-fn in_words() -> &'static str
-    ensures { result.now ≡ in_words }
-{
-    ", in `"
-}
-
-/// What is said behind how many spawns and calls are left out.
-fn more_words() -> &'static str
-    ensures { result.now ≡ more_words }
-{
-    " more spawns and calls led there\n"
 }
 
 /// Adds how many spawns and calls are left out.
-fn push_links_left_out<A: Allocator>(
-    text: &mut Vec<u8, A>,
-    scene: &Scene<'_, '_, A>,
-    count: usize,
-) -> Result<(), AllocError>
-    ensures { OnOk result (text.new.items ≡ text.old.items ++ links_left_out scene.now count) }
+fn push_links_left_out(account: &mut Account, scene: &Scene<'_, '_, Global>, count: usize)
+    ensures { Adds account.old (links_left_out scene.now count) account.new }
 {
     if count <= LINKS {
-        return Ok(());
+        return;
     }
-    push_noted(text, scene.look)?;
-    push_number(text, "", (count - LINKS) as u64)?;
-    push_words(text, more_words())
+    account.noted(scene);
+    account.number("", (count - LINKS) as u64);
+    account.words(" more spawns and calls led there\n");
 }
 
 /// Adds the innermost eight of the spawns and calls that led to an access, and how many more there are.
-pub(crate) fn push_chain<A: Allocator>(
-    text: &mut Vec<u8, A>,
-    scene: &Scene<'_, '_, A>,
-    chain: &[usize],
-) -> Result<(), AllocError>
-    ensures { OnOk result (text.new.items ≡ text.old.items ++ chain_text scene.now chain.now) }
+pub(crate) fn push_chain(account: &mut Account, scene: &Scene<'_, '_, Global>, chain: &[usize])
+    ensures { Adds account.old (chain_text scene.now chain.now) account.new }
 {
     let (told, _) = chain.split_at(chain.len().min(LINKS));
-    push_links(text, scene, told)?;
-    push_links_left_out(text, scene, chain.len())
+    push_links(account, scene, told);
+    push_links_left_out(account, scene, chain.len());
 }

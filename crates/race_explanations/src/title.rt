@@ -1,18 +1,18 @@
 //! The first lines of what is told of a race.
 
-ghost use Rattle.std.specs.Prelude.{◌≡◌, ◌++◌, ◌∷◌, IfOk, OnOk, codes, string_bytes, take};
+ghost use Rattle.std.specs.Prelude.{◌≡◌, IfOk, string_bytes};
 ghost use Rattle.program_text.specs.Programs.{contents};
+ghost use Rattle.race_explanations.specs.Accounts.{Adds};
 ghost use Rattle.race_explanations.specs.Titles.{sort_word, reason_words, spaced_name, other_names};
 ghost use Rattle.race_explanations.specs.Titles.{listed_names, left_out, names_text, headline, title_text};
 ghost use Rattle.race_report.specs.Refusals.{name_of_reducer};
 
+use crate::account::Account;
 use crate::scene::Scene;
 use access_table::word;
 use program_text::Program;
 use race_pairs::{Pair, Reason};
-use race_report::{push_number, push_words};
-use source_quotes::{Paint, push_count, push_painted, push_place};
-use std::alloc::{AllocError, Allocator};
+use std::alloc::{AllocError, Global};
 use text_words::Reducer;
 use trace_text::{put_cell, put_word};
 
@@ -31,18 +31,18 @@ fn sort_word(reason: Reason) -> &'static str
 }
 
 /// Adds what was wrong.
-fn push_reason<A: Allocator>(text: &mut Vec<u8, A>, reason: Reason) -> Result<(), AllocError>
-    ensures { OnOk result (text.new.items ≡ text.old.items ++ reason_words reason) }
+fn push_reason(account: &mut Account, reason: Reason)
+    ensures { Adds account.old (reason_words reason) account.new }
 {
     match reason {
         Reason::Race { earlier, refused } => {
-            push_words(text, word(earlier))?;
-            push_words(text, "-")?;
-            push_words(text, word(refused))?;
-            push_words(text, " on")
+            account.words(word(earlier));
+            account.words("-");
+            account.words(word(refused));
+            account.words(" on");
         }
-        Reason::ViewRead => push_words(text, "reads with other peers of"),
-        Reason::Unset => push_words(text, "nothing was put before into"),
+        Reason::ViewRead => account.words("reads with other peers of"),
+        Reason::Unset => account.words("nothing was put before into"),
     }
 }
 
@@ -57,12 +57,12 @@ fn reducer_name(reducers: &[Reducer], number: u32) -> &str
 }
 
 /// A space and the name of what a refusal was about.
-fn spaced_name<A: Allocator, B: Allocator>(
-    alloc: B,
-    program: &Program<A>,
+fn spaced_name(
+    alloc: Global,
+    program: &Program<Global>,
     reason: Reason,
     place: u32,
-) -> Result<String<B>, AllocError>
+) -> Result<String, AllocError>
     ensures { IfOk result (λ name. string_bytes name ≡ spaced_name (contents program.now).known reason place) }
 {
     let mut name = String::new(alloc);
@@ -76,109 +76,110 @@ fn spaced_name<A: Allocator, B: Allocator>(
 }
 
 /// Adds a space and the name of what a refusal was about.
-fn push_name<A: Allocator + Copy>(
-    alloc: A,
-    text: &mut Vec<u8, A>,
-    program: &Program<A>,
+fn push_name(
+    alloc: Global,
+    account: &mut Account,
+    program: &Program<Global>,
     reason: Reason,
     place: u32,
-) -> Result<(), AllocError>
-    ensures { OnOk result (text.new.items ≡ text.old.items ++ spaced_name (contents program.now).known reason place) }
+)
+    ensures { Adds account.old (spaced_name (contents program.now).known reason place) account.new }
 {
-    let name = spaced_name(alloc, program, reason, place)?;
-    push_words(text, name.as_str())
+    match spaced_name(alloc, program, reason, place) {
+        Ok(name) => account.words(name.as_str()),
+        Err(_) => account.fail(),
+    }
 }
 
 /// Adds names behind the first.
-fn push_others<A: Allocator + Copy>(
-    alloc: A,
-    text: &mut Vec<u8, A>,
-    program: &Program<A>,
+fn push_others(
+    alloc: Global,
+    account: &mut Account,
+    program: &Program<Global>,
     reason: Reason,
     places: &[u32],
-) -> Result<(), AllocError>
-    ensures { OnOk result (text.new.items ≡ text.old.items ++ other_names (contents program.now).known reason places.now) }
+)
+    ensures { Adds account.old (other_names (contents program.now).known reason places.now) account.new }
 {
     for place in places {
-        push_words(text, ",")?;
-        push_name(alloc, text, program, reason, *place)?;
+        account.words(",");
+        push_name(alloc, account, program, reason, *place);
     }
-    Ok(())
 }
 
 /// Adds names.
-fn push_list<A: Allocator + Copy>(
-    alloc: A,
-    text: &mut Vec<u8, A>,
-    program: &Program<A>,
+fn push_list(
+    alloc: Global,
+    account: &mut Account,
+    program: &Program<Global>,
     reason: Reason,
     places: &[u32],
-) -> Result<(), AllocError>
-    ensures { OnOk result (text.new.items ≡ text.old.items ++ listed_names (contents program.now).known reason places.now) }
+)
+    ensures { Adds account.old (listed_names (contents program.now).known reason places.now) account.new }
 {
     let Some((first, others)) = places.split_first() else {
-        return Ok(());
+        return;
     };
-    push_name(alloc, text, program, reason, *first)?;
-    push_others(alloc, text, program, reason, others)
+    push_name(alloc, account, program, reason, *first);
+    push_others(alloc, account, program, reason, others);
 }
 
 /// Adds how many names are left out.
-fn push_left_out<A: Allocator>(text: &mut Vec<u8, A>, count: usize) -> Result<(), AllocError>
-    ensures { OnOk result (text.new.items ≡ text.old.items ++ left_out count) }
+fn push_left_out(account: &mut Account, count: usize)
+    ensures { Adds account.old (left_out count) account.new }
 {
     if count <= NAMES {
-        return Ok(());
+        return;
     }
-    push_number(text, " and ", (count - NAMES) as u64)?;
-    push_words(text, " more")
+    account.number(" and ", (count - NAMES) as u64);
+    account.words(" more");
 }
 
 /// Adds the names of at most eight, and how many more there are.
-fn push_names<A: Allocator + Copy>(
-    alloc: A,
-    text: &mut Vec<u8, A>,
-    program: &Program<A>,
+fn push_names(
+    alloc: Global,
+    account: &mut Account,
+    program: &Program<Global>,
     reason: Reason,
     places: &[u32],
-) -> Result<(), AllocError>
-    ensures { OnOk result (text.new.items ≡ text.old.items ++ names_text (contents program.now).known reason places.now) }
+)
+    ensures { Adds account.old (names_text (contents program.now).known reason places.now) account.new }
 {
     let (told, _) = places.split_at(places.len().min(NAMES));
-    push_list(alloc, text, program, reason, told)?;
-    push_left_out(text, places.len())
+    push_list(alloc, account, program, reason, told);
+    push_left_out(account, places.len());
 }
 
 /// Adds the kind of the race, what it was on, and how often it came.
-fn push_headline<A: Allocator + Copy>(
-    alloc: A,
-    text: &mut Vec<u8, A>,
-    scene: &Scene<'_, '_, A>,
+fn push_headline(
+    alloc: Global,
+    account: &mut Account,
+    scene: &Scene<'_, '_, Global>,
     pair: &Pair,
     places: &[u32],
-) -> Result<(), AllocError>
-    ensures { OnOk result (text.new.items ≡ text.old.items ++ headline scene.now pair.now places.now) }
+)
+    ensures { Adds account.old (headline scene.now pair.now places.now) account.new }
 {
     let reason = pair.lines.reason;
-    push_painted(text, scene.look, Paint::Red, sort_word(reason))?;
-    push_words(text, ": ")?;
-    push_reason(text, reason)?;
-    push_names(alloc, text, scene.program, reason, places)?;
-    push_words(text, ", ")?;
-    push_count(text, pair.times, "time")
+    account.red(scene, sort_word(reason));
+    account.words(": ");
+    push_reason(account, reason);
+    push_names(alloc, account, scene.program, reason, places);
+    account.words(", ");
+    account.count(pair.times, "time");
 }
 
 /// Adds the kind of the race, what it was on, how often it came, and where.
-pub(crate) fn push_title<A: Allocator + Copy>(
-    alloc: A,
-    text: &mut Vec<u8, A>,
-    scene: &Scene<'_, '_, A>,
+pub(crate) fn push_title(
+    alloc: Global,
+    account: &mut Account,
+    scene: &Scene<'_, '_, Global>,
     pair: &Pair,
     places: &[u32],
-) -> Result<(), AllocError>
-    ensures { OnOk result (text.new.items ≡ text.old.items ++ title_text scene.now pair.now places.now) }
+)
+    ensures { Adds account.old (title_text scene.now pair.now places.now) account.new }
 {
-    push_headline(alloc, text, scene, pair, places)?;
-    push_words(text, "\n")?;
-    push_place(text, scene.look, scene.file, pair.lines.line)
+    push_headline(alloc, account, scene, pair, places);
+    account.words("\n");
+    account.place(scene, pair.lines.line);
 }

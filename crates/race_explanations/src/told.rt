@@ -1,73 +1,76 @@
 //! What is told of the entries of a run.
 
-ghost use Rattle.std.specs.Prelude.{◌≡◌, ◌++◌, [], IfOk, OnOk, codes, length, reverse, take};
+ghost use Rattle.std.specs.Prelude.{◌≡◌, [], Some, IfOk, reverse};
 ghost use Rattle.text_words.specs.Text.{lines};
 ghost use Rattle.model_histories.specs.Shapes.{Shape};
 ghost use Rattle.program_text.specs.Programs.{contents};
 ghost use Rattle.model_histories.specs.Legal.{IsLegal};
 ghost use Rattle.spawn_chains.specs.Makers.{IsLineage};
-ghost use Rattle.race_explanations.specs.Explained.{Tells, AllTold, pairs_left_out, among, summary, refusals_among, IsExplanation};
+ghost use Rattle.race_explanations.specs.Accounts.{Adds};
+ghost use Rattle.race_explanations.specs.Explained.{TellsMore, AreTold, pairs_left_out, among, summary, refusals_among, IsExplanation};
 
+use crate::account::Account;
 use crate::message::push_message;
 use crate::scene::Scene;
 use program_text::Program;
 use race_gate::Entry;
 use race_pairs::{Encounter, Pair, pairs, places, refusal_of};
-use race_report::push_words;
-use source_quotes::{Look, Source, push_count};
+use source_quotes::{Look, Source};
 use spawn_chains::Lineage;
 use std::alloc::{AllocError, Global};
 
 /// How many pairs of lines are told of at most.
 const PAIRS: usize = 20;
 
-/// What is told of a pair of lines.
-fn told_of(
+/// Tells of a pair of lines.
+fn push_pair(
     alloc: Global,
+    account: &mut Account,
     scene: &Scene<'_, '_, Global>,
     lineage: &Lineage<Global>,
     pair: &Pair,
-) -> Result<Vec<u8>, AllocError>
+)
     requires lineage { IsLineage lineage.now (reverse scene.now.entries) }
     requires legal { (shape : Shape) × IsLegal shape (reverse scene.now.entries) }
-    ensures { IfOk result (λ text. Tells scene.now pair.now text.items) }
+    ensures { TellsMore scene.now pair.now account.old account.new }
 {
-    let found = places(alloc, scene.entries, pair)?;
-    let encounter = Encounter::new(alloc, lineage, scene.entries, pair)?;
-    let mut text = Vec::new(alloc);
-    push_message(alloc, &mut text, scene, pair, found.as_slice(), &encounter)?;
-    Ok(text)
+    let Ok(found) = places(alloc, scene.entries, pair) else {
+        return account.fail();
+    };
+    let Ok(encounter) = Encounter::new(alloc, lineage, scene.entries, pair) else {
+        return account.fail();
+    };
+    push_message(alloc, account, scene, pair, found.as_slice(), &encounter);
 }
 
-/// What is told of pairs of lines.
-fn all_told(
+/// Tells of pairs of lines.
+fn push_pairs(
     alloc: Global,
+    account: &mut Account,
     scene: &Scene<'_, '_, Global>,
     lineage: &Lineage<Global>,
     pairs: &[Pair],
-) -> Result<Vec<u8>, AllocError>
+)
+    requires new { account.old ≡ Some [] }
     requires lineage { IsLineage lineage.now (reverse scene.now.entries) }
     requires legal { (shape : Shape) × IsLegal shape (reverse scene.now.entries) }
-    ensures { IfOk result (λ text. AllTold scene.now pairs.now text.items) }
+    ensures { AreTold scene.now pairs.now account.new }
 {
-    let mut text = Vec::new(alloc);
     for pair in pairs {
-        let part = told_of(alloc, scene, lineage, pair)?;
-        text.extend_from_slice(part.as_slice())?;
+        push_pair(alloc, account, scene, lineage, pair);
     }
-    Ok(text)
 }
 
 /// Adds how many pairs are left out.
-fn push_left_out(text: &mut Vec<u8>, count: usize) -> Result<(), AllocError>
-    ensures { OnOk result (text.new.items ≡ text.old.items ++ pairs_left_out count) }
+fn push_left_out(account: &mut Account, count: usize)
+    ensures { Adds account.old (pairs_left_out count) account.new }
 {
     if count <= PAIRS {
-        return Ok(());
+        return;
     }
-    push_words(text, "and ")?;
-    push_count(text, count - PAIRS, "more pair")?;
-    push_words(text, " of lines\n")
+    account.words("and ");
+    account.count(count - PAIRS, "more pair");
+    account.words(" of lines\n");
 }
 
 /// How many entries are refusals.
@@ -81,22 +84,22 @@ fn refusal_count(entries: &[Entry]) -> usize
 }
 
 /// Adds at how many pairs of lines, and among how many requests.
-fn push_among(text: &mut Vec<u8>, count: usize, requests: usize) -> Result<(), AllocError>
-    ensures { OnOk result (text.new.items ≡ text.old.items ++ among count requests) }
+fn push_among(account: &mut Account, count: usize, requests: usize)
+    ensures { Adds account.old (among count requests) account.new }
 {
-    push_words(text, " at ")?;
-    push_count(text, count, "pair")?;
-    push_words(text, " of lines, among ")?;
-    push_count(text, requests, "request")?;
-    push_words(text, "\n")
+    account.words(" at ");
+    account.count(count, "pair");
+    account.words(" of lines, among ");
+    account.count(requests, "request");
+    account.words("\n");
 }
 
 /// Adds how many refusals there were.
-fn push_summary(text: &mut Vec<u8>, entries: &[Entry], count: usize) -> Result<(), AllocError>
-    ensures { OnOk result (text.new.items ≡ text.old.items ++ summary entries.now count) }
+fn push_summary(account: &mut Account, entries: &[Entry], count: usize)
+    ensures { Adds account.old (summary entries.now count) account.new }
 {
-    push_count(text, refusal_count(entries), "refusal")?;
-    push_among(text, count, entries.len())
+    account.count(refusal_count(entries), "refusal");
+    push_among(account, count, entries.len());
 }
 
 /// Explains the entries of a run of a program to a person, the oldest first. The text tells each pair of lines that raced, in the order
@@ -126,8 +129,9 @@ pub fn explanation(
     let lineage = Lineage::new(alloc, entries)?;
     let found = pairs(alloc, entries)?;
     let (first, _) = found.as_slice().split_at(found.len().min(PAIRS));
-    let mut told = all_told(alloc, &scene, &lineage, first)?;
-    push_left_out(&mut told, found.len())?;
-    push_summary(&mut told, entries, found.len())?;
-    Ok(told)
+    let mut account = Account::new(alloc);
+    push_pairs(alloc, &mut account, &scene, &lineage, first);
+    push_left_out(&mut account, found.len());
+    push_summary(&mut account, entries, found.len());
+    account.end()
 }

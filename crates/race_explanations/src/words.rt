@@ -1,20 +1,19 @@
 //! Words for what stands in a program and in a run of it.
 
-ghost use Rattle.std.specs.Prelude.{◌≡◌, ◌++◌, OnOk, decimal};
+ghost use Rattle.std.specs.Prelude.{◌≡◌};
 ghost use Rattle.program_text.specs.Programs.{contents};
-ghost use Rattle.race_explanations.specs.Names.{function_at, word_at, way_at, statement};
+ghost use Rattle.race_pairs.specs.Refusals.{line_at};
+ghost use Rattle.race_explanations.specs.Names.{function_at, word_at, way_at};
 
+use crate::scene::Scene;
 use access_table::word;
 use program_text::Program;
-use race_gate::Entry;
 use race_pairs::entry_at;
-use race_report::push_number;
-use source_quotes::statement_of;
-use std::alloc::{AllocError, Allocator};
+use std::alloc::{Allocator, Global};
 use text_words::{Act, access_asked};
 
-/// The name of the function in which a line of a program stands.
-pub(crate) fn function_at<A: Allocator>(program: &Program<A>, line: u32) -> &str
+/// The name of the function of a program in which a line stands.
+fn function_in<A: Allocator>(program: &Program<A>, line: u32) -> &str
     ensures { result.now ≡ function_at (contents program.now).functions line }
 {
     let mut name = "";
@@ -27,11 +26,25 @@ pub(crate) fn function_at<A: Allocator>(program: &Program<A>, line: u32) -> &str
     name
 }
 
-/// What the access did that is the entry with this number.
-pub(crate) fn word_at(entries: &[Entry], number: usize) -> &'static str
-    ensures { result.now ≡ word_at entries.now number }
+/// The name of the function in which a line stands.
+pub(crate) fn function_at<'s>(scene: &Scene<'s, '_, Global>, line: u32) -> &'s str
+    ensures { result.now ≡ function_at scene.now.program.functions line }
 {
-    match entry_at(entries, number) {
+    function_in(scene.program, line)
+}
+
+/// The line of the entry with this number.
+pub(crate) fn line_of(scene: &Scene<'_, '_, Global>, number: usize) -> u32
+    ensures { result ≡ line_at scene.now.entries number }
+{
+    race_pairs::line_at(scene.entries, number)
+}
+
+/// What the access did that is the entry with this number.
+pub(crate) fn word_at(scene: &Scene<'_, '_, Global>, number: usize) -> &'static str
+    ensures { result.now ≡ word_at scene.now.entries number }
+{
+    match entry_at(scene.entries, number) {
         Some(entry) => match access_asked(entry.request.act) {
             Some(asked) => word(asked.kind),
             None => "",
@@ -41,25 +54,14 @@ pub(crate) fn word_at(entries: &[Entry], number: usize) -> &'static str
 }
 
 /// How the entry with this number came to a function.
-pub(crate) fn way_at(entries: &[Entry], number: usize) -> &'static str
-    ensures { result.now ≡ way_at entries.now number }
+pub(crate) fn way_at(scene: &Scene<'_, '_, Global>, number: usize) -> &'static str
+    ensures { result.now ≡ way_at scene.now.entries number }
 {
-    match entry_at(entries, number) {
+    match entry_at(scene.entries, number) {
         Some(entry) => match entry.request.act {
             Act::Spawn => "spawned",
             _ => "called",
         },
         None => "",
     }
-}
-
-/// Adds words and a number.
-pub(crate) fn push_told<A: Allocator>(
-    text: &mut Vec<u8, A>,
-    words: &str,
-    number: u32,
-) -> Result<(), AllocError>
-    ensures { OnOk result (text.new.items ≡ text.old.items ++ (words.now ++ decimal number)) }
-{
-    push_number(text, words, u64::from(number))
 }

@@ -1,14 +1,5 @@
-use Rattle.std.proofs.Common.{rules, ◌++◌, decimal}
-use Rattle.std.proofs.lemmas.Result.{on_ok_weaker}
-use Rattle.source_quotes.specs.Quotes.{noted}
-use Rattle.source_quotes.proofs.Pushed.{five_pushed}
-use Rattle.race_explanations.specs.Advice.{sync_words, before_words, order_words, function_word}
+use Rattle.race_explanations.proofs.Accounts.{five_adds}
 use Rattle.race_explanations.proofs.advice.push_missing.Goals as goal
 
 pub returns : goal.returns
-returns g c =
-    on_ok_weaker c.push_words-2.result
-    (λ last. five_pushed c.args.text.now.items (noted c.args.scene.now.look) sync_words (function_word c.args.scene.now c.args.line)
-    (before_words ++ decimal c.args.onward) order_words c.push_noted.new.text.items c.push_words.new.text.items c.push_function.new.text.items
-    c.push_told.new.text.items _ (search rules) (search rules) (search rules) (search rules) (search rules))
-    c.push_words-2.ensures.added
+returns c = five_adds _ _ _ _ _ _ _ _ _ _ _ c.noted.ensures c.words.ensures c.push_function.ensures c.line.ensures c.words-2.ensures

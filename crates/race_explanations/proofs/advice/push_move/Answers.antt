@@ -1,17 +1,10 @@
-use Rattle.std.proofs.Common.{rules, ◌++◌, decimal}
-use Rattle.std.proofs.lemmas.Result.{on_ok_weaker}
-use Rattle.source_quotes.specs.Quotes.{noted}
-use Rattle.source_quotes.proofs.Pushed.{five_pushed}
-use Rattle.race_pairs.specs.Refusals.{line_at}
-use Rattle.race_explanations.specs.Advice.{line_on, move_words, behind_words, ended_words, function_word}
+use Rattle.std.proofs.Common.{ap, ◌++◌, codes, decimal}
+use Rattle.race_explanations.specs.Advice.{function_word}
+use Rattle.race_explanations.proofs.Accounts.{these, five_adds}
 use Rattle.race_explanations.proofs.advice.push_move.Goals as goal
 
 pub returns : goal.returns
-returns g c =
-    on_ok_weaker c.push_words-2.result
-    (λ last. five_pushed c.args.text.now.items (noted c.args.scene.now.look)
-    (move_words ++ decimal (line_on c.args.scene.now c.args.pair.now c.args.spawn.now.parallel)) behind_words
-    (function_word c.args.scene.now (line_at c.args.scene.now.entries c.args.spawn.now.entry)) ended_words c.push_noted.new.text.items
-    c.push_told.new.text.items c.push_words.new.text.items c.push_function.new.text.items _ (search rules) (search rules) (search rules) (search rules)
-    (search rules))
-    c.push_words-2.ensures.added
+returns c =
+    five_adds _ _ _ _ _ _ _ _ _ _ _ c.noted.ensures
+    (these _ _ _ _ c.line.ensures (ap (λ line. codes "help: move what stands on line " ++ decimal line) c.line_on-at.ensures))
+    c.words.ensures (these _ _ _ _ c.push_function.ensures (ap (function_word c.args.scene.now) c.line_of.ensures)) c.words-2.ensures

@@ -1,13 +1,10 @@
-use Rattle.std.proofs.Common.{rules}
-use Rattle.std.proofs.lemmas.Result.{on_ok_weaker}
-use Rattle.source_quotes.proofs.Pushed.{two_pushed}
-use Rattle.race_explanations.specs.Advice.{line_on, spawn_line, open_words}
+use Rattle.std.proofs.Common.{ap, ◌++◌, codes, decimal}
+use Rattle.race_explanations.proofs.Accounts.{these, two_adds, three_adds}
 use Rattle.race_explanations.proofs.advice.push_open.Goals as goal
 
 pub returns : goal.returns
-returns g c =
-    on_ok_weaker c.push_open_at.result
-    (λ last. two_pushed c.args.text.now.items (spawn_line c.args.scene.now c.args.spawn.now.entry)
-    (open_words (line_on c.args.scene.now c.args.pair.now c.args.spawn.now.parallel) (line_on c.args.scene.now c.args.pair.now c.args.spawn.now.ordered))
-    c.push_spawn.new.text.items _ (search rules) (search rules))
-    c.push_open_at.ensures
+returns c =
+    two_adds _ _ _ _ _ c.push_spawn.ensures
+    (three_adds _ _ _ _ _ _ _
+    (these _ _ _ _ c.line.ensures (ap (λ line. codes " this spawn is outstanding at line " ++ decimal line) c.line_on-at.ensures))
+    (these _ _ _ _ c.line-2.ensures (ap (λ line. codes ", and not at line " ++ decimal line) c.line_on-not_at.ensures)) c.words.ensures)

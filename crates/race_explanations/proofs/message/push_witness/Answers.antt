@@ -1,14 +1,9 @@
-use Rattle.std.proofs.Common.{rules, codes}
-use Rattle.std.proofs.lemmas.Result.{on_ok_weaker}
-use Rattle.source_quotes.proofs.Pushed.{four_pushed}
-use Rattle.race_explanations.specs.Paths.{access_text, chain_text}
-use Rattle.race_explanations.specs.Advice.{between}
+use Rattle.std.proofs.Common.{ap}
+use Rattle.race_explanations.specs.Paths.{chain_text}
+use Rattle.race_explanations.proofs.Accounts.{these, four_adds}
 use Rattle.race_explanations.proofs.message.push_witness.Goals as goal
 
 pub returns : goal.returns
 returns c =
-    on_ok_weaker c.push_between.result
-    (λ last. four_pushed c.args.text.now.items (access_text c.args.scene.now c.args.pair.now.witness 45) (codes "\n")
-    (chain_text c.args.scene.now c.args.encounter.now.witness_chain.items) (between c.args.scene.now) c.push_access.new.text.items
-    c.push_words.new.text.items c.push_chain.new.text.items _ (search rules) (search rules) (search rules) (search rules))
-    c.push_between.ensures
+    four_adds _ _ _ _ _ _ _ _ _ c.push_access.ensures c.words.ensures
+    (these _ _ _ _ c.push_chain.ensures (ap (chain_text c.args.scene.now) c.as_slice.ensures.value)) c.push_between.ensures

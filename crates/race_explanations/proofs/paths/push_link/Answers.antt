@@ -1,19 +1,14 @@
-use Rattle.std.proofs.Common.{rules, ◌++◌, codes, decimal}
-use Rattle.std.proofs.lemmas.Result.{on_ok_weaker}
+use Rattle.std.proofs.Common.{ap, ◌++◌, codes, decimal}
 use Rattle.source_quotes.specs.Lines.{line_in}
-use Rattle.source_quotes.specs.Quotes.{noted}
-use Rattle.source_quotes.proofs.Pushed.{five_pushed}
-use Rattle.race_pairs.specs.Refusals.{line_at}
-use Rattle.race_explanations.specs.Names.{statement, way_at}
-use Rattle.race_explanations.specs.Paths.{at_words, within}
+use Rattle.race_explanations.specs.Names.{statement}
+use Rattle.race_explanations.specs.Paths.{within}
+use Rattle.race_explanations.proofs.Accounts.{these, five_adds}
 use Rattle.race_explanations.proofs.paths.push_link.Goals as goal
 
 pub returns : goal.returns
-returns g c =
-    let line = line_at c.args.scene.now.entries c.args.number in
-    on_ok_weaker c.push_statement.result
-    (λ last. five_pushed c.args.text.now.items (noted c.args.scene.now.look) (way_at c.args.scene.now.entries c.args.number) (at_words ++ decimal line)
-    (within c.args.scene.now line) (codes ": " ++ statement (line_in c.args.scene.now.source line) ++ codes "\n") c.push_noted.new.text.items
-    c.push_words.new.text.items c.push_told.new.text.items c.push_within.new.text.items _ (search rules) (search rules) (search rules) (search rules)
-    (search rules))
-    c.push_statement.ensures
+returns c =
+    let is = c.line_of-line.ensures in
+    five_adds _ _ _ _ _ _ _ _ _ _ _ c.noted.ensures (these _ _ _ _ c.words.ensures c.way_at.ensures)
+    (these _ _ _ _ c.line.ensures (ap (λ line. codes " at line " ++ decimal line) is))
+    (these _ _ _ _ c.push_within.ensures (ap (within c.args.scene.now) is))
+    (these _ _ _ _ c.push_statement.ensures (ap (λ line. codes ": " ++ statement (line_in c.args.scene.now.source line) ++ codes "\n") is))

@@ -1,8 +1,8 @@
-use Rattle.std.proofs.Common.{◌≡◌, ◌++◌, drop}
+use Rattle.std.proofs.Common.{take}
+use Rattle.race_explanations.specs.Accounts.{Adds}
 use Rattle.race_explanations.specs.Paths.{links_text}
 use Rattle.race_explanations.proofs.paths.push_links.Given as goal
 
--- the spawns and calls so far and those that are left are all
+-- the spawns and calls so far are told
 abbrev pub invariant-loop-number : goal.invariant-loop-number
-invariant-loop-number g l =
-    l.text.items ++ links_text l.scene (drop l.number-index l.chain) ≡ l.initial.text.items ++ links_text l.scene l.chain
+invariant-loop-number l = Adds l.initial.account (links_text l.scene (take l.number-index l.chain)) l.account

@@ -1,6 +1,5 @@
-use Rattle.std.proofs.Common.{rules}
-use Rattle.source_quotes.proofs.Pushed.{three_pushed}
+use Rattle.race_explanations.proofs.Accounts.{three_adds}
 use Rattle.race_explanations.proofs.title.push_title.Goals as goal
 
 pub returns : goal.returns
-returns g c = search (rules, three_pushed)
+returns c = three_adds _ _ _ _ _ _ _ c.push_headline.ensures c.words.ensures c.place.ensures

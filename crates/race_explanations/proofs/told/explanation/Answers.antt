@@ -1,16 +1,30 @@
-use Rattle.std.proofs.Common.{rules, reverse}
+use Rattle.std.proofs.Common.{rules, reverse, length, ◌≡◌, Some}
+use Rattle.std.proofs.lemmas.Result.{IfOk-weaker}
+use Rattle.text_words.specs.Text.{lines}
+use Rattle.program_text.specs.Programs.{contents}
 use Rattle.race_gate.proofs.Races.{legal-part}
-use Rattle.race_explanations.proofs.Telling.{first_told}
+use Rattle.race_explanations.specs.Explained.{pairs_left_out, summary, IsExplanation}
+use Rattle.race_explanations.proofs.Accounts.{these, two_adds}
+use Rattle.race_explanations.proofs.Telling.{first_told, told_text}
 use Rattle.race_explanations.proofs.told.explanation.Goals as goal
 
 pub new-requires-2 : goal.new-requires-2
 new-requires-2 c = legal-part c.requires.legal.0 (reverse c.args.entries.now) c.requires.legal.1
 
 pub returns : goal.returns
-returns c = record {
-  pairs = c.in_ok-found.found.items;
-  are_pairs = search rules;
-  told = c.in_ok-told.told.items;
-  all_told = first_told _ _ _ c.in_ok-found.found.items _ 20 c.in_ok-told.told.items (search rules) (search rules) (search rules) c.in_ok-told.ensures;
-  text_is = search rules;
-}
+returns c =
+    let found = c.in_ok-found.found.items in
+    let left = these _ _ _ (pairs_left_out (length found)) c.push_left_out.ensures (search rules) in
+    let last = these _ _ _ (summary c.args.entries.now (length found)) c.push_summary.ensures (search rules) in
+    IfOk-weaker c.end.result (λ told. c.push_summary.new.account ≡ Some told.items)
+    (λ told. IsExplanation c.args.is_painted c.args.file.now (lines c.args.text.now) (contents c.args.program.now) c.args.entries.now told.items)
+    (λ told is.
+    let all = told_text _ _ _ _ _ _ _ c.push_pairs.ensures (two_adds _ _ _ _ _ left last) is in
+    record {
+      pairs = found;
+      are_pairs = search rules;
+      told = all.0;
+      all_told = first_told _ _ _ found _ 20 all.0 (search rules) (search rules) (search rules) all.1;
+      text_is = all.2;
+    })
+    c.end.ensures

@@ -1,0 +1,57 @@
+-- What is told in several parts.
+use Rattle.std.proofs.Common.{◌≡◌, ℕ, Bool, true, List, [], ◌∷◌, ◌++◌, Option, Some, None, refl, sym, ap, ◌∙◌, append_assoc, append-nil, subst, ◌+◌, ◌<◌, length, take, get_or, flat_map, if◌then◌else◌}
+use Rattle.std.proofs.lemmas.Grind.{flat_map-append}
+use Rattle.std.proofs.lemmas.List.{take_more}
+use Rattle.race_explanations.specs.Accounts.{added, Adds}
+
+pub never : {text : List ℕ} → None ≡ Some text → ⊥
+never e = absurd (cc)
+
+pub some_is : {one two : List ℕ} → Some one ≡ Some two → one ≡ two
+some_is e = cc
+
+added_added : (old : Option (List ℕ)) (a b : List ℕ) → added (added old a) b ≡ added old (a ++ b)
+added_added None a b = refl
+added_added (Some text) a b = ap Some (append_assoc text a b)
+
+-- the same words by another name
+pub these : (old new : Option (List ℕ)) (a b : List ℕ) → Adds old a new → a ≡ b → Adds old b new
+these old new a b adds is = subst (λ (words : List ℕ). Adds old words new) is adds
+
+pub two_adds : (old one two : Option (List ℕ)) (a b : List ℕ) → Adds old a one → Adds one b two → Adds old (a ++ b) two
+two_adds old one None a b first second = record { adds = tt }
+two_adds old None (Some text) a b first second = absurd (never second.adds)
+two_adds old (Some front) (Some text) a b first second =
+    record { adds = sym (added_added old a b) ∙ ap (λ t. added t b) first.adds ∙ second.adds }
+
+pub three_adds : (old one two three : Option (List ℕ)) (a b c : List ℕ) → Adds old a one → Adds one b two → Adds two c three →
+    Adds old (a ++ b ++ c) three
+three_adds old one two three a b c first second third = two_adds old two three (a ++ b) c (two_adds old one two a b first second) third
+
+pub four_adds : (old one two three four : Option (List ℕ)) (a b c d : List ℕ) → Adds old a one → Adds one b two → Adds two c three →
+    Adds three d four → Adds old (a ++ b ++ c ++ d) four
+four_adds old one two three four a b c d first second third fourth =
+    two_adds old three four (a ++ b ++ c) d (three_adds old one two three a b c first second third) fourth
+
+pub five_adds : (old one two three four five : Option (List ℕ)) (a b c d e : List ℕ) → Adds old a one → Adds one b two → Adds two c three →
+    Adds three d four → Adds four e five → Adds old (a ++ b ++ c ++ d ++ e) five
+five_adds old one two three four five a b c d e first second third fourth fifth =
+    two_adds old four five (a ++ b ++ c ++ d) e (four_adds old one two three four a b c d first second third fourth) fifth
+
+pub none_adds : (old : Option (List ℕ)) → Adds old [] old
+none_adds None = record { adds = tt }
+none_adds (Some text) = record { adds = ap Some (append-nil text) }
+
+-- words that are told where a test holds
+pub then_adds : (old new : Option (List ℕ)) (test : Bool) (a b : List ℕ) → test ≡ true → Adds old a new → Adds old (if test then a else b) new
+then_adds old new test a b is adds = rw is adds
+
+-- one item more of those that are told one by one
+pub one_more : (f : ℕ → List ℕ) (items : List ℕ) (index d : ℕ) (old one two : Option (List ℕ)) → index < length items →
+    Adds old (flat_map f (take index items)) one → Adds one (f (get_or items index d)) two → Adds old (flat_map f (take (index + 1) items)) two
+one_more f items index d old one two below before adds =
+    let item : List ℕ = f (get_or items index d) in
+    let front : List ℕ = flat_map f (take index items) in
+    these old two (front ++ item) (flat_map f (take (index + 1) items)) (two_adds old one two front item before adds)
+    (ap (λ t. front ++ t) (sym (append-nil item)) ∙ sym (flat_map-append f (take index items) (get_or items index d ∷ [])) ∙
+    ap (λ some. flat_map f some) (sym (take_more items index d below)))

@@ -1,0 +1,7 @@
+use Rattle.std.proofs.Common.{rules, ◌==◌}
+use Rattle.race_explanations.specs.Advice.{missing_text}
+use Rattle.race_explanations.proofs.Accounts.{two_adds, then_adds}
+use Rattle.race_explanations.proofs.advice.push_sync.Goals as goal
+
+pub returns-then-line-onward : goal.returns-then-line-onward
+returns-then-line-onward c = then_adds _ _ (c.args.line == c.args.onward) _ (missing_text c.args.scene.now c.args.line c.args.onward) (search rules) (two_adds _ _ _ _ _ c.noted.ensures c.words.ensures)
