@@ -8,3 +8,4 @@ pub mod PlainItems
 pub mod Within
 pub mod Readings
 pub mod Totality
+pub mod Pieces

@@ -1,26 +1,25 @@
 -- Words in their places: what means something has no fault, and the lowest cause of more words is the lower one.
 -- A, B: the types of values; a, b, r: results, each a value or a cause
-use Rattle.std.proofs.Common.{◌≡◌, ℕ, ◌<◌, ◌≤◌, ◌+◌, ◌∷◌, [], List, length, arith, refl, sym, subst}
-use Rattle.std.specs.Prelude.{Option, Some, None, Result, Ok, Err, MatchResult}
-use Rattle.std.specs.Result.{result_and}
+use Rattle.std.proofs.Common.{◌≡◌, ℕ, ◌<◌, ◌≤◌, ◌+◌, ◌∷◌, [], List, length, arith, refl, sym, subst, inl, inr}
+use Rattle.std.specs.Prelude.{Option, Some, None, Result, Ok, Err}
 use Rattle.text_words.specs.declared.fault.Cause.{Cause}
 use Rattle.text_words.specs.declared.fault.Cause.TheVariants.{NotText, BadHeader, BadWord, BadNumber, UnknownName, TwiceNamed, BadNesting, NoMain, TooMany}
 use Rattle.text_words.specs.Causes.{IsLowest, cause_number, both_of}
-use Rattle.line_grammar.specs.LineGrammar.{IsPlacedFault}
-use Rattle.line_grammar.proofs.Outcomes.{IsClear, takes as word_and_rest}
+use Rattle.line_grammar.proofs.Outcomes.{IsClear, reads as word_and_rest}
 use Rattle.trace_text.specs.Lines as trace
-use Rattle.trace_text.specs.Outcome.{TakesWord as TakesCommon, Fits as FitsCommon}
+use Rattle.trace_text.specs.Outcome.{Fits as FitsCommon}
 use Rattle.text_words.specs.Text.{IsName}
 use Rattle.trace_text.proofs.Outcomes.{word_clean as common_clean}
+use Rattle.program_lines.specs.declared.keyword.Keyword.{Keyword}
 use Rattle.program_lines.specs.declared.operator.Operator.{Operator}
 use Rattle.model_bodies.specs.declared.statement.Operand.{Operand}
 use Rattle.model_bodies.specs.declared.statement.Register.{Register}
 use Rattle.program_lines.specs.Scopes.{NameScope, register_named, function_named, max_registers, IsFresh}
 use Rattle.program_lines.specs.Places.{Place, Common, FreshName, OperandWord, LocationWord, AssignedRegister, KnownRegister, FunctionName, ParameterName, Sign, Exactly, Value, Plain, OfOperand, OfLocation, OfRegister, OfAssigned, OfSign, Nothing, WordMeans, OperandMeans, RegisterMeans, AssignedMeans, IsRegisterName}
-use Rattle.program_lines.specs.Table.{table, Placed, placed, WordsMean}
+use Rattle.program_lines.specs.Table.{table, spelling, HasKeyword, wanted, optional, Placed, placed, WordsMean, Says}
 use Rattle.program_lines.specs.Grammar.{number_if_there}
 use Rattle.program_lines.specs.Faults.{WordFault}
-use Rattle.program_lines.specs.Outcome.{TakesWord, Fits}
+use Rattle.program_lines.specs.Outcome.{Reads, Fits}
 use Rattle.program_lines.proofs.Keywords.{keyword_of_word, keyword_of_spelling}
 use Rattle.program_lines.proofs.LocationWords.{below_word, unnamed, operand_shape, operand_number, operand_known, location_no_fault}
 
@@ -89,25 +88,53 @@ module _ (scope : NameScope) where
 
   -- ---- a word and the rest
 
-  pub takes : (place : Place) (places last : List Place) (old mid : List (List ℕ)) {A B : Type 0} (a : Result A Cause) (b : Result B Cause)
-      (value : A → Value) (values : B → List Value) → TakesWord scope place old mid a value → Fits scope places last mid b values
-      → Fits scope (place ∷ places) last old (both_of a b) (λ r. value r.0 ∷ values r.1)
-  takes place places last old mid a b value values t f = word_and_rest clear place places last old mid a b value values t f
+  pub reads : (place : Place) (places last : List Place) (word : List ℕ) (words : List (List ℕ)) {A B : Type 0} (a : Result A Cause) (b : Result B Cause) (r : Result (A × B) Cause)
+      (value : A → Value) (values : B → List Value) → r ≡ both_of a b → Reads scope place word a value → Fits scope places last words b values
+      → Fits scope (place ∷ places) last (word ∷ words) r (λ x. value x.0 ∷ values x.1)
+  reads place places last word words {A} {B} a b r value values e m f =
+      subst (λ (answer : Result (A × B) Cause). Fits scope (place ∷ places) last (word ∷ words) answer (λ x. value x.0 ∷ values x.1)) (sym e)
+      (word_and_rest clear place places last word words a b value values m f)
 
-  -- a keyword behind which no word stands
-  pub stands_alone : {A : Type 0} (words : List (List ℕ)) (Holds : A → Type 0) (item : A) (r : Result (Unit {0}) Cause) → Fits scope [] [] words r (λ _. [])
-      → ((pairs : List Placed) × (placed [] [] words ≡ Some pairs) × WordsMean scope pairs [] → Holds item)
-      → MatchResult (result_and r (Ok item)) Holds (λ cause. IsPlacedFault (WordFault scope) (placed [] [] words) cause)
-  stands_alone words Holds item (Ok done) f h = h f
-  stands_alone words Holds item (Err cause) f h = f
+  pub one_word : (place : Place) (last : List Place) (word : List ℕ) {A : Type 0} (r : Result A Cause) (value : A → Value) → Reads scope place word r value
+      → Fits scope (place ∷ []) last (word ∷ []) r (λ x. value x ∷ [])
+  one_word place last word (Ok x) value m = ((place, word) ∷ [], refl, (m, tt))
+  one_word place last word (Err cause) value f = (inl f.0, λ lower l g. elim g [ inl w ↦ f.1 lower l w | inr n ↦ n ])
+
+  pub two_words : (first second : Place) (word other : List ℕ) {A B : Type 0} (a : Result A Cause) (b : Result B Cause) (r : Result (A × B) Cause)
+      (value : A → Value) (more : B → Value) → r ≡ both_of a b → Reads scope first word a value → Reads scope second other b more
+      → Fits scope (first ∷ second ∷ []) [] (word ∷ other ∷ []) r (λ x. value x.0 ∷ more x.1 ∷ [])
+  two_words first second word other a b r value more e m n =
+      reads first (second ∷ []) [] word (other ∷ []) a b r value (λ x. more x ∷ []) e m (one_word second [] other b more n)
+
+  -- a word whose meaning is known, and the rest
+  pub known_word : (place : Place) (places last : List Place) (word : List ℕ) (words : List (List ℕ)) {B : Type 0} (b : Result B Cause) (value : Value) (values : B → List Value)
+      → WordMeans scope place word value → Fits scope places last words b values → Fits scope (place ∷ places) last (word ∷ words) b (λ x. value ∷ values x)
+  known_word place places last word words {B} b value values m f =
+      alone b (word_and_rest clear place places last word words {A = Unit {0}} (Ok tt) b (λ _. value) values m f)
+    where
+      alone : (c : Result B Cause) → Fits scope (place ∷ places) last (word ∷ words) (both_of {A = Unit {0}} (Ok tt) c) (λ x. value ∷ values x.1)
+          → Fits scope (place ∷ places) last (word ∷ words) c (λ x. value ∷ values x)
+      alone (Ok x) g = g
+      alone (Err cause) g = g
+
+  -- two operands and the sign between them
+  pub joined_words : (left sign right : List ℕ) (operator : Operator) (a b : Result Operand Cause) (r : Result (Operand × Operand) Cause) → r ≡ both_of a b
+      → Reads scope OperandWord left a OfOperand → WordMeans scope Sign sign (OfSign operator) → Reads scope OperandWord right b OfOperand
+      → Fits scope (OperandWord ∷ []) (Sign ∷ OperandWord ∷ []) (left ∷ sign ∷ right ∷ []) r (λ x. OfOperand x.0 ∷ OfSign operator ∷ OfOperand x.1 ∷ [])
+  joined_words left sign right operator a b r e m s n =
+      reads OperandWord [] (Sign ∷ OperandWord ∷ []) left (sign ∷ right ∷ []) a b r OfOperand (λ x. OfSign operator ∷ OfOperand x ∷ []) e m (behind b n)
+    where
+      behind : (c : Result Operand Cause) → Reads scope OperandWord right c OfOperand
+          → Fits scope [] (Sign ∷ OperandWord ∷ []) (sign ∷ right ∷ []) c (λ x. OfSign operator ∷ OfOperand x ∷ [])
+      behind c k = known_word Sign (OperandWord ∷ []) [] sign (right ∷ []) c (OfSign operator) (λ x. OfOperand x ∷ []) s (one_word OperandWord [] right c OfOperand k)
+
+  -- words that mean values behind a keyword
+  pub said : (keyword : Keyword) (words : List (List ℕ)) (values : List Value) → HasKeyword scope.known.version keyword
+      → ((pairs : List Placed) × (placed (wanted keyword) (optional keyword) words ≡ Some pairs) × WordsMean scope pairs values)
+      → Says scope (spelling keyword ∷ words) keyword values
+  said keyword words values has f = (f.0, (words, refl, has, f.1), f.2)
 
   -- ---- places as in traces
-
-  pub takes_common : (place : trace.Place) (old new : List (List ℕ)) {A : Type 0} (r : Result A Cause) (value : A → trace.Value)
-      → TakesCommon scope.known place old new r value → TakesWord scope (Common place) old new r (λ x. Plain (value x))
-  takes_common place [] new r value t = t
-  takes_common place (word ∷ words) new (Ok x) value t = t
-  takes_common place (word ∷ words) new (Err cause) value t = t
 
   pub fits_common : (place : trace.Place) (words : List (List ℕ)) (r : Result (Option ℕ) Cause)
       → FitsCommon scope.known [] (Some place) words r trace.if_there → Fits scope [] (Common place ∷ []) words r number_if_there

@@ -1,14 +1,12 @@
 -- The items that the code makes of lines.
-use Rattle.std.specs.Prelude.{ℕ, Option, Some, None, List, [], ◌∷◌, Result, MatchResult, option_copied}
+use Rattle.std.specs.Prelude.{ℕ, List, ◌∷◌, Result, MatchResult, option_copied}
 use Rattle.text_words.specs.declared.fault.Cause.{Cause}
 use Rattle.line_grammar.specs.LineGrammar.{IsPlacedFault}
 use Rattle.program_lines.specs.declared.keyword.Keyword.{Keyword}
+use Rattle.program_lines.specs.declared.keyword.Keyword.TheVariants.{Reducer, Func, Access, Spawn, Call}
 use Rattle.program_lines.specs.declared.item.Item as code
 use Rattle.program_lines.specs.declared.item.Item.TheVariants as code_item
-use Rattle.program_lines.specs.declared.operator.Operator.{Operator}
-use Rattle.model_bodies.specs.declared.statement.Operand.{Operand}
 use Rattle.program_lines.specs.Scopes.{NameScope}
-use Rattle.program_lines.specs.Places.{Value, OfOperand, OfSign}
 use Rattle.program_lines.specs.Table.{spelling, placed, wanted, optional}
 use Rattle.program_lines.specs.Grammar.{Item, Blank, Declared, Reduces, Begins, Does, Decides, Otherwise, Ends, ItemMeans}
 use Rattle.program_lines.specs.Faults.{WordFault}
@@ -30,7 +28,11 @@ IsRead at scope keyword words answer =
     MatchResult answer (λ item. ItemMeans at scope (spelling keyword ∷ words) (item_of item))
     (λ cause. IsPlacedFault (WordFault scope) (placed (wanted keyword) (optional keyword) words) cause)
 
--- A second operand behind a sign, where it is there.
-abbrev pub joined_values : Option (Operator × Operand) → List Value
-joined_values None = []
-joined_values (Some joined) = OfSign joined.0 ∷ OfOperand joined.1 ∷ []
+-- A line with this keyword takes two words behind it, whatever they say.
+abbrev pub TakesTwo : Keyword → Type 0
+TakesTwo Reducer = Unit {0}
+TakesTwo Func = Unit {0}
+TakesTwo (Access kind) = Unit {0}
+TakesTwo Spawn = Unit {0}
+TakesTwo Call = Unit {0}
+TakesTwo keyword = ⊥

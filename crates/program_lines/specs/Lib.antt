@@ -8,3 +8,4 @@ pub mod Items
 pub mod Locations
 pub mod Printing
 pub mod Laws
+pub mod Arguments

@@ -10,10 +10,6 @@ use Rattle.program_lines.specs.Faults.{WordFault}
 abbrev pub Reads : {A : Type 0} → NameScope → Place → List ℕ → Result A Cause → (A → Value) → Type 0
 Reads scope = line.Reads (WordMeans scope) (WordFault scope)
 
--- The first word is taken, and the answer is what it means in its place; or there is none.
-abbrev pub TakesWord : {A : Type 0} → NameScope → Place → List (List ℕ) → List (List ℕ) → Result A Cause → (A → Value) → Type 0
-TakesWord scope = line.TakesWord (WordMeans scope) (WordFault scope)
-
 -- The words fit the places, and the answer is what they mean; or it is the lowest cause.
 abbrev pub Fits : {A : Type 0} → NameScope → (places last : List Place) → List (List ℕ) → Result A Cause → (A → List Value) → Type 0
 Fits scope = line.Fits (WordMeans scope) (WordFault scope)

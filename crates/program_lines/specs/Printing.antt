@@ -17,7 +17,7 @@ use Rattle.model_bodies.specs.declared.statement.Location.TheVariants.{Cell, Ele
 use Rattle.model_bodies.specs.declared.statement.Expression.{Expression}
 use Rattle.model_bodies.specs.declared.statement.Expression.TheVariants.{Plain as PlainOperand, Sum, Difference, Product, Less}
 use Rattle.model_bodies.specs.declared.statement.Statement.{Statement}
-use Rattle.model_bodies.specs.declared.statement.Statement.TheVariants.{Read, Write, Bump, Update, Put, Get, Spawn, Call, ParallelFor}
+use Rattle.model_bodies.specs.declared.statement.Statement.TheVariants.{Spawn, Call, ParallelFor}
 use Rattle.program_lines.specs.declared.keyword.Keyword.{Keyword}
 use Rattle.program_lines.specs.declared.keyword.Keyword.TheVariants as word
 use Rattle.program_lines.specs.Scopes.{NameScope, ok_word}
@@ -67,7 +67,6 @@ plain_word scope (Exactly other) value = other
 plain_word scope place value = []
 
 -- The words for values in the places of a line.
--- The words for values in the places of a line.
 abbrev pub plain_words : NameScope → (places last : List Place) → List Value → List (List ℕ)
 plain_words scope = line.plain_words (plain_word scope)
 
@@ -115,16 +114,6 @@ IsNamedFunction functions (Spawn line function argument) name = name_of_function
 IsNamedFunction functions (Call line function argument) name = name_of_function functions function ≡ name
 IsNamedFunction functions (ParallelFor line register count function) name = name_of_function functions function ≡ name
 IsNamedFunction functions statement name = Unit {0}
-
--- It accesses a cell or a reducer.
-abbrev pub IsAccess : Statement → Type 0
-IsAccess (Read line register location) = Unit {0}
-IsAccess (Write line location value) = Unit {0}
-IsAccess (Bump line location value) = Unit {0}
-IsAccess (Update line reducer value) = Unit {0}
-IsAccess (Put line reducer value) = Unit {0}
-IsAccess (Get line register reducer) = Unit {0}
-IsAccess statement = ⊥
 
 -- The registers that are known behind the line.
 abbrev pub registers_behind : NameScope → Item → List (List ℕ)

@@ -8,7 +8,7 @@ use access_table::{Kind, kind_of};
 use text_words::Version;
 
 /// The first word of a line.
-#[derive(Clone, Copy, Debug)]
+#[derive(Clone, Copy)]
 pub enum Keyword {
     /// Declares a memory.
     Mem,

@@ -1,212 +1,188 @@
 //! One line of a program.
 
-ghost use Rattle.std.specs.Prelude.{◌≡◌, ◌∷◌, [], None, MatchResult, codes, cond, option_copied};
+ghost use Rattle.std.specs.Prelude.{◌≡◌, ℕ, ◌∷◌, [], List, None, MatchOption, MatchResult, cond};
 ghost use Rattle.model_accesses.specs.declared.kind.Kind.TheVariants as kind;
-ghost use Rattle.trace_text.specs.Lines as trace;
-ghost use Rattle.model_accesses.specs.Limits.{most_cells};
+ghost use Rattle.text_words.specs.declared.fault.Cause.TheVariants.{BadWord};
 ghost use Rattle.text_words.specs.Causes.{IsLowest};
-ghost use Rattle.program_lines.specs.declared.keyword.Keyword.TheVariants.{Access, Call, Let, ParallelFor, Spawn};
-ghost use Rattle.program_lines.specs.Scopes.{NameScope as SpecScope};
-ghost use Rattle.program_lines.specs.Places.{Common, FreshName, OperandWord, LocationWord, AssignedRegister, KnownRegister, FunctionName};
-ghost use Rattle.program_lines.specs.Places.{ParameterName, Sign, Exactly, Plain, OfOperand, OfLocation, OfRegister, OfAssigned, Nothing};
+ghost use Rattle.program_lines.specs.declared.keyword.Keyword.TheVariants.{Access, Call, Func, If, Let, Mem, ParallelFor};
+ghost use Rattle.program_lines.specs.declared.keyword.Keyword.TheVariants.{Reducer, Spawn};
+ghost use Rattle.program_lines.specs.Places.{OperandWord, OfOperand, OfSign, Sign};
 ghost use Rattle.program_lines.specs.Table.{HasKeyword};
-ghost use Rattle.program_lines.specs.Grammar.{Does, ItemMeans, expression_values, number_if_there};
+ghost use Rattle.program_lines.specs.Grammar.{Does, ItemMeans, expression_values};
 ghost use Rattle.program_lines.specs.Faults.{WordsFault};
 ghost use Rattle.program_lines.specs.Outcome.{Fits};
-ghost use Rattle.program_lines.specs.Items.{item_of, joined_values, IsRead};
+ghost use Rattle.program_lines.specs.Items.{item_of, IsRead, TakesTwo};
 
 use crate::item::Item;
 use crate::keyword::{Keyword, keyword_of};
-use crate::operator::Operator;
+use crate::operator::{Operator, operator_of};
 use crate::place::{
-    Assigned, assigned_register, end, equals, fresh_name, function, joined, length, location,
-    monoid, operand, parameter, reducer, register,
+    Assigned, assignee, fresh_name, function, location, monoid, operand, parameter, reducer,
+    register,
 };
 use crate::scope::NameScope;
 use access_table::Kind;
-use model_bodies::{Expression, Location, Operand, Register, Statement};
+use model_bodies::{Expression, Operand, Statement};
 use std::alloc::Allocator;
-use text_words::{Cause, Monoid, Words, both};
+use text_words::{Cause, Words, both};
+use trace_text::length;
 
-/// The name and the length of a memory.
+/// The word that is left, where it is one.
+fn one<'a>(words: &mut Words<'a>) -> Option<&'a str>
+    ensures { MatchOption result ((word : List ℕ) → words.old ≡ word ∷ [] → ⊥) (λ word. words.old ≡ word.now ∷ []) }
+{
+    let Some(word) = words.take() else {
+        return None;
+    };
+    match words.take() {
+        Some(_) => None,
+        None => Some(word),
+    }
+}
+
+/// The words that are left, where they are two.
+fn two<'a>(words: &mut Words<'a>) -> Option<(&'a str, &'a str)>
+    ensures { MatchOption result
+        ((first : List ℕ) (second : List ℕ) → words.old ≡ first ∷ second ∷ [] → ⊥)
+        (λ pair. words.old ≡ pair.0.now ∷ pair.1.now ∷ []) }
+{
+    let Some(first) = words.take() else {
+        return None;
+    };
+    match one(words) {
+        Some(second) => Some((first, second)),
+        None => None,
+    }
+}
+
+/// The item, where no word is left.
+fn alone<'a>(words: &mut Words<'_>, item: Item<'a>) -> Result<Item<'a>, Cause>
+    ensures { MatchResult result
+        (λ said. (said ≡ item.entry) × (words.old ≡ []))
+        (λ cause. (cause ≡ BadWord) × (words.old ≡ [] → ⊥)) }
+{
+    match words.take() {
+        Some(_) => Err(Cause::BadWord),
+        None => Ok(item),
+    }
+}
+
+/// What the words behind `mem` say.
 fn memory<'a, A: Allocator + Copy>(
     scope: &NameScope<'_, '_, A>,
     words: &mut Words<'a>,
-) -> Result<(&'a str, Option<u32>), Cause>
-    ensures { Fits scope.now (FreshName ∷ []) (Common (trace.Number 1 most_cells) ∷ []) words.old result
-        (λ r. Plain (trace.OfName r.0.now) ∷ number_if_there r.1) }
+) -> Result<Item<'a>, Cause>
+    ensures { (at : ℕ) → IsRead at scope.now Mem words.old result }
 {
-    let name = fresh_name(scope, words);
-    let cells = length(words);
-    both(name, cells)
+    let Some(name) = words.take() else {
+        return Err(Cause::BadWord);
+    };
+    match both(fresh_name(scope, name), length(words)) {
+        Ok((name, length)) => Ok(Item::Declared { name, length }),
+        Err(why) => Err(why),
+    }
 }
 
-/// The name and the monoid of a reducer.
+/// What the words behind `reducer` say.
 fn reduction<'a, A: Allocator + Copy>(
     scope: &NameScope<'_, '_, A>,
-    words: &mut Words<'a>,
-) -> Result<(&'a str, (Monoid, ())), Cause>
-    ensures { Fits scope.now (FreshName ∷ Common trace.MonoidWord ∷ []) [] words.old result
-        (λ r. Plain (trace.OfName r.0.now) ∷ Plain (trace.OfMonoid r.1.0) ∷ []) }
+    name: &'a str,
+    word: &str,
+) -> Result<Item<'a>, Cause>
+    ensures { (at : ℕ) → IsRead at scope.now Reducer (name.now ∷ word.now ∷ []) result }
 {
-    let name = fresh_name(scope, words);
-    let monoid = monoid(scope, words);
-    let end = end(words);
-    both(name, both(monoid, end))
+    match both(fresh_name(scope, name), monoid(scope, word)) {
+        Ok((name, monoid)) => Ok(Item::Reduces { name, monoid }),
+        Err(why) => Err(why),
+    }
 }
 
-/// The name and the parameter of a function.
+/// What the words behind `func` say.
 fn head<'a, A: Allocator + Copy>(
     scope: &NameScope<'_, '_, A>,
-    words: &mut Words<'a>,
-) -> Result<(&'a str, (&'a str, ())), Cause>
-    ensures { Fits scope.now (FreshName ∷ ParameterName ∷ []) [] words.old result
-        (λ r. Plain (trace.OfName r.0.now) ∷ Plain (trace.OfName r.1.0.now) ∷ []) }
+    name: &'a str,
+    word: &'a str,
+) -> Result<Item<'a>, Cause>
+    ensures { (at : ℕ) → IsRead at scope.now Func (name.now ∷ word.now ∷ []) result }
 {
-    let name = fresh_name(scope, words);
-    let parameter = parameter(words);
-    let end = end(words);
-    both(name, both(parameter, end))
+    match both(fresh_name(scope, name), parameter(word)) {
+        Ok((name, parameter)) => Ok(Item::Begins { name, parameter }),
+        Err(why) => Err(why),
+    }
 }
 
-/// The register of an assignment, and the operands.
-fn assignment<'a, A: Allocator + Copy>(
+/// The expression of two operands and the sign between them.
+fn joined(left: Operand, operator: Operator, right: Operand) -> Expression
+    ensures { expression_values result ≡ OfOperand left ∷ OfSign operator ∷ OfOperand right ∷ [] }
+{
+    match operator {
+        Operator::Plus => Expression::Sum(left, right),
+        Operator::Minus => Expression::Difference(left, right),
+        Operator::Times => Expression::Product(left, right),
+        Operator::Below => Expression::Less(left, right),
+    }
+}
+
+/// An operand, a sign, and another operand, which is left.
+fn computed<A: Allocator + Copy>(
     scope: &NameScope<'_, '_, A>,
-    words: &mut Words<'a>,
-) -> Result<(Assigned<'a>, ((), (Operand, Option<(Operator, Operand)>))), Cause>
-    ensures { Fits scope.now (AssignedRegister ∷ Exactly (codes "=") ∷ OperandWord ∷ []) (Sign ∷ OperandWord ∷ []) words.old result
-        (λ r. OfAssigned r.0.register (option_copied r.0.named) ∷ Nothing ∷ OfOperand r.1.1.0 ∷ joined_values r.1.1.1) }
+    left: &str,
+    sign: &str,
+    words: &mut Words<'_>,
+) -> Result<Expression, Cause>
+    ensures { Fits scope.now (OperandWord ∷ []) (Sign ∷ OperandWord ∷ []) (left.now ∷ sign.now ∷ words.old) result expression_values }
 {
-    let register = assigned_register(scope, words);
-    let equals = equals(words);
-    let left = operand(scope, words);
-    let right = joined(scope, words);
-    both(register, both(equals, both(left, right)))
+    let Some(operator) = operator_of(sign) else {
+        return Err(Cause::BadWord);
+    };
+    let Some(right) = one(words) else {
+        return Err(Cause::BadWord);
+    };
+    match both(operand(scope, left), operand(scope, right)) {
+        Ok((left, right)) => Ok(joined(left, operator, right)),
+        Err(why) => Err(why),
+    }
 }
 
-/// The register and the location of a read.
-fn of_read<'a, A: Allocator + Copy>(
-    scope: &NameScope<'_, '_, A>,
-    words: &mut Words<'a>,
-) -> Result<(Assigned<'a>, (Location, ())), Cause>
-    ensures { Fits scope.now (AssignedRegister ∷ LocationWord ∷ []) [] words.old result
-        (λ r. OfAssigned r.0.register (option_copied r.0.named) ∷ OfLocation r.1.0 ∷ []) }
-{
-    let register = assigned_register(scope, words);
-    let location = location(scope, words);
-    let end = end(words);
-    both(register, both(location, end))
-}
-
-/// The location and the value of a write or a bump.
-fn of_write<A: Allocator + Copy>(
+/// What is left behind `=`: an operand, or two with a sign between them.
+fn expression<A: Allocator + Copy>(
     scope: &NameScope<'_, '_, A>,
     words: &mut Words<'_>,
-) -> Result<(Location, (Operand, ())), Cause>
-    ensures { Fits scope.now (LocationWord ∷ OperandWord ∷ []) [] words.old result (λ r. OfLocation r.0 ∷ OfOperand r.1.0 ∷ []) }
+) -> Result<Expression, Cause>
+    ensures { Fits scope.now (OperandWord ∷ []) (Sign ∷ OperandWord ∷ []) words.old result expression_values }
 {
-    let location = location(scope, words);
-    let value = operand(scope, words);
-    let end = end(words);
-    both(location, both(value, end))
-}
-
-/// The reducer and the value of an update or a put.
-fn of_update<A: Allocator + Copy>(
-    scope: &NameScope<'_, '_, A>,
-    words: &mut Words<'_>,
-) -> Result<(u32, (Operand, ())), Cause>
-    ensures { Fits scope.now (Common trace.ReducerName ∷ OperandWord ∷ []) [] words.old result
-        (λ r. Plain (trace.OfNumber r.0) ∷ OfOperand r.1.0 ∷ []) }
-{
-    let reducer = reducer(scope, words);
-    let value = operand(scope, words);
-    let end = end(words);
-    both(reducer, both(value, end))
-}
-
-/// The register and the reducer of a get.
-fn of_get<'a, A: Allocator + Copy>(
-    scope: &NameScope<'_, '_, A>,
-    words: &mut Words<'a>,
-) -> Result<(Assigned<'a>, (u32, ())), Cause>
-    ensures { Fits scope.now (AssignedRegister ∷ Common trace.ReducerName ∷ []) [] words.old result
-        (λ r. OfAssigned r.0.register (option_copied r.0.named) ∷ Plain (trace.OfNumber r.1.0) ∷ []) }
-{
-    let register = assigned_register(scope, words);
-    let reducer = reducer(scope, words);
-    let end = end(words);
-    both(register, both(reducer, end))
-}
-
-/// The function and the argument of a spawn or a call.
-fn of_call<A: Allocator + Copy>(
-    scope: &NameScope<'_, '_, A>,
-    words: &mut Words<'_>,
-) -> Result<(u32, (Operand, ())), Cause>
-    ensures { Fits scope.now (FunctionName ∷ OperandWord ∷ []) [] words.old result
-        (λ r. Plain (trace.OfNumber r.0) ∷ OfOperand r.1.0 ∷ []) }
-{
-    let function = function(scope, words);
-    let argument = operand(scope, words);
-    let end = end(words);
-    both(function, both(argument, end))
-}
-
-/// The register, the operand and the function of a parallel loop.
-fn of_parallel_for<'a, A: Allocator + Copy>(
-    scope: &NameScope<'_, '_, A>,
-    words: &mut Words<'a>,
-) -> Result<(Assigned<'a>, (Operand, (u32, ()))), Cause>
-    ensures { Fits scope.now (AssignedRegister ∷ OperandWord ∷ FunctionName ∷ []) [] words.old result
-        (λ r. OfAssigned r.0.register (option_copied r.0.named) ∷ OfOperand r.1.0 ∷ Plain (trace.OfNumber r.1.1.0) ∷ []) }
-{
-    let register = assigned_register(scope, words);
-    let count = operand(scope, words);
-    let function = function(scope, words);
-    let end = end(words);
-    both(register, both(count, both(function, end)))
-}
-
-/// The register that decides.
-fn of_if<A: Allocator + Copy>(
-    scope: &NameScope<'_, '_, A>,
-    words: &mut Words<'_>,
-) -> Result<(Register, ()), Cause>
-    ensures { Fits scope.now (KnownRegister ∷ []) [] words.old result (λ r. OfRegister r.0 ∷ []) }
-{
-    let register = register(scope, words);
-    let end = end(words);
-    both(register, end)
-}
-
-/// The expression of an operand and what stands behind it.
-fn expression(left: Operand, joined: Option<(Operator, Operand)>) -> Expression
-    ensures { expression_values result ≡ OfOperand left ∷ joined_values joined }
-{
-    match joined {
-        None => Expression::Plain(left),
-        Some((Operator::Plus, right)) => Expression::Sum(left, right),
-        Some((Operator::Minus, right)) => Expression::Difference(left, right),
-        Some((Operator::Times, right)) => Expression::Product(left, right),
-        Some((Operator::Below, right)) => Expression::Less(left, right),
+    let Some(left) = words.take() else {
+        return Err(Cause::BadWord);
+    };
+    match words.take() {
+        Some(sign) => computed(scope, left, sign, words),
+        None => match operand(scope, left) {
+            Ok(operand) => Ok(Expression::Plain(operand)),
+            Err(why) => Err(why),
+        },
     }
 }
 
 /// What the words behind `let` say.
-fn behind_let<'a, A: Allocator + Copy>(
+fn assignment<'a, A: Allocator + Copy>(
     at: u32,
     scope: &NameScope<'_, '_, A>,
     words: &mut Words<'a>,
 ) -> Result<Item<'a>, Cause>
     ensures { IsRead at scope.now Let words.old result }
 {
-    match assignment(scope, words) {
-        Ok((Assigned { register, named }, ((), (left, right)))) => Ok(Item::Does {
+    let Some(target) = words.take() else {
+        return Err(Cause::BadWord);
+    };
+    let Some("=") = words.take() else {
+        return Err(Cause::BadWord);
+    };
+    match both(assignee(scope, target), expression(scope, words)) {
+        Ok((Assigned { register, named }, value)) => Ok(Item::Does {
             statement: Statement::Let {
                 line: at,
                 register,
-                value: expression(left, right),
+                value,
             },
             named,
         }),
@@ -225,15 +201,16 @@ fn does(statement: Statement) -> Item<'static>
 }
 
 /// What the words behind `read` say.
-fn behind_read<'a, A: Allocator + Copy>(
+fn read<'a, A: Allocator + Copy>(
     at: u32,
     scope: &NameScope<'_, '_, A>,
-    words: &mut Words<'a>,
+    target: &'a str,
+    place: &str,
 ) -> Result<Item<'a>, Cause>
-    ensures { IsRead at scope.now (Access kind.Read) words.old result }
+    ensures { IsRead at scope.now (Access kind.Read) (target.now ∷ place.now ∷ []) result }
 {
-    match of_read(scope, words) {
-        Ok((Assigned { register, named }, (location, ()))) => Ok(Item::Does {
+    match both(assignee(scope, target), location(scope, place)) {
+        Ok((Assigned { register, named }, location)) => Ok(Item::Does {
             statement: Statement::Read {
                 line: at,
                 register,
@@ -246,15 +223,16 @@ fn behind_read<'a, A: Allocator + Copy>(
 }
 
 /// What the words behind `get` say.
-fn behind_get<'a, A: Allocator + Copy>(
+fn get<'a, A: Allocator + Copy>(
     at: u32,
     scope: &NameScope<'_, '_, A>,
-    words: &mut Words<'a>,
+    target: &'a str,
+    name: &str,
 ) -> Result<Item<'a>, Cause>
-    ensures { IsRead at scope.now (Access kind.Get) words.old result }
+    ensures { IsRead at scope.now (Access kind.Get) (target.now ∷ name.now ∷ []) result }
 {
-    match of_get(scope, words) {
-        Ok((Assigned { register, named }, (reducer, ()))) => Ok(Item::Does {
+    match both(assignee(scope, target), reducer(scope, name)) {
+        Ok((Assigned { register, named }, reducer)) => Ok(Item::Does {
             statement: Statement::Get {
                 line: at,
                 register,
@@ -267,18 +245,18 @@ fn behind_get<'a, A: Allocator + Copy>(
 }
 
 /// What the words behind `write` or `bump` say.
-fn behind_write<A: Allocator + Copy>(
-    at: u32,
+fn write<A: Allocator + Copy>(
+    line: u32,
     scope: &NameScope<'_, '_, A>,
     bumps: bool,
-    words: &mut Words<'_>,
+    place: &str,
+    value: &str,
 ) -> Result<Item<'static>, Cause>
     requires { HasKeyword scope.now.known.version (Access (cond bumps kind.Bump kind.Write)) }
-    ensures { IsRead at scope.now (Access (cond bumps kind.Bump kind.Write)) words.old result }
+    ensures { IsRead line scope.now (Access (cond bumps kind.Bump kind.Write)) (place.now ∷ value.now ∷ []) result }
 {
-    let line = at;
-    match of_write(scope, words) {
-        Ok((location, (value, ()))) => {
+    match both(location(scope, place), operand(scope, value)) {
+        Ok((location, value)) => {
             if bumps {
                 Ok(does(Statement::Bump {
                     line,
@@ -298,17 +276,17 @@ fn behind_write<A: Allocator + Copy>(
 }
 
 /// What the words behind `update` or `put` say.
-fn behind_update<A: Allocator + Copy>(
-    at: u32,
+fn update<A: Allocator + Copy>(
+    line: u32,
     scope: &NameScope<'_, '_, A>,
     puts: bool,
-    words: &mut Words<'_>,
+    name: &str,
+    value: &str,
 ) -> Result<Item<'static>, Cause>
-    ensures { IsRead at scope.now (Access (cond puts kind.Put kind.Update)) words.old result }
+    ensures { IsRead line scope.now (Access (cond puts kind.Put kind.Update)) (name.now ∷ value.now ∷ []) result }
 {
-    let line = at;
-    match of_update(scope, words) {
-        Ok((reducer, (value, ()))) => {
+    match both(reducer(scope, name), operand(scope, value)) {
+        Ok((reducer, value)) => {
             if puts {
                 Ok(does(Statement::Put {
                     line,
@@ -327,61 +305,18 @@ fn behind_update<A: Allocator + Copy>(
     }
 }
 
-/// What the words behind the keyword of an access say.
-fn access<'a, A: Allocator + Copy>(
-    at: u32,
-    scope: &NameScope<'_, '_, A>,
-    kind: Kind,
-    words: &mut Words<'a>,
-) -> Result<Item<'a>, Cause>
-    requires { HasKeyword scope.now.known.version (Access kind) }
-    ensures { IsRead at scope.now (Access kind) words.old result }
-{
-    match kind {
-        Kind::Read => behind_read(at, scope, words),
-        Kind::Write => behind_write(at, scope, false, words),
-        Kind::Bump => behind_write(at, scope, true, words),
-        Kind::Update => behind_update(at, scope, false, words),
-        Kind::Put => behind_update(at, scope, true, words),
-        Kind::Get => behind_get(at, scope, words),
-    }
-}
-
-/// What the words behind `pfor` say.
-fn behind_parallel_for<'a, A: Allocator + Copy>(
-    at: u32,
-    scope: &NameScope<'_, '_, A>,
-    words: &mut Words<'a>,
-) -> Result<Item<'a>, Cause>
-    requires { HasKeyword scope.now.known.version ParallelFor }
-    ensures { IsRead at scope.now ParallelFor words.old result }
-{
-    match of_parallel_for(scope, words) {
-        Ok((Assigned { register, named }, (count, (function, ())))) => Ok(Item::Does {
-            statement: Statement::ParallelFor {
-                line: at,
-                register,
-                count,
-                function,
-            },
-            named,
-        }),
-        Err(why) => Err(why),
-    }
-}
-
 /// What the words behind `spawn` or `call` say.
-fn behind_call<A: Allocator + Copy>(
-    at: u32,
+fn call<A: Allocator + Copy>(
+    line: u32,
     scope: &NameScope<'_, '_, A>,
     spawns: bool,
-    words: &mut Words<'_>,
+    name: &str,
+    value: &str,
 ) -> Result<Item<'static>, Cause>
-    ensures { IsRead at scope.now (cond spawns Spawn Call) words.old result }
+    ensures { IsRead line scope.now (cond spawns Spawn Call) (name.now ∷ value.now ∷ []) result }
 {
-    let line = at;
-    match of_call(scope, words) {
-        Ok((function, (argument, ()))) => {
+    match both(function(scope, name), operand(scope, value)) {
+        Ok((function, argument)) => {
             if spawns {
                 Ok(does(Statement::Spawn {
                     line,
@@ -400,6 +335,97 @@ fn behind_call<A: Allocator + Copy>(
     }
 }
 
+/// What the words behind `pfor` say.
+fn parallel_for<'a, A: Allocator + Copy>(
+    at: u32,
+    scope: &NameScope<'_, '_, A>,
+    words: &mut Words<'a>,
+) -> Result<Item<'a>, Cause>
+    requires { HasKeyword scope.now.known.version ParallelFor }
+    ensures { IsRead at scope.now ParallelFor words.old result }
+{
+    let Some(target) = words.take() else {
+        return Err(Cause::BadWord);
+    };
+    let Some((count, name)) = two(words) else {
+        return Err(Cause::BadWord);
+    };
+    match both(
+        assignee(scope, target),
+        both(operand(scope, count), function(scope, name)),
+    ) {
+        Ok((Assigned { register, named }, (count, function))) => Ok(Item::Does {
+            statement: Statement::ParallelFor {
+                line: at,
+                register,
+                count,
+                function,
+            },
+            named,
+        }),
+        Err(why) => Err(why),
+    }
+}
+
+/// What the words behind `if` say.
+fn decision<'a, A: Allocator + Copy>(
+    scope: &NameScope<'_, '_, A>,
+    words: &mut Words<'a>,
+) -> Result<Item<'a>, Cause>
+    ensures { (at : ℕ) → IsRead at scope.now If words.old result }
+{
+    let Some(word) = one(words) else {
+        return Err(Cause::BadWord);
+    };
+    match register(scope, word) {
+        Ok(register) => Ok(Item::Decides { register }),
+        Err(why) => Err(why),
+    }
+}
+
+/// What the two words behind the keyword of an access say.
+fn access<'a, A: Allocator + Copy>(
+    at: u32,
+    scope: &NameScope<'_, '_, A>,
+    kind: Kind,
+    first: &'a str,
+    second: &str,
+) -> Result<Item<'a>, Cause>
+    requires { HasKeyword scope.now.known.version (Access kind) }
+    ensures { IsRead at scope.now (Access kind) (first.now ∷ second.now ∷ []) result }
+{
+    match kind {
+        Kind::Read => read(at, scope, first, second),
+        Kind::Write => write(at, scope, false, first, second),
+        Kind::Bump => write(at, scope, true, first, second),
+        Kind::Update => update(at, scope, false, first, second),
+        Kind::Put => update(at, scope, true, first, second),
+        Kind::Get => get(at, scope, first, second),
+    }
+}
+
+/// What the two words behind a keyword say that takes so many.
+fn behind_two<'a, A: Allocator + Copy>(
+    at: u32,
+    scope: &NameScope<'_, '_, A>,
+    keyword: Keyword,
+    first: &'a str,
+    second: &'a str,
+) -> Result<Item<'a>, Cause>
+    requires known { HasKeyword scope.now.known.version keyword }
+    requires two { TakesTwo keyword }
+    ensures { IsRead at scope.now keyword (first.now ∷ second.now ∷ []) result }
+{
+    match keyword {
+        Keyword::Reducer => reduction(scope, first, second),
+        Keyword::Func => head(scope, first, second),
+        Keyword::Access(kind) => access(at, scope, kind, first, second),
+        Keyword::Spawn => call(at, scope, true, first, second),
+        Keyword::Call => call(at, scope, false, first, second),
+        _ => unreachable!(),
+    }
+}
+
 /// What the words behind a keyword say.
 fn behind_keyword<'a, A: Allocator + Copy>(
     at: u32,
@@ -411,30 +437,17 @@ fn behind_keyword<'a, A: Allocator + Copy>(
     ensures { IsRead at scope.now keyword words.old result }
 {
     match keyword {
-        Keyword::Mem => match memory(scope, words) {
-            Ok((name, length)) => Ok(Item::Declared { name, length }),
-            Err(why) => Err(why),
+        Keyword::Mem => memory(scope, words),
+        Keyword::Let => assignment(at, scope, words),
+        Keyword::ParallelFor => parallel_for(at, scope, words),
+        Keyword::If => decision(scope, words),
+        Keyword::Sync => alone(words, does(Statement::Sync { line: at })),
+        Keyword::Else => alone(words, Item::Otherwise),
+        Keyword::End => alone(words, Item::Ends),
+        _ => match two(words) {
+            Some((first, second)) => behind_two(at, scope, keyword, first, second),
+            None => Err(Cause::BadWord),
         },
-        Keyword::Reducer => match reduction(scope, words) {
-            Ok((name, (monoid, ()))) => Ok(Item::Reduces { name, monoid }),
-            Err(why) => Err(why),
-        },
-        Keyword::Func => match head(scope, words) {
-            Ok((name, (parameter, ()))) => Ok(Item::Begins { name, parameter }),
-            Err(why) => Err(why),
-        },
-        Keyword::Let => behind_let(at, scope, words),
-        Keyword::Access(kind) => access(at, scope, kind, words),
-        Keyword::Spawn => behind_call(at, scope, true, words),
-        Keyword::Call => behind_call(at, scope, false, words),
-        Keyword::Sync => end(words).and(Ok(does(Statement::Sync { line: at }))),
-        Keyword::ParallelFor => behind_parallel_for(at, scope, words),
-        Keyword::If => match of_if(scope, words) {
-            Ok((register, ())) => Ok(Item::Decides { register }),
-            Err(why) => Err(why),
-        },
-        Keyword::Else => end(words).and(Ok(Item::Otherwise)),
-        Keyword::End => end(words).and(Ok(Item::Ends)),
     }
 }
 

@@ -5,7 +5,7 @@ ghost use Rattle.program_lines.specs.declared.operator.Operator.{Operator};
 ghost use Rattle.program_lines.specs.Places.{sign_spelling};
 
 /// A sign between two operands.
-#[derive(Clone, Copy, Debug)]
+#[derive(Clone, Copy)]
 pub enum Operator {
     /// `+`.
     Plus,

@@ -1,27 +1,23 @@
 //! Words in their places.
 
-ghost use Rattle.std.specs.Prelude.{◌↔◌, [], ◌∷◌, IsTrue, codes, option_copied, MatchResult};
+ghost use Rattle.std.specs.Prelude.{◌↔◌, IsTrue, option_copied, MatchResult};
 ghost use Rattle.trace_text.specs.Cells.{IsSingleFault};
 ghost use Rattle.trace_text.specs.Lines as trace;
-ghost use Rattle.model_accesses.specs.Limits.{most_cells};
 ghost use Rattle.program_lines.specs.Scopes.{NameScope as SpecScope, IsFresh};
 ghost use Rattle.program_lines.specs.Places.{Common, FreshName, OperandWord, LocationWord, AssignedRegister};
-ghost use Rattle.program_lines.specs.Places.{KnownRegister, FunctionName, ParameterName, Sign, Exactly, Plain, OfOperand};
-ghost use Rattle.program_lines.specs.Places.{OfLocation, OfRegister, OfAssigned, OfSign, Nothing, IsRegisterName};
-ghost use Rattle.program_lines.specs.Grammar.{number_if_there};
+ghost use Rattle.program_lines.specs.Places.{KnownRegister, FunctionName, ParameterName, Plain, OfOperand};
+ghost use Rattle.program_lines.specs.Places.{OfLocation, OfRegister, OfAssigned, IsRegisterName};
 ghost use Rattle.program_lines.specs.Locations.{SingleIs, ElementIs, IsElementFault};
-ghost use Rattle.program_lines.specs.Items.{joined_values};
-ghost use Rattle.program_lines.specs.Outcome.{TakesWord, Fits, Reads};
+ghost use Rattle.program_lines.specs.Outcome.{Reads};
 
-use crate::operator::{Operator, operator_of};
 use crate::scope::NameScope;
 use model_bodies::{Location, Operand, Register};
 use std::alloc::Allocator;
-use text_words::{Cause, Monoid, Named, Words, both, is_name};
+use text_words::{Cause, Monoid, Named, is_name, monoid_of};
 use trace_text::number::number;
 
 /// The register that a line assigns, and its name where it is new.
-#[derive(Clone, Copy, Debug)]
+#[derive(Clone, Copy)]
 pub struct Assigned<'a> {
     pub register: Register,
     pub named: Option<&'a str>,
@@ -40,7 +36,8 @@ fn is_fresh<A: Allocator + Copy>(scope: &NameScope<'_, '_, A>, name: &str) -> bo
     }
 }
 
-fn fresh_name_of<'a, A: Allocator + Copy>(
+/// A name that is neither declared nor that of a function that has begun.
+pub fn fresh_name<'a, A: Allocator + Copy>(
     scope: &NameScope<'_, '_, A>,
     name: &'a str,
 ) -> Result<&'a str, Cause>
@@ -56,44 +53,30 @@ fn fresh_name_of<'a, A: Allocator + Copy>(
     }
 }
 
-/// Takes a name that is neither declared nor that of a function that has begun.
-pub fn fresh_name<'a, A: Allocator + Copy>(
+/// A monoid of the version.
+pub fn monoid<A: Allocator + Copy>(
     scope: &NameScope<'_, '_, A>,
-    words: &mut Words<'a>,
-) -> Result<&'a str, Cause>
-    ensures { TakesWord scope.now FreshName words.old words.new result (λ name. Plain (trace.OfName name.now)) }
+    word: &str,
+) -> Result<Monoid, Cause>
+    ensures { Reads scope.now (Common trace.MonoidWord) word.now result (λ monoid. Plain (trace.OfMonoid monoid)) }
 {
-    match words.take() {
-        Some(word) => fresh_name_of(scope, word),
+    match monoid_of(scope.names().version(), word) {
+        Some(monoid) => Ok(monoid),
         None => Err(Cause::BadWord),
     }
 }
 
-/// Takes what is left behind the name of a memory: nothing, or its length.
-pub fn length(words: &mut Words<'_>) -> Result<Option<u32>, Cause>
-    ensures { (scope : SpecScope) → Fits scope [] (Common (trace.Number 1 most_cells) ∷ []) words.old result number_if_there }
+/// The name of a reducer.
+pub fn reducer<A: Allocator + Copy>(scope: &NameScope<'_, '_, A>, word: &str) -> Result<u32, Cause>
+    ensures { Reads scope.now (Common trace.ReducerName) word.now result (λ number. Plain (trace.OfNumber number)) }
 {
-    trace_text::length(words)
-}
-
-/// Takes a monoid of the version.
-pub fn monoid<A: Allocator + Copy>(
-    scope: &NameScope<'_, '_, A>,
-    words: &mut Words<'_>,
-) -> Result<Monoid, Cause>
-    ensures { TakesWord scope.now (Common trace.MonoidWord) words.old words.new result (λ monoid. Plain (trace.OfMonoid monoid)) }
-{
-    trace_text::monoid(scope.names(), words)
-}
-
-/// Takes the name of a reducer.
-pub fn reducer<A: Allocator + Copy>(
-    scope: &NameScope<'_, '_, A>,
-    words: &mut Words<'_>,
-) -> Result<u32, Cause>
-    ensures { TakesWord scope.now (Common trace.ReducerName) words.old words.new result (λ number. Plain (trace.OfNumber number)) }
-{
-    trace_text::reducer(scope.names(), words)
+    if !is_name(word) {
+        return Err(Cause::BadWord);
+    }
+    match scope.names().find(word) {
+        Some(Named::Reducer(number)) => Ok(number),
+        _ => Err(Cause::UnknownName),
+    }
 }
 
 /// Whether a word is a name, and not `ok`.
@@ -103,23 +86,19 @@ fn is_register_name(word: &str) -> bool
     is_name(word) && word != "ok"
 }
 
-/// Takes the name of a parameter.
-pub fn parameter<'a>(words: &mut Words<'a>) -> Result<&'a str, Cause>
-    ensures { (scope : SpecScope) → TakesWord scope ParameterName words.old words.new result (λ name. Plain (trace.OfName name.now)) }
+/// The name of a parameter.
+pub fn parameter(word: &str) -> Result<&str, Cause>
+    ensures { (scope : SpecScope) → Reads scope ParameterName word.now result (λ name. Plain (trace.OfName name.now)) }
 {
-    match words.take() {
-        Some(word) => {
-            if is_register_name(word) {
-                Ok(word)
-            } else {
-                Err(Cause::BadWord)
-            }
-        }
-        None => Err(Cause::BadWord),
+    if is_register_name(word) {
+        Ok(word)
+    } else {
+        Err(Cause::BadWord)
     }
 }
 
-fn register_of<A: Allocator + Copy>(
+/// The name of a register that is known.
+pub fn register<A: Allocator + Copy>(
     scope: &NameScope<'_, '_, A>,
     word: &str,
 ) -> Result<Register, Cause>
@@ -134,20 +113,8 @@ fn register_of<A: Allocator + Copy>(
     }
 }
 
-/// Takes the name of a register that is known.
-pub fn register<A: Allocator + Copy>(
-    scope: &NameScope<'_, '_, A>,
-    words: &mut Words<'_>,
-) -> Result<Register, Cause>
-    ensures { TakesWord scope.now KnownRegister words.old words.new result OfRegister }
-{
-    match words.take() {
-        Some(word) => register_of(scope, word),
-        None => Err(Cause::BadWord),
-    }
-}
-
-fn assigned_by<'a, A: Allocator + Copy>(
+/// The name of a register that is assigned, which may be new.
+pub fn assignee<'a, A: Allocator + Copy>(
     scope: &NameScope<'_, '_, A>,
     word: &'a str,
 ) -> Result<Assigned<'a>, Cause>
@@ -177,21 +144,8 @@ fn assigned_by<'a, A: Allocator + Copy>(
     }
 }
 
-/// Takes the name of a register that is assigned, which may be new.
-pub fn assigned_register<'a, A: Allocator + Copy>(
-    scope: &NameScope<'_, '_, A>,
-    words: &mut Words<'a>,
-) -> Result<Assigned<'a>, Cause>
-    ensures { TakesWord scope.now AssignedRegister words.old words.new result
-        (λ assigned. OfAssigned assigned.register (option_copied assigned.named)) }
-{
-    match words.take() {
-        Some(word) => assigned_by(scope, word),
-        None => Err(Cause::BadWord),
-    }
-}
-
-fn operand_of<A: Allocator + Copy>(
+/// An operand.
+pub fn operand<A: Allocator + Copy>(
     scope: &NameScope<'_, '_, A>,
     word: &str,
 ) -> Result<Operand, Cause>
@@ -210,20 +164,8 @@ fn operand_of<A: Allocator + Copy>(
     }
 }
 
-/// Takes an operand.
-pub fn operand<A: Allocator + Copy>(
-    scope: &NameScope<'_, '_, A>,
-    words: &mut Words<'_>,
-) -> Result<Operand, Cause>
-    ensures { TakesWord scope.now OperandWord words.old words.new result OfOperand }
-{
-    match words.take() {
-        Some(word) => operand_of(scope, word),
-        None => Err(Cause::BadWord),
-    }
-}
-
-fn function_of<A: Allocator + Copy>(scope: &NameScope<'_, '_, A>, word: &str) -> Result<u32, Cause>
+/// The name of a function.
+pub fn function<A: Allocator + Copy>(scope: &NameScope<'_, '_, A>, word: &str) -> Result<u32, Cause>
     ensures { Reads scope.now FunctionName word.now result (λ number. Plain (trace.OfNumber number)) }
 {
     if !is_name(word) {
@@ -232,19 +174,6 @@ fn function_of<A: Allocator + Copy>(scope: &NameScope<'_, '_, A>, word: &str) ->
     match scope.function(word) {
         Some(number) => Ok(number),
         None => Err(Cause::UnknownName),
-    }
-}
-
-/// Takes the name of a function.
-pub fn function<A: Allocator + Copy>(
-    scope: &NameScope<'_, '_, A>,
-    words: &mut Words<'_>,
-) -> Result<u32, Cause>
-    ensures { TakesWord scope.now FunctionName words.old words.new result (λ number. Plain (trace.OfNumber number)) }
-{
-    match words.take() {
-        Some(word) => function_of(scope, word),
-        None => Err(Cause::BadWord),
     }
 }
 
@@ -272,7 +201,7 @@ fn element<A: Allocator + Copy>(
     if !is_name(name) {
         return Err(Cause::BadWord);
     }
-    let index = match operand_of(scope, index) {
+    let index = match operand(scope, index) {
         Ok(index) => index,
         Err(why) => return Err(why),
     };
@@ -289,7 +218,7 @@ fn element<A: Allocator + Copy>(
 }
 
 /// The location that a word names.
-fn location_of<A: Allocator + Copy>(
+pub fn location<A: Allocator + Copy>(
     scope: &NameScope<'_, '_, A>,
     word: &str,
 ) -> Result<Location, Cause>
@@ -301,78 +230,5 @@ fn location_of<A: Allocator + Copy>(
             Some(index) => element(scope, name, index),
             None => Err(Cause::BadWord),
         },
-    }
-}
-
-/// Takes a location.
-pub fn location<A: Allocator + Copy>(
-    scope: &NameScope<'_, '_, A>,
-    words: &mut Words<'_>,
-) -> Result<Location, Cause>
-    ensures { TakesWord scope.now LocationWord words.old words.new result OfLocation }
-{
-    match words.take() {
-        Some(word) => location_of(scope, word),
-        None => Err(Cause::BadWord),
-    }
-}
-
-/// Takes the word `=`.
-pub fn equals(words: &mut Words<'_>) -> Result<(), Cause>
-    ensures { (scope : SpecScope) → TakesWord scope (Exactly (codes "=")) words.old words.new result (λ _. Nothing) }
-{
-    match words.take() {
-        Some("=") => Ok(()),
-        Some(_) => Err(Cause::BadWord),
-        None => Err(Cause::BadWord),
-    }
-}
-
-fn sign_of(word: &str) -> Result<Operator, Cause>
-    ensures { (scope : SpecScope) → Reads scope Sign word.now result OfSign }
-{
-    match operator_of(word) {
-        Some(operator) => Ok(operator),
-        None => Err(Cause::BadWord),
-    }
-}
-
-/// A sign and an operand, and nothing behind them.
-fn behind_sign<A: Allocator + Copy>(
-    scope: &NameScope<'_, '_, A>,
-    word: &str,
-    words: &mut Words<'_>,
-) -> Result<(Operator, (Operand, ())), Cause>
-    ensures { Fits scope.now (Sign ∷ OperandWord ∷ []) [] (word.now ∷ words.old) result (λ r. OfSign r.0 ∷ OfOperand r.1.0 ∷ []) }
-{
-    let sign = sign_of(word);
-    let right = operand(scope, words);
-    let end = end(words);
-    both(sign, both(right, end))
-}
-
-/// Takes what is left behind the first operand: nothing, or a sign and another operand.
-pub fn joined<A: Allocator + Copy>(
-    scope: &NameScope<'_, '_, A>,
-    words: &mut Words<'_>,
-) -> Result<Option<(Operator, Operand)>, Cause>
-    ensures { Fits scope.now [] (Sign ∷ OperandWord ∷ []) words.old result joined_values }
-{
-    let Some(word) = words.take() else {
-        return Ok(None);
-    };
-    match behind_sign(scope, word, words) {
-        Ok((sign, (right, ()))) => Ok(Some((sign, right))),
-        Err(why) => Err(why),
-    }
-}
-
-/// Sees that nothing is left.
-pub fn end(words: &mut Words<'_>) -> Result<(), Cause>
-    ensures { (scope : SpecScope) → Fits scope [] [] words.old result (λ _. []) }
-{
-    match words.take() {
-        Some(_) => Err(Cause::BadWord),
-        None => Ok(()),
     }
 }

@@ -5,16 +5,19 @@ ghost use Rattle.text_words.specs.declared.value.Version.{Version};
 ghost use Rattle.trace_text.specs.Shapes.{is_numbered};
 ghost use Rattle.trace_text.specs.Printing.{behind_space, name_of_reducer, spaced};
 ghost use Rattle.program_lines.specs.Grammar.{keyword_of_statement};
-ghost use Rattle.program_lines.specs.Printing.{IsAccess, IsNamedFunction, argument_words, expression_words, location_word};
+ghost use Rattle.program_lines.specs.Printing.{IsNamedFunction, argument_words, expression_words, location_word};
 ghost use Rattle.program_lines.specs.Printing.{name_of_array, name_of_register, operand_word, printed_scope, statement_words};
+ghost use Rattle.program_lines.specs.Arguments.{words_of_argument};
 ghost use Rattle.program_lines.specs.Table.{spelling};
+ghost use Rattle.text_words.specs.declared.value.Mem.{Mem};
+ghost use Rattle.text_words.specs.Names.{element_word};
 
 use access_table::{Kind, word};
 use model_bodies::{Expression, Location, Operand, Register, Statement};
 use std::alloc::{AllocError, Allocator};
 use std::fmt::Write;
 use text_words::{Mem, Name, Reducer};
-use trace_text::{memory_at, put_cell, put_word};
+use trace_text::{memory_at, put_cell, put_number, put_word};
 
 /// The name of a register.
 fn register_name(registers: &[Name], register: Register) -> &str
@@ -50,6 +53,102 @@ fn array_name(mems: &[Mem], first: u32) -> &str
     }
 }
 
+/// A part of a statement behind its keyword.
+#[derive(Clone, Copy)]
+enum Argument<'a> {
+    /// There is none.
+    Nothing,
+    /// A name or a sign.
+    Word(&'a str),
+    Value(Operand),
+    Place(Location),
+    Computed(Expression),
+}
+
+/// The parts of a statement behind its keyword, in their order.
+fn arguments<'a>(
+    reducers: &'a [Reducer],
+    registers: &'a [Name],
+    function: &'a str,
+    statement: &Statement,
+) -> (Argument<'a>, Argument<'a>, Argument<'a>)
+    ensures { (version : Version) (mems : List Mem) (functions : List (List ℕ)) → IsNamedFunction functions statement.now function.now
+        → argument_words (printed_scope version mems reducers.now functions registers.now) statement.now
+        ≡ words_of_argument mems registers.now result.0
+        ++ (words_of_argument mems registers.now result.1 ++ words_of_argument mems registers.now result.2) }
+{
+    match *statement {
+        Statement::Let {
+            register,
+            value,
+            ..
+        } => (
+            Argument::Word(register_name(registers, register)),
+            Argument::Word("="),
+            Argument::Computed(value),
+        ),
+        Statement::Read {
+            register,
+            location,
+            ..
+        } => (
+            Argument::Word(register_name(registers, register)),
+            Argument::Place(location),
+            Argument::Nothing,
+        ),
+        Statement::Write {
+            location,
+            value,
+            ..
+        }
+        | Statement::Bump {
+            location,
+            value,
+            ..
+        } => (
+            Argument::Place(location),
+            Argument::Value(value),
+            Argument::Nothing,
+        ),
+        Statement::Update { reducer, value, .. } | Statement::Put { reducer, value, .. } => (
+            Argument::Word(reducer_name(reducers, reducer)),
+            Argument::Value(value),
+            Argument::Nothing,
+        ),
+        Statement::Get {
+            register,
+            reducer,
+            ..
+        } => (
+            Argument::Word(register_name(registers, register)),
+            Argument::Word(reducer_name(reducers, reducer)),
+            Argument::Nothing,
+        ),
+        Statement::Spawn { argument, .. } | Statement::Call { argument, .. } => (
+            Argument::Word(function),
+            Argument::Value(argument),
+            Argument::Nothing,
+        ),
+        Statement::ParallelFor {
+            register,
+            count,
+            ..
+        } => (
+            Argument::Word(register_name(registers, register)),
+            Argument::Value(count),
+            Argument::Word(function),
+        ),
+        Statement::If { register, .. } => (
+            Argument::Word(register_name(registers, register)),
+            Argument::Nothing,
+            Argument::Nothing,
+        ),
+        Statement::Sync { .. } | Statement::Else { .. } | Statement::End { .. } => {
+            (Argument::Nothing, Argument::Nothing, Argument::Nothing)
+        }
+    }
+}
+
 /// Appends an operand.
 fn put_operand<A: Allocator>(
     out: &mut String<A>,
@@ -59,14 +158,8 @@ fn put_operand<A: Allocator>(
     ensures { OnOk result (string_bytes out.new ≡ string_bytes out.old ++ operand_word registers.now operand) }
 {
     match operand {
-        Operand::Number(number) => {
-            write!(out, "{number}")?;
-            Ok(())
-        }
-        Operand::Held(register) => {
-            out.push_str(register_name(registers, register))?;
-            Ok(())
-        }
+        Operand::Number(number) => write!(out, "{number}"),
+        Operand::Held(register) => out.push_str(register_name(registers, register)),
     }
 }
 
@@ -78,8 +171,10 @@ fn put_value<A: Allocator>(
 ) -> Result<(), AllocError>
     ensures { OnOk result (string_bytes out.new ≡ string_bytes out.old ++ 32 ∷ operand_word registers.now operand) }
 {
-    out.push_str(" ")?;
-    put_operand(out, registers, operand)
+    match operand {
+        Operand::Number(number) => put_number(out, number),
+        Operand::Held(register) => put_word(out, register_name(registers, register)),
+    }
 }
 
 /// Appends a space and a location.
@@ -98,14 +193,23 @@ fn put_location<A: Allocator>(
             first,
             length: _,
             index,
-        } => {
-            put_word(out, array_name(mems, first))?;
-            out.push_str("[")?;
-            put_operand(out, registers, index)?;
-            out.push_str("]")?;
-            Ok(())
-        }
+        } => put_element(out, array_name(mems, first), registers, index),
     }
+}
+
+/// Appends a space, the name of an array, and an index in brackets.
+fn put_element<A: Allocator>(
+    out: &mut String<A>,
+    array: &str,
+    registers: &[Name],
+    index: Operand,
+) -> Result<(), AllocError>
+    ensures { OnOk result (string_bytes out.new ≡ string_bytes out.old ++ 32 ∷ element_word array.now (operand_word registers.now index)) }
+{
+    put_word(out, array)?;
+    out.push_str("[")?;
+    put_operand(out, registers, index)?;
+    out.push_str("]")
 }
 
 /// Appends an operand, a sign and another operand, each behind a space.
@@ -141,94 +245,24 @@ fn put_expression<A: Allocator>(
     }
 }
 
-/// Appends a location and an operand, each behind a space.
-fn put_located<A: Allocator>(
+/// Appends a part of a statement, its words each behind a space.
+fn put_argument<A: Allocator>(
     out: &mut String<A>,
     mems: &[Mem],
     registers: &[Name],
-    location: Location,
-    value: Operand,
+    argument: Argument<'_>,
 ) -> Result<(), AllocError>
     requires numbered { IsTrue (is_numbered 0 mems.now) }
     ensures { OnOk result (string_bytes out.new
-        ≡ string_bytes out.old ++ behind_space (location_word mems.now registers.now location ∷ operand_word registers.now value ∷ [])) }
+        ≡ string_bytes out.old ++ behind_space (words_of_argument mems.now registers.now argument.entry)) }
 {
-    put_location(out, mems, registers, location)?;
-    put_value(out, registers, value)
-}
-
-/// Appends a name and an operand, each behind a space.
-fn put_named<A: Allocator>(
-    out: &mut String<A>,
-    name: &str,
-    registers: &[Name],
-    value: Operand,
-) -> Result<(), AllocError>
-    ensures { OnOk result (string_bytes out.new ≡ string_bytes out.old ++ behind_space (name.now ∷ operand_word registers.now value ∷ [])) }
-{
-    put_word(out, name)?;
-    put_value(out, registers, value)
-}
-
-/// Appends a register, `=` and an expression, each behind a space.
-fn put_assigned<A: Allocator>(
-    out: &mut String<A>,
-    registers: &[Name],
-    register: Register,
-    value: Expression,
-) -> Result<(), AllocError>
-    ensures { OnOk result (string_bytes out.new ≡ string_bytes out.old ++
-        behind_space (name_of_register registers.now register.index ∷ codes "=" ∷ expression_words registers.now value)) }
-{
-    put_word(out, register_name(registers, register))?;
-    put_word(out, "=")?;
-    put_expression(out, registers, value)
-}
-
-/// Appends a register, an operand and a function, each behind a space.
-fn put_loop<A: Allocator>(
-    out: &mut String<A>,
-    registers: &[Name],
-    register: Register,
-    count: Operand,
-    function: &str,
-) -> Result<(), AllocError>
-    ensures { OnOk result (string_bytes out.new ≡ string_bytes out.old ++
-        behind_space (name_of_register registers.now register.index ∷ operand_word registers.now count ∷ function.now ∷ [])) }
-{
-    put_word(out, register_name(registers, register))?;
-    put_value(out, registers, count)?;
-    put_word(out, function)
-}
-
-/// Appends a register and a location, each behind a space.
-fn put_read<A: Allocator>(
-    out: &mut String<A>,
-    mems: &[Mem],
-    registers: &[Name],
-    register: Register,
-    from: Location,
-) -> Result<(), AllocError>
-    requires numbered { IsTrue (is_numbered 0 mems.now) }
-    ensures { OnOk result (string_bytes out.new ≡ string_bytes out.old ++
-        behind_space (name_of_register registers.now register.index ∷ location_word mems.now registers.now from ∷ [])) }
-{
-    put_word(out, register_name(registers, register))?;
-    put_location(out, mems, registers, from)
-}
-
-/// Appends a register and a reducer, each behind a space.
-fn put_get<A: Allocator>(
-    out: &mut String<A>,
-    registers: &[Name],
-    register: Register,
-    reducer: &str,
-) -> Result<(), AllocError>
-    ensures { OnOk result (string_bytes out.new
-        ≡ string_bytes out.old ++ behind_space (name_of_register registers.now register.index ∷ reducer.now ∷ [])) }
-{
-    put_word(out, register_name(registers, register))?;
-    put_word(out, reducer)
+    match argument {
+        Argument::Nothing => Ok(()),
+        Argument::Word(word) => put_word(out, word),
+        Argument::Value(operand) => put_value(out, registers, operand),
+        Argument::Place(location) => put_location(out, mems, registers, location),
+        Argument::Computed(value) => put_expression(out, registers, value),
+    }
 }
 
 /// The first word of a statement.
@@ -253,83 +287,6 @@ fn statement_word(statement: &Statement) -> &'static str
     }
 }
 
-/// Appends the words of an access behind its keyword, each behind a space.
-fn put_access<A: Allocator>(
-    out: &mut String<A>,
-    mems: &[Mem],
-    reducers: &[Reducer],
-    registers: &[Name],
-    statement: &Statement,
-) -> Result<(), AllocError>
-    requires numbered { IsTrue (is_numbered 0 mems.now) }
-    requires access { IsAccess statement.now }
-    ensures { (version : Version) (functions : List (List ℕ))
-        → OnOk result (string_bytes out.new ≡ string_bytes out.old ++
-        behind_space (argument_words (printed_scope version mems.now reducers.now functions registers.now) statement.now)) }
-{
-    match *statement {
-        Statement::Read {
-            register,
-            location,
-            ..
-        } => put_read(out, mems, registers, register, location),
-        Statement::Write {
-            location,
-            value,
-            ..
-        }
-        | Statement::Bump {
-            location,
-            value,
-            ..
-        } => { put_located(out, mems, registers, location, value) }
-        Statement::Update { reducer, value, .. } | Statement::Put { reducer, value, .. } => {
-            put_named(out, reducer_name(reducers, reducer), registers, value)
-        }
-        Statement::Get {
-            register,
-            reducer,
-            ..
-        } => put_get(out, registers, register, reducer_name(reducers, reducer)),
-        _ => unreachable!(),
-    }
-}
-
-/// Appends the words of a statement behind its keyword, each behind a space.
-fn put_arguments<A: Allocator>(
-    out: &mut String<A>,
-    mems: &[Mem],
-    reducers: &[Reducer],
-    registers: &[Name],
-    function: &str,
-    statement: &Statement,
-) -> Result<(), AllocError>
-    requires numbered { IsTrue (is_numbered 0 mems.now) }
-    ensures { (version : Version) (functions : List (List ℕ)) → IsNamedFunction functions statement.now function.now
-        → OnOk result (string_bytes out.new ≡ string_bytes out.old ++
-        behind_space (argument_words (printed_scope version mems.now reducers.now functions registers.now) statement.now)) }
-{
-    match *statement {
-        Statement::Let {
-            register,
-            value,
-            ..
-        } => put_assigned(out, registers, register, value),
-        Statement::Spawn { argument, .. } => put_named(out, function, registers, argument),
-        Statement::Call { argument, .. } => put_named(out, function, registers, argument),
-        Statement::ParallelFor {
-            register,
-            count,
-            ..
-        } => put_loop(out, registers, register, count, function),
-        Statement::If { register, .. } => put_word(out, register_name(registers, register)),
-        Statement::Sync { .. } => Ok(()),
-        Statement::Else { .. } => Ok(()),
-        Statement::End { .. } => Ok(()),
-        _ => put_access(out, mems, reducers, registers, statement),
-    }
-}
-
 /// Appends the words of a statement with one space between them. `registers` are the names of all registers of its function other than
 /// `ok`, and `function` is the name of the function that it names, if it names one.
 pub fn put_statement<A: Allocator>(
@@ -346,5 +303,8 @@ pub fn put_statement<A: Allocator>(
         spaced (statement_words (printed_scope version mems.now reducers.now functions registers.now) statement.now)) }
 {
     out.push_str(statement_word(statement))?;
-    put_arguments(out, mems, reducers, registers, function, statement)
+    let (first, second, third) = arguments(reducers, registers, function, statement);
+    put_argument(out, mems, registers, first)?;
+    put_argument(out, mems, registers, second)?;
+    put_argument(out, mems, registers, third)
 }

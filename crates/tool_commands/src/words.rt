@@ -11,6 +11,7 @@ use crate::replay::MOST_ENTRIES;
 use clap::error::ErrorKind;
 use clap::{Arg, ArgMatches, Command};
 use std::alloc::{AllocError, Global};
+use std::convert::AsStr;
 use std::env::{self, Env};
 use std::io;
 
@@ -82,130 +83,167 @@ pub enum Job {
     },
 }
 
-/// The argument that gives a limit.
-fn limit<'a>(alloc: Global, help: &'a str) -> Arg<'a> {
-    Arg::new(alloc, "limit")
-        .long("limit")
-        .value_name("N")
-        .help(help)
+/// Where a word of a command stands.
+enum Place {
+    /// Behind `--` and its name, or nowhere.
+    Named,
+    /// Among the words, where it must stand.
+    Wanted,
+    /// Among the words, or nowhere.
+    Free,
 }
 
-/// The argument that gives the number of workers.
-fn workers<'a>(alloc: Global) -> Arg<'a> {
-    Arg::new(alloc, "workers")
-        .long("workers")
-        .value_name("N")
-        .help("The workers, from 1 to 64 [default: 2]")
+/// A word that a command takes.
+struct Word {
+    place: Place,
+    name: &'static str,
+    value: &'static str,
+    help: &'static str,
 }
 
-/// The argument that says when words are painted.
-fn painting<'a>(alloc: Global) -> Arg<'a> {
-    Arg::new(alloc, "color")
-        .long("color")
-        .value_name("WHEN")
-        .help("When words are painted: auto, always or never [default: auto]")
+/// A command, with its texts and the words that it takes.
+struct CommandForm {
+    name: &'static str,
+    about: &'static str,
+    /// What stands before its help, where that is more than what it is about.
+    before: Option<&'static str>,
+    /// What stands behind its help.
+    behind: &'static str,
+    words: &'static [Word],
 }
 
-/// The argument that names a program's file.
-fn file<'a>(alloc: Global) -> Arg<'a> {
-    Arg::new(alloc, "file")
-        .value_name("FILE")
-        .required(true)
-        .help("The program")
+const FILE: Word = Word {
+    place: Place::Wanted,
+    name: "file",
+    value: "FILE",
+    help: "The program",
+};
+
+const TRACE: Word = Word {
+    place: Place::Wanted,
+    name: "trace",
+    value: "TRACE",
+    help: "The trace",
+};
+
+const JUDGED: Word = Word {
+    place: Place::Free,
+    name: "file",
+    value: "FILE",
+    help: "The trace [default: standard input]",
+};
+
+const ENTRIES: Word = Word {
+    place: Place::Named,
+    name: "limit",
+    value: "N",
+    help: "The most entries of the history, from 0 to 1000000 [default: 1000000]",
+};
+
+const REQUESTS: Word = Word {
+    place: Place::Named,
+    name: "limit",
+    value: "N",
+    help: "The most requests, from 0 to 1000000 [default: 1000000]",
+};
+
+const STEALING: Word = Word {
+    place: Place::Named,
+    name: "workers",
+    value: "N",
+    help: "The workers, from 1 to 64 [default: 2]",
+};
+
+const PAINTING: Word = Word {
+    place: Place::Named,
+    name: "color",
+    value: "WHEN",
+    help: "When words are painted: auto, always or never [default: auto]",
+};
+
+const OUT: Word = Word {
+    place: Place::Named,
+    name: "trace",
+    value: "OUT",
+    help: "A file, made or emptied, that the trace of the run is written into",
+};
+
+/// The program's commands.
+const FORMS: &[CommandForm] = &[
+    CommandForm {
+        name: "judge",
+        about: help::JUDGE,
+        before: None,
+        behind: help::TRACE,
+        words: &[JUDGED, ENTRIES],
+    },
+    CommandForm {
+        name: "elide",
+        about: help::ELIDE,
+        before: Some(help::ELISION),
+        behind: help::LANGUAGE,
+        words: &[FILE, REQUESTS],
+    },
+    CommandForm {
+        name: "run",
+        about: help::RUN,
+        before: Some(help::REPORT),
+        behind: help::LANGUAGE,
+        words: &[FILE, STEALING, ENTRIES, OUT],
+    },
+    CommandForm {
+        name: "explain",
+        about: help::EXPLAIN,
+        before: Some(help::EXPLANATION),
+        behind: help::LANGUAGE,
+        words: &[FILE, STEALING, ENTRIES, PAINTING],
+    },
+    CommandForm {
+        name: "replay",
+        about: help::REPLAY,
+        before: None,
+        behind: help::OUTCOME,
+        words: &[FILE, TRACE],
+    },
+    CommandForm {
+        name: "draw",
+        about: help::DRAW,
+        before: Some(help::DRAWING),
+        behind: help::STRANDS,
+        words: &[TRACE],
+    },
+];
+
+/// The parser's argument for a word.
+fn argument<'a>(alloc: Global, word: &'a Word) -> Arg<'a> {
+    let arg = Arg::new(alloc, word.name)
+        .value_name(word.value)
+        .help(word.help);
+    match word.place {
+        Place::Named => arg.long(word.name),
+        Place::Wanted => arg.required(true),
+        Place::Free => arg,
+    }
 }
 
-/// The argument that names the file of the trace that is judged.
-fn judged<'a>(alloc: Global) -> Arg<'a> {
-    Arg::new(alloc, "file")
-        .value_name("FILE")
-        .help("The trace [default: standard input]")
+/// A command with its texts, and no words yet.
+fn described<'a>(alloc: Global, form: &'a CommandForm) -> Command<'a> {
+    let command = Command::new(alloc, form.name)
+        .about(form.about)
+        .after_help(form.behind);
+    match form.before {
+        Some(text) => command.long_about(text),
+        None => command,
+    }
 }
 
-/// The argument that names the file that a run's trace is written into.
-fn out<'a>(alloc: Global) -> Arg<'a> {
-    Arg::new(alloc, "trace")
-        .long("trace")
-        .value_name("OUT")
-        .help("A file, made or emptied, that the trace of the run is written into")
-}
-
-/// The argument that names a trace's file.
-fn trace<'a>(alloc: Global) -> Arg<'a> {
-    Arg::new(alloc, "trace")
-        .value_name("TRACE")
-        .required(true)
-        .help("The trace")
-}
-
-/// A command with its texts, and nothing else yet.
-fn described<'a>(alloc: Global, name: &'a str, about: &'a str, behind: &'a str) -> Command<'a> {
-    Command::new(alloc, name).about(about).after_help(behind)
-}
-
-fn judge_command<'a>(alloc: Global) -> Result<Command<'a>, AllocError> {
-    let limit = limit(
-        alloc,
-        "The most entries of the history, from 0 to 1000000 [default: 1000000]",
-    );
-    described(alloc, "judge", help::JUDGE, help::TRACE)
-        .arg(judged(alloc))?
-        .arg(limit)
-}
-
-fn elide_command<'a>(alloc: Global) -> Result<Command<'a>, AllocError> {
-    let limit = limit(
-        alloc,
-        "The most requests, from 0 to 1000000 [default: 1000000]",
-    );
-    described(alloc, "elide", help::ELIDE, help::LANGUAGE)
-        .long_about(help::ELISION)
-        .arg(file(alloc))?
-        .arg(limit)
-}
-
-fn run_command<'a>(alloc: Global) -> Result<Command<'a>, AllocError> {
-    let limit = limit(
-        alloc,
-        "The most entries of the history, from 0 to 1000000 [default: 1000000]",
-    );
-    described(alloc, "run", help::RUN, help::LANGUAGE)
-        .long_about(help::REPORT)
-        .arg(file(alloc))?
-        .arg(workers(alloc))?
-        .arg(limit)?
-        .arg(out(alloc))
-}
-
-fn explain_command<'a>(alloc: Global) -> Result<Command<'a>, AllocError> {
-    let limit = limit(
-        alloc,
-        "The most entries of the history, from 0 to 1000000 [default: 1000000]",
-    );
-    described(alloc, "explain", help::EXPLAIN, help::LANGUAGE)
-        .long_about(help::EXPLANATION)
-        .arg(file(alloc))?
-        .arg(workers(alloc))?
-        .arg(limit)?
-        .arg(painting(alloc))
-}
-
-fn replay_command<'a>(alloc: Global) -> Result<Command<'a>, AllocError> {
-    described(alloc, "replay", help::REPLAY, help::OUTCOME)
-        .arg(file(alloc))?
-        .arg(trace(alloc))
-}
-
-fn draw_command<'a>(alloc: Global) -> Result<Command<'a>, AllocError> {
-    described(alloc, "draw", help::DRAW, help::STRANDS)
-        .long_about(help::DRAWING)
-        .arg(trace(alloc))
-}
-
-/// The program's command without its subcommands.
-fn program<'a>(alloc: Global) -> Result<Command<'a>, AllocError> {
-    described(alloc, "cilkcheck", help::ABOUT, help::PROGRAM)
-        .version(help::VERSION)
-        .bin_name("cilkcheck")
+/// A command with its texts and its words.
+fn command_of<'a>(alloc: Global, form: &'a CommandForm) -> Result<Command<'a>, AllocError> {
+    let mut command = described(alloc, form);
+    for word in form.words {
+        command = command.arg(argument(alloc, word))?;
+    }
+    Ok(command)
 }
 
 /// A program that also has this command.
@@ -216,14 +254,22 @@ fn with<'a>(
     program.subcommand(command?)
 }
 
-/// The program's commands.
+/// The program's command without its subcommands.
+fn program<'a>(alloc: Global) -> Result<Command<'a>, AllocError> {
+    Command::new(alloc, "cilkcheck")
+        .about(help::ABOUT)
+        .after_help(help::PROGRAM)
+        .version(help::VERSION)
+        .bin_name("cilkcheck")
+}
+
+/// The program's command with its subcommands.
 fn commands<'a>(alloc: Global) -> Result<Command<'a>, AllocError> {
-    let judging = with(program(alloc)?, judge_command(alloc))?;
-    let eliding = with(judging, elide_command(alloc))?;
-    let running = with(eliding, run_command(alloc))?;
-    let explaining = with(running, explain_command(alloc))?;
-    let replaying = with(explaining, replay_command(alloc))?;
-    with(replaying, draw_command(alloc))
+    let mut program = program(alloc)?;
+    for form in FORMS {
+        program = with(program, command_of(alloc, form))?;
+    }
+    Ok(program)
 }
 
 /// A usage fault with this text, which stands in one line; or want of memory.
@@ -244,8 +290,16 @@ fn no_file(alloc: Global) -> CliFault
     usage(alloc, "no file is given; see 'cilkcheck --help'")
 }
 
+/// A usage fault with the first line of the parser's text.
+fn complaint(alloc: Global, text: &str) -> CliFault
+    ensures { IsUsageFault result }
+{
+    let line = text.lines().next().unwrap_or("");
+    usage(alloc, line.strip_prefix("error: ").unwrap_or(line))
+}
+
 /// What the parser of the command line answers in place of a job: a text to show, or the first line of what is wrong.
-fn shown(alloc: Global, error: clap::Error) -> Result<Job, CliFault>
+fn shown(alloc: Global, error: &clap::Error) -> Result<Job, CliFault>
     ensures job { IfOk result IsInRange }
     ensures fault { IfErr result IsUsageFault }
 {
@@ -256,8 +310,7 @@ fn shown(alloc: Global, error: clap::Error) -> Result<Job, CliFault>
     }
     let text = format!(in alloc; "{error}")?;
     if error.use_stderr() {
-        let line = text.as_str().lines().next().unwrap_or("");
-        Err(usage(alloc, line.strip_prefix("error: ").unwrap_or(line)))
+        Err(complaint(alloc, text.as_str()))
     } else {
         Ok(Job::Show { text })
     }
@@ -435,16 +488,35 @@ fn job_of(alloc: Global, matches: &ArgMatches<'_>) -> Result<Job, CliFault>
     }
 }
 
+/// What the command's words ask for, which stand behind the program's name.
+fn read_by<'a, S: AsStr>(
+    alloc: Global,
+    command: Command<'a>,
+    words: &'a [S],
+) -> Result<Job, CliFault>
+    ensures job { IfOk result IsInRange }
+    ensures fault { IfErr result IsUsageFault }
+{
+    match command.no_binary_name(true).try_get_matches_from(words) {
+        Ok(matches) => job_of(alloc, &matches),
+        Err(error) => shown(alloc, &error),
+    }
+}
+
+/// Reads the words behind the program's name, as they lie there.
+fn read_given<S: AsStr>(alloc: Global, words: &[S]) -> Result<Job, CliFault>
+    ensures job { IfOk result IsInRange }
+    ensures fault { IfErr result IsUsageFault }
+{
+    read_by(alloc, commands(alloc)?, words)
+}
+
 /// Reads the words behind the program's name. A fault is [`CliFault::Usage`] or [`CliFault::Memory`].
 pub fn read_words(alloc: Global, words: &[&str]) -> Result<Job, CliFault>
     ensures job { IfOk result IsInRange }
     ensures fault { IfErr result IsUsageFault }
 {
-    let command = commands(alloc)?.no_binary_name(true);
-    match command.try_get_matches_from(words) {
-        Ok(matches) => job_of(alloc, &matches),
-        Err(error) => shown(alloc, error),
-    }
+    read_given(alloc, words)
 }
 
 /// Reads the words that the program was called with, behind its name. A fault is [`CliFault::Usage`] or [`CliFault::Memory`].
@@ -459,6 +531,5 @@ pub fn read_args<R: Env + Alloc<A = Global>>(rt: &R) -> Result<Job, CliFault>
         Err(_) => return Err(usage(alloc, "a word of the command line is no UTF-8")),
     };
     let words: Vec<String> = words.skip(1).collect(alloc)?;
-    let words: Vec<&str> = words.iter().map(|word| word.as_str()).collect(alloc)?;
-    read_words(alloc, words.as_slice())
+    read_given(alloc, words.as_slice())
 }

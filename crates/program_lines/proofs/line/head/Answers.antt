@@ -1,16 +1,19 @@
 use Rattle.std.proofs.Common.{[], ◌∷◌}
 use Rattle.trace_text.specs.Lines as trace
-use Rattle.text_words.specs.Causes.{both_of}
+use Rattle.program_lines.specs.declared.keyword.Keyword.TheVariants.{Func}
 use Rattle.program_lines.specs.Places.{FreshName, ParameterName, Plain}
-use Rattle.program_lines.proofs.Outcomes.{takes}
+use Rattle.program_lines.proofs.Outcomes.{two_words, said}
 use Rattle.program_lines.proofs.line.head.Goals as goal
 
-pub returns : goal.returns
-returns g c =
+pub returns-in-Ok : goal.returns-in-Ok
+returns-in-Ok g c =
     let scope = c.args.scope.now in
-    rw (c.both-2.ensures, c.both.ensures)
-    (takes scope FreshName (ParameterName ∷ []) [] c.args.words.now c.fresh_name-name.new.words c.fresh_name-name.result (both_of c.parameter-parameter.result c.end-end.result) (λ name. Plain (trace.OfName name.now)) (λ r. Plain (trace.OfName r.0.now) ∷ [])
-    c.fresh_name-name.ensures
-    (takes scope ParameterName [] [] c.fresh_name-name.new.words c.parameter-parameter.new.words c.parameter-parameter.result c.end-end.result (λ name. Plain (trace.OfName name.now)) (λ _. [])
-    (c.parameter-parameter.ensures scope)
-    (c.end-end.ensures scope)))
+    λ at. said scope Func (c.args.name.now ∷ c.args.word.now ∷ []) _ tt
+    (two_words scope FreshName ParameterName c.args.name.now c.args.word.now c.fresh_name.result c.parameter.result _ (λ name. Plain (trace.OfName name.now)) (λ name. Plain (trace.OfName name.now))
+    c.in-Ok.ensures c.fresh_name.ensures (c.parameter.ensures scope))
+
+pub returns-in-Err : goal.returns-in-Err
+returns-in-Err g c =
+    let scope = c.args.scope.now in
+    λ at. two_words scope FreshName ParameterName c.args.name.now c.args.word.now c.fresh_name.result c.parameter.result _ (λ name. Plain (trace.OfName name.now)) (λ name. Plain (trace.OfName name.now))
+    c.in-Err.ensures c.fresh_name.ensures (c.parameter.ensures scope)

@@ -3,7 +3,7 @@ use Rattle.std.specs.Prelude.{None, Some}
 use Rattle.std.proofs.lemmas.Str.Pattern.{split_parts, strip_suffix_char}
 use Rattle.trace_text.proofs.CellWords.{IsSplit, no_bracket_by_index, no_element}
 use Rattle.program_lines.proofs.LocationWords.{single_reads, element_reads, no_closing}
-use Rattle.program_lines.proofs.place.location_of.Goals as goal
+use Rattle.program_lines.proofs.place.location.Goals as goal
 
 pub returns-in-None : goal.returns-in-None
 returns-in-None g c =

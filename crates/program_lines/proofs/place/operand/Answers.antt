@@ -1,6 +1,6 @@
 use Rattle.std.proofs.Common.{rules}
 use Rattle.program_lines.proofs.LocationWords.{number_operand}
-use Rattle.program_lines.proofs.place.operand_of.Goals as goal
+use Rattle.program_lines.proofs.place.operand.Goals as goal
 
 pub returns-in-None : goal.returns-in-None
 returns-in-None g c = search rules
