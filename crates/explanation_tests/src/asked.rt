@@ -6,38 +6,38 @@ ghost use Rattle.model_reducers.specs.Limits.{most_reducers};
 
 use crate::openings::gate_of;
 use race_gate::Gate;
-use std::alloc::{AllocError, Global};
-use std::process::Abort;
+use std::alloc::Global;
 use text_words::{Act, Monoid, Request};
 
 /// An act of a strand, on a line.
 pub type Deed = (u32, u32, Act);
 
-/// Asks the gate for an act of a strand, on a line.
-pub fn ask(rt: &impl Abort, gate: &mut Gate<Global>, strand: u32, line: u32, act: Act) {
-    let reply = gate.judge(Request { strand, line, act });
-    assert!(rt; reply.is_ok());
-}
-
-/// Asks the gate for these acts.
-pub fn ask_all(rt: &impl Abort, gate: &mut Gate<Global>, deeds: &[Deed]) {
+/// Whether the gate answers each of these acts.
+pub fn answers(gate: &mut Gate<Global>, deeds: &[Deed]) -> bool {
     for (strand, line, act) in deeds {
-        ask(rt, gate, *strand, *line, *act);
+        let request = Request {
+            strand: *strand,
+            line: *line,
+            act: *act,
+        };
+        if gate.judge(request).is_err() {
+            return false;
+        }
     }
+    true
 }
 
-/// A gate of so many cells and of these reducers that was asked for these acts.
-pub fn asked(
-    rt: &impl Abort,
-    alloc: Global,
-    cells: u32,
-    monoids: &[Monoid],
-    deeds: &[Deed],
-) -> Result<Gate<Global>, AllocError>
+/// A gate of so many cells and of these reducers that was asked for these acts, or nothing where it does not answer one.
+pub fn asked(alloc: Global, cells: u32, monoids: &[Monoid], deeds: &[Deed]) -> Option<Gate<Global>>
     requires cells { cells ≤ most_cells }
     requires reducers { length monoids.now ≤ most_reducers }
 {
-    let mut gate = gate_of(alloc, cells, monoids)?;
-    ask_all(rt, &mut gate, deeds);
-    Ok(gate)
+    let Ok(mut gate) = gate_of(alloc, cells, monoids) else {
+        return None;
+    };
+    if answers(&mut gate, deeds) {
+        Some(gate)
+    } else {
+        None
+    }
 }

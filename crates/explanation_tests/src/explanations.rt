@@ -1,38 +1,16 @@
 //! Whole explanations.
 
-use crate::asked::{Deed, ask_all};
+use crate::asked::{Deed, answers};
+use crate::texts::is_text;
 use Act::{Call, Get, Put, Return, Spawn, Sync, Write};
 use program_text::Program;
 use race_explanations::explanation;
 use race_gate::Gate;
 use std::alloc::{AllocError, Global};
 use std::process::Abort;
-use std::test::Fail;
-use text_words::{Act, TextFault};
+use text_words::Act;
 
-/// A program of these lines.
-fn read(rt: &(impl Abort + Alloc<A = Global>), text: &str) -> Result<Program<Global>, Fail> {
-    match Program::parse(rt.alloc(), text.as_bytes()) {
-        Ok(program) => Ok(program),
-        Err(TextFault::Memory) => Err(Fail::from("memory")),
-        Err(TextFault::At { .. }) => Err(Fail::from("a fault of the text")),
-    }
-}
-
-/// A gate for the program that was asked for these acts.
-fn answered(
-    rt: &impl Abort,
-    alloc: Global,
-    program: &Program<Global>,
-    deeds: &[Deed],
-) -> Result<Gate<Global>, AllocError> {
-    let shape = program.shape(alloc)?;
-    let mut gate = Gate::new(alloc, &shape, 1000)?;
-    ask_all(rt, &mut gate, deeds);
-    Ok(gate)
-}
-
-/// This is told of the gate's history as a run of the program of this text.
+/// What is told of the gate's history as a run of the program of this text is this.
 fn is_told(
     rt: &impl Abort,
     alloc: Global,
@@ -43,10 +21,7 @@ fn is_told(
 ) -> Result<(), AllocError> {
     let bytes = text.as_bytes();
     let told = explanation(alloc, false, "p.cilk", bytes, program, gate.history())?;
-    assert_eq!(rt;
-        str::from_utf8(told.as_slice()).unwrap_or("no text"),
-        wanted
-    );
+    is_text(rt, told.as_slice(), wanted);
     Ok(())
 }
 
@@ -59,27 +34,26 @@ fn is_explained(
     deeds: &[Deed],
     wanted: &str,
 ) -> Result<(), AllocError> {
-    let gate = answered(rt, alloc, program, deeds)?;
+    let shape = program.shape(alloc)?;
+    let mut gate = Gate::new(alloc, &shape, 1000)?;
+    assert!(rt; answers(&mut gate, deeds));
     is_told(rt, alloc, text, program, &gate, wanted)
 }
 
-/// The same of the program of this text.
-fn check(
-    rt: &(impl Abort + Alloc<A = Global>),
-    text: &str,
-    deeds: &[Deed],
-    wanted: &str,
-) -> Result<(), Fail> {
-    let program = read(rt, text)?;
-    is_explained(rt, rt.alloc(), text, &program, deeds, wanted)?;
-    Ok(())
+/// The same of the program of this text. Whether it is one, and there was memory.
+fn explains(rt: &impl Abort, alloc: Global, text: &str, deeds: &[Deed], wanted: &str) -> bool {
+    match Program::parse(alloc, text.as_bytes()) {
+        Ok(program) => is_explained(rt, alloc, text, &program, deeds, wanted).is_ok(),
+        Err(_) => false,
+    }
 }
 
-/// A function is spawned twice, and races with itself: both lines are one, and the spawns tell the two apart.
-#[test]
-fn two_spawns_of_one_function(rt: HostRuntime) -> Result<(), Fail> {
-    check(
-        &rt,
+/// A program's text, what its strands did, and what is told of it.
+type Case<'a> = (&'a str, &'a [Deed], &'a str);
+
+const CASES: &[Case<'static>] = &[
+    // A function is spawned twice, and races with itself: both lines are one, and the spawns tell the two apart.
+    (
         "cilk 1\nmem x\nfunc main z\n  spawn f 1\n  spawn f 2\n  sync\nend\nfunc f v\n  write x v\nend\n",
         &[
             (0, 4, Spawn),
@@ -103,14 +77,9 @@ fn two_spawns_of_one_function(rt: HostRuntime) -> Result<(), Fail> {
          |   --------- here they part: what is spawned comes to line 9, while `main` goes on to line 5\n   \
          = help: a `sync` in `main` before line 5 would order them\n\n\
          1 refusal at 1 pair of lines, among 5 requests\n",
-    )
-}
-
-/// A get while a spawn is outstanding that was not at the put.
-#[test]
-fn a_read_with_other_peers(rt: HostRuntime) -> Result<(), Fail> {
-    check(
-        &rt,
+    ),
+    // A get while a spawn is outstanding that was not at the put.
+    (
         "cilk 1\nreducer s sum\nfunc main z\nput s 1\nspawn f 1\nget a s\nsync\nend\nfunc f v\nend\n",
         &[(0, 4, Put(0, 1)), (0, 5, Spawn), (2, 6, Get(0))],
         "view-read race: reads with other peers of s, 1 time\n  \
@@ -126,14 +95,9 @@ fn a_read_with_other_peers(rt: HostRuntime) -> Result<(), Fail> {
          | --------- this spawn is outstanding at line 6, and not at line 4\n   \
          = help: move what stands on line 6 behind the `sync` of `main`, where this spawn has ended\n\n\
          1 refusal at 1 pair of lines, among 3 requests\n",
-    )
-}
-
-/// A get with nothing before it, in a function that was called.
-#[test]
-fn a_get_of_nothing(rt: HostRuntime) -> Result<(), Fail> {
-    check(
-        &rt,
+    ),
+    // A get with nothing before it, in a function that was called.
+    (
         "cilk 1\nreducer s last\nfunc main z\ncall f 1\nend\nfunc f v\nget a s\nend\n",
         &[(0, 4, Call), (0, 7, Get(0))],
         "unset get: nothing was put before into s, 1 time\n \
@@ -144,16 +108,18 @@ fn a_get_of_nothing(rt: HostRuntime) -> Result<(), Fail> {
          = called at line 4, in `main`: call f 1\n  \
          = help: a `put` into it has to come first in the serial order\n\n\
          1 refusal at 1 pair of lines, among 2 requests\n",
-    )
-}
-
-/// Nothing was refused.
-#[test]
-fn nothing_to_tell(rt: HostRuntime) -> Result<(), Fail> {
-    check(
-        &rt,
+    ),
+    // Nothing was refused.
+    (
         "cilk 1\nmem x\nfunc main z\nwrite x 1\nend\n",
         &[(0, 4, Write(0, 1)), (0, 5, Sync)],
         "0 refusals at 0 pairs of lines, among 2 requests\n",
-    )
+    ),
+];
+
+#[test]
+fn runs_are_explained(rt: HostRuntime) {
+    for (text, deeds, wanted) in CASES {
+        assert!(rt; explains(&rt, rt.alloc(), text, deeds, wanted), "{wanted}");
+    }
 }

@@ -18,3 +18,5 @@ pub mod openings;
 mod pairs;
 #[cfg(test)]
 mod quotes;
+#[cfg(test)]
+mod texts;

@@ -3,7 +3,6 @@
 use program_text::Program;
 use serial_elision::{ElideFault, elide};
 use std::alloc::Global;
-use std::process::Abort;
 
 const FIBONACCI: &[u8] =
     b"cilk 1\nmem x\nreducer h sum\nfunc main z\n  put h 0\n  call fib 10\n  get r h\n  write x r\nend\nfunc fib n\n  let t = n < 2\n  if t\n    update h n\n  else\n    let a = n - 1\n    let b = n - 2\n    spawn fib a\n    call fib b\n    sync\n  end\nend\n";
@@ -46,74 +45,72 @@ const REGISTERS: &[u8] =
 const PARTS: &[u8] =
     b"cilk 1\nmem x\nmem y\nfunc main z\nif ok\nif z\nwrite x 1\nelse\nwrite x 2\nend\nelse\nwrite x 3\nend\nif z\nwrite y 4\nend\nend\n";
 
-/// What an elision leaves, and after how many requests.
-type Left<'a> = (&'a [u64], u32);
+/// How many requests an elision may make, and the cells that it leaves and after how many requests, or nothing where it passes the limit.
+type Bounded<'a> = (u32, Option<(&'a [u64], u32)>);
 
-/// Whether the elision of a program leaves this, or passes the limit where nothing is given.
-fn leaves(alloc: Global, program: &Program<Global>, limit: u32, wanted: Option<Left<'_>>) -> bool {
-    match elide(alloc, program, limit) {
-        Ok(elided) => match wanted {
+/// Whether the elision of a program is so.
+fn elides(alloc: Global, program: &Program<Global>, bounded: &Bounded<'_>) -> bool {
+    let (limit, left) = bounded;
+    match elide(alloc, program, *limit) {
+        Ok(elided) => match left {
             Some((memory, requests)) => {
-                elided.requests == requests && elided.memory.as_slice() == memory
+                elided.requests == *requests && elided.memory.as_slice() == *memory
             }
             None => false,
         },
-        Err(fault) => wanted.is_none() && matches!(fault, ElideFault::Limit),
+        Err(fault) => left.is_none() && matches!(fault, ElideFault::Limit),
     }
 }
 
 /// The same of the program that a text means.
-fn of_text(alloc: Global, text: &[u8], limit: u32, wanted: Option<Left<'_>>) -> bool {
+fn of_text(alloc: Global, text: &[u8], bounded: &Bounded<'_>) -> bool {
     match Program::parse(alloc, text) {
-        Ok(program) => leaves(alloc, &program, limit, wanted),
+        Ok(program) => elides(alloc, &program, bounded),
         Err(_) => false,
     }
 }
 
-/// A program's text, how many requests its elision may make, and what it leaves, or nothing where it passes the limit.
-type Case<'a> = (&'a [u8], u32, Option<Left<'a>>);
+/// A program's text, and what its elision does.
+type Case<'a> = (&'a [u8], Bounded<'a>);
 
 const CASES: &[Case<'static>] = &[
-    (FIBONACCI, 1_000_000, Some((&[55], 713))),
-    (FIBONACCI, 713, Some((&[55], 713))),
-    (FIBONACCI, 712, None),
-    (FIBONACCI, 0, None),
+    (FIBONACCI, (1_000_000, Some((&[55], 713)))),
+    (FIBONACCI, (713, Some((&[55], 713)))),
+    (FIBONACCI, (712, None)),
+    (FIBONACCI, (0, None)),
     // A spawn is a call.
-    (PAIR, 100, Some((&[7, 0], 7))),
-    (SERIES, 100, Some((&[7, 7], 9))),
+    (PAIR, (100, Some((&[7, 0], 7)))),
+    (SERIES, (100, Some((&[7, 7], 9)))),
     // Reducers are updated in serial order, and a get of no number is zero.
-    (LASTS, 100, Some((&[3], 11))),
-    (DIGITS, 100, Some((&[33], 11))),
-    (NO_NUMBER, 100, Some((&[0], 5))),
+    (LASTS, (100, Some((&[3], 11)))),
+    (DIGITS, (100, Some((&[33], 11)))),
+    (NO_NUMBER, (100, Some((&[0], 5)))),
     // A `pfor` has as many turns as its number says.
-    (FOUR_TURNS, 100, Some((&[0, 1, 2, 3], 19))),
-    (NO_TURNS, 100, Some((&[0, 0, 0, 0, 9], 4))),
-    (AFTER_TURNS, 100, Some((&[3, 2], 16))),
+    (FOUR_TURNS, (100, Some((&[0, 1, 2, 3], 19)))),
+    (NO_TURNS, (100, Some((&[0, 0, 0, 0, 9], 4)))),
+    (AFTER_TURNS, (100, Some((&[3, 2], 16)))),
     // Recursion meets the limit.
-    (ENDLESS, 5, None),
-    (ENDLESS, 100_000, None),
+    (ENDLESS, (5, None)),
+    (ENDLESS, (100_000, None)),
     // Numbers are of 64 bits, and `ok` is one.
     (
         ARITHMETIC,
-        100,
-        Some((&[18446744073709551615, 1, 18446744073709551614, 0, 1, 1], 8)),
+        (
+            100,
+            Some((&[18446744073709551615, 1, 18446744073709551614, 0, 1, 1], 8)),
+        ),
     ),
     // An index is taken modulo the length.
-    (INDICES, 100, Some((&[5, 0, 5, 6], 6))),
+    (INDICES, (100, Some((&[5, 0, 5, 6], 6)))),
     // A called function has its own registers.
-    (REGISTERS, 100, Some((&[5, 9], 7))),
+    (REGISTERS, (100, Some((&[5, 9], 7)))),
     // Either part of an `if` is done.
-    (PARTS, 100, Some((&[2, 0], 3))),
+    (PARTS, (100, Some((&[2, 0], 3)))),
 ];
-
-/// The elision of each of these is so.
-fn check_all(rt: &impl Abort, alloc: Global, cases: &[Case<'_>]) {
-    for (text, limit, left) in cases {
-        assert!(rt; of_text(alloc, text, *limit, *left), "{text:?}");
-    }
-}
 
 #[test]
 fn programs_leave_what_their_definitions_say(rt: HostRuntime) {
-    check_all(&rt, rt.alloc(), CASES);
+    for (text, bounded) in CASES {
+        assert!(rt; of_text(rt.alloc(), text, bounded), "{text:?}");
+    }
 }

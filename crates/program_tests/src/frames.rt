@@ -8,8 +8,6 @@ use model_strands::Spawned;
 use program_text::Program;
 use race_gate::Answer;
 use std::alloc::Global;
-use std::process::Abort;
-use std::test::Fail;
 use text_words::Act;
 
 const PAIR: &[u8] =
@@ -41,39 +39,36 @@ const REFUSED: Answer = Answer::Refused {
     },
 };
 
-/// Checks what a frame asks next.
-fn wants(rt: &impl Abort, program: &Program<Global>, frame: &mut Frame<Global>, act: Act, line: u32)
+/// What a frame does.
+#[derive(Clone, Copy)]
+enum Step {
+    /// It asks this on that line.
+    Asks(Act, u32),
+    /// What it asks is a spawn of this function with that argument.
+    Spawns(u32, u64),
+    /// It takes this answer.
+    Takes(Answer),
+    /// It does not take this answer.
+    Refuses(Answer),
+    /// It takes room for a call.
+    Reserves,
+    /// Its open block has this join, or it has no open block.
+    HasJoin(Option<u32>),
+    IsOver,
+}
+
+use Step::{Asks, HasJoin, IsOver, Refuses, Reserves, Spawns, Takes};
+
+/// Whether a frame goes on, and asks this next.
+fn asks(program: &Program<Global>, frame: &mut Frame<Global>, act: Act, line: u32) -> bool
     requires { Stands program.now.functions frame.old }
     ensures { Stands program.now.functions frame.new }
 {
-    assert!(rt; !frame.is_over());
+    if frame.is_over() {
+        return false;
+    }
     let want = frame.next(program);
-    assert!(rt; want.act == act && want.line == line);
-}
-
-/// Checks what a frame asks next, and answers it.
-fn says(
-    rt: &impl Abort,
-    program: &Program<Global>,
-    frame: &mut Frame<Global>,
-    act: Act,
-    line: u32,
-    answer: Answer,
-) -> Result<(), Fail>
-    requires { Stands program.now.functions frame.old }
-    ensures { Stands program.now.functions frame.new }
-{
-    wants(rt, program, frame, act, line);
-    frame.answer(program, &answer)?;
-    Ok(())
-}
-
-/// Checks that an answer is not one to what a frame asks.
-fn is_strange(rt: &impl Abort, program: &Program<Global>, frame: &mut Frame<Global>, answer: Answer)
-    requires { Stands program.now.functions frame.old }
-    ensures { Stands program.now.functions frame.new }
-{
-    assert!(rt; frame.answer(program, &answer) == Err(FrameFault::Strange));
+    want.act == act && want.line == line
 }
 
 /// Whether a frame spawns this function with this argument.
@@ -86,144 +81,71 @@ fn spawns(program: &Program<Global>, frame: &Frame<Global>, function: u32, argum
     }
 }
 
-/// Checks that a frame asks for a spawn of function 1 with this argument, again when it is asked again, and answers it.
-fn splits(
-    rt: &impl Abort,
-    program: &Program<Global>,
-    frame: &mut Frame<Global>,
-    line: u32,
-    argument: u64,
-) -> Result<(), Fail>
-    requires { Stands program.now.functions frame.old }
-    ensures { Stands program.now.functions frame.new }
-{
-    wants(rt, program, frame, Act::Spawn, line);
-    wants(rt, program, frame, Act::Spawn, line);
-    assert!(rt; spawns(program, frame, 1, argument));
-    is_strange(rt, program, frame, Answer::Granted);
-    frame.answer(program, &SPLIT)?;
-    Ok(())
-}
-
-/// Checks that a frame wants to return, and answers it, but for an answer that is not one.
-fn returns(
-    rt: &impl Abort,
-    program: &Program<Global>,
-    frame: &mut Frame<Global>,
-    line: u32,
-    strange: Answer,
-    answer: Answer,
-) -> Result<(), Fail>
-    requires { Stands program.now.functions frame.old }
-    ensures { Stands program.now.functions frame.new }
-{
-    wants(rt, program, frame, Act::Return, line);
-    is_strange(rt, program, frame, strange);
-    frame.answer(program, &answer)?;
-    Ok(())
-}
-
-/// Checks that there is room for a call once it was asked for.
-fn reserves(
-    rt: &impl Abort,
-    program: &Program<Global>,
-    frame: &mut Frame<Global>,
-) -> Result<(), Fail>
-    requires { Stands program.now.functions frame.old }
-    ensures { Stands program.now.functions frame.new }
-{
-    frame.reserve_call()?;
-    assert!(rt; frame.has_room());
-    Ok(())
-}
-
-/// What a frame does.
-#[derive(Clone, Copy)]
-enum Step {
-    /// It asks this on that line, and is answered so.
-    Says(Act, u32, Answer),
-    /// It spawns function 1 on this line, with this argument.
-    Splits(u32, u64),
-    /// It returns on this line. The first answer is not one to that, the second is the one that it is given.
-    Returns(u32, Answer, Answer),
-    /// It does not take this answer.
-    Refuses(Answer),
-    /// It takes room for a call.
-    Reserves,
-    /// Its open block has this join, or it has no open block.
-    HasJoin(Option<u32>),
-    IsOver,
-}
-
-use Step::{HasJoin, IsOver, Refuses, Reserves, Returns, Says, Splits};
-
-/// Checks a step of a frame.
-fn take(
-    rt: &impl Abort,
-    program: &Program<Global>,
-    frame: &mut Frame<Global>,
-    step: Step,
-) -> Result<(), Fail>
+/// Whether a frame does this step.
+fn does(program: &Program<Global>, frame: &mut Frame<Global>, step: &Step) -> bool
     requires { Stands program.now.functions frame.old }
     ensures { Stands program.now.functions frame.new }
 {
     match step {
-        Says(act, line, answer) => says(rt, program, frame, act, line, answer)?,
-        Splits(line, argument) => splits(rt, program, frame, line, argument)?,
-        Returns(line, strange, answer) => returns(rt, program, frame, line, strange, answer)?,
-        Refuses(answer) => is_strange(rt, program, frame, answer),
-        Reserves => reserves(rt, program, frame)?,
-        HasJoin(join) => assert!(rt; frame.block_join() == join),
-        IsOver => assert!(rt; frame.is_over()),
+        Asks(act, line) => asks(program, frame, *act, *line),
+        Spawns(function, argument) => spawns(program, frame, *function, *argument),
+        Takes(answer) => frame.answer(program, answer).is_ok(),
+        Refuses(answer) => frame.answer(program, answer) == Err(FrameFault::Strange),
+        Reserves => match frame.reserve_call() {
+            Ok(()) => frame.has_room(),
+            Err(_) => false,
+        },
+        HasJoin(join) => frame.block_join() == *join,
+        IsOver => frame.is_over(),
     }
-    Ok(())
 }
 
-/// Checks the steps of a frame, one after another.
-fn plays(
-    rt: &impl Abort,
-    program: &Program<Global>,
-    frame: &mut Frame<Global>,
-    steps: &[Step],
-) -> Result<(), Fail>
+/// Whether a frame does these steps, one after another.
+fn does_all(program: &Program<Global>, frame: &mut Frame<Global>, steps: &[Step]) -> bool
     requires { Stands program.now.functions frame.old }
-    ensures { Stands program.now.functions frame.new }
 {
     for step in steps {
-        take(rt, program, frame, *step)?;
+        if !does(program, frame, step) {
+            return false;
+        }
     }
-    Ok(())
+    true
 }
 
-/// Checks the steps of a new frame of the program's first function.
-fn begins(
-    rt: &impl Abort,
-    alloc: Global,
-    program: &Program<Global>,
-    steps: &[Step],
-) -> Result<(), Fail> {
+/// The same of a new frame of the program's first function.
+fn begins(alloc: Global, program: &Program<Global>, steps: &[Step]) -> bool {
     let mut frame = Frame::new(alloc, program, 0, 0);
-    plays(rt, program, &mut frame, steps)
+    does_all(program, &mut frame, steps)
 }
 
-/// Checks the steps of a new frame of the first function of this text's program.
-fn check(rt: &impl Abort, alloc: Global, text: &[u8], steps: &[Step]) -> Result<(), Fail> {
-    let program = Program::parse(alloc, text)?;
-    begins(rt, alloc, &program, steps)
+/// The same of the program that a text means.
+fn begins_of(alloc: Global, text: &[u8], steps: &[Step]) -> bool {
+    match Program::parse(alloc, text) {
+        Ok(program) => begins(alloc, &program, steps),
+        Err(_) => false,
+    }
 }
 
 const CASES: &[(&[u8], &[Step])] = &[
-    // A spawn, a refused read, the sync at the end.
+    // A spawn, which is asked for again when it is asked again, a refused read, the sync at the end.
     (
         PAIR,
         &[
             Refuses(Answer::Granted),
-            Splits(5, 7),
+            Asks(Act::Spawn, 5),
+            Asks(Act::Spawn, 5),
+            Spawns(1, 7),
+            Refuses(Answer::Granted),
+            Takes(SPLIT),
             HasJoin(Some(3)),
-            Says(Act::Read(0), 6, REFUSED),
-            Says(Act::Sync, 7, Answer::Waits),
+            Asks(Act::Read(0), 6),
+            Takes(REFUSED),
+            Asks(Act::Sync, 7),
+            Takes(Answer::Waits),
             HasJoin(None),
-            Returns(7, Answer::Resumed, Answer::Finished),
+            Asks(Act::Return, 7),
+            Refuses(Answer::Resumed),
+            Takes(Answer::Finished),
             IsOver,
         ],
     ),
@@ -231,17 +153,23 @@ const CASES: &[(&[u8], &[Step])] = &[
     (
         REFUSED_OR_NOT,
         &[
-            Says(Act::Read(0), 5, REFUSED),
-            Says(Act::Write(0, 4), 9, Answer::Granted),
-            Says(Act::Sync, 11, Answer::Same),
+            Asks(Act::Read(0), 5),
+            Takes(REFUSED),
+            Asks(Act::Write(0, 4), 9),
+            Takes(Answer::Granted),
+            Asks(Act::Sync, 11),
+            Takes(Answer::Same),
         ],
     ),
     (
         REFUSED_OR_NOT,
         &[
-            Says(Act::Read(0), 5, Answer::Value(6)),
-            Says(Act::Write(0, 1), 7, Answer::Granted),
-            Says(Act::Sync, 11, Answer::Same),
+            Asks(Act::Read(0), 5),
+            Takes(Answer::Value(6)),
+            Asks(Act::Write(0, 1), 7),
+            Takes(Answer::Granted),
+            Asks(Act::Sync, 11),
+            Takes(Answer::Same),
         ],
     ),
     // A called function has registers of its own, and returns to the statement behind the call.
@@ -249,31 +177,48 @@ const CASES: &[(&[u8], &[Step])] = &[
         CALLS,
         &[
             Reserves,
-            Says(Act::Call, 5, Answer::Same),
-            Says(Act::Write(0, 10), 10, Answer::Granted),
-            Says(Act::Sync, 11, Answer::Same),
-            Returns(11, Answer::Ended, Answer::Resumed),
-            Says(Act::Write(0, 4), 6, Answer::Granted),
+            Asks(Act::Call, 5),
+            Takes(Answer::Same),
+            Asks(Act::Write(0, 10), 10),
+            Takes(Answer::Granted),
+            Asks(Act::Sync, 11),
+            Takes(Answer::Same),
+            Asks(Act::Return, 11),
+            Refuses(Answer::Ended),
+            Takes(Answer::Resumed),
+            Asks(Act::Write(0, 4), 6),
+            Takes(Answer::Granted),
         ],
     ),
     // A `pfor` spawns once for each number, and then syncs; its register keeps the last number. With no number it syncs alone.
     (
         TURNS,
         &[
-            Says(Act::Sync, 5, Answer::Same),
-            Says(Act::Write(0, 5), 6, Answer::Granted),
-            Splits(7, 0),
-            Splits(7, 1),
-            Says(Act::Sync, 7, Answer::Waits),
-            Says(Act::Write(0, 1), 8, Answer::Granted),
+            Asks(Act::Sync, 5),
+            Takes(Answer::Same),
+            Asks(Act::Write(0, 5), 6),
+            Takes(Answer::Granted),
+            Asks(Act::Spawn, 7),
+            Asks(Act::Spawn, 7),
+            Spawns(1, 0),
+            Refuses(Answer::Granted),
+            Takes(SPLIT),
+            Asks(Act::Spawn, 7),
+            Asks(Act::Spawn, 7),
+            Spawns(1, 1),
+            Refuses(Answer::Granted),
+            Takes(SPLIT),
+            Asks(Act::Sync, 7),
+            Takes(Answer::Waits),
+            Asks(Act::Write(0, 1), 8),
+            Takes(Answer::Granted),
         ],
     ),
 ];
 
 #[test]
-fn frames_ask_and_are_answered(rt: HostRuntime) -> Result<(), Fail> {
+fn frames_ask_and_are_answered(rt: HostRuntime) {
     for (text, steps) in CASES {
-        check(&rt, rt.alloc(), text, steps)?;
+        assert!(rt; begins_of(rt.alloc(), text, steps), "{text:?}");
     }
-    Ok(())
 }

@@ -1,81 +1,81 @@
 //! Gates that are asked on seats, and what is gathered of them.
 
-use crate::gathered::{BROKEN, Case, RACE, UNSET, check};
+use crate::gathered::{Asked, Case, Logs, is_found};
 use locked_replay::RunFault;
-use std::test::Fail;
 
 /// A case of a gate that has the program's cells and is not stopped.
 macro_rules! case {
-    ($run:expr, $second:expr, $kept:expr, $alone:literal, $fault:expr) => {
+    ($asked:expr, $second:expr, $kept:expr, $logs:expr, $found:expr) => {
         Case {
-            run: $run,
+            asked: $asked,
             second: $second,
             kept: $kept,
-            alone: $alone,
+            logs: $logs,
             three_cells: false,
             stopped: false,
-            fault: $fault,
+            found: $found,
         }
     };
 }
 
+const ALL: &[usize] = &[0, 1, 2, 3, 4, 5, 6];
+
+const TORN: Result<(), RunFault> = Err(RunFault::Torn);
+
 const CASES: &[Case<'static>] = &[
-    case!(RACE, &[], &[0, 1, 2, 3, 4, 5, 6], false, None),
+    case!(Asked::Race, &[], ALL, Logs::Both, Ok(())),
+    case!(Asked::Race, &[], ALL, Logs::First, Ok(())),
+    // On the only seat.
+    case!(Asked::Race, &[], ALL, Logs::Only, Ok(())),
     // On two seats.
-    case!(RACE, &[1, 3, 4], &[0, 1, 2, 3], false, None),
+    case!(Asked::Race, &[1, 3, 4], &[0, 1, 2, 3], Logs::Both, Ok(())),
     // By a gate of another number of cells.
     Case {
-        run: RACE,
+        asked: Asked::Race,
         second: &[],
-        kept: &[0, 1, 2, 3, 4, 5, 6],
-        alone: false,
+        kept: ALL,
+        logs: Logs::Both,
         three_cells: true,
         stopped: false,
-        fault: Some(RunFault::Strange),
+        found: Err(RunFault::Strange),
     },
     // By a gate that is stopped once all was asked.
     Case {
-        run: RACE,
+        asked: Asked::Race,
         second: &[],
-        kept: &[0, 1, 2, 3, 4, 5, 6],
-        alone: false,
+        kept: ALL,
+        logs: Logs::Both,
         three_cells: false,
         stopped: true,
-        fault: Some(RunFault::Stopped),
+        found: Err(RunFault::Stopped),
     },
     // An unset get is not clean, be there an empty log beside it or none.
-    case!(UNSET, &[], &[0, 1, 2], false, None),
-    case!(UNSET, &[], &[0, 1, 2], true, None),
+    case!(Asked::Unset, &[], &[0, 1, 2], Logs::Both, Ok(())),
+    case!(Asked::Unset, &[], &[0, 1, 2], Logs::First, Ok(())),
     // A run that breaks off is strange.
-    case!(BROKEN, &[], &[0, 1], false, Some(RunFault::Strange)),
-    // Receipts that are not the history.
-    case!(RACE, &[], &[], false, Some(RunFault::Torn)),
-    case!(RACE, &[], &[0, 1, 2, 4, 5, 6], false, Some(RunFault::Torn)),
     case!(
-        RACE,
+        Asked::Broken,
         &[],
-        &[0, 2, 1, 3, 4, 5, 6],
-        false,
-        Some(RunFault::Torn)
+        &[0, 1],
+        Logs::Both,
+        Err(RunFault::Strange)
     ),
+    // Receipts that are not the history.
+    case!(Asked::Race, &[], &[], Logs::Both, TORN),
+    case!(Asked::Race, &[], &[0, 1, 2, 4, 5, 6], Logs::Both, TORN),
+    case!(Asked::Race, &[], &[0, 2, 1, 3, 4, 5, 6], Logs::Both, TORN),
     case!(
-        RACE,
+        Asked::Race,
         &[],
         &[0, 1, 1, 2, 3, 4, 5, 6],
-        false,
-        Some(RunFault::Torn)
+        Logs::Both,
+        TORN
     ),
 ];
 
-/// The cases, in a function of their own, so that the test's proof is not about the places of the table.
-fn cases() -> &'static [Case<'static>] {
-    CASES
-}
-
 #[test]
-fn a_run_with_a_race_is_gathered(rt: HostRuntime) -> Result<(), Fail> {
-    for case in cases() {
-        check(&rt, rt.alloc(), case)?;
+fn a_run_with_a_race_is_gathered(rt: HostRuntime) {
+    for case in CASES {
+        assert!(rt; is_found(&rt, rt.alloc(), case));
     }
-    Ok(())
 }

@@ -5,7 +5,6 @@ use program_text::Program;
 use race_gate::{Answer, Entry};
 use run_replay::{ReplayFault, replay};
 use std::alloc::Global;
-use std::process::Abort;
 use text_words::{Act, Request};
 
 const PAIR: &[u8] =
@@ -31,24 +30,8 @@ fn gives(alloc: Global, text: &[u8], entries: &[Entry], wanted: Result<(), Repla
     }
 }
 
-// Checks that the replay of these entries of a text's program is so.
-fn check(
-    rt: &impl Abort,
-    alloc: Global,
-    text: &[u8],
-    entries: &[Entry],
-    wanted: Result<(), ReplayFault>,
-) {
-    assert!(rt; gives(alloc, text, entries, wanted), "{wanted:?}");
-}
-
 // A program's text, entries, and what their replay answers.
 type Case<'a> = (&'a [u8], &'a [Entry], Result<(), ReplayFault>);
-
-// The entries of the program's run.
-fn pair() -> [Entry; 7] {
-    [SPLIT, WRITTEN, READ, SYNCED, ENDED, JOINED, FINISHED]
-}
 
 // An entry that is not that of the program's run.
 macro_rules! other {
@@ -84,20 +67,6 @@ const CASES: &[Case<'static>] = &[
         &[CALL, CALL, CALL, CALL, CALL],
         Err(ReplayFault::Unfinished),
     ),
-    // Another answer is strange.
-    (
-        PAIR,
-        &[
-            SPLIT,
-            other!(1, Act::Write(0, 7), 9, REFUSED),
-            READ,
-            SYNCED,
-            ENDED,
-            JOINED,
-            FINISHED,
-        ],
-        Err(ReplayFault::Strange(2)),
-    ),
     // Nothing follows the end.
     (
         PAIR,
@@ -106,59 +75,45 @@ const CASES: &[Case<'static>] = &[
         ],
         Err(ReplayFault::Strange(8)),
     ),
-    // Another request is strange.
-    (
-        PAIR,
-        &[
-            SPLIT,
-            WRITTEN,
-            other!(2, Act::Read(1), 6, REFUSED),
-            SYNCED,
-            ENDED,
-            JOINED,
-            FINISHED,
-        ],
-        Err(ReplayFault::Strange(3)),
-    ),
-    (
-        PAIR,
-        &[
-            SPLIT,
-            WRITTEN,
-            READ,
-            other!(9, Act::Sync, 10, Answer::Same),
-            ENDED,
-            JOINED,
-            FINISHED,
-        ],
-        Err(ReplayFault::Strange(4)),
-    ),
 ];
 
-// The cases, in a function of their own, so that the test's proof is not about the places of the table.
-fn cases() -> &'static [Case<'static>] {
-    CASES
+// Whether the replay of the program's run with this entry at a place, counted from 0, answers that it is strange there.
+fn is_strange(alloc: Global, place: u32, entry: Entry) -> bool {
+    let mut entries = [SPLIT, WRITTEN, READ, SYNCED, ENDED, JOINED, FINISHED];
+    match entries.get_mut(place as usize) {
+        Some(one) => *one = entry,
+        None => return false,
+    }
+    let wanted = Err(ReplayFault::Strange(place.wrapping_add(1)));
+    gives(alloc, PAIR, &entries, wanted)
 }
+
+const STRANGE: &[(u32, Entry)] = &[
+    // Another answer is strange.
+    (1, other!(1, Act::Write(0, 7), 9, REFUSED)),
+    // Another request is strange.
+    (2, other!(2, Act::Read(1), 6, REFUSED)),
+    (3, other!(9, Act::Sync, 10, Answer::Same)),
+    // So is an answer that no gate gives, wherever it stands.
+    (0, other!(0, Act::Spawn, 5, Answer::Unset)),
+    (1, other!(1, Act::Write(0, 7), 9, Answer::Unset)),
+    (2, other!(2, Act::Read(0), 6, Answer::Unset)),
+    (3, other!(1, Act::Sync, 10, Answer::Unset)),
+    (4, other!(1, Act::Return, 10, Answer::Unset)),
+    (5, other!(2, Act::Sync, 7, Answer::Unset)),
+    (6, other!(3, Act::Return, 7, Answer::Unset)),
+];
 
 #[test]
 fn a_run_is_replayed(rt: HostRuntime) {
-    for (text, entries, wanted) in cases() {
-        check(&rt, rt.alloc(), text, entries, *wanted);
+    for (text, entries, wanted) in CASES {
+        assert!(rt; gives(rt.alloc(), text, entries, *wanted), "{wanted:?}");
     }
 }
 
-// The first entry whose answer no gate gives is the strange one, wherever it stands.
 #[test]
-fn each_answer_is_compared(rt: HostRuntime) {
-    for place in 0..7 {
-        let mut entries = pair();
-        entries[place].answer = Answer::Unset;
-        check(
-            &rt,
-            rt.alloc(),
-            PAIR,
-            &entries,
-            Err(ReplayFault::Strange(place as u32 + 1)),
-        );
+fn each_entry_is_compared(rt: HostRuntime) {
+    for (place, entry) in STRANGE {
+        assert!(rt; is_strange(rt.alloc(), *place, *entry), "at {place}");
     }
 }

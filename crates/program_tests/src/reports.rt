@@ -8,15 +8,12 @@ ghost use Rattle.model_histories.specs.Extensions.{IsCleanAnswer, IsClean};
 ghost use Rattle.race_report.specs.Conditions.{shape_known, AreTellable};
 ghost use Rattle.race_report.specs.VerdictText.{HasWords};
 
-use crate::checks::equal;
 use crate::openings::gate_for;
 use locked_replay::Whole;
 use program_text::Program;
 use race_gate::{Answer, Entry, Gate, GateFault, Receipt, Reply};
 use race_report::{report, verdict_lines};
 use std::alloc::{AllocError, Global};
-use std::process::Abort;
-use std::test::Fail;
 use text_words::{Act, Request};
 
 fn is_clean_answer(answer: Answer) -> bool
@@ -31,14 +28,16 @@ fn is_clean(entries: &[Entry]) -> bool
     entries.iter().all(|entry| is_clean_answer(entry.answer))
 }
 
-/// Asks the gate these.
-fn ask_all(gate: &mut Gate<Global>, requests: &[Request]) -> Result<(), Fail>
-    ensures { OnOk result (gate.new.shape ≡ gate.old.shape) }
+/// Whether the gate answers these.
+fn answers(gate: &mut Gate<Global>, requests: &[Request]) -> bool
+    ensures { IsTrue result → gate.new.shape ≡ gate.old.shape }
 {
     for request in requests {
-        gate.judge(*request)?;
+        let Ok(_receipt) = gate.judge(*request) else {
+            return false;
+        };
     }
-    Ok(())
+    true
 }
 
 /// What the gate of this program keeps.
@@ -62,58 +61,51 @@ fn whole_of(
     })
 }
 
-/// What the gate of this program keeps after these requests.
-fn whole_asked(
+/// Whether this is the report of a run of this program.
+pub fn is_reported(alloc: Global, program: &Program<Global>, whole: &Whole, wanted: &str) -> bool
+    requires entries { AreTellable (shape_known (contents program.now).known) whole.now.entries.items }
+    requires memory { length whole.now.memory.items ≡ cells_of program.now.mems }
+    requires clean { IsTrue whole.now.clean ↔ IsClean (reverse whole.now.entries.items) }
+{
+    match report(alloc, program, whole) {
+        Ok(told) => told.as_slice() == wanted.as_bytes(),
+        Err(_) => false,
+    }
+}
+
+/// Whether this is the report of what the gate of this program keeps.
+fn is_told(
     alloc: Global,
     program: &Program<Global>,
-    gate: &mut Gate<Global>,
-    requests: &[Request],
-) -> Result<Whole, Fail>
-    requires { gate.old.shape ≡ shape_known (contents program.now).known }
-    ensures entries { IfOk result (λ whole. AreTellable (shape_known (contents program.now).known) whole.entries.items) }
-    ensures memory { IfOk result (λ whole. length whole.memory.items ≡ cells_of program.now.mems) }
-    ensures clean { IfOk result (λ whole. IsTrue whole.clean ↔ IsClean (reverse whole.entries.items)) }
+    gate: &Gate<Global>,
+    wanted: &str,
+) -> Result<bool, AllocError>
+    requires { gate.now.shape ≡ shape_known (contents program.now).known }
 {
-    ask_all(gate, requests)?;
-    Ok(whole_of(alloc, program, gate)?)
+    let whole = whole_of(alloc, program, gate)?;
+    Ok(is_reported(alloc, program, &whole, wanted))
 }
 
-/// What a gate of this program keeps after these requests.
-fn whole_after(
+/// Whether this is the report of what a gate of this program answers to these requests.
+fn is_report(
     alloc: Global,
     program: &Program<Global>,
-    requests: &[Request],
-) -> Result<Whole, Fail>
-    ensures entries { IfOk result (λ whole. AreTellable (shape_known (contents program.now).known) whole.entries.items) }
-    ensures memory { IfOk result (λ whole. length whole.memory.items ≡ cells_of program.now.mems) }
-    ensures clean { IfOk result (λ whole. IsTrue whole.clean ↔ IsClean (reverse whole.entries.items)) }
-{
-    let mut gate = gate_for(alloc, program, 1_000)?;
-    whole_asked(alloc, program, &mut gate, requests)
-}
-
-/// The report of what a gate of this program answers to these requests.
-fn told(alloc: Global, program: &Program<Global>, requests: &[Request]) -> Result<Vec<u8>, Fail> {
-    let whole = whole_after(alloc, program, requests)?;
-    Ok(report(alloc, program, &whole)?)
-}
-
-/// The report of what a gate of the program of this text answers to these requests.
-fn report_of(alloc: Global, text: &str, requests: &[Request]) -> Result<Vec<u8>, Fail> {
-    let program = Program::parse(alloc, text.as_bytes())?;
-    told(alloc, &program, requests)
-}
-
-fn check(
-    rt: &impl Abort,
-    alloc: Global,
-    text: &str,
     requests: &[Request],
     wanted: &str,
-) -> Result<(), Fail> {
-    let found = report_of(alloc, text, requests)?;
-    equal(rt, &text, &found.as_slice(), &wanted.as_bytes());
-    Ok(())
+) -> Result<bool, AllocError> {
+    let mut gate = gate_for(alloc, program, 1_000)?;
+    if !answers(&mut gate, requests) {
+        return Ok(false);
+    }
+    is_told(alloc, program, &gate, wanted)
+}
+
+/// The same of the program of this text.
+fn tells(alloc: Global, text: &str, requests: &[Request], wanted: &str) -> bool {
+    match Program::parse(alloc, text.as_bytes()) {
+        Ok(program) => matches!(is_report(alloc, &program, requests, wanted), Ok(true)),
+        Err(_) => false,
+    }
 }
 
 /// What a strand asks on a line.
@@ -156,27 +148,21 @@ const CASES: &[Case<'static>] = &[
 ];
 
 #[test]
-fn reducers_and_arrays(rt: HostRuntime) -> Result<(), Fail> {
+fn reducers_and_arrays(rt: HostRuntime) {
     for (text, requests, wanted) in CASES {
-        check(&rt, rt.alloc(), text, requests, wanted)?;
+        assert!(rt; tells(rt.alloc(), text, requests, wanted), "{wanted}");
     }
-    Ok(())
 }
 
 const CLEAN: &str =
     "{\"clean\":true,\"entries\":713,\"memory\":{\"x\":55},\"refusals\":[],\"schedules\":\"clean for every schedule\"}";
 
 #[test]
-fn a_clean_run(rt: HostRuntime) -> Result<(), Fail> {
+fn a_clean_run(rt: HostRuntime) {
     let mut requests = [asked!(0, Act::Call, 5); 713];
     requests[0] = asked!(0, Act::Write(0, 55), 4);
-    check(
-        &rt,
-        rt.alloc(),
-        "cilk 1\nmem x\nfunc main z\nend\n",
-        &requests,
-        CLEAN,
-    )
+    let text = "cilk 1\nmem x\nfunc main z\nend\n";
+    assert!(rt; tells(rt.alloc(), text, &requests, CLEAN));
 }
 
 /// The reply to a get that finds nothing, with this number.
@@ -194,13 +180,14 @@ macro_rules! unset {
     };
 }
 
-/// The verdict lines of these replies are these.
-fn check_lines(rt: &impl Abort, alloc: Global, replies: &[Reply], wanted: &str) -> Result<(), Fail>
+/// Whether the verdict lines of these replies are these.
+fn are_lines(alloc: Global, replies: &[Reply], wanted: &str) -> bool
     requires { All HasWords replies.now }
 {
-    let lines = verdict_lines(alloc, replies)?;
-    equal(rt, &wanted, &lines.as_slice(), &wanted.as_bytes());
-    Ok(())
+    match verdict_lines(alloc, replies) {
+        Ok(lines) => lines.as_slice() == wanted.as_bytes(),
+        Err(_) => false,
+    }
 }
 
 const REPLIES: [Reply; 4] = [
@@ -230,8 +217,8 @@ const DISTANT_LINES: &str =
 
 // Numbers that count up, and numbers that are distant.
 #[test]
-fn lines_of_replies(rt: HostRuntime) -> Result<(), Fail> {
-    check_lines(&rt, rt.alloc(), &REPLIES, FAULTS)?;
-    check_lines(&rt, rt.alloc(), &COUNTED, COUNTED_LINES)?;
-    check_lines(&rt, rt.alloc(), &DISTANT, DISTANT_LINES)
+fn lines_of_replies(rt: HostRuntime) {
+    assert!(rt; are_lines(rt.alloc(), &REPLIES, FAULTS));
+    assert!(rt; are_lines(rt.alloc(), &COUNTED, COUNTED_LINES));
+    assert!(rt; are_lines(rt.alloc(), &DISTANT, DISTANT_LINES));
 }

@@ -1,22 +1,21 @@
 //! Tests of the lot, of single workers and of whole runs.
 
-ghost use Rattle.std.specs.Prelude.{◌≡◌, ◌<◌, ◌≤◌, [], IfOk};
+ghost use Rattle.std.specs.Prelude.{◌≡◌, ◌<◌, ◌≤◌};
 
 use crate::meeting::Meeting;
+use crate::openings::gate_of_cells;
 use frame_steps::Frame;
 use locked_replay::{LockedGate, Seat, WorkerLog};
 use program_text::Program;
-use race_gate::{Answer, Gate};
+use race_gate::Answer;
 use short_receipts::Receipts;
 use std::alloc::{AllocError, Global};
 use std::marker::Brand;
-use std::process::Abort;
 use std::sync::Wait;
 use std::sync::ledger::{Blank, Ledger};
 use std::test::Fail;
 use std::thread::Threads;
 use steal_workers::{Lot, LotFault, Task, run};
-use text_words::{Monoid, Monoids, Shape};
 
 const FIB: &[u8] =
     b"cilk 1\nmem x\nreducer h sum\nfunc main z\n  put h 0\n  call fib 10\n  get r h\n  write x r\nend\nfunc fib n\n  let t = n < 2\n  if t\n    update h n\n  else\n    let a = n - 1\n    let b = n - 2\n    spawn fib a\n    call fib b\n    sync\n  end\nend\n";
@@ -26,17 +25,6 @@ const PAIR: &[u8] =
 
 // The parts of a seat, one for each worker that there may be.
 const PARTS: u64 = 64;
-
-// A gate of two cells and a reducer.
-fn gate(alloc: Global) -> Result<Gate<Global>, Fail>
-    ensures { IfOk result (λ gate. gate.history ≡ []) }
-{
-    let shape = Shape {
-        cells: 2,
-        monoids: Monoids::new(Vec::from_slice(alloc, &[Monoid::Sum])?),
-    };
-    Ok(Gate::new(alloc, &shape, 1000)?)
-}
 
 // How many of the receipts are answered Finished.
 fn finished_in(receipts: &Receipts) -> usize {
@@ -60,86 +48,100 @@ fn counted<L: Ledger>(logs: &[WorkerLog<L>]) -> (usize, usize) {
     (receipts, finished)
 }
 
-// The same of those that the workers bring back from this gate.
-fn brought<L: Ledger + Send + Sync, R: Threads + Wait + Sync>(
+// Whether so many workers end the one run of the program before this gate, all of whose requests they bring back.
+fn finish<L: Ledger + Send + Sync, R: Threads + Wait + Sync>(
     rt: &R,
     alloc: Global,
     program: &Program<Global>,
     locked: &LockedGate<L>,
     seat: Seat<L>,
     workers: usize,
-) -> Result<(usize, usize), Fail>
+) -> bool
     requires parts { seat.parts ≡ 64 }
     requires workers { (0 < workers) × (workers ≤ 64) }
 {
-    let logs = run(rt, alloc, program, workers, locked, seat)?;
-    Ok(counted(logs.as_slice()))
-}
-
-// The same of a gate that was asked nothing.
-fn received<L: Ledger + Send + Sync, R: Threads + Wait + Sync>(
-    rt: &R,
-    alloc: Global,
-    program: &Program<Global>,
-    blank: Blank,
-    workers: usize,
-) -> Result<(usize, usize), Fail>
-    requires name { blank.name ≡ L.name }
-    requires all { blank.parts ≡ L.parts }
-    requires parts { blank.parts ≡ 64 }
-    requires workers { (0 < workers) × (workers ≤ 64) }
-{
-    let (locked, seat) = LockedGate::<L>::new(gate(alloc)?, blank, PARTS);
-    brought(rt, alloc, program, &locked, seat, workers)
-}
-
-#[test]
-fn many_workers_finish_one_run(rt: HostRuntime) -> Result<(), Fail> {
-    let alloc = rt.alloc();
-    let program = Program::parse(alloc, FIB)?;
-    for workers in [1usize, 2, 8] {
-        let found = received::<Brand, _>(&rt, alloc, &program, Blank::new(PARTS), workers)?;
-        assert_eq!(rt; found, (713, 1));
+    match run(rt, alloc, program, workers, locked, seat) {
+        Ok(logs) => counted(logs.as_slice()) == (713, 1),
+        Err(_) => false,
     }
-    Ok(())
 }
 
-// Whether two workers meet before this gate.
-fn meet_at<L: Ledger + Send + Sync, R: Threads + Wait + Sync>(
-    rt: &R,
-    alloc: Global,
-    program: &Program<Global>,
-    locked: &LockedGate<L>,
-    seat: Seat<L>,
-) -> Result<bool, Fail>
-    requires parts { seat.parts ≡ 64 }
-{
-    let meeting = Meeting::new(locked);
-    run(rt, alloc, program, 2, &meeting, seat)?;
-    Ok(meeting.both_met())
-}
-
-// The same of a gate that was asked nothing.
+// Whether two of so many workers meet before this gate.
 fn meet<L: Ledger + Send + Sync, R: Threads + Wait + Sync>(
     rt: &R,
     alloc: Global,
     program: &Program<Global>,
+    locked: &LockedGate<L>,
+    seat: Seat<L>,
+    workers: usize,
+) -> bool
+    requires parts { seat.parts ≡ 64 }
+    requires workers { (0 < workers) × (workers ≤ 64) }
+{
+    let meeting = Meeting::new(locked);
+    run(rt, alloc, program, workers, &meeting, seat).is_ok() && meeting.both_met()
+}
+
+// What workers do.
+#[derive(Clone, Copy)]
+enum Does {
+    Finish,
+    Meet,
+}
+
+// Whether so many workers do this before a gate of two cells that was asked nothing.
+fn do_alike<L: Ledger + Send + Sync, R: Threads + Wait + Sync>(
+    rt: &R,
+    alloc: Global,
+    program: &Program<Global>,
     blank: Blank,
-) -> Result<bool, Fail>
+    workers: usize,
+    does: Does,
+) -> bool
     requires name { blank.name ≡ L.name }
     requires all { blank.parts ≡ L.parts }
     requires parts { blank.parts ≡ 64 }
+    requires workers { (0 < workers) × (workers ≤ 64) }
 {
-    let (locked, seat) = LockedGate::<L>::new(gate(alloc)?, blank, PARTS);
-    meet_at(rt, alloc, program, &locked, seat)
+    let Ok(gate) = gate_of_cells(alloc, program, 2, 1000) else {
+        return false;
+    };
+    let (locked, seat) = LockedGate::<L>::new(gate, blank, PARTS);
+    match does {
+        Does::Finish => finish(rt, alloc, program, &locked, seat, workers),
+        Does::Meet => meet(rt, alloc, program, &locked, seat, workers),
+    }
+}
+
+// The same of the program that a text means.
+fn do_of_text<R: Threads + Wait + Sync>(
+    rt: &R,
+    alloc: Global,
+    text: &[u8],
+    workers: usize,
+    does: Does,
+) -> bool
+    requires workers { (0 < workers) × (workers ≤ 64) }
+{
+    match Program::parse(alloc, text) {
+        Ok(program) => do_alike::<Brand, R>(rt, alloc, &program, Blank::new(PARTS), workers, does),
+        Err(_) => false,
+    }
 }
 
 #[test]
-fn two_at_once(rt: HostRuntime) -> Result<(), Fail> {
-    let alloc = rt.alloc();
-    let program = Program::parse(alloc, PAIR)?;
-    assert!(rt; meet::<Brand, _>(&rt, alloc, &program, Blank::new(PARTS))?);
-    Ok(())
+fn many_workers_finish_one_run(rt: HostRuntime) {
+    for workers in [1usize, 2, 8] {
+        assert!(rt;
+            do_of_text(&rt, rt.alloc(), FIB, workers, Does::Finish),
+            "{workers} workers"
+        );
+    }
+}
+
+#[test]
+fn two_at_once(rt: HostRuntime) {
+    assert!(rt; do_of_text(&rt, rt.alloc(), PAIR, 2, Does::Meet));
 }
 
 // The task of `main`.
@@ -185,33 +187,37 @@ fn come<'p, R: Wait>(
     lot: &Lot<'p>,
     comes: Comes,
     finds: Finds,
-) -> Result<bool, AllocError> {
-    let found = match comes {
-        Comes::Child(join) => lot.wake(rt, join),
-        Comes::Task(join) => lot.park(rt, join, root(alloc, program)?),
-    };
-    Ok(is_found(&found, finds))
+) -> bool {
+    match comes {
+        Comes::Child(join) => is_found(&lot.wake(rt, join), finds),
+        Comes::Task(join) => match root(alloc, program) {
+            Ok(task) => is_found(&lot.park(rt, join, task), finds),
+            Err(_) => false,
+        },
+    }
 }
 
-// The row of a lot: each that comes finds what stands beside it.
-fn come_for_joins<'p, R: Wait + Abort>(
+// The row of a lot: whether each that comes finds what stands beside it.
+fn come_for_joins<'p, R: Wait>(
     rt: &R,
     alloc: Global,
     program: &'p Program<Global>,
     lot: &Lot<'p>,
     row: &[(Comes, Finds)],
-) -> Result<(), Fail> {
+) -> bool {
     for (comes, finds) in row {
-        assert!(rt; come(rt, alloc, program, lot, *comes, *finds)?);
+        if !come(rt, alloc, program, lot, *comes, *finds) {
+            return false;
+        }
     }
-    Ok(())
+    true
 }
 
-// A lot is closed once it is told to be.
-fn is_closed_at_last<R: Wait + Abort>(rt: &R, lot: &Lot<'_>) {
-    assert!(rt; !lot.look(rt));
+// Whether a lot is closed once it is told to be, and not before.
+fn is_closed_at_last<R: Wait>(rt: &R, lot: &Lot<'_>) -> bool {
+    let early = lot.look(rt);
     lot.close(rt);
-    assert!(rt; lot.look(rt));
+    lot.look(rt) && !early
 }
 
 const ROW: &[(Comes, Finds)] = &[
@@ -226,11 +232,15 @@ const ROW: &[(Comes, Finds)] = &[
     (Comes::Task(5), Finds::Torn),
 ];
 
+// Whether the row of a lot of the program is so, and the lot is closed at last.
+fn come_for_row<R: Wait>(rt: &R, alloc: Global, program: &Program<Global>) -> bool {
+    let lot = Lot::new(alloc);
+    come_for_joins(rt, alloc, program, &lot, ROW) && is_closed_at_last(rt, &lot)
+}
+
 #[test]
 fn second_comer_gets_the_task(rt: HostRuntime) -> Result<(), Fail> {
     let program = Program::parse(rt.alloc(), PAIR)?;
-    let lot = Lot::new(rt.alloc());
-    come_for_joins(&rt, rt.alloc(), &program, &lot, ROW)?;
-    is_closed_at_last(&rt, &lot);
+    assert!(rt; come_for_row(&rt, rt.alloc(), &program));
     Ok(())
 }

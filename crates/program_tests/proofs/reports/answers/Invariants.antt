@@ -1,5 +1,5 @@
 use Rattle.std.proofs.Common.{◌≡◌}
-use Rattle.program_tests.proofs.reports.ask_all.Given as goal
+use Rattle.program_tests.proofs.reports.answers.Given as goal
 
 -- the gate keeps its shape
 abbrev pub invariant-loop-request : goal.invariant-loop-request

@@ -4,7 +4,7 @@ use Rattle.model_histories.specs.Legal.{IsLegal}
 use Rattle.race_gate.proofs.Races.{legal-part}
 use Rattle.spawn_chains.proofs.Numbers.{no_entry}
 use Rattle.spawn_chains.proofs.Asked.{told_begun}
-use Rattle.explanation_tests.proofs.chains.told.Goals as goal
+use Rattle.explanation_tests.proofs.chains.part_at.Goals as goal
 
 pub new-requires : goal.new-requires
 new-requires c =
