@@ -5,11 +5,12 @@ ghost use Rattle.text_words.specs.declared.value.Version.{Version};
 ghost use Rattle.trace_text.specs.Shapes.{is_numbered};
 ghost use Rattle.trace_text.specs.Printing.{behind_space, name_of_reducer, spaced};
 ghost use Rattle.program_lines.specs.Grammar.{keyword_of_statement};
-ghost use Rattle.program_lines.specs.Printing.{IsNamedFunction, argument_words, expression_words, location_word};
+ghost use Rattle.program_lines.specs.Printing.{IsNamedFunction, argument_words, location_word};
 ghost use Rattle.program_lines.specs.Printing.{name_of_array, name_of_register, operand_word, printed_scope, statement_words};
-ghost use Rattle.program_lines.specs.Arguments.{words_of_argument};
+ghost use Rattle.program_lines.specs.Arguments.{computed_words, words_of_argument};
 ghost use Rattle.program_lines.specs.Table.{spelling};
 ghost use Rattle.text_words.specs.declared.value.Mem.{Mem};
+ghost use Rattle.text_words.specs.declared.value.Reducer.{Reducer};
 ghost use Rattle.text_words.specs.Names.{element_word};
 
 use access_table::{Kind, word};
@@ -74,8 +75,9 @@ fn arguments<'a>(
 ) -> (Argument<'a>, Argument<'a>, Argument<'a>)
     ensures { (version : Version) (mems : List Mem) (functions : List (List ℕ)) → IsNamedFunction functions statement.now function.now
         → argument_words (printed_scope version mems reducers.now functions registers.now) statement.now
-        ≡ words_of_argument mems registers.now result.0
-        ++ (words_of_argument mems registers.now result.1 ++ words_of_argument mems registers.now result.2) }
+        ≡ words_of_argument (printed_scope version mems reducers.now functions registers.now) result.0
+        ++ (words_of_argument (printed_scope version mems reducers.now functions registers.now) result.1
+        ++ words_of_argument (printed_scope version mems reducers.now functions registers.now) result.2) }
 {
     match *statement {
         Statement::Let {
@@ -234,7 +236,9 @@ fn put_expression<A: Allocator>(
     registers: &[Name],
     value: Expression,
 ) -> Result<(), AllocError>
-    ensures { OnOk result (string_bytes out.new ≡ string_bytes out.old ++ behind_space (expression_words registers.now value)) }
+    ensures { (version : Version) (mems : List Mem) (reducers : List Reducer) (functions : List (List ℕ))
+        → OnOk result (string_bytes out.new ≡ string_bytes out.old ++
+        behind_space (computed_words (printed_scope version mems reducers functions registers.now) value)) }
 {
     match value {
         Expression::Plain(operand) => put_value(out, registers, operand),
@@ -253,8 +257,9 @@ fn put_argument<A: Allocator>(
     argument: Argument<'_>,
 ) -> Result<(), AllocError>
     requires numbered { IsTrue (is_numbered 0 mems.now) }
-    ensures { OnOk result (string_bytes out.new
-        ≡ string_bytes out.old ++ behind_space (words_of_argument mems.now registers.now argument.entry)) }
+    ensures { (version : Version) (reducers : List Reducer) (functions : List (List ℕ))
+        → OnOk result (string_bytes out.new ≡ string_bytes out.old ++
+        behind_space (words_of_argument (printed_scope version mems.now reducers functions registers.now) argument.entry)) }
 {
     match argument {
         Argument::Nothing => Ok(()),

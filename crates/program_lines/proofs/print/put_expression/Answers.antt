@@ -1,4 +1,4 @@
 use Rattle.program_lines.proofs.print.put_expression.Goals as goal
 
 pub returns-in-Difference : goal.returns-in-Difference
-returns-in-Difference g c = rw c.in-Difference.is c.put_joined-in-Difference.ensures
+returns-in-Difference g c = λ version mems reducers functions. rw c.in-Difference.is c.put_joined-in-Difference.ensures

@@ -15,8 +15,10 @@ returns g c =
     let registers = c.args.registers.now in
     let first : string_bytes c.push_str.new.self ≡ old ++ word = search rules in
     λ version functions named.
+    let reducers = c.args.reducers.now in
+    let scope = printed_scope version mems reducers functions registers in
     on_ok_weaker c.put_argument-3.result
-    (λ e. all_put old word _ _ _ _ (words_of_argument mems registers c.arguments.result.0) (words_of_argument mems registers c.arguments.result.1) (words_of_argument mems registers c.arguments.result.2)
-    (argument_words (printed_scope version mems c.args.reducers.now functions registers) c.args.statement.now)
-    first c.in_ok-put_argument.ensures c.in_ok-put_argument-2.ensures (c.arguments.ensures version mems functions named) e)
-    c.put_argument-3.ensures
+    (λ e. all_put old word _ _ _ _ (words_of_argument scope c.arguments.result.0) (words_of_argument scope c.arguments.result.1) (words_of_argument scope c.arguments.result.2)
+    (argument_words scope c.args.statement.now)
+    first (c.in_ok-put_argument.ensures version reducers functions) (c.in_ok-put_argument-2.ensures version reducers functions) (c.arguments.ensures version mems functions named) e)
+    (c.put_argument-3.ensures version reducers functions)
