@@ -12,53 +12,88 @@ use std::sync::Wait;
 use std::test::Fail;
 use std::thread::Threads;
 
+/// A prank, and the fault of the runs whose gate plays it.
+#[derive(Clone, Copy)]
+struct Case {
+    name: &'static str,
+    prank: Prank,
+    wanted: RunFault,
+}
+
 /// By each number of workers the run has this fault, and the gate is stopped.
 fn check_fault<R: Abort + Threads + Wait + Sync>(
     rt: &R,
     alloc: Global,
     program: &Program<Global>,
-    prank: Prank,
-    wanted: RunFault,
+    case: Case,
 ) -> Result<(), Fail> {
-    for workers in [1usize, 2, 8, 64] {
-        let (found, is_stopped) = ended(rt, alloc, program, workers, prank)?;
-        equal(rt, &(prank, workers), &found.err(), &Some(wanted));
-        assert!(rt; is_stopped);
+    for workers in &[1usize, 2, 8, 64] {
+        assert!(rt; 0 < *workers && *workers <= 64);
+        let (found, is_stopped) = ended(rt, alloc, program, *workers, case.prank)?;
+        let wanted = (Some(case.wanted), true);
+        equal(
+            rt,
+            &(case.name, *workers),
+            &(found.err(), is_stopped),
+            &wanted,
+        );
     }
     Ok(())
 }
 
-/// So it is with each of these pranks.
+/// So it is in each of these cases.
 fn check_faults<R: Abort + Threads + Wait + Sync>(
     rt: &R,
     alloc: Global,
-    pranks: &[Prank],
-    wanted: RunFault,
+    cases: &[Case],
 ) -> Result<(), Fail> {
     let program = Program::parse(alloc, FIB)?;
-    for prank in pranks {
-        check_fault(rt, alloc, &program, *prank, wanted)?;
+    for case in cases {
+        check_fault(rt, alloc, &program, *case)?;
     }
     Ok(())
 }
 
-const STOPS: [Prank; 3] = [Prank::Stops(1), Prank::Stops(100), Prank::Stops(713)];
+/// A prank at a request, and the fault of such runs.
+macro_rules! case {
+    ($name:literal, $prank:expr, $wanted:expr) => {
+        Case {
+            name: $name,
+            prank: $prank,
+            wanted: $wanted,
+        }
+    };
+}
+
+const STOPS: &[Case] = &[
+    case!("at 1", Prank::Stops(1), RunFault::Stopped),
+    case!("at 100", Prank::Stops(100), RunFault::Stopped),
+    case!("at 713", Prank::Stops(713), RunFault::Stopped),
+];
 
 #[test]
 fn a_gate_that_stops(rt: HostRuntime) -> Result<(), Fail> {
-    check_faults(&rt, rt.alloc(), &STOPS, RunFault::Stopped)
+    check_faults(&rt, rt.alloc(), STOPS)
 }
 
-const STARVES: [Prank; 3] = [Prank::Starves(1), Prank::Starves(100), Prank::Starves(713)];
+const STARVES: &[Case] = &[
+    case!("at 1", Prank::Starves(1), RunFault::Memory),
+    case!("at 100", Prank::Starves(100), RunFault::Memory),
+    case!("at 713", Prank::Starves(713), RunFault::Memory),
+];
 
 #[test]
 fn a_gate_that_wants_memory(rt: HostRuntime) -> Result<(), Fail> {
-    check_faults(&rt, rt.alloc(), &STARVES, RunFault::Memory)
+    check_faults(&rt, rt.alloc(), STARVES)
 }
 
-const SWAPS: [Prank; 3] = [Prank::Swaps(1), Prank::Swaps(100), Prank::Swaps(713)];
+const SWAPS: &[Case] = &[
+    case!("at 1", Prank::Swaps(1), RunFault::Strange),
+    case!("at 100", Prank::Swaps(100), RunFault::Strange),
+    case!("at 713", Prank::Swaps(713), RunFault::Strange),
+];
 
 #[test]
 fn a_gate_that_answers_another_request(rt: HostRuntime) -> Result<(), Fail> {
-    check_faults(&rt, rt.alloc(), &SWAPS, RunFault::Strange)
+    check_faults(&rt, rt.alloc(), SWAPS)
 }

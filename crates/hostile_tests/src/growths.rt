@@ -34,8 +34,7 @@ use crate::checks::equal;
 use crate::refusing::Refusing;
 use std::alloc::{AllocError, Global};
 use std::process::Abort;
-use std::test::Fail;
-use text_words::{Monoid, Shape, TextFault};
+use text_words::{Monoid, Shape};
 
 /// A heap of which one growth is refused.
 type Heap = Refusing<Global>;
@@ -52,86 +51,70 @@ enum Call {
     Command(commands::Command),
 }
 
-/// Makes the call where its growth of this number is refused, and checks what it answers. It says whether that was Memory.
-fn is_refused(
-    rt: &impl Abort,
-    alloc: Global,
-    heap: &Heap,
-    call: Call,
-    number: u64,
-) -> Result<bool, AllocError> {
+/// Makes the call where its growth of this number is refused. Whether it answered Memory, or None where what it answered or left is not
+/// as it is to be.
+fn is_refused(alloc: Global, heap: &Heap, number: u64, call: Call) -> Option<bool> {
     match call {
-        Call::List(call) => lists::is_refused(rt, heap, number, call),
-        Call::Strands(call) => strands::is_refused(rt, heap, number, call),
-        Call::Kept(call) => kept::is_refused(rt, heap, number, call),
-        Call::Trace(call) => traces::is_refused(rt, heap, number, call),
-        Call::Gate(call) => gates::is_refused(rt, alloc, heap, number, call),
-        Call::Program(call) => programs::is_refused(rt, heap, number, call),
-        Call::Command(command) => Ok(commands::is_refused(rt, alloc, heap, number, command)),
+        Call::List(call) => lists::is_refused(heap, number, call),
+        Call::Strands(call) => strands::is_refused(heap, number, call),
+        Call::Kept(call) => kept::is_refused(heap, number, call),
+        Call::Trace(call) => traces::is_refused(heap, number, call),
+        Call::Gate(call) => gates::is_refused(alloc, heap, number, call),
+        Call::Program(call) => programs::is_refused(heap, number, call),
+        Call::Command(command) => commands::is_refused(alloc, heap, number, command),
     }
 }
 
-/// Whether a text could not be read for want of memory.
-fn wants_memory(rt: &impl Abort, fault: &TextFault) -> bool {
-    assert!(rt; matches!(fault, TextFault::Memory));
-    true
-}
-
 /// Whether there was no memory for a text, which is this one where there was.
-fn lacks_text(rt: &impl Abort, found: Result<Vec<u8, &Heap>, AllocError>, wanted: &[u8]) -> bool {
+fn lacks_text(found: Result<Vec<u8, &Heap>, AllocError>, wanted: &[u8]) -> Option<bool> {
     match found {
-        Ok(text) => {
-            equal(rt, &"text", &text.as_slice(), &wanted);
-            false
-        }
-        Err(AllocError) => true,
+        Ok(text) => (text.as_slice() == wanted).then_some(false),
+        Err(AllocError) => Some(true),
     }
 }
 
 /// Whether there was no memory for a shape, which has so many cells and these reducers where there was.
 fn lacks_shape(
-    rt: &impl Abort,
     found: Result<Shape<&Heap>, AllocError>,
     cells: u32,
     monoids: &[Monoid],
-) -> bool {
+) -> Option<bool> {
     match found {
         Ok(shape) => {
-            assert!(rt; shape.cells == cells);
-            equal(rt, &"reducers", &shape.monoids.as_slice(), &monoids);
-            false
+            let is_right = shape.cells == cells && shape.monoids.as_slice() == monoids;
+            is_right.then_some(false)
         }
-        Err(AllocError) => true,
+        Err(AllocError) => Some(true),
     }
 }
 
 /// Where the growths of a call have no end.
 const ENDLESS: u64 = 10_000;
 
-/// Refuses the call's first growth, its second, and so on until none is refused. How many were. Just a call of which one was refused
-/// answers Memory.
-fn growths_of(rt: &impl Abort, alloc: Global, call: Call) -> Result<u64, AllocError> {
+/// Refuses the call's first growth, its second, and so on until none is refused. How many were, or behind how many something was not as
+/// it is to be. Just a call of which one was refused answers Memory.
+fn growths_of(alloc: Global, call: Call) -> Result<u64, u64> {
     for growths in 0..ENDLESS {
         let heap = Refusing::new(alloc);
-        let is_refused = is_refused(rt, alloc, &heap, call, growths.saturating_add(1))?;
-        assert!(rt; is_refused == heap.has_refused());
-        if !is_refused {
-            return Ok(growths);
+        match is_refused(alloc, &heap, growths.saturating_add(1), call) {
+            Some(true) if heap.has_refused() => {}
+            Some(false) if !heap.has_refused() => return Ok(growths),
+            _ => return Err(growths),
         }
     }
-    Ok(ENDLESS)
+    Err(ENDLESS)
 }
 
 /// Does so with each of these calls. Each has growths, which have an end.
-fn check_all(rt: &impl Abort, alloc: Global, calls: &[(&str, Call)]) -> Result<(), Fail> {
+fn check_all(rt: &impl Abort, alloc: Global, calls: &[(&str, Call)]) {
     for (name, call) in calls {
-        let growths = growths_of(rt, alloc, *call)?;
-        equal(rt, name, &(0 < growths && growths < ENDLESS), &true);
+        let growths = growths_of(alloc, *call);
+        let is_right = matches!(growths, Ok(count) if 0 < count);
+        equal(rt, &(name, growths), &is_right, &true);
     }
-    Ok(())
 }
 
-const OF_STRANDS: [(&str, Call); 14] = [
+const OF_STRANDS: &[(&str, Call)] = &[
     ("OrderList::new", Call::List(lists::Call::New)),
     ("OrderList::reserve", Call::List(lists::Call::Reserve)),
     ("OrderList::make_room", Call::List(lists::Call::Hint)),
@@ -155,11 +138,11 @@ const OF_STRANDS: [(&str, Call); 14] = [
 ];
 
 #[test]
-fn strands_and_what_is_kept_of_them(rt: HostRuntime) -> Result<(), Fail> {
-    check_all(&rt, rt.alloc(), &OF_STRANDS)
+fn strands_and_what_is_kept_of_them(rt: HostRuntime) {
+    check_all(&rt, rt.alloc(), OF_STRANDS);
 }
 
-const OF_TRACES: [(&str, Call); 4] = [
+const OF_TRACES: &[(&str, Call)] = &[
     ("Trace::parse", Call::Trace(traces::Call::Parse)),
     ("Trace::print", Call::Trace(traces::Call::Print)),
     ("Trace::shape", Call::Trace(traces::Call::Shape)),
@@ -167,11 +150,11 @@ const OF_TRACES: [(&str, Call); 4] = [
 ];
 
 #[test]
-fn traces_and_their_texts(rt: HostRuntime) -> Result<(), Fail> {
-    check_all(&rt, rt.alloc(), &OF_TRACES)
+fn traces_and_their_texts(rt: HostRuntime) {
+    check_all(&rt, rt.alloc(), OF_TRACES);
 }
 
-const OF_GATES: [(&str, Call); 4] = [
+const OF_GATES: &[(&str, Call)] = &[
     ("Gate::new", Call::Gate(gates::Call::New)),
     ("Gate::judge", Call::Gate(gates::Call::Judge)),
     ("judge_all", Call::Gate(gates::Call::JudgeAll)),
@@ -179,11 +162,11 @@ const OF_GATES: [(&str, Call); 4] = [
 ];
 
 #[test]
-fn gates_and_lists_of_requests(rt: HostRuntime) -> Result<(), Fail> {
-    check_all(&rt, rt.alloc(), &OF_GATES)
+fn gates_and_lists_of_requests(rt: HostRuntime) {
+    check_all(&rt, rt.alloc(), OF_GATES);
 }
 
-const OF_PROGRAMS: [(&str, Call); 7] = [
+const OF_PROGRAMS: &[(&str, Call)] = &[
     ("Program::parse", Call::Program(programs::Call::Parse)),
     ("Program::print", Call::Program(programs::Call::Print)),
     ("Program::shape", Call::Program(programs::Call::Shape)),
@@ -197,17 +180,17 @@ const OF_PROGRAMS: [(&str, Call); 7] = [
 ];
 
 #[test]
-fn programs_and_what_is_done_with_them(rt: HostRuntime) -> Result<(), Fail> {
-    check_all(&rt, rt.alloc(), &OF_PROGRAMS)
+fn programs_and_what_is_done_with_them(rt: HostRuntime) {
+    check_all(&rt, rt.alloc(), OF_PROGRAMS);
 }
 
-const OF_COMMANDS: [(&str, Call); 3] = [
+const OF_COMMANDS: &[(&str, Call)] = &[
     ("judge_stream", Call::Command(commands::Command::Judge)),
     ("elide_text", Call::Command(commands::Command::Elide)),
     ("replay_text", Call::Command(commands::Command::Replay)),
 ];
 
 #[test]
-fn commands_and_what_they_write(rt: HostRuntime) -> Result<(), Fail> {
-    check_all(&rt, rt.alloc(), &OF_COMMANDS)
+fn commands_and_what_they_write(rt: HostRuntime) {
+    check_all(&rt, rt.alloc(), OF_COMMANDS);
 }

@@ -6,12 +6,15 @@ use crate::checks::equal;
 use crate::pranks::Prank;
 use crate::rounds::played;
 use crate::worked::FIB;
+use locked_replay::RunFault;
 use program_text::Program;
 use race_gate::{Answer, Entry};
 use run_replay::{ReplayFault, replay};
 use std::alloc::{AllocError, Global};
 use std::process::Abort;
+use std::sync::Wait;
 use std::test::Fail;
+use std::thread::Threads;
 
 /// Each part of the entries, which are a run, is a run that is not finished.
 fn parts_are_unfinished(
@@ -24,23 +27,23 @@ fn parts_are_unfinished(
         let found = replay(alloc, program, &entries[..count]);
         equal(rt, &count, &found, &Err(ReplayFault::Unfinished));
     }
-    assert_eq!(rt; replay(alloc, program, entries), Ok(()));
 }
 
-/// The entries before this place, this entry, and those from a place on.
-fn spliced(
-    alloc: Global,
-    entries: &[Entry],
-    place: usize,
+/// An entry in place of those from a place up to another.
+#[derive(Clone, Copy)]
+struct Splice {
     entry: Entry,
-    rest: usize,
-) -> Result<Vec<Entry>, AllocError>
-    requires place { place ≤ length entries.now }
-    requires rest { rest ≤ length entries.now }
+    from: usize,
+    to: usize,
+}
+
+fn spliced(alloc: Global, entries: &[Entry], splice: Splice) -> Result<Vec<Entry>, AllocError>
+    requires from { splice.from ≤ length entries.now }
+    requires to { splice.to ≤ length entries.now }
 {
-    let mut changed = Vec::from_slice(alloc, &entries[..place])?;
-    changed.push(entry)?;
-    changed.extend_from_slice(&entries[rest..])?;
+    let mut changed = Vec::from_slice(alloc, &entries[..splice.from])?;
+    changed.push(splice.entry)?;
+    changed.extend_from_slice(&entries[splice.to..])?;
     Ok(changed)
 }
 
@@ -49,13 +52,23 @@ fn is_strange(
     rt: &impl Abort,
     alloc: Global,
     program: &Program<Global>,
-    changed: &[Entry],
+    entries: &[Entry],
+    splice: Splice,
     number: usize,
-)
-    requires { number ≤ 714 }
+) -> Result<(), AllocError>
+    requires from { splice.from ≤ length entries.now }
+    requires to { splice.to ≤ length entries.now }
+    requires number { number ≤ 714 }
 {
-    let wanted = ReplayFault::Strange(number as u32);
-    equal(rt, &number, &replay(alloc, program, changed), &Err(wanted));
+    let changed = spliced(alloc, entries, splice)?;
+    let found = replay(alloc, program, changed.as_slice());
+    equal(
+        rt,
+        &number,
+        &found,
+        &Err(ReplayFault::Strange(number as u32)),
+    );
+    Ok(())
 }
 
 /// The entries are strange with any answer Unset, and with any entry twice.
@@ -68,12 +81,16 @@ fn changed_are_strange(
     requires { length entries.now ≤ 713 }
 {
     for place in 0..entries.len() {
-        let entry = entries[place];
-        let answer = Answer::Unset;
-        let unset = spliced(alloc, entries, place, Entry { answer, ..entry }, place + 1)?;
-        is_strange(rt, alloc, program, unset.as_slice(), place + 1);
-        let twice = spliced(alloc, entries, place, entry, place)?;
-        is_strange(rt, alloc, program, twice.as_slice(), place + 2);
+        let twice = Splice {
+            entry: entries[place],
+            from: place,
+            to: place,
+        };
+        let mut unset = twice;
+        unset.entry.answer = Answer::Unset;
+        unset.to = place + 1;
+        is_strange(rt, alloc, program, entries, unset, place + 1)?;
+        is_strange(rt, alloc, program, entries, twice, place + 2)?;
     }
     Ok(())
 }
@@ -87,12 +104,22 @@ fn check(
 ) -> Result<(), AllocError> {
     assert!(rt; entries.len() == 713);
     parts_are_unfinished(rt, alloc, program, entries);
+    equal(rt, &"whole", &replay(alloc, program, entries), &Ok(()));
     changed_are_strange(rt, alloc, program, entries)
+}
+
+/// So is a run of the program by one worker.
+fn check_run<R: Abort + Threads + Wait + Sync>(
+    rt: &R,
+    alloc: Global,
+    program: &Program<Global>,
+) -> Result<(), RunFault> {
+    let whole = played(rt, alloc, program, 1, Prank::Turns)?;
+    Ok(check(rt, alloc, program, whole.entries.as_slice())?)
 }
 
 #[test]
 fn runs_that_break_off_or_are_changed(rt: HostRuntime) -> Result<(), Fail> {
     let program = Program::parse(rt.alloc(), FIB)?;
-    let whole = played(&rt, rt.alloc(), &program, 1, Prank::Turns)?;
-    Ok(check(&rt, rt.alloc(), &program, whole.entries.as_slice())?)
+    Ok(check_run(&rt, rt.alloc(), &program)?)
 }

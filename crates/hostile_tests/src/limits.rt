@@ -1,9 +1,9 @@
 //! The limits of texts, histories and replays, at the limit and one past it.
 
 use crate::checks::equal;
-use crate::texts::found_of;
+use crate::texts::{found_of, meant_by};
 use crate::worked::ENDLESS;
-use program_text::{Cause, Program, TextFault};
+use program_text::{Cause, Program};
 use race_gate::{Answer, Entry, Gate, GateFault};
 use run_replay::{ReplayFault, replay};
 use std::alloc::{AllocError, Global};
@@ -11,81 +11,93 @@ use std::process::Abort;
 use std::test::Fail;
 use text_words::{Act, Monoids, Request, Shape};
 
-/// A text that begins so, with so many lines behind that.
-fn with_lines(alloc: Global, first: &str, line: &str, count: u32) -> Result<String, AllocError> {
-    let mut text = String::from_str(alloc, first)?;
-    for _ in 0..count {
-        text.push_str(line)?;
-    }
-    Ok(text)
-}
-
-/// So many lines of one kind, and what the trace of them means.
+/// A text that begins so, with so many lines of one kind behind that and then this end, and what it means as a program or as a trace.
 #[derive(Clone, Copy)]
 struct Lines {
+    first: &'static str,
     line: &'static str,
     count: u32,
+    end: &'static str,
+    is_program: bool,
     wanted: Result<usize, (u32, Cause)>,
 }
 
-const LINES: [Lines; 4] = [
-    Lines {
-        line: "sync 0\n",
-        count: 2_000_000,
-        wanted: Ok(2_000_000),
-    },
-    Lines {
-        line: "sync 0\n",
-        count: 2_000_001,
-        wanted: Err((2_000_002, Cause::TooMany)),
-    },
-    Lines {
-        line: "\n",
-        count: 3_999_999,
-        wanted: Ok(0),
-    },
-    Lines {
-        line: "\n",
-        count: 4_000_000,
-        wanted: Err((4_000_001, Cause::TooMany)),
-    },
-];
+fn text_of(alloc: Global, lines: Lines) -> Result<String, AllocError> {
+    let mut text = String::from_str(alloc, lines.first)?;
+    for _ in 0..lines.count {
+        text.push_str(lines.line)?;
+    }
+    text.push_str(lines.end)?;
+    Ok(text)
+}
 
-fn check_lines(rt: &impl Abort, alloc: Global, lines: Lines) -> Result<(), Fail> {
-    let text = with_lines(alloc, "cilk 1\n", lines.line, lines.count)?;
-    let found = found_of(alloc, text.as_bytes());
+fn check_lines(rt: &impl Abort, alloc: Global, lines: Lines) -> Result<(), AllocError> {
+    let text = text_of(alloc, lines)?;
+    let found = if lines.is_program {
+        meant_by(alloc, text.as_bytes())
+    } else {
+        found_of(alloc, text.as_bytes())
+    };
     equal(rt, &lines.count, &found, &Some(lines.wanted));
     Ok(())
 }
 
-#[test]
-fn requests_and_lines_of_a_trace(rt: HostRuntime) -> Result<(), Fail> {
-    for lines in &LINES {
-        check_lines(&rt, rt.alloc(), *lines)?;
+fn check_all(rt: &impl Abort, alloc: Global, texts: &[Lines]) -> Result<(), AllocError> {
+    for lines in texts {
+        check_lines(rt, alloc, *lines)?;
     }
     Ok(())
 }
 
-/// What a program means that calls `g` on its third line, and has blank lines up to this one, on which `g` begins: nothing more, or a
-/// fault at a line.
-fn meant_far(alloc: Global, line: u32) -> Result<Option<(u32, Cause)>, AllocError> {
-    let first = "cilk 1\nfunc main z\ncall g 0\nend\n";
-    let mut text = with_lines(alloc, first, "\n", line.saturating_sub(5))?;
-    text.push_str("func g z\nend\n")?;
-    match Program::parse(alloc, text.as_bytes()) {
-        Ok(_) => Ok(None),
-        Err(TextFault::At { line, why }) => Ok(Some((line, why))),
-        Err(TextFault::Memory) => Err(AllocError),
-    }
+/// A trace of so many lines of one kind.
+macro_rules! trace {
+    ($line:literal, $count:literal, $wanted:expr) => {
+        Lines {
+            first: "cilk 1\n",
+            line: $line,
+            count: $count,
+            end: "",
+            is_program: false,
+            wanted: $wanted,
+        }
+    };
+}
+
+/// A program that calls `g` on its third line, and has so many blank lines before `g` begins.
+macro_rules! program {
+    ($count:literal, $wanted:expr) => {
+        Lines {
+            first: "cilk 1\nfunc main z\ncall g 0\nend\n",
+            line: "\n",
+            count: $count,
+            end: "func g z\nend\n",
+            is_program: true,
+            wanted: $wanted,
+        }
+    };
+}
+
+const TRACES: &[Lines] = &[
+    trace!("sync 0\n", 2_000_000, Ok(2_000_000)),
+    trace!("sync 0\n", 2_000_001, Err((2_000_002, Cause::TooMany))),
+    trace!("\n", 3_999_999, Ok(0)),
+    trace!("\n", 4_000_000, Err((4_000_001, Cause::TooMany))),
+];
+
+#[test]
+fn requests_and_lines_of_a_trace(rt: HostRuntime) -> Result<(), Fail> {
+    Ok(check_all(&rt, rt.alloc(), TRACES)?)
 }
 
 // A function is known also where it begins past the last line that a program may have, so the call of it is no fault.
+const PROGRAMS: &[Lines] = &[
+    program!(3_999_994, Ok(2)),
+    program!(3_999_996, Err((4_000_001, Cause::TooMany))),
+];
+
 #[test]
 fn a_function_past_the_last_line(rt: HostRuntime) -> Result<(), Fail> {
-    let wanted = Some((4_000_001, Cause::TooMany));
-    equal(&rt, &"past", &meant_far(rt.alloc(), 4_000_001)?, &wanted);
-    equal(&rt, &"last", &meant_far(rt.alloc(), 3_999_999)?, &None);
-    Ok(())
+    Ok(check_all(&rt, rt.alloc(), PROGRAMS)?)
 }
 
 const CALL: Request = Request {
@@ -113,13 +125,22 @@ fn called(alloc: Global, program: &Program<Global>, count: u32) -> Result<(), Re
     replay(alloc, program, entries.as_slice())
 }
 
+/// How often a program calls itself, and the fault of the replay.
+const CALLS: &[(u32, ReplayFault)] = &[
+    (1_000_000, ReplayFault::Unfinished),
+    (1_000_001, ReplayFault::Strange(1_000_001)),
+];
+
+fn check_calls(rt: &impl Abort, alloc: Global, program: &Program<Global>) {
+    for (count, fault) in CALLS {
+        equal(rt, count, &called(alloc, program, *count), &Err(*fault));
+    }
+}
+
 #[test]
 fn entries_of_a_replay(rt: HostRuntime) -> Result<(), Fail> {
     let program = Program::parse(rt.alloc(), ENDLESS)?;
-    let found = called(rt.alloc(), &program, 1_000_000);
-    assert_eq!(rt; found, Err(ReplayFault::Unfinished));
-    let found = called(rt.alloc(), &program, 1_000_001);
-    assert_eq!(rt; found, Err(ReplayFault::Strange(1_000_001)));
+    check_calls(&rt, rt.alloc(), &program);
     Ok(())
 }
 
@@ -132,24 +153,26 @@ fn large_gate(alloc: Global) -> Result<Gate<Global>, AllocError> {
     Gate::new(alloc, &shape, 1_000_000)
 }
 
-/// Asks as often as there are entries.
-fn fill(gate: &mut Gate<Global>) -> Result<(), GateFault> {
+/// The gate answers as many requests as there may be entries.
+fn fill(gate: &mut Gate<Global>) -> bool {
     for _ in 0..1_000_000 {
-        gate.judge(CALL)?;
+        if gate.judge(CALL).is_err() {
+            return false;
+        }
     }
-    Ok(())
+    true
 }
 
 /// The gate answers as many requests as there may be, and no more.
-fn is_filled(rt: &impl Abort, gate: &mut Gate<Global>) -> Result<(), GateFault> {
-    fill(gate)?;
-    assert!(rt; gate.judge(CALL) == Err(GateFault::Limit));
-    assert!(rt; gate.history().len() == 1_000_000);
-    Ok(())
+fn is_filled(gate: &mut Gate<Global>) -> bool {
+    fill(gate)
+        && matches!(gate.judge(CALL), Err(GateFault::Limit))
+        && gate.history().len() == 1_000_000
 }
 
 #[test]
 fn entries_of_a_history(rt: HostRuntime) -> Result<(), Fail> {
     let mut gate = large_gate(rt.alloc())?;
-    Ok(is_filled(&rt, &mut gate)?)
+    assert!(rt; is_filled(&mut gate));
+    Ok(())
 }

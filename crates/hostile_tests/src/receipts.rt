@@ -29,7 +29,7 @@ macro_rules! request {
 }
 
 /// What PAIR's functions ask, where the child writes before the spawner reads.
-const PAIR_REQUESTS: [Request; 7] = [
+const PAIR_REQUESTS: &[Request] = &[
     request!(0, Act::Spawn, 5),
     request!(1, Act::Write(0, 7), 9),
     request!(2, Act::Read(0), 6),
@@ -68,7 +68,28 @@ fn altered(receipt: Receipt, at: usize, changed: Changed) -> Receipt {
     }
 }
 
-/// Asks on the seat, one request after another. The receipts are changed so.
+/// Asks on the seat, one request after another, and keeps the receipts, which are changed so. Whether all were answered.
+fn ask_all<L: Ledger, R: Wait>(
+    rt: &R,
+    locked: &LockedGate<L>,
+    seat: &mut Seat<L>,
+    receipts: &mut Receipts,
+    requests: &[Request],
+    changed: Changed,
+) -> bool {
+    for (at, request) in requests.iter().enumerate() {
+        if receipts.reserve().is_err() {
+            return false;
+        }
+        match locked.ask(rt, seat, *request) {
+            Ok(receipt) => receipts.push_reserved(altered(receipt, at, changed)),
+            Err(_) => return false,
+        }
+    }
+    true
+}
+
+/// The log of a worker who asks these, whose receipts are changed so.
 fn log_of<L: Ledger, R: Wait>(
     rt: &R,
     alloc: Global,
@@ -78,14 +99,11 @@ fn log_of<L: Ledger, R: Wait>(
     changed: Changed,
 ) -> Result<WorkerLog<L>, RunFault> {
     let mut receipts = Receipts::new(alloc);
-    for (at, request) in requests.iter().enumerate() {
-        receipts.reserve()?;
-        match locked.ask(rt, &mut seat, *request) {
-            Ok(receipt) => receipts.push_reserved(altered(receipt, at, changed)),
-            Err(_) => return Err(RunFault::Limit),
-        }
+    if ask_all(rt, locked, &mut seat, &mut receipts, requests, changed) {
+        Ok(WorkerLog { seat, receipts })
+    } else {
+        Err(RunFault::Limit)
     }
-    Ok(WorkerLog { seat, receipts })
 }
 
 /// Whether the run that is gathered of one log is clean.
@@ -97,7 +115,10 @@ fn is_clean<L: Ledger>(
 ) -> Result<bool, RunFault> {
     let mut logs = Vec::with_capacity(alloc, 1)?;
     logs.push_reserved(log);
-    Ok(gather(alloc, program, locked, logs)?.clean)
+    match gather(alloc, program, locked, logs) {
+        Ok(whole) => Ok(whole.clean),
+        Err(fault) => Err(fault),
+    }
 }
 
 /// The same, where these are asked and the log's receipts are changed so.
@@ -113,22 +134,48 @@ fn gathered<L: Ledger, R: Wait>(
     requires all { blank.parts ≡ L.parts }
     requires parts { blank.parts ≡ 1 }
 {
-    let (locked, seat) = LockedGate::<L>::new(gate_for(alloc, program)?, blank, 1);
-    let log = log_of(rt, alloc, &locked, seat, requests, changed)?;
-    is_clean(alloc, program, locked, log)
+    let gate = gate_for(alloc, program)?;
+    let (locked, seat) = LockedGate::<L>::new(gate, blank, 1);
+    match log_of(rt, alloc, &locked, seat, requests, changed) {
+        Ok(log) => is_clean(alloc, program, locked, log),
+        Err(fault) => Err(fault),
+    }
 }
 
 /// What is gathered for PAIR of these requests, with so changed receipts.
 fn check<R: Abort + Wait>(
     rt: &R,
     alloc: Global,
+    program: &Program<Global>,
     requests: &[Request],
     changed: Changed,
     wanted: Result<bool, RunFault>,
-) -> Result<(), Fail> {
-    let program = Program::parse(alloc, PAIR)?;
-    let found = gathered::<Brand, R>(rt, alloc, Blank::new(1), &program, requests, changed);
+) {
+    let found = gathered::<Brand, R>(rt, alloc, Blank::new(1), program, requests, changed);
     equal(rt, &changed.at, &found, &wanted);
+}
+
+/// Requests, and what is gathered of them with any of these changes.
+#[derive(Clone, Copy)]
+struct Case {
+    requests: &'static [Request],
+    changes: &'static [Changed],
+    wanted: Result<bool, RunFault>,
+}
+
+/// So it is with each of the changes.
+fn check_changes<R: Abort + Wait>(rt: &R, alloc: Global, program: &Program<Global>, case: Case) {
+    for changed in case.changes {
+        check(rt, alloc, program, case.requests, *changed, case.wanted);
+    }
+}
+
+/// So it is in each of these cases.
+fn check_all<R: Abort + Wait>(rt: &R, alloc: Global, cases: &[Case]) -> Result<(), Fail> {
+    let program = Program::parse(alloc, PAIR)?;
+    for case in cases {
+        check_changes(rt, alloc, &program, *case);
+    }
     Ok(())
 }
 
@@ -143,7 +190,7 @@ macro_rules! change {
 }
 
 /// Receipts with other numbers, with other answers, and of other requests.
-const CHANGES: [Changed; 17] = [
+const CHANGES: &[Changed] = &[
     change!(0, Change::Number(0)),
     change!(6, Change::Number(8)),
     change!(0, Change::Number(8)),
@@ -163,17 +210,8 @@ const CHANGES: [Changed; 17] = [
     change!(6, Change::Request(request!(3, Act::Sync, 7))),
 ];
 
-#[test]
-fn receipts_that_are_changed(rt: HostRuntime) -> Result<(), Fail> {
-    for changed in &CHANGES {
-        let torn = Err(RunFault::Torn);
-        check(&rt, rt.alloc(), &PAIR_REQUESTS, *changed, torn)?;
-    }
-    Ok(())
-}
-
 /// A history that is no run of PAIR.
-const OTHER_REQUESTS: [Request; 8] = [
+const OTHER_REQUESTS: &[Request] = &[
     request!(0, Act::Spawn, 3),
     request!(2, Act::Call, 4),
     request!(2, Act::Spawn, 5),
@@ -184,12 +222,28 @@ const OTHER_REQUESTS: [Request; 8] = [
     request!(1, Act::Return, 10),
 ];
 
-const UNCHANGED: Changed = change!(0, Change::Nothing);
+const UNCHANGED: &[Changed] = &[change!(0, Change::Nothing)];
 
-// Both have all their receipts.
+// The requests of a run and of none have all their receipts.
+const CASES: &[Case] = &[
+    Case {
+        requests: PAIR_REQUESTS,
+        changes: CHANGES,
+        wanted: Err(RunFault::Torn),
+    },
+    Case {
+        requests: PAIR_REQUESTS,
+        changes: UNCHANGED,
+        wanted: Ok(false),
+    },
+    Case {
+        requests: OTHER_REQUESTS,
+        changes: UNCHANGED,
+        wanted: Err(RunFault::Strange),
+    },
+];
+
 #[test]
-fn requests_of_a_run_and_of_none(rt: HostRuntime) -> Result<(), Fail> {
-    check(&rt, rt.alloc(), &PAIR_REQUESTS, UNCHANGED, Ok(false))?;
-    let strange = Err(RunFault::Strange);
-    check(&rt, rt.alloc(), &OTHER_REQUESTS, UNCHANGED, strange)
+fn receipts_that_are_changed_and_requests_of_no_run(rt: HostRuntime) -> Result<(), Fail> {
+    check_all(&rt, rt.alloc(), CASES)
 }

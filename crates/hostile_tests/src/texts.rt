@@ -5,29 +5,39 @@ use crate::worked::{FIB, PAIR, PAIR_TRACE, TURNS};
 use program_text::{Cause, Program, TextFault};
 use std::alloc::Global;
 use std::process::Abort;
-use std::test::Fail;
 use trace_text::Trace;
 
-/// Whether the text means no program, for a fault that stands at a line.
-fn is_faulty(alloc: Global, text: &[u8]) -> bool {
-    matches!(Program::parse(alloc, text), Err(TextFault::At { .. }))
+/// What a program's text means: so many functions, or a fault at a line.
+pub(crate) fn meant_by(alloc: Global, text: &[u8]) -> Option<Result<usize, (u32, Cause)>> {
+    match Program::parse(alloc, text) {
+        Ok(program) => Some(Ok(program.functions.as_slice().len())),
+        Err(TextFault::At { line, why }) => Some(Err((line, why))),
+        Err(TextFault::Memory) => None,
+    }
 }
 
 /// A text's program, printed with each line in its place. Programs that are printed alike are one.
-fn printed(alloc: Global, text: &[u8]) -> Result<Vec<u8>, Fail> {
-    Ok(Program::parse(alloc, text)?.print(alloc)?)
+fn printed(alloc: Global, text: &[u8]) -> Option<Vec<u8>> {
+    match Program::parse(alloc, text) {
+        Ok(program) => program.print(alloc).ok(),
+        Err(_) => None,
+    }
 }
 
-/// Two texts mean one program.
-fn mean_one(rt: &impl Abort, alloc: Global, one: &[u8], other: &[u8]) -> Result<(), Fail> {
-    let wanted = printed(alloc, other)?;
-    equal(
-        rt,
-        &one,
-        &printed(alloc, one)?.as_slice(),
-        &wanted.as_slice(),
-    );
-    Ok(())
+/// Whether a text means the program that is printed so.
+fn means(alloc: Global, text: &[u8], wanted: &[u8]) -> bool {
+    match printed(alloc, text) {
+        Some(printed) => printed.as_slice() == wanted,
+        None => false,
+    }
+}
+
+/// Whether two texts mean one program.
+fn mean_one(alloc: Global, one: &[u8], other: &[u8]) -> bool {
+    match printed(alloc, other) {
+        Some(wanted) => means(alloc, one, wanted.as_slice()),
+        None => false,
+    }
 }
 
 /// The text without its last byte.
@@ -39,22 +49,20 @@ fn without_last(text: &[u8]) -> &[u8] {
 }
 
 /// No part of the text means a program but that which lacks the last line feed alone, and means the same.
-fn check_program(rt: &impl Abort, alloc: Global, text: &[u8]) -> Result<(), Fail> {
+fn check_program(rt: &impl Abort, alloc: Global, text: &[u8]) {
     let cut = without_last(text);
     for end in 0..cut.len() {
-        equal(rt, &end, &is_faulty(alloc, &cut[..end]), &true);
+        let is_faulty = matches!(meant_by(alloc, &cut[..end]), Some(Err(_)));
+        equal(rt, &end, &is_faulty, &true);
     }
-    mean_one(rt, alloc, cut, text)
+    assert!(rt; mean_one(alloc, cut, text));
 }
 
-const PROGRAMS: [&[u8]; 3] = [FIB, PAIR, TURNS];
-
 #[test]
-fn parts_of_programs(rt: HostRuntime) -> Result<(), Fail> {
-    for text in &PROGRAMS {
-        check_program(&rt, rt.alloc(), *text)?;
-    }
-    Ok(())
+fn parts_of_programs(rt: HostRuntime) {
+    check_program(&rt, rt.alloc(), FIB);
+    check_program(&rt, rt.alloc(), PAIR);
+    check_program(&rt, rt.alloc(), TURNS);
 }
 
 /// What a trace's text means: so many requests, or a fault at a line.
@@ -73,48 +81,28 @@ struct Part<'a> {
     least: usize,
 }
 
+/// A line and its least part.
+macro_rules! part {
+    ($line:literal, $least:literal) => {
+        Part {
+            line: $line,
+            least: $least,
+        }
+    };
+}
+
 /// The lines of PAIR's trace.
-const PARTS: [Part<'static>; 10] = [
-    Part {
-        line: "cilk 1",
-        least: 6,
-    },
-    Part {
-        line: "mem x",
-        least: 5,
-    },
-    Part {
-        line: "mem y",
-        least: 5,
-    },
-    Part {
-        line: "spawn 0 @5",
-        least: 7,
-    },
-    Part {
-        line: "write 1 x 7 @9",
-        least: 11,
-    },
-    Part {
-        line: "read 2 x @6",
-        least: 8,
-    },
-    Part {
-        line: "sync 1 @10",
-        least: 6,
-    },
-    Part {
-        line: "return 1 @10",
-        least: 8,
-    },
-    Part {
-        line: "sync 2 @7",
-        least: 6,
-    },
-    Part {
-        line: "return 3 @7",
-        least: 8,
-    },
+const PARTS: &[Part<'static>] = &[
+    part!("cilk 1", 6),
+    part!("mem x", 5),
+    part!("mem y", 5),
+    part!("spawn 0 @5", 7),
+    part!("write 1 x 7 @9", 11),
+    part!("read 2 x @6", 8),
+    part!("sync 1 @10", 6),
+    part!("return 1 @10", 8),
+    part!("sync 2 @7", 6),
+    part!("return 3 @7", 8),
 ];
 
 /// How many of the lines up to this number ask for something: all behind the third.
@@ -152,40 +140,45 @@ fn check_part(rt: &impl Abort, alloc: Global, part: Part<'_>, number: u32, start
 }
 
 /// The line stands in the trace behind so many bytes.
-fn stands(rt: &impl Abort, line: &[u8], start: usize) {
+fn stands(line: &[u8], start: usize) -> bool {
     match PAIR_TRACE.get(start..) {
-        Some(rest) => assert!(rt; rest.starts_with(line)),
-        None => assert!(rt; false),
+        Some(rest) => rest.starts_with(line),
+        None => false,
+    }
+}
+
+/// These are the lines of the trace, and so it is with each.
+fn check_parts(rt: &impl Abort, alloc: Global, parts: &[Part<'_>]) {
+    let mut start = 0usize;
+    let mut number = 1u32;
+    for part in parts {
+        assert!(rt; stands(part.line.as_bytes(), start));
+        check_part(rt, alloc, *part, number, start);
+        start = start.saturating_add(part.line.len()).saturating_add(1);
+        number = number.saturating_add(1);
+    }
+    assert!(rt; start == PAIR_TRACE.len());
+}
+
+/// A text's trace, printed with each line in its place.
+fn printed_trace(alloc: Global, text: &[u8]) -> Option<Vec<u8>> {
+    match Trace::parse(alloc, text) {
+        Ok(trace) => trace.print(alloc).ok(),
+        Err(_) => None,
+    }
+}
+
+/// Whether a text means PAIR's trace.
+fn means_pair(alloc: Global, text: &[u8]) -> bool {
+    match printed_trace(alloc, text) {
+        Some(printed) => printed.as_slice() == PAIR_TRACE,
+        None => false,
     }
 }
 
 #[test]
 fn parts_of_a_trace(rt: HostRuntime) {
-    let mut start = 0usize;
-    let mut number = 1u32;
-    for part in &PARTS {
-        stands(&rt, part.line.as_bytes(), start);
-        check_part(&rt, rt.alloc(), *part, number, start);
-        start = start.saturating_add(part.line.len()).saturating_add(1);
-        number = number.saturating_add(1);
-    }
-    assert_eq!(rt; start, PAIR_TRACE.len());
-}
-
-/// A text's trace, printed with each line in its place.
-fn printed_trace(alloc: Global, text: &[u8]) -> Result<Vec<u8>, Fail> {
-    Ok(Trace::parse(alloc, text)?.print(alloc)?)
-}
-
-/// A text means PAIR's trace.
-fn means_pair(rt: &impl Abort, alloc: Global, text: &[u8]) -> Result<(), Fail> {
-    let printed = printed_trace(alloc, text)?;
-    equal(rt, &text, &printed.as_slice(), &PAIR_TRACE);
-    Ok(())
-}
-
-#[test]
-fn a_trace_without_its_last_line_feed(rt: HostRuntime) -> Result<(), Fail> {
-    means_pair(&rt, rt.alloc(), without_last(PAIR_TRACE))?;
-    means_pair(&rt, rt.alloc(), PAIR_TRACE)
+    check_parts(&rt, rt.alloc(), PARTS);
+    assert!(rt; means_pair(rt.alloc(), without_last(PAIR_TRACE)));
+    assert!(rt; means_pair(rt.alloc(), PAIR_TRACE));
 }

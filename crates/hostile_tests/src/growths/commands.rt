@@ -3,7 +3,6 @@
 use super::Heap;
 use crate::worked::{FIB, PAIR, PAIR_TRACE};
 use std::alloc::Global;
-use std::process::Abort;
 use tool_commands::{CliFault, Watched, elide_text, judge_stream, replay_text};
 
 const MOST: u32 = 1_000_000;
@@ -144,24 +143,16 @@ fn found_of(alloc: Global, heap: &Heap, command: Command) -> Found {
 /// more. `judge` does without the room that it asks for in advance, and both it and `replay` without less room for a text that they have
 /// read.
 pub(super) fn is_refused(
-    rt: &impl Abort,
     alloc: Global,
     heap: &Heap,
     number: u64,
     command: Command,
-) -> bool {
+) -> Option<bool> {
     heap.refuse(number);
     let first = found_of(alloc, heap, command);
-    let is_refused = heap.has_refused();
-    if is_refused {
-        let is_right = first.has_starved || first.tells && !matches!(command, Command::Elide);
-        assert!(rt; is_right);
+    if !heap.has_refused() {
+        return first.tells.then_some(false);
     }
-    let last = if is_refused {
-        found_of(alloc, heap, command)
-    } else {
-        first
-    };
-    assert!(rt; last.tells);
-    is_refused
+    let is_right = first.has_starved || first.tells && !matches!(command, Command::Elide);
+    (is_right && found_of(alloc, heap, command).tells).then_some(true)
 }

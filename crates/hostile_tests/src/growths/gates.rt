@@ -3,7 +3,6 @@
 ghost use Rattle.std.specs.Prelude.{◌≡◌, length, IfOk};
 
 use super::{Heap, lacks_text};
-use crate::checks::equal;
 use crate::refusing::Refusing;
 use model_accesses::{Kind, Rule};
 use race_gate::{Answer, Entry, Gate, GateFault, Receipt, Reply, judge_all};
@@ -11,7 +10,6 @@ use race_report::verdict_lines;
 use shadow_history::Witness;
 use sp_labels::Spawned;
 use std::alloc::{AllocError, Global};
-use std::process::Abort;
 use text_words::{Act, Monoid, Monoids, Request, Shape};
 
 /// A call of a gate, or what is made of its replies.
@@ -23,24 +21,37 @@ pub(super) enum Call {
     Tell,
 }
 
-pub(super) fn is_refused(
-    rt: &impl Abort,
+pub(super) fn is_refused(alloc: Global, heap: &Heap, number: u64, call: Call) -> Option<bool> {
+    let is_new = matches!(call, Call::New);
+    match opened(heap, if is_new { number } else { 0 }) {
+        Some(Ok(mut gate)) => does(alloc, heap, number, call, &mut gate),
+        Some(Err(AllocError)) => is_new.then_some(true),
+        None => None,
+    }
+}
+
+/// Makes the call beside a gate for which no growth was refused.
+fn does(
     alloc: Global,
     heap: &Heap,
     number: u64,
     call: Call,
-) -> Result<bool, AllocError> {
+    gate: &mut Gate<&Heap>,
+) -> Option<bool> {
+    if !matches!(call, Call::New) {
+        heap.refuse(number);
+    }
     match call {
-        Call::New => new_gate(rt, heap, number),
-        Call::Judge => judge(rt, heap, number),
-        Call::JudgeAll => judge_list(rt, alloc, heap, number),
-        Call::Tell => Ok(tell(rt, heap, number)),
+        Call::New => keeps(gate, &[], 0).then_some(false),
+        Call::Judge => asks_all(gate),
+        Call::JudgeAll => replies_to_all(alloc, heap, gate),
+        Call::Tell => lacks_text(verdict_lines(heap, REPLIES), LINES),
     }
 }
 
 /// What strands ask of one cell and one reducer, which sums, and what they are answered: a put, an update by
 /// a child, a get that has other peers than the put, one that has not, and a write and a read round a call.
-const ENTRIES: [Entry; 11] = [
+const ENTRIES: &[Entry] = &[
     entry!(0, Act::Put(0, 0), 1, Answer::Granted),
     entry!(
         0,
@@ -76,6 +87,11 @@ const ENTRIES: [Entry; 11] = [
     entry!(3, Act::Read(0), 1, Answer::Value(4)),
 ];
 
+/// The entries, in a function of their own, so that no proof but its own is about the places of the table.
+fn entries() -> &'static [Entry] {
+    ENTRIES
+}
+
 /// One cell and one reducer.
 fn shape(heap: &Heap) -> Result<Shape<&Heap>, AllocError>
     ensures cells { IfOk result (λ shape. shape.cells ≡ 1) }
@@ -88,28 +104,23 @@ fn shape(heap: &Heap) -> Result<Shape<&Heap>, AllocError>
     })
 }
 
-fn opened(heap: &Heap) -> Result<Gate<&Heap>, AllocError> {
-    let shape = shape(heap)?;
-    Gate::new(heap, &shape, 1_000)
+/// A gate of which the growth of this number is refused, or none where that is 0, or None where there is no memory for its shape.
+fn opened(heap: &Heap, number: u64) -> Option<Result<Gate<&Heap>, AllocError>> {
+    match shape(heap) {
+        Ok(shape) => {
+            heap.refuse(number);
+            Some(Gate::new(heap, &shape, 1_000))
+        }
+        Err(AllocError) => None,
+    }
 }
 
 /// The gate has these entries, its cell holds this number, and it was not stopped.
-fn keeps(rt: &impl Abort, gate: &Gate<&Heap>, entries: &[Entry], number: u64) {
-    equal(rt, &"history", &gate.history(), &entries);
-    assert!(rt; gate.memory() == [number].as_slice());
-    assert!(rt; gate.limit() == 1_000 && !gate.is_stopped());
-}
-
-fn new_gate(rt: &impl Abort, heap: &Heap, number: u64) -> Result<bool, AllocError> {
-    let shape = shape(heap)?;
-    heap.refuse(number);
-    match Gate::new(heap, &shape, 1_000) {
-        Ok(gate) => {
-            keeps(rt, &gate, &[], 0);
-            Ok(false)
-        }
-        Err(AllocError) => Ok(true),
-    }
+fn keeps(gate: &Gate<&Heap>, entries: &[Entry], number: u64) -> bool {
+    gate.history() == entries
+        && gate.memory() == [number].as_slice()
+        && gate.limit() == 1_000
+        && !gate.is_stopped()
 }
 
 /// The reply that there was no memory.
@@ -124,57 +135,45 @@ fn asked(gate: &mut Gate<&Heap>, request: Request) -> Reply {
 }
 
 /// The gate has the entries before this one, by its number, and its cell holds what they left.
-fn keeps_before(rt: &impl Abort, gate: &Gate<&Heap>, entries: &[Entry], number: u32) {
+fn keeps_before(gate: &Gate<&Heap>, number: u32) -> bool {
+    let entries = entries();
     let count = (number.saturating_sub(1) as usize).min(entries.len());
     let cell = if number > 8 { 4 } else { 0 };
-    keeps(rt, gate, entries.split_at(count).0, cell);
+    keeps(gate, entries.split_at(count).0, cell)
 }
 
 /// The gate answers the request of the entry of this number so, once more where there was no memory. Whether there was none.
-fn asks(
-    rt: &impl Abort,
-    gate: &mut Gate<&Heap>,
-    entries: &[Entry],
-    number: u32,
-    entry: Entry,
-) -> bool {
+fn asks(gate: &mut Gate<&Heap>, number: u32, entry: Entry) -> Option<bool> {
     let Entry { request, answer } = entry;
-    let mut found = asked(gate, request);
-    let is_refused = found == WANTING;
-    if is_refused {
-        keeps_before(rt, gate, entries, number);
-        found = asked(gate, request);
-    }
     let wanted = Reply::Done(Receipt {
         number,
         request,
         answer,
     });
-    equal(rt, &number, &found, &wanted);
-    is_refused
+    let found = asked(gate, request);
+    if found == WANTING {
+        (keeps_before(gate, number) && asked(gate, request) == wanted).then_some(true)
+    } else {
+        (found == wanted).then_some(false)
+    }
 }
 
 /// The gate answers all requests. Whether one of them found no memory at first.
-fn asks_all(rt: &impl Abort, gate: &mut Gate<&Heap>, entries: &[Entry]) -> bool {
+fn asks_all(gate: &mut Gate<&Heap>) -> Option<bool> {
     let mut is_refused = false;
     let mut number = 0u32;
-    for entry in entries {
+    for entry in entries() {
         number = number.saturating_add(1);
-        is_refused |= asks(rt, gate, entries, number, *entry);
+        match asks(gate, number, *entry) {
+            Some(is_wanting) => is_refused |= is_wanting,
+            None => return None,
+        }
     }
-    keeps(rt, gate, entries, 4);
-    is_refused
-}
-
-/// Asks a gate one request after another, for which no growth was refused.
-fn judge(rt: &impl Abort, heap: &Heap, number: u64) -> Result<bool, AllocError> {
-    let mut gate = opened(heap)?;
-    heap.refuse(number);
-    Ok(asks_all(rt, &mut gate, &ENTRIES))
+    keeps(gate, entries(), 4).then_some(is_refused)
 }
 
 /// The requests of the entries.
-const REQUESTS: [Request; 11] = [
+const REQUESTS: &[Request] = &[
     request!(0, Act::Put(0, 0), 1),
     request!(0, Act::Spawn, 1),
     request!(1, Act::Update(0, 5), 1),
@@ -190,102 +189,62 @@ const REQUESTS: [Request; 11] = [
 
 /// Asks a gate one request after another, but for those to which there was no memory, and it replies to each as here. How many it was not
 /// asked.
-fn replies_alike(
-    rt: &impl Abort,
-    gate: &mut Gate<&Heap>,
-    requests: &[Request],
-    replies: &[Reply],
-) -> usize {
+fn replies_alike(gate: &mut Gate<&Heap>, replies: &[Reply]) -> Option<usize> {
     let mut left_out = 0usize;
-    for (place, request) in requests.iter().enumerate() {
-        let reply = replies.get(place);
-        if reply == Some(&WANTING) {
+    for (place, request) in REQUESTS.iter().enumerate() {
+        let Some(reply) = replies.get(place) else {
+            return None;
+        };
+        if *reply == WANTING {
             left_out = left_out.saturating_add(1);
-        } else {
-            equal(rt, &place, &reply, &Some(&asked(gate, *request)));
+        } else if *reply != asked(gate, *request) {
+            return None;
         }
     }
-    left_out
+    (replies.len() == REQUESTS.len()).then_some(left_out)
 }
 
-/// The two gates keep the same.
-fn keep_the_same(rt: &impl Abort, one: &Gate<&Heap>, other: &Gate<&Heap>) {
-    assert!(rt; one.history() == other.history() && one.memory() == other.memory());
-}
-
-/// At most one request was left out. Where none was, the gate has all entries.
-fn lacks_one(rt: &impl Abort, gate: &Gate<&Heap>, entries: &[Entry], left_out: usize) -> bool {
-    if left_out == 0 {
-        keeps(rt, gate, entries, 4);
-        return false;
+/// The gate replies to all requests, or, where one of them found no memory, as another gate that was not asked it, which keeps the same.
+/// Whether one found none.
+fn are_replies(gate: &Gate<&Heap>, other: &mut Gate<&Heap>, replies: &[Reply]) -> Option<bool> {
+    let left_out = replies_alike(other, replies);
+    if !(gate.history() == other.history() && gate.memory() == other.memory()) {
+        return None;
     }
-    assert!(rt; left_out == 1);
-    true
+    match left_out {
+        Some(0) => keeps(gate, entries(), 4).then_some(false),
+        Some(1) => Some(true),
+        _ => None,
+    }
 }
 
-/// The gate replies to all requests, or, where one of them found no memory, as a gate over a spare heap that was not asked it, which keeps
-/// the same. Whether one found none.
-fn are_replies(
-    rt: &impl Abort,
-    spare: &Heap,
-    gate: &Gate<&Heap>,
-    entries: &[Entry],
-    requests: &[Request],
-    replies: &[Reply],
-) -> Result<bool, AllocError> {
-    let mut other = opened(spare)?;
-    let left_out = replies_alike(rt, &mut other, requests, replies);
-    keep_the_same(rt, gate, &other);
-    assert!(rt; replies.len() == requests.len());
-    Ok(lacks_one(rt, gate, entries, left_out))
+/// So it is where the other gate stands over a heap of its own.
+fn compared(alloc: Global, gate: &Gate<&Heap>, replies: &[Reply]) -> Option<bool> {
+    let spare = Refusing::new(alloc);
+    match opened(&spare, 0) {
+        Some(Ok(mut other)) => are_replies(gate, &mut other, replies),
+        _ => None,
+    }
 }
 
 /// The gate, which has no entry, gets them all where it is asked once more.
-fn replies_at_last(
-    rt: &impl Abort,
-    heap: &Heap,
-    gate: &mut Gate<&Heap>,
-    entries: &[Entry],
-    requests: &[Request],
-) -> Result<bool, AllocError> {
-    keeps(rt, gate, &[], 0);
-    judge_all(gate, heap, requests)?;
-    keeps(rt, gate, entries, 4);
-    Ok(true)
+fn replies_at_last(heap: &Heap, gate: &mut Gate<&Heap>) -> bool {
+    keeps(gate, &[], 0) && judge_all(gate, heap, REQUESTS).is_ok() && keeps(gate, entries(), 4)
 }
 
 /// The gate replies to the list of requests, once more where there was no room for the replies. Whether there was no memory.
-fn replies_to_all(
-    rt: &impl Abort,
-    spare: &Heap,
-    heap: &Heap,
-    gate: &mut Gate<&Heap>,
-    entries: &[Entry],
-    requests: &[Request],
-) -> Result<bool, AllocError> {
-    match judge_all(gate, heap, requests) {
-        Ok(replies) => are_replies(rt, spare, gate, entries, requests, replies.as_slice()),
-        Err(AllocError) => replies_at_last(rt, heap, gate, entries, requests),
+fn replies_to_all(alloc: Global, heap: &Heap, gate: &mut Gate<&Heap>) -> Option<bool> {
+    match judge_all(gate, heap, REQUESTS) {
+        Ok(replies) => compared(alloc, gate, replies.as_slice()),
+        Err(AllocError) => replies_at_last(heap, gate).then_some(true),
     }
-}
-
-fn judge_list(
-    rt: &impl Abort,
-    alloc: Global,
-    heap: &Heap,
-    number: u64,
-) -> Result<bool, AllocError> {
-    let spare = Refusing::new(alloc);
-    let mut gate = opened(heap)?;
-    heap.refuse(number);
-    replies_to_all(rt, &spare, heap, &mut gate, &ENTRIES, &REQUESTS)
 }
 
 const LINES: &[u8] =
     b"1 refused unset\n2 value 18446744073709551615\nillegal not-running\nillegal memory\n";
 
 /// A get and a read that a gate has answered, a request with a fault, and one without memory.
-const REPLIES: [Reply; 4] = [
+const REPLIES: &[Reply] = &[
     Reply::Done(Receipt {
         number: 1,
         request: Request {
@@ -307,8 +266,3 @@ const REPLIES: [Reply; 4] = [
     Reply::Illegal(GateFault::NotRunning),
     Reply::Illegal(GateFault::Memory),
 ];
-
-fn tell(rt: &impl Abort, heap: &Heap, number: u64) -> bool {
-    heap.refuse(number);
-    lacks_text(rt, verdict_lines(heap, &REPLIES), LINES)
-}

@@ -3,7 +3,6 @@
 use super::Heap;
 use order_list::{OrderFault, OrderList};
 use std::alloc::AllocError;
-use std::process::Abort;
 
 /// A call of a list.
 #[derive(Clone, Copy)]
@@ -13,62 +12,50 @@ pub(super) enum Call {
     Hint,
 }
 
-pub(super) fn is_refused(
-    rt: &impl Abort,
-    heap: &Heap,
-    number: u64,
-    call: Call,
-) -> Result<bool, AllocError> {
+pub(super) fn is_refused(heap: &Heap, number: u64, call: Call) -> Option<bool> {
+    let is_new = matches!(call, Call::New);
+    heap.refuse(if is_new { number } else { 0 });
+    match OrderList::new(heap) {
+        Ok(mut list) => asks(heap, number, call, &mut list),
+        Err(AllocError) => is_new.then_some(true),
+    }
+}
+
+/// Asks a list of which no growth was refused.
+fn asks(heap: &Heap, number: u64, call: Call, list: &mut OrderList<&Heap>) -> Option<bool> {
     match call {
-        Call::New => Ok(new(rt, heap, number)),
-        Call::Reserve => reserve(rt, heap, number),
-        Call::Hint => hint(rt, heap, number),
+        Call::New => has_room(list, 0).then_some(false),
+        Call::Reserve => reserve(heap, number, list),
+        Call::Hint => hint(heap, number, list),
     }
 }
 
 /// The list has one item, and room for so many more.
-fn has_room(rt: &impl Abort, list: &OrderList<&Heap>, room: u32) {
-    assert!(rt; list.len() == 1 && list.reserved() == room);
-}
-
-fn new(rt: &impl Abort, heap: &Heap, number: u64) -> bool {
-    heap.refuse(number);
-    match OrderList::new(heap) {
-        Ok(list) => {
-            has_room(rt, &list, 0);
-            false
-        }
-        Err(AllocError) => true,
-    }
+fn has_room(list: &OrderList<&Heap>, room: u32) -> bool {
+    list.len() == 1 && list.reserved() == room
 }
 
 /// The list has no room, and gets it where it is asked for now.
-fn gets_room(rt: &impl Abort, list: &mut OrderList<&Heap>) {
-    has_room(rt, list, 0);
-    assert!(rt; list.reserve(20).is_ok());
-    has_room(rt, list, 20);
+fn gets_room(list: &mut OrderList<&Heap>) -> bool {
+    has_room(list, 0) && list.reserve(20).is_ok() && has_room(list, 20)
 }
 
-fn reserve(rt: &impl Abort, heap: &Heap, number: u64) -> Result<bool, AllocError> {
-    let mut list = OrderList::new(heap)?;
+fn reserve(heap: &Heap, number: u64, list: &mut OrderList<&Heap>) -> Option<bool> {
     heap.refuse(number);
-    let is_refused = matches!(list.reserve(20), Err(OrderFault::Memory));
-    if is_refused {
-        gets_room(rt, &mut list);
-    } else {
-        has_room(rt, &list, 20);
+    match list.reserve(20) {
+        Ok(()) => has_room(list, 20).then_some(false),
+        Err(OrderFault::Memory) => gets_room(list).then_some(true),
+        Err(OrderFault::Full) => None,
     }
-    Ok(is_refused)
 }
 
 /// A hint, whose refused growth is no fault. No growth behind it is refused.
-fn hint(rt: &impl Abort, heap: &Heap, number: u64) -> Result<bool, AllocError> {
-    let mut list = OrderList::new(heap)?;
+fn hint(heap: &Heap, number: u64, list: &mut OrderList<&Heap>) -> Option<bool> {
     heap.refuse(number);
     list.make_room(20);
     let is_refused = heap.has_refused();
     heap.refuse(0);
-    gets_room(rt, &mut list);
+    let is_right = gets_room(list);
     heap.refuse(if is_refused { 0 } else { 1 });
-    Ok(is_refused)
+    is_right.then_some(is_refused)
 }

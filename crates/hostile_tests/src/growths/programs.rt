@@ -3,7 +3,7 @@
 ghost use Rattle.std.specs.Prelude.{◌≡◌};
 ghost use Rattle.frame_steps.specs.Frames.{Stands};
 
-use super::{Heap, lacks_shape, lacks_text, wants_memory};
+use super::{Heap, lacks_shape, lacks_text};
 use crate::worked::{FIB, PAIR};
 use frame_steps::{Frame, FrameFault};
 use model_accesses::{Kind, Rule};
@@ -14,8 +14,7 @@ use serial_elision::{ElideFault, elide};
 use shadow_history::Witness;
 use sp_labels::Spawned;
 use std::alloc::AllocError;
-use std::process::Abort;
-use text_words::{Act, Monoid, Request};
+use text_words::{Act, Monoid, Request, TextFault};
 
 /// FIB as it is printed, without what stands before the words of a line.
 const PRINTED: &[u8] =
@@ -44,65 +43,38 @@ impl Call {
     }
 }
 
-pub(super) fn is_refused(
-    rt: &impl Abort,
-    heap: &Heap,
-    number: u64,
-    call: Call,
-) -> Result<bool, AllocError> {
-    if matches!(call, Call::Parse) {
-        return Ok(parse(rt, heap, number));
-    }
+pub(super) fn is_refused(heap: &Heap, number: u64, call: Call) -> Option<bool> {
+    let is_new = matches!(call, Call::Parse);
+    heap.refuse(if is_new { number } else { 0 });
     match Program::parse(heap, call.text()) {
-        Ok(program) => Ok(does(rt, heap, number, call, &program)),
-        Err(_) => Err(AllocError),
+        Ok(program) => does(heap, number, call, &program),
+        Err(TextFault::Memory) => is_new.then_some(true),
+        Err(_) => None,
     }
 }
 
 /// Makes the call of a program for which no growth was refused.
-fn does(rt: &impl Abort, heap: &Heap, number: u64, call: Call, program: &Program<&Heap>) -> bool {
+fn does(heap: &Heap, number: u64, call: Call, program: &Program<&Heap>) -> Option<bool> {
+    if !matches!(call, Call::Parse) {
+        heap.refuse(number);
+    }
     match call {
-        Call::Parse | Call::Print => print(rt, heap, number, program),
-        Call::Shape => shape(rt, heap, number, program),
-        Call::Answer => answer(rt, heap, number, program),
-        Call::Reserve => reserve_call(rt, heap, number, program),
-        Call::Elide => elided(rt, heap, number, program),
-        Call::Replay => replayed(rt, heap, number, program),
+        Call::Parse => (program.functions.as_slice().len() == 2).then_some(false),
+        Call::Print => lacks_text(program.print(heap), PRINTED),
+        Call::Shape => lacks_shape(program.shape(heap), 1, &[Monoid::Sum]),
+        Call::Answer => frame(heap, number, program, true),
+        Call::Reserve => frame(heap, number, program, false),
+        Call::Elide => elided(heap, program),
+        Call::Replay => replayed(heap, program),
     }
 }
 
-fn parse(rt: &impl Abort, heap: &Heap, number: u64) -> bool {
-    heap.refuse(number);
-    match Program::parse(heap, FIB) {
-        Ok(program) => {
-            assert!(rt; program.functions.as_slice().len() == 2);
-            false
-        }
-        Err(fault) => wants_memory(rt, &fault),
-    }
-}
-
-fn print(rt: &impl Abort, heap: &Heap, number: u64, program: &Program<&Heap>) -> bool {
-    heap.refuse(number);
-    lacks_text(rt, program.print(heap), PRINTED)
-}
-
-fn shape(rt: &impl Abort, heap: &Heap, number: u64, program: &Program<&Heap>) -> bool {
-    heap.refuse(number);
-    lacks_shape(rt, program.shape(heap), 1, &[Monoid::Sum])
-}
-
-fn elided(rt: &impl Abort, heap: &Heap, number: u64, program: &Program<&Heap>) -> bool {
-    heap.refuse(number);
+fn elided(heap: &Heap, program: &Program<&Heap>) -> Option<bool> {
     match elide(heap, program, 713) {
-        Ok(elided) => {
-            assert!(rt; elided.memory.as_slice() == [55].as_slice() && elided.requests == 713);
-            false
-        }
-        Err(fault) => {
-            assert!(rt; matches!(fault, ElideFault::Memory));
-            true
-        }
+        Ok(elided) => (elided.memory.as_slice() == [55].as_slice()
+            && elided.requests == 713).then_some(false),
+        Err(ElideFault::Memory) => Some(true),
+        Err(_) => None,
     }
 }
 
@@ -110,54 +82,67 @@ fn elided(rt: &impl Abort, heap: &Heap, number: u64, program: &Program<&Heap>) -
 const CALLING: &[u8] = b"cilk 1\nmem x\nfunc main z\ncall f 5\nend\nfunc f v\nwrite x v\nend\n";
 
 /// The frame asks for this on this line.
-fn wants(rt: &impl Abort, program: &Program<&Heap>, frame: &mut Frame<&Heap>, act: Act, line: u32)
+fn wants(program: &Program<&Heap>, frame: &mut Frame<&Heap>, act: Act, line: u32) -> bool
     requires { Stands program.now.functions frame.old }
     ensures { Stands program.now.functions frame.new }
 {
-    assert!(rt; !frame.is_over());
+    if frame.is_over() {
+        return false;
+    }
     let want = frame.next(program);
-    assert!(rt; want.act == act && want.line == line);
+    want.act == act && want.line == line
+}
+
+/// The frame asks for its call still, which is answered now, and goes on with the function that it calls.
+fn is_called(program: &Program<&Heap>, frame: &mut Frame<&Heap>) -> bool
+    requires { Stands program.now.functions frame.old }
+{
+    wants(program, frame, Act::Call, 4)
+        && frame.answer(program, &Answer::Same).is_ok()
+        && wants(program, frame, Act::Write(0, 5), 7)
 }
 
 /// The frame's call is answered, once more where there was no memory. Whether there was none.
-fn calls(rt: &impl Abort, program: &Program<&Heap>, frame: &mut Frame<&Heap>) -> bool
+fn calls(
+    heap: &Heap,
+    number: u64,
+    program: &Program<&Heap>,
+    frame: &mut Frame<&Heap>,
+) -> Option<bool>
     requires { Stands program.now.functions frame.old }
 {
-    let found = frame.answer(program, &Answer::Same);
-    let is_refused = matches!(found, Err(FrameFault::Memory));
-    if is_refused {
-        wants(rt, program, frame, Act::Call, 4);
-        assert!(rt; frame.answer(program, &Answer::Same).is_ok());
+    if !wants(program, frame, Act::Call, 4) {
+        return None;
     }
-    wants(rt, program, frame, Act::Write(0, 5), 7);
-    is_refused
-}
-
-fn answer(rt: &impl Abort, heap: &Heap, number: u64, program: &Program<&Heap>) -> bool {
-    let mut frame = Frame::new(heap, program, program.main(), 0);
-    wants(rt, program, &mut frame, Act::Call, 4);
     heap.refuse(number);
-    calls(rt, program, &mut frame)
+    match frame.answer(program, &Answer::Same) {
+        Ok(()) => wants(program, frame, Act::Write(0, 5), 7).then_some(false),
+        Err(FrameFault::Memory) => is_called(program, frame).then_some(true),
+        Err(FrameFault::Strange) => None,
+    }
 }
 
 /// The frame gets room for a call, asked for once more where there was no memory. Whether there was none.
-fn gets_room(rt: &impl Abort, frame: &mut Frame<&Heap>) -> bool {
+fn gets_room(frame: &mut Frame<&Heap>) -> Option<bool> {
     let is_refused = frame.reserve_call().is_err();
-    if is_refused {
-        assert!(rt; !frame.has_room() && frame.reserve_call().is_ok());
+    if is_refused && (frame.has_room() || frame.reserve_call().is_err()) {
+        return None;
     }
-    assert!(rt; frame.has_room());
-    is_refused
+    frame.has_room().then_some(is_refused)
 }
 
-fn reserve_call(rt: &impl Abort, heap: &Heap, number: u64, program: &Program<&Heap>) -> bool {
+/// A frame is answered its call, or asked for room.
+fn frame(heap: &Heap, number: u64, program: &Program<&Heap>, is_answered: bool) -> Option<bool> {
     let mut frame = Frame::new(heap, program, program.main(), 0);
-    heap.refuse(number);
-    gets_room(rt, &mut frame)
+    if is_answered {
+        calls(heap, number, program, &mut frame)
+    } else {
+        gets_room(&mut frame)
+    }
 }
 
 /// A run of PAIR in which the child writes first.
-const ENTRIES: [Entry; 7] = [
+const ENTRIES: &[Entry] = &[
     entry!(
         0,
         Act::Spawn,
@@ -189,13 +174,10 @@ const ENTRIES: [Entry; 7] = [
     entry!(3, Act::Return, 7, Answer::Finished),
 ];
 
-fn replayed(rt: &impl Abort, heap: &Heap, number: u64, program: &Program<&Heap>) -> bool {
-    heap.refuse(number);
-    match replay(heap, program, &ENTRIES) {
-        Ok(()) => false,
-        Err(fault) => {
-            assert!(rt; matches!(fault, ReplayFault::Memory));
-            true
-        }
+fn replayed(heap: &Heap, program: &Program<&Heap>) -> Option<bool> {
+    match replay(heap, program, ENTRIES) {
+        Ok(()) => Some(false),
+        Err(ReplayFault::Memory) => Some(true),
+        Err(_) => None,
     }
 }

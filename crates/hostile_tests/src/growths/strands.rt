@@ -1,10 +1,8 @@
 //! Growths of strands.
 
 use super::Heap;
-use crate::checks::equal;
 use sp_labels::{Returned, SpFault, Spawned, Strands};
 use std::alloc::AllocError;
-use std::process::Abort;
 
 /// A call of strands.
 #[derive(Clone, Copy)]
@@ -16,75 +14,63 @@ pub(super) enum Call {
     Function,
 }
 
-pub(super) fn is_refused(
-    rt: &impl Abort,
-    heap: &Heap,
-    number: u64,
-    call: Call,
-) -> Result<bool, AllocError> {
+pub(super) fn is_refused(heap: &Heap, number: u64, call: Call) -> Option<bool> {
+    let is_new = matches!(call, Call::New);
+    heap.refuse(if is_new { number } else { 0 });
+    match Strands::new(heap) {
+        Ok(mut strands) => asks(heap, number, call, &mut strands),
+        Err(AllocError) => is_new.then_some(true),
+    }
+}
+
+/// Asks strands of which no growth was refused.
+fn asks(heap: &Heap, number: u64, call: Call, strands: &mut Strands<&Heap>) -> Option<bool> {
+    if !matches!(call, Call::New) {
+        heap.refuse(number);
+    }
     match call {
-        Call::New => Ok(new(rt, heap, number)),
-        Call::Reserve => reserve(rt, heap, number),
-        Call::Hint => hint(rt, heap, number),
-        Call::Spawn => spawn(rt, heap, number),
-        Call::Function => call_function(rt, heap, number),
+        Call::New => stand(strands, false, false).then_some(false),
+        Call::Reserve => reserve(strands),
+        Call::Hint => hint(heap, strands),
+        Call::Spawn => spawn(strands),
+        Call::Function => call_function(strands),
     }
 }
 
 /// The strand has begun or not, and runs or not.
-fn stands(rt: &impl Abort, strands: &Strands<&Heap>, strand: u32, begun: bool, running: bool) {
-    assert!(rt; strands.is_begun(strand) == begun);
-    assert!(rt; strands.is_running(strand) == running);
+fn stands(strands: &Strands<&Heap>, strand: u32, begun: bool, running: bool) -> bool {
+    strands.is_begun(strand) == begun && strands.is_running(strand) == running
 }
 
 /// Strand 0 alone has begun, or it has spawned, and there is room for an event or not.
-fn stand(rt: &impl Abort, strands: &Strands<&Heap>, has_spawned: bool, has_room: bool) {
-    stands(rt, strands, 0, true, !has_spawned);
-    stands(rt, strands, 1, has_spawned, has_spawned);
-    stands(rt, strands, 2, has_spawned, has_spawned);
-    assert!(rt; strands.has_room() == has_room);
-}
-
-fn new(rt: &impl Abort, heap: &Heap, number: u64) -> bool {
-    heap.refuse(number);
-    match Strands::new(heap) {
-        Ok(strands) => {
-            stand(rt, &strands, false, false);
-            false
-        }
-        Err(AllocError) => true,
-    }
+fn stand(strands: &Strands<&Heap>, has_spawned: bool, has_room: bool) -> bool {
+    stands(strands, 0, true, !has_spawned)
+        && stands(strands, 1, has_spawned, has_spawned)
+        && stands(strands, 2, has_spawned, has_spawned)
+        && strands.has_room() == has_room
 }
 
 /// There is no room for an event, and there is where it is asked for now.
-fn gets_room(rt: &impl Abort, strands: &mut Strands<&Heap>) {
-    stand(rt, strands, false, false);
-    assert!(rt; strands.reserve_event().is_ok());
-    stand(rt, strands, false, true);
+fn gets_room(strands: &mut Strands<&Heap>) -> bool {
+    stand(strands, false, false) && strands.reserve_event().is_ok() && stand(strands, false, true)
 }
 
-fn reserve(rt: &impl Abort, heap: &Heap, number: u64) -> Result<bool, AllocError> {
-    let mut strands = Strands::new(heap)?;
-    heap.refuse(number);
-    let is_refused = matches!(strands.reserve_event(), Err(SpFault::Memory));
-    if is_refused {
-        gets_room(rt, &mut strands);
-    } else {
-        stand(rt, &strands, false, true);
+fn reserve(strands: &mut Strands<&Heap>) -> Option<bool> {
+    match strands.reserve_event() {
+        Ok(()) => stand(strands, false, true).then_some(false),
+        Err(SpFault::Memory) => gets_room(strands).then_some(true),
+        Err(_) => None,
     }
-    Ok(is_refused)
 }
 
 /// A hint, whose refused growth is no fault. No growth behind it is refused.
-fn hint(rt: &impl Abort, heap: &Heap, number: u64) -> Result<bool, AllocError> {
-    let mut strands = Strands::new(heap)?;
-    heap.refuse(number);
+fn hint(heap: &Heap, strands: &mut Strands<&Heap>) -> Option<bool> {
     strands.make_room(2);
     let is_refused = heap.has_refused();
     heap.refuse(0);
-    gets_room(rt, &mut strands);
+    let is_right = gets_room(strands);
     heap.refuse(if is_refused { 0 } else { 1 });
-    Ok(is_refused)
+    is_right.then_some(is_refused)
 }
 
 const SPLIT: Spawned = Spawned {
@@ -95,45 +81,29 @@ const SPLIT: Spawned = Spawned {
 };
 
 /// Strand 0 spawns, which is answered Memory or splits it.
-fn spawns(rt: &impl Abort, strands: &mut Strands<&Heap>) -> bool {
-    let found = strands.spawn(0);
-    if matches!(found, Err(SpFault::Memory)) {
-        stand(rt, strands, false, false);
-        return true;
+fn spawns(strands: &mut Strands<&Heap>) -> Option<bool> {
+    match strands.spawn(0) {
+        Ok(spawned) => (spawned == SPLIT && stand(strands, true, false)).then_some(false),
+        Err(SpFault::Memory) => stand(strands, false, false).then_some(true),
+        Err(_) => None,
     }
-    equal(rt, &"spawned", &found, &Ok(SPLIT));
-    stand(rt, strands, true, false);
-    false
 }
 
-fn spawn(rt: &impl Abort, heap: &Heap, number: u64) -> Result<bool, AllocError> {
-    let mut strands = Strands::new(heap)?;
-    heap.refuse(number);
-    let is_refused = spawns(rt, &mut strands);
-    if is_refused {
-        assert!(rt; !spawns(rt, &mut strands));
+/// Strand 0 spawns, once more where there was no memory.
+fn spawn(strands: &mut Strands<&Heap>) -> Option<bool> {
+    match spawns(strands) {
+        Some(true) => matches!(spawns(strands), Some(false)).then_some(true),
+        found => found,
     }
-    Ok(is_refused)
 }
 
 /// Strand 0 calls, and returns to where it was, or it is finished where it could not call.
-fn calls(rt: &impl Abort, strands: &mut Strands<&Heap>) -> bool {
-    let is_refused = strands.call(0) == Err(SpFault::Memory);
-    let wanted = if is_refused {
-        Returned::Finished
-    } else {
-        Returned::Resumed
+fn call_function(strands: &mut Strands<&Heap>) -> Option<bool> {
+    let is_refused = matches!(strands.call(0), Err(SpFault::Memory));
+    let is_right = match strands.ret(0) {
+        Ok(Returned::Finished) => is_refused,
+        Ok(Returned::Resumed) => !is_refused && stand(strands, false, false),
+        _ => false,
     };
-    equal(rt, &is_refused, &strands.ret(0), &Ok(wanted));
-    is_refused
-}
-
-fn call_function(rt: &impl Abort, heap: &Heap, number: u64) -> Result<bool, AllocError> {
-    let mut strands = Strands::new(heap)?;
-    heap.refuse(number);
-    let is_refused = calls(rt, &mut strands);
-    if !is_refused {
-        stand(rt, &strands, false, false);
-    }
-    Ok(is_refused)
+    is_right.then_some(is_refused)
 }
