@@ -1,8 +1,11 @@
 //! A judging core: what it answers, counts and keeps, and that it can be stopped.
 
-ghost use Rattle.std.specs.Prelude.{◌≤◌, length};
+ghost use Rattle.std.specs.Prelude.{◌≡◌, ◌≤◌, length};
 ghost use Rattle.model_reducers.specs.Limits.{most_reducers};
 ghost use Rattle.model_histories.specs.Shapes.{most_entries};
+ghost use Rattle.race_gate.specs.Accesses.{sort_of};
+ghost use Rattle.race_gate.specs.declared.access.Sort.{Sort};
+ghost use Rattle.model_races.specs.declared.access.CellAccess.{CellAccess};
 
 use crate::checks::equal;
 use race_gate::{Answer, Core, GateFault, Receipt, Reply};
@@ -134,15 +137,39 @@ const REPLIES: [Reply; 5] = [
     Reply::Illegal(GateFault::Limit),
 ];
 
+/// Answers an access of a cell.
+fn answer_cell(core: &mut Core<Global>, request: Request) -> Result<Receipt, GateFault>
+    requires { (access : CellAccess) × sort_of request.act ≡ Sort.Cell access }
+{
+    core.check(request)?;
+    Ok(core.answer_cell(request))
+}
+
+/// Answers an access of a reducer.
+fn answer_reducer(core: &mut Core<Global>, request: Request) -> Result<Receipt, GateFault>
+    requires { sort_of request.act ≡ Sort.Reducer }
+{
+    core.check(request)?;
+    core.answer_reducer(request)
+}
+
+/// What a request was answered, as a reply.
+fn told(answered: Result<Receipt, GateFault>) -> Reply {
+    match answered {
+        Ok(receipt) => Reply::Done(receipt),
+        Err(fault) => Reply::Illegal(fault),
+    }
+}
+
 #[test]
 fn a_core_replies_to_requests_of_a_known_sort(rt: HostRuntime) -> Result<(), Fail> {
     let mut core = opening(rt.alloc(), &[Monoid::Sum], 4)?;
     let replies = [
-        core.reply_to_cell(request!(Act::Write(0, 5))),
-        core.reply_to_reducer(request!(Act::Update(0, 2))),
+        told(answer_cell(&mut core, request!(Act::Write(0, 5)))),
+        told(answer_reducer(&mut core, request!(Act::Update(0, 2)))),
         core.reply_to_control(request!(Act::Sync)),
         core.reply(request!(Act::Read(0))),
-        core.reply_to_cell(request!(Act::Read(0))),
+        told(answer_cell(&mut core, request!(Act::Read(0)))),
     ];
     equal(&rt, &"replies", &replies, &REPLIES);
     Ok(())

@@ -10,7 +10,8 @@ ghost use Rattle.model_histories.specs.Extensions.{IsEnd};
 ghost use Rattle.model_histories.specs.States.{State, opening};
 ghost use Rattle.model_histories.specs.Faults.{IsFaultless, IsFirstFault};
 ghost use Rattle.race_gate.specs.Kept.{with_entry};
-ghost use Rattle.model_histories.specs.Replies.{Judges};
+ghost use Rattle.model_histories.specs.Replies.{Judges, reply_of};
+ghost use Rattle.model_histories.specs.declared.reply.Reply.TheVariants.{Done};
 ghost use Rattle.model_histories.specs.Admission.{IsAdmitted, IsOfTheGate};
 ghost use Rattle.race_gate.specs.Cores.{IsCoreOf, IsCore, reply_with};
 ghost use Rattle.race_gate.specs.Accesses.{sort_of};
@@ -203,9 +204,9 @@ impl<A: Allocator + Clone> Core<A> {
         self.stopped = true;
     }
 
-    /// The first fault of a request that can be told without memory.
+    /// The first fault of a request, but for want of memory, which is the last and comes when the request is answered.
     #[inline(always)]
-    pub(crate) fn check(&self, request: Request) -> Result<(), GateFault>
+    pub fn check(&self, request: Request) -> Result<(), GateFault>
         ensures fits { IsCore self.now }
         ensures fault { (state : State) → IsCoreOf self.now state →
             MatchResult result (λ _. IsFaultless state request) (IsFirstFault state request) }
@@ -259,14 +260,16 @@ impl<A: Allocator + Clone> Core<A> {
         self.answer(request)
     }
 
-    /// As [`Core::judge`], of a request that is an access of a cell.
+    /// Answers a request that has no fault and is an access of a cell, and does what was granted. The receipt is of its entry. Like
+    /// [`Core::answer_reducer`] it stands apart from [`Core::check`], so that a caller that knows the sort of its requests has a way of
+    /// its own for faults, and nothing to tell apart where there is none. Takes no memory.
     #[inline(always)]
-    fn judge_cell(&mut self, request: Request) -> Result<Answer, GateFault>
-        requires { (access : CellAccess) × sort_of request.act ≡ Sort.Cell access }
-        ensures { (state : State) → IsCoreOf self.old state →
-            (next : State) × Judges state request (reply_with (self.old.entries + 1) request result) next × IsCoreOf self.new next }
+    pub fn answer_cell(&mut self, request: Request) -> Receipt
+        requires is { (access : CellAccess) × sort_of request.act ≡ Sort.Cell access }
+        requires faultless { (state : State) × IsCoreOf self.old state × IsFaultless state request }
+        ensures { (state : State) → IsCoreOf self.old state → IsFaultless state request →
+            (next : State) × Judges state request (Done result) next × IsCoreOf self.new next }
     {
-        self.check(request)?;
         let Sort::Cell(access) = sort_of(request.act) else {
             unreachable!()
         };
@@ -276,22 +279,31 @@ impl<A: Allocator + Clone> Core<A> {
             .access_cell(self.memory.as_mut_slice(), number, request, access);
         self.entries = number;
         self.finished = is_end(answer);
-        Ok(answer)
+        Receipt {
+            number,
+            request,
+            answer,
+        }
     }
 
-    /// As [`Core::judge`], of a request that is an access of a reducer.
+    /// Answers a request that has no fault and is an access of a reducer, and does what was granted. The receipt is of its entry. Where
+    /// memory is refused, nothing changes.
     #[inline(always)]
-    fn judge_reducer(&mut self, request: Request) -> Result<Answer, GateFault>
-        requires { sort_of request.act ≡ Sort.Reducer }
-        ensures { (state : State) → IsCoreOf self.old state →
-            (next : State) × Judges state request (reply_with (self.old.entries + 1) request result) next × IsCoreOf self.new next }
+    pub fn answer_reducer(&mut self, request: Request) -> Result<Receipt, GateFault>
+        requires is { sort_of request.act ≡ Sort.Reducer }
+        requires faultless { (state : State) × IsCoreOf self.old state × IsFaultless state request }
+        ensures { (state : State) → IsCoreOf self.old state → IsFaultless state request →
+            (next : State) × Judges state request (reply_of result) next × IsCoreOf self.new next }
     {
-        self.check(request)?;
         let number = self.entries + 1;
         let answer = self.tracks.access_reducer(number, request)?;
         self.entries = number;
         self.finished = is_end(answer);
-        Ok(answer)
+        Ok(Receipt {
+            number,
+            request,
+            answer,
+        })
     }
 
     /// As [`Core::judge`], of a request that is an act of control.
@@ -333,28 +345,8 @@ impl<A: Allocator + Clone> Core<A> {
         self.reply_of(request, judged)
     }
 
-    /// As [`Core::reply`], of a request that is an access of a cell. It is code of its own, which a caller that knows the sort of its
+    /// As [`Core::reply`], of a request that is an act of control. It is code of its own, which a caller that knows the sort of its
     /// requests makes a shorter way of.
-    #[inline(always)]
-    pub fn reply_to_cell(&mut self, request: Request) -> Reply
-        requires { (access : CellAccess) × sort_of request.act ≡ Sort.Cell access }
-        ensures { (state : State) → IsCoreOf self.old state → (next : State) × Judges state request result next × IsCoreOf self.new next }
-    {
-        let judged = self.judge_cell(request);
-        self.reply_of(request, judged)
-    }
-
-    /// As [`Core::reply`], of a request that is an access of a reducer.
-    #[inline(always)]
-    pub fn reply_to_reducer(&mut self, request: Request) -> Reply
-        requires { sort_of request.act ≡ Sort.Reducer }
-        ensures { (state : State) → IsCoreOf self.old state → (next : State) × Judges state request result next × IsCoreOf self.new next }
-    {
-        let judged = self.judge_reducer(request);
-        self.reply_of(request, judged)
-    }
-
-    /// As [`Core::reply`], of a request that is an act of control.
     #[inline(always)]
     pub fn reply_to_control(&mut self, request: Request) -> Reply
         requires { sort_of request.act ≡ Sort.Control }

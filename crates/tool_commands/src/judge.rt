@@ -108,8 +108,13 @@ fn tell_cell<A: Allocator + Clone, W: Write>(
         (reply : SpecReply) × HasJudged start (requests ++ request ∷ []) (replies ++ reply ∷ []) core.new verdicts.new
         wrote (W.contents (held output.new)) (has_failed output.new) }
 {
-    let reply = core.reply_to_cell(request);
-    tell(verdicts, output, &reply);
+    match core.check(request) {
+        Ok(()) => {
+            let receipt = core.answer_cell(request);
+            note(verdicts, output, &Reply::Done(receipt));
+        }
+        Err(fault) => note_fault(verdicts, output, fault),
+    }
 }
 
 /// Judges an access of a reducer and tells the reply.
@@ -127,8 +132,13 @@ fn tell_reducer<A: Allocator + Clone, W: Write>(
         (reply : SpecReply) × HasJudged start (requests ++ request ∷ []) (replies ++ reply ∷ []) core.new verdicts.new
         wrote (W.contents (held output.new)) (has_failed output.new) }
 {
-    let reply = core.reply_to_reducer(request);
-    tell(verdicts, output, &reply);
+    match core.check(request) {
+        Ok(()) => match core.answer_reducer(request) {
+            Ok(receipt) => note(verdicts, output, &Reply::Done(receipt)),
+            Err(fault) => note_fault(verdicts, output, fault),
+        },
+        Err(fault) => note_fault(verdicts, output, fault),
+    }
 }
 
 /// Judges the requests of a trace in their order, and tells the replies one by one. All memory that this may fail for is taken first, so
