@@ -15,7 +15,6 @@ use std::alloc::{AllocError, Global};
 const ROOM: usize = 64;
 
 /// What a worker has of the deques.
-#[derive(Drop)]
 pub(crate) struct Ends<'p> {
     /// Its place among the workers.
     pub place: usize,
@@ -23,6 +22,16 @@ pub(crate) struct Ends<'p> {
     pub owner: Owner<'p>,
     /// A reach into each worker's deque, by their places.
     pub reaches: Vec<Reach<'p>>,
+}
+
+impl<'p> Drop for Ends<'p> {
+    fn drop(self) {
+        let Ends {
+            place: _,
+            owner: _,
+            reaches: _,
+        } = self;
+    }
 }
 
 impl<'p> Ends<'p> {
@@ -48,6 +57,18 @@ impl<'p> Ends<'p> {
             Some(task) => Some(task),
             None => steal_round(&mut self.reaches, self.place),
         }
+    }
+
+    /// Its own deque, and the reaches into all of them.
+    pub(crate) fn into_parts(self) -> (Owner<'p>, Vec<Reach<'p>>)
+        ensures { (result.0 ≡ self.entry.owner) × (result.1 ≡ self.entry.reaches) }
+    {
+        let Ends {
+            place: _,
+            owner,
+            reaches,
+        } = self;
+        (owner, reaches)
     }
 }
 

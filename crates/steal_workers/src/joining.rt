@@ -52,9 +52,10 @@ pub(crate) fn settle<'p, L: Ledger>(
     } = room;
     for worker in workers {
         let (log, ends) = worker.ended();
+        let (owner, reaches) = ends.into_parts();
         logs.push_reserved(log);
-        owners.push_reserved(ends.owner);
-        passes.push_reserved(ends.reaches);
+        owners.push_reserved(owner);
+        passes.push_reserved(reaches);
     }
     join_all(owners, passes);
     logs

@@ -10,11 +10,16 @@ use crossbeam_deque::Steal;
 use std::alloc::AllocError;
 
 /// The end of a deque at which a worker steals, with its pass of that deque.
-#[derive(Drop)]
 pub(crate) struct Reach<'p> {
     thief: Thief<'p>,
     hold: Hold<'p>,
     ghost of: { IsPassOf (stealer_deque thief) hold },
+}
+
+impl<'p> Drop for Reach<'p> {
+    fn drop(self) {
+        let Reach { thief: _, hold: _ } = self;
+    }
 }
 
 impl<'p> Reach<'p> {

@@ -17,7 +17,6 @@ pub(crate) type Spare = Vec<Box<Frame<Global>>>;
 const MOST_SPARE: usize = 256;
 
 /// A frame of a program, and the strand on which it goes on. The frame is boxed, since a task goes from deques to workers and to the lot.
-#[derive(Drop)]
 pub struct Task<'p> {
     /// The strand.
     pub strand: u32,
@@ -26,6 +25,17 @@ pub struct Task<'p> {
     /// The frame.
     pub frame: Box<Frame<Global>>,
     ghost stands: { Stands program.now.functions frame.value } by { stands_once (Prim.hlevel props) (Prim.hlevel props) _ _ },
+}
+
+/// Written out, so that what lets a task go calls one function; so it is with the types that own tasks or deques.
+impl<'p> Drop for Task<'p> {
+    fn drop(self) {
+        let Task {
+            strand: _,
+            program: _,
+            frame: _,
+        } = self;
+    }
 }
 
 /// A function at its begin, in a frame of the reserve where there is one.

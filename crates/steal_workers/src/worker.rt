@@ -95,7 +95,6 @@ fn is_same_request(one: Request, other: Request) -> bool
 }
 
 /// A worker: what was asked on its seat before it began, what it was told since, its ends of the deques, and frames to be used again.
-#[derive(Drop)]
 pub(crate) struct Worker<'p, L: Ledger> {
     pub before: u64,
     pub seat: Seat<L>,
@@ -104,6 +103,19 @@ pub(crate) struct Worker<'p, L: Ledger> {
     pub spare: Spare,
     pub fault: Option<RunFault>,
     ghost counted: { seat.asked ≡ before + length receipts.items },
+}
+
+impl<'p, L: Ledger> Drop for Worker<'p, L> {
+    fn drop(self) {
+        let Worker {
+            before: _,
+            seat: _,
+            receipts: _,
+            ends: _,
+            spare: _,
+            fault: _,
+        } = self;
+    }
 }
 
 impl<'p, L: Ledger> Worker<'p, L> {
