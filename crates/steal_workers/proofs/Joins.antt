@@ -46,3 +46,7 @@ lead_more owns owns' others others' others'' deques place same made kept leads w
     let new : AllLeadTo owns (take place others' ++ deques ∷ []) = All-push (λ ds. ds ≡ owns) (take place others') deques old leads in
     let at : AllLeadTo owns (take (place + 1) others'') = All-same (λ ds. ds ≡ owns) _ _ (ap (take (place + 1)) made ∙ take_more_set others' place deques within) new in
     subst (λ all. AllLeadTo all (take (place + 1) others'')) (sym same) at
+
+-- the same workers lead to the same deques
+pub lead_same : (owns owns' : List Deque) (others others' : List (List Deque)) → owns' ≡ owns → others' ≡ others → AllLeadTo owns others → AllLeadTo owns' others'
+lead_same owns owns' others others' own other leads = subst (λ ds. AllLeadTo ds others') (sym own) (subst (AllLeadTo owns) (sym other) leads)

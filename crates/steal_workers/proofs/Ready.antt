@@ -1,6 +1,6 @@
 -- Workers that begin, and that have come back.
-use Rattle.std.proofs.Common.{◌≡◌, ◌<◌, ◌+◌, Bool, true, List, Result, Ok, Err, [], ◌∷◌, length, get_or, map, set, sym, subst, ap, arith, ◌∙◌}
-use Rattle.std.specs.Prelude.{All, OnOk, IfOk}
+use Rattle.std.proofs.Common.{◌≡◌, ◌<◌, ◌+◌, ℕ, Bool, true, List, Result, Ok, Err, [], ◌∷◌, length, get_or, map, set, sym, subst, ap, arith, ◌∙◌}
+use Rattle.std.specs.Prelude.{All, OnOk, IfOk, vec_len}
 use Rattle.locked_replay.specs.declared.fault.RunFault.{RunFault}
 use Rattle.locked_replay.specs.Logs.{all_receipts, all_asked}
 use Rattle.std.specs.List.{sum_by}
@@ -49,6 +49,10 @@ module _ {L : Type 0} where
   -- as many come back, and they had asked as much before
   pub same_many : (workers back : List (Worker L)) → stations_of back ≡ stations_of workers → length back ≡ length workers
   same_many workers back same = omega (arith, ap length same, length-map workers station_of, length-map back station_of)
+
+  pub as_many : (result : Result (Vec (WorkerLog L)) RunFault) (all : Bool) (back workers : ℕ) → OnOk result (all ≡ true) → (all ≡ true → back ≡ workers) → IfOk result (λ logs. vec_len logs ≡ back) → IfOk result (λ logs. vec_len logs ≡ workers)
+  as_many (Ok logs) all back workers is same each = each ∙ same is
+  as_many (Err fault) all back workers is same each = tt
 
   pub same_before : (workers back : List (Worker L)) → stations_of back ≡ stations_of workers → sum_by (λ w. w.before) back ≡ sum_by (λ w. w.before) workers
   same_before workers back same = sym (sum_by-map (λ s. s.before) station_of back) ∙ ap (sum_by (λ s. s.before)) same ∙ sum_by-map (λ s. s.before) station_of workers

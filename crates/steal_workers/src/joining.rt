@@ -15,11 +15,20 @@ use std::alloc::{AllocError, Global};
 use std::sync::ledger::Ledger;
 
 /// Room for what the workers bring back. It is made before the first of them begins, so that their end takes no memory.
-#[derive(Drop)]
 pub(crate) struct Room<'p, L: Ledger> {
     pub logs: Vec<WorkerLog<L>>,
     pub owners: Vec<Owner<'p>>,
     pub passes: Vec<Vec<Reach<'p>>>,
+}
+
+impl<'p, L: Ledger> Drop for Room<'p, L> {
+    fn drop(self) {
+        let Room {
+            logs: _,
+            owners: _,
+            passes: _,
+        } = self;
+    }
 }
 
 impl<'p, L: Ledger> Room<'p, L> {
@@ -32,33 +41,30 @@ impl<'p, L: Ledger> Room<'p, L> {
             passes: Vec::with_capacity(alloc, workers)?,
         })
     }
-}
 
-/// The logs of the workers. All passes of each deque go back to its owner, which then knows all that was pushed there and taken.
-pub(crate) fn settle<'p, L: Ledger>(
-    workers: Vec<Worker<'p, L>>,
-    room: Room<'p, L>,
-) -> Vec<WorkerLog<L>>
-    requires room { HasRoom (vec_len workers) room }
-    requires reach { AllLeadTo (owns_of (stations_of workers.items)) (others_of (stations_of workers.items)) }
-    ensures workers { vec_len result ≡ vec_len workers.entry }
-    ensures receipts { map (λ log. log.receipts) result.items ≡ map (λ worker. worker.receipts) workers.entry.items }
-    ensures asked { all_asked result.items ≡ sum_by (λ w. w.before) workers.entry.items + length (all_receipts result.items) }
-{
-    let Room {
-        mut logs,
-        mut owners,
-        mut passes,
-    } = room;
-    for worker in workers {
-        let (log, ends) = worker.ended();
-        let (owner, reaches) = ends.into_parts();
-        logs.push_reserved(log);
-        owners.push_reserved(owner);
-        passes.push_reserved(reaches);
+    /// The logs of the workers. All passes of each deque go back to its owner, which then knows all that was pushed there and taken.
+    pub(crate) fn settle(self, workers: Vec<Worker<'p, L>>) -> Vec<WorkerLog<L>>
+        requires room { HasRoom (vec_len workers) self }
+        requires reach { AllLeadTo (owns_of (stations_of workers.items)) (others_of (stations_of workers.items)) }
+        ensures workers { vec_len result ≡ vec_len workers.entry }
+        ensures receipts { map (λ log. log.receipts) result.items ≡ map (λ worker. worker.receipts) workers.entry.items }
+        ensures asked { all_asked result.items ≡ sum_by (λ w. w.before) workers.entry.items + length (all_receipts result.items) }
+    {
+        let Room {
+            mut logs,
+            mut owners,
+            mut passes,
+        } = self;
+        for worker in workers {
+            let (log, ends) = worker.ended();
+            let (owner, reaches) = ends.into_parts();
+            logs.push_reserved(log);
+            owners.push_reserved(owner);
+            passes.push_reserved(reaches);
+        }
+        join_all(owners, passes);
+        logs
     }
-    join_all(owners, passes);
-    logs
 }
 
 /// All passes go back to the owners of their deques.

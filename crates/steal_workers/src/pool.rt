@@ -13,7 +13,7 @@ ghost use Rattle.steal_workers.specs.Workers.{own_hands, HasRoom, IsReady, IsTol
 
 use crate::ends::{Ends, make_ends};
 use crate::fault::{first_of, of_threads};
-use crate::joining::{Room, settle};
+use crate::joining::Room;
 use crate::lot::Lot;
 use crate::worker::Worker;
 use locked_replay::{Ask, RunFault, Seat, WorkerLog};
@@ -28,8 +28,13 @@ use std::thread;
 use std::thread::{Promise, PromisedHandle, Scope, Threads};
 
 /// A worker as it was before its thread began.
-#[derive(Drop)]
 struct Hired<'p, L: Ledger>(Snapshot<Worker<'p, L>>);
+
+impl<'p, L: Ledger> Drop for Hired<'p, L> {
+    fn drop(self) {
+        let Hired(_) = self;
+    }
+}
 
 impl<'p, L: Ledger> Promise<Worker<'p, L>> for Hired<'p, L> {
     ghost kept_by = { λ hired worker. (station_of worker ≡ station_of hired.0.value) × TornAtJoin worker };
@@ -248,7 +253,7 @@ fn told<'p, L: Ledger>(
     if let Some(fault) = first_fault(of_threads(all), workers.as_slice()) {
         return Err(fault);
     }
-    let logs = settle(workers, room);
+    let logs = room.settle(workers);
     if some_log_finished(logs.as_slice()) {
         Ok(logs)
     } else {

@@ -6,7 +6,7 @@ use Rattle.steal_workers.specs.Ending.{AreSomeOf}
 use Rattle.steal_workers.specs.Reaches.{AllLeadTo}
 use Rattle.steal_workers.specs.Workers.{station_of, stations_of, owns_of, others_of, HasRoom}
 use Rattle.steal_workers.proofs.Endings.{some-map}
-use Rattle.steal_workers.proofs.Ready.{root_begun, same_many, counted_as}
+use Rattle.steal_workers.proofs.Ready.{root_begun, same_many, as_many, counted_as}
 use Rattle.steal_workers.proofs.pool.all_work.Goals as goal
 
 pub start-requires-after_bounds : goal.start-requires-after_bounds
@@ -24,6 +24,20 @@ told-requires g c = record {
         subst (λ stations. AllLeadTo (owns_of stations) (others_of stations)) (sym same) c.requires.1,
       );
 }
+
+pub returns-clause-one_each : goal.returns-clause-one_each
+returns-clause-one_each g c =
+    let hired = c.args.hired.items in
+    let here = c.index_mut.result.now in
+    let began : stations_of (set hired 0 c.begin.new.self) ≡ stations_of hired = map-set_same station_of hired 0 c.begin.new.self here (c.begin.ensures.station ∙ ap station_of c.index_mut.ensures.value) in
+    as_many c.told.result c.in_ok-running.all (vec_len c.finish.result) (vec_len c.args.hired) c.told.ensures.all
+    (λ all.
+    let same : stations_of c.finish.result.items ≡ stations_of hired = c.finish.ensures.stations ∙ ap stations_of (c.in_ok-running.ensures.hired all) ∙ began in
+    omega (arith, same_many hired c.finish.result.items same, c.finish.result.ok.0, c.args.hired.ok.0))
+    c.told.ensures.one_each
+
+pub returns-clause-finished : goal.returns-clause-finished
+returns-clause-finished g c = c.told.ensures.finished
 
 pub returns-clause-counted : goal.returns-clause-counted
 returns-clause-counted g c =

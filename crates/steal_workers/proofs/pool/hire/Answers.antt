@@ -1,5 +1,7 @@
-use Rattle.std.proofs.Common.{rules, ◌≡◌, ◌∷◌, ◌++◌, [], map, sym, ap, arith, ◌∙◌}
-use Rattle.std.proofs.lemmas.List.{map-append}
+use Rattle.std.proofs.Common.{rules, ◌≡◌, ◌∷◌, ◌++◌, [], length, map, sym, ap, arith, ◌∙◌}
+use Rattle.std.specs.List.{sum_by}
+use Rattle.std.proofs.lemmas.List.{map-append, length-map}
+use Rattle.std.proofs.lemmas.List.Sums.{sum_by_push}
 use Rattle.steal_workers.proofs.Ready.{ready}
 use Rattle.steal_workers.proofs.pool.hire.Goals as goal
 
@@ -9,3 +11,16 @@ returns-clause-ready g c =
     let given : map (λ w. w.ends) c.push.new.self.items ≡ c.args.ends.items =
     ap (map (λ w. w.ends)) c.in_ok-push.ensures.items ∙ map-append (λ w. w.ends) c.in_ok-hired.hired.items _ ∙ ap (λ ends. ends ++ c.new.result.ends ∷ []) c.in_ok-hired.ensures.ends ∙ ap (λ last. c.pop.new.self.items ++ last ∷ []) c.new.ensures.ends ∙ sym whole in
     ready c.push.new.self.items c.args.ends.items given (omega (arith, c.requires.workers, c.args.ends.ok.0)) c.requires.lead c.requires.views
+
+pub returns-clause-workers : goal.returns-clause-workers
+returns-clause-workers g c =
+    let whole : c.args.ends.items ≡ c.pop.new.self.items ++ c.in-Some.last ∷ [] = search rules in
+    let given : map (λ w. w.ends) c.push.new.self.items ≡ c.args.ends.items =
+    ap (map (λ w. w.ends)) c.in_ok-push.ensures.items ∙ map-append (λ w. w.ends) c.in_ok-hired.hired.items _ ∙ ap (λ ends. ends ++ c.new.result.ends ∷ []) c.in_ok-hired.ensures.ends ∙ ap (λ last. c.pop.new.self.items ++ last ∷ []) c.new.ensures.ends ∙ sym whole in
+    omega (arith, ap length given, length-map c.push.new.self.items (λ w. w.ends), c.push.new.self.ok.0, c.args.ends.ok.0)
+
+pub returns-clause-before : goal.returns-clause-before
+returns-clause-before g c =
+    let hired = c.in_ok-hired.hired.items in
+    let all = ap (sum_by (λ w. w.before)) c.in_ok-push.ensures.items ∙ sum_by_push (λ w. w.before) hired c.new.result in
+    omega (arith, all, c.in_ok-hired.ensures.before, c.new.ensures.before, c.hire_each.ensures.asked)

@@ -5,7 +5,7 @@ use Rattle.crossbeam_deque.specs.Handles.{worker_deque}
 use Rattle.locked_replay.specs.Logs.{all_receipts, all_asked}
 use Rattle.steal_workers.specs.Reaches.{deque_of}
 use Rattle.steal_workers.specs.Workers.{owns_of, others_of, stations_of}
-use Rattle.steal_workers.proofs.joining.settle.Given as goal
+use Rattle.steal_workers.proofs.joining.Room.settle.Given as goal
 
 abbrev pub invariant-loop-worker : goal.invariant-loop-worker
 invariant-loop-worker g l = record {
