@@ -1,5 +1,6 @@
 mod Bytes
 mod Reading
+mod Failing
 mod Causes
 mod ElisionCauses
 mod ExplanationCauses

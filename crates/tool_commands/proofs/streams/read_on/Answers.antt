@@ -1,8 +1,11 @@
-use Rattle.std.proofs.Common.{◌≡◌, ◌+◌, ◌-◌, ◌++◌, List, ℕ, length, take, refl, ap, rules, arith, length-drop, length-append}
+use Rattle.std.proofs.Common.{◌≡◌, ◌+◌, ◌-◌, ◌++◌, ◌∙◌, Err, List, ℕ, length, take, refl, sym, ap, rules, arith, length-drop, length-append}
 use Rattle.std.proofs.lemmas.Result.{err_from_is_err_and}
 use Rattle.trace_text.specs.Pieces.{IsBegun}
 use Rattle.tool_commands.specs.Watched.{held, calls_of}
 use Rattle.tool_commands.proofs.Bytes.{uncalled, called_both}
+use Rattle.tool_commands.specs.declared.fault.CliFault.{CliFault}
+use Rattle.tool_commands.specs.declared.fault.CliFault.TheVariants.{Read}
+use Rattle.tool_commands.proofs.Failing.{step_failed, none_failed, text_unread}
 use Rattle.tool_commands.proofs.Reading.{IsReadOn, on_first, on_read, on_taken, on_end, on_fault, on_stop, on_away}
 use Rattle.tool_commands.proofs.streams.read_on.Goals as goal
 
@@ -131,3 +134,64 @@ returns-clause-calls g c =
     let inv = c.loop-text.invariant in
     called_both _ _ _ (calls_of c.args.input.now) (calls_of c.loop-text.input) (calls_of c.read_until.new.input)
     (omega (arith, inv.short, inv.grown)) inv.calls c.in_ok-read_until.ensures.calls
+
+pub read_until-requires-clause-fresh : goal.read_until-requires-clause-fresh
+read_until-requires-clause-fresh g c = c.loop-text.invariant.fresh
+
+pub read_until-requires-clause-room : goal.read_until-requires-clause-room
+read_until-requires-clause-room g c = omega (arith, c.loop-text.auto.piece, c.requires.room)
+
+pub read_until-requires-clause-short : goal.read_until-requires-clause-short
+read_until-requires-clause-short g c = c.loop-text.invariant.short
+
+pub returns-in_err-read_until-clause-failed : goal.returns-in_err-read_until-clause-failed
+returns-in_err-read_until-clause-failed g c =
+    let gone = err_from_is_err_and c.from_residual.result c.from_residual.ensures.1 in
+    step_failed _ Read _ c.in_err-read_until.field-0.0 (gone.1 ∙ ap (λ (f : CliFault). Err f) gone.2) c.in_err-read_until.ensures.failed
+
+pub read_away-requires-clause-fresh : goal.read_away-requires-clause-fresh
+read_away-requires-clause-fresh g c = c.in_ok-read_until.ensures.fresh
+
+pub read_away-requires-clause-room : goal.read_away-requires-clause-room
+read_away-requires-clause-room g c = omega (arith, c.read_until.auto.piece, c.loop-text.auto.piece, c.requires.room)
+
+pub returns-in-Err-clause-failed : goal.returns-in-Err-clause-failed
+returns-in-Err-clause-failed g c = (
+  λ is. let same : c.read_away.result ≡ Read = cc in c.read_away.ensures.failed.0 same,
+  λ is. ap (λ (f : CliFault). Err f) (c.read_away.ensures.failed.1 is),
+)
+
+pub returns-in-Ok-end-clause-failed : goal.returns-in-Ok-end-clause-failed
+returns-in-Ok-end-clause-failed g c = let fresh = c.in_ok-read_until.ensures.fresh in (λ is. cc, λ is. cc)
+
+pub returns-clause-failed : goal.returns-clause-failed
+returns-clause-failed g c =
+    none_failed _ Read _ c.from.result refl (λ is. text_unread _ (sym c.from.ensures ∙ is)) c.in_ok-read_until.ensures.fresh
+
+pub remove_front-requires : goal.remove_front-requires
+remove_front-requires g c =
+    let before = g.R.Read.remaining (held c.args.input.now) in
+    let now = g.R.Read.remaining (held c.loop-text.input) in
+    let next = g.R.Read.remaining (held c.read_until.new.input) in
+    let new : List ℕ = c.read_until.new.text.items in
+    let slice : c.as_slice.result.now ≡ new = c.as_slice.ensures.value in
+    let first : IsReadOn (c.requires.begun.0 ++ c.args.text.items) before next c.loop-text.count c.loop-text.begun new =
+    on_read (c.requires.begun.0 ++ c.args.text.items) before now next c.loop-text.count c.loop-text.size c.loop-text.begun c.loop-text.text.items new _
+    c.in_ok-read_until.ensures.taken (c.loop-text.invariant.read c.requires.begun.0 c.requires.begun.1 c.requires.begun.2) in
+    (rw slice at (c.in-Ok.ensures first.bytes first.begun_with)).0
+
+pub loop-text-smaller : goal.loop-text-smaller
+loop-text-smaller g c =
+    let inv = c.loop-text.invariant in
+    let before = g.R.Read.remaining (held c.args.input.now) in
+    let now = g.R.Read.remaining (held c.loop-text.input) in
+    let next = g.R.Read.remaining (held c.read_until.new.input) in
+    let pieces = c.in_ok-read_until.ensures.taken in
+    let new : List ℕ = c.read_until.new.text.items in
+    let slice : c.as_slice.result.now ≡ new = c.as_slice.ensures.value in
+    let first : IsReadOn (c.requires.begun.0 ++ c.args.text.items) before next c.loop-text.count c.loop-text.begun new =
+    on_read (c.requires.begun.0 ++ c.args.text.items) before now next c.loop-text.count c.loop-text.size c.loop-text.begun c.loop-text.text.items new _
+    pieces (inv.read c.requires.begun.0 c.requires.begun.1 c.requires.begun.2) in
+    let within = (rw slice at (c.in-Ok.ensures first.bytes first.begun_with)).0 in
+    let left = ap length c.remove_front.ensures in
+    omega (arith, inv.size, pieces.reached (search rules), pieces.short, left, length-drop c.in-Ok.taken new, within)
