@@ -1,0 +1,2 @@
+pub mod BranchExamples
+pub mod ReadExamples

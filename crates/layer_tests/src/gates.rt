@@ -1,0 +1,13 @@
+//! Tests of the shadow history, the rule of views and the gate.
+
+#[cfg(test)]
+mod accesses;
+#[cfg(test)]
+mod cores;
+#[cfg(test)]
+mod dag;
+pub mod draws;
+#[cfg(test)]
+mod gate;
+#[cfg(test)]
+mod reads;

@@ -1,0 +1,13 @@
+//! The tests of the layers below the runs of programs, a module for each, and nothing else: of texts; of orders, strands, branches and
+//! views; of the shadow history and the gate.
+//!
+//! They make public calls alone, so they stand above the crates that they test: each layer is proved once, and not a second time with its
+//! tests. They are one crate, since the libraries are read anew for the proof of each crate, for that of its tests and for its edits.
+#![tactic(auto)]
+
+#[cfg(test)]
+mod checks;
+pub mod gates;
+#[cfg(test)]
+mod strands;
+pub mod texts;

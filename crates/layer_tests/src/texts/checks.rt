@@ -1,0 +1,87 @@
+//! The checks of most tests of texts. Each is proved once, where a comparison in each of them would be proved in each.
+
+ghost use Rattle.std.specs.Prelude.{◌≡◌, ◌<◌, IsTrue};
+ghost use Rattle.text_words.specs.Declarations.{cells_of};
+ghost use Rattle.trace_text.specs.Shapes.{is_numbered};
+
+use crate::checks::equal;
+use program_text::Program;
+use std::alloc::Global;
+use std::process::Abort;
+use std::test::Fail;
+use text_words::{Cause, Mem, Monoid, Shape, TextFault};
+use trace_text::{Trace, cell_name};
+
+/// What a text gives, or its fault: the line, and why.
+pub type Given<T> = Result<T, (u32, Cause)>;
+
+/// What was given, or none where memory was refused.
+pub fn told<T: Drop>(found: Result<T, TextFault>) -> Option<Given<T>> {
+    match found {
+        Ok(given) => Some(Ok(given)),
+        Err(TextFault::At { line, why }) => Some(Err((line, why))),
+        Err(TextFault::Memory) => None,
+    }
+}
+
+/// What a text is read as.
+#[derive(Clone, Copy)]
+pub enum Form {
+    Trace,
+    Program,
+}
+
+/// Whether a text means a trace or a program, and its fault where it does not.
+pub fn read(alloc: Global, form: Form, text: &[u8]) -> Option<Given<()>> {
+    let fault = match form {
+        Form::Trace => Trace::parse(alloc, text).err(),
+        Form::Program => Program::parse(alloc, text).err(),
+    };
+    match fault {
+        Some(fault) => told(Err(fault)),
+        None => Some(Ok(())),
+    }
+}
+
+/// A text, and what is found when it is read.
+pub type Text = (&'static [u8], Given<()>);
+
+/// Each text has the fault beside it, or none.
+pub fn check_texts(rt: &impl Abort, alloc: Global, form: Form, cases: &[Text]) {
+    for (text, wanted) in cases {
+        equal(rt, text, &read(alloc, form, text), &Some(*wanted));
+    }
+}
+
+/// Checks what a cell is called.
+fn is_called(
+    rt: &impl Abort,
+    alloc: Global,
+    mems: &[Mem],
+    cell: u32,
+    name: &str,
+) -> Result<(), Fail>
+    requires numbered { IsTrue (is_numbered 0 mems.now) }
+    requires within { cell < cells_of mems.now }
+{
+    let found = cell_name(alloc, mems, cell)?;
+    equal(rt, &cell, &found.as_str(), &name);
+    Ok(())
+}
+
+/// Of three cells, the first is `x` and the last the second of `a`.
+pub fn has_cells(rt: &impl Abort, alloc: Global, mems: &[Mem]) -> Result<(), Fail>
+    requires numbered { IsTrue (is_numbered 0 mems.now) }
+    requires cells { cells_of mems.now ≡ 3 }
+{
+    is_called(rt, alloc, mems, 0, "x")?;
+    is_called(rt, alloc, mems, 2, "a[1]")
+}
+
+/// There are three cells, and reducers of these monoids.
+pub fn is_shaped(rt: &impl Abort, shape: &Shape<Global>, monoids: &[Monoid])
+    ensures { shape.now.cells ≡ 3 }
+{
+    assert!(rt; shape.cells == 3);
+    equal(rt, &"monoids", &shape.monoids.as_slice(), &monoids);
+}

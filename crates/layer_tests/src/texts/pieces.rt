@@ -1,0 +1,74 @@
+//! Traces that are read in pieces.
+
+use super::checks::{Given, told};
+use crate::checks::equal;
+use std::alloc::Global;
+use std::process::Abort;
+use text_words::{Cause, TextFault};
+use trace_text::BegunTrace;
+
+/// Where the first request of a head ends, if it has one.
+fn begun_by(alloc: Global, head: &[u8]) -> Result<Option<usize>, TextFault> {
+    match BegunTrace::begin(alloc, head) {
+        Ok(Some((_, end))) => Ok(Some(end)),
+        Ok(None) => Ok(None),
+        Err(fault) => Err(fault),
+    }
+}
+
+/// A head, and where its first request ends.
+type Head = (&'static [u8], Given<Option<usize>>);
+
+const HEADS: &[Head] = &[
+    (b"cilk 1\nspawn 0\nspa", Ok(Some(15))),
+    (b"cilk 1\nmem x\nspawn 0", Ok(None)),
+    (b"cilk 1", Ok(None)),
+    (b"", Ok(None)),
+    (b"cilk 3\nspawn 0\n", Err((1, Cause::BadHeader))),
+    (b"cilk 1\nspawn\nmem", Err((2, Cause::BadWord))),
+];
+
+/// The whole lines at the head are read, where a request stands among them.
+fn check_heads(rt: &impl Abort, alloc: Global, cases: &[Head]) {
+    for (head, wanted) in cases {
+        equal(rt, head, &told(begun_by(alloc, head)), &Some(*wanted));
+    }
+}
+
+/// How many requests there are behind a head of two, a piece of which so many bytes are whole lines, and a tail.
+fn requests(alloc: Global, piece: &[u8], tail: &[u8], whole: usize) -> Result<usize, TextFault> {
+    let Some((mut begun, _)) = BegunTrace::begin(alloc, b"cilk 1\nmem x\nspawn 0\nsync 0\n")? else {
+        return Ok(0);
+    };
+    if begun.take(piece)? != whole {
+        return Ok(0);
+    }
+    let trace = begun.end(tail)?;
+    Ok(trace.lines.len())
+}
+
+/// A piece, how many of its bytes are whole lines, a tail, and how many requests there are.
+type Piece = (&'static [u8], usize, &'static [u8], Given<usize>);
+
+const PIECES: &[Piece] = &[
+    (b"read 0 x @7\nwri", 12, b"write 0 x 1", Ok(4)),
+    (b"wri", 0, b"write 0 x 1\r\n", Ok(3)),
+    (b"", 0, b"", Ok(2)),
+    (b"# a\n\nmem y\n", 0, b"", Err((7, Cause::BadNesting))),
+    (b"sync 0\n", 7, b"read 0 y", Err((6, Cause::UnknownName))),
+    (b"read 0\nmem y\n", 0, b"", Err((5, Cause::BadWord))),
+];
+
+/// Lines go on where they ended, and a fault has the number of its line among all.
+fn check_pieces(rt: &impl Abort, alloc: Global, cases: &[Piece]) {
+    for (piece, whole, tail, wanted) in cases {
+        let found = told(requests(alloc, piece, tail, *whole));
+        equal(rt, piece, &found, &Some(*wanted));
+    }
+}
+
+#[test]
+fn heads_and_pieces(rt: HostRuntime) {
+    check_heads(&rt, rt.alloc(), HEADS);
+    check_pieces(&rt, rt.alloc(), PIECES);
+}

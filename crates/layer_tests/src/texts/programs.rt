@@ -1,0 +1,435 @@
+//! Programs as text: each cause, each limit, each kind of line.
+
+use super::checks::{Form, Text, check_texts, has_cells, is_shaped, read};
+use super::many::{Limit, Much, check_limits};
+use super::registers::at;
+use crate::checks::equal;
+use program_text::{Cause, Expression, Operand, Program, Statement};
+use std::alloc::Global;
+use std::process::Abort;
+use std::test::Fail;
+
+/// Each cause.
+const CAUSES: &[Text] = &[
+    (b"", Err((1, Cause::BadHeader))),
+    (b"cilk 1\nmem x # \x01\n", Err((2, Cause::NotText))),
+    (b"cilk 1\nmem\n", Err((2, Cause::BadWord))),
+    (b"cilk 1\nmem a 0\n", Err((2, Cause::BadNumber))),
+    (
+        b"cilk 1\nfunc main z\n  write x z\nend\n",
+        Err((3, Cause::UnknownName)),
+    ),
+    (
+        b"cilk 1\nmem g\nfunc g z\nend\n",
+        Err((3, Cause::TwiceNamed)),
+    ),
+    (
+        b"cilk 1\nfunc main z\n  else\nend\n",
+        Err((3, Cause::BadNesting)),
+    ),
+    (b"cilk 1\nfunc f z\nend\n", Err((4, Cause::NoMain))),
+    (
+        b"cilk 1\nfunc main z\nend\nmem x\n",
+        Err((4, Cause::BadNesting)),
+    ),
+    (
+        b"cilk 1\nfunc main z\n  func f z\n",
+        Err((3, Cause::BadNesting)),
+    ),
+    (b"cilk 1\nfunc f z\n", Err((3, Cause::BadNesting))),
+    (b"cilk 1\nsync\n", Err((2, Cause::BadNesting))),
+];
+
+/// The first faulty line is told.
+const FIRST_LINES: &[Text] = &[
+    (b"cilk 1\nmem x\nmem x\n", Err((3, Cause::TwiceNamed))),
+    (b"cilk 1\nmem x\n", Err((3, Cause::NoMain))),
+    (b"cilk 1\nfunc main z\nsync\n", Err((4, Cause::BadNesting))),
+    (b"cilk 1\n\xFF\n", Err((2, Cause::NotText))),
+    (b"cilk 1\nfunc main z\nfoo\nend\n", Err((3, Cause::BadWord))),
+    (
+        b"cilk 1\nfunc main z\nspawn g 1\nend\n",
+        Err((3, Cause::UnknownName)),
+    ),
+    (
+        b"cilk 1\nmem a 2\nfunc main z\n  bump a[z] 1\n  pfor i 3 main\nend\n",
+        Err((4, Cause::BadWord)),
+    ),
+    (
+        b"cilk 1\nfunc main z\n  pfor i 3 main\nend\n",
+        Err((3, Cause::BadWord)),
+    ),
+    (b"cilk 1\nreducer h digits\n", Err((2, Cause::BadWord))),
+    (
+        b"cilk 2\nmem a 2\nfunc main z\n  bump a[z] 1\n  pfor i 3 main\nend\n",
+        Ok(()),
+    ),
+    (
+        b"cilk 1\nmem bump\nreducer digits sum\nfunc main pfor\nend\n",
+        Ok(()),
+    ),
+];
+
+/// What stands in one another.
+const NESTING: &[Text] = &[
+    (b"cilk 1\nend\n", Err((2, Cause::BadNesting))),
+    (b"cilk 1\nif ok\n", Err((2, Cause::BadNesting))),
+    (b"cilk 1\nif r\n", Err((2, Cause::UnknownName))),
+    (
+        b"cilk 1\nfunc main z\nif z\nelse\nelse\nend\nend\n",
+        Err((5, Cause::BadNesting)),
+    ),
+    (
+        b"cilk 1\nfunc main z\nif z\nend\nelse\nend\n",
+        Err((5, Cause::BadNesting)),
+    ),
+    (
+        b"cilk 1\nfunc main z\nif z\nend\n",
+        Err((5, Cause::BadNesting)),
+    ),
+    (
+        b"cilk 1\nfunc main z\nend\nend\n",
+        Err((4, Cause::BadNesting)),
+    ),
+    (
+        b"cilk 1\nfunc main z\nfunc main n\n",
+        Err((3, Cause::TwiceNamed)),
+    ),
+    (
+        b"cilk 1\nfunc main z\nend\nfunc main z\nend\n",
+        Err((4, Cause::TwiceNamed)),
+    ),
+    (
+        b"cilk 1\nfunc main z\n  call g z\nend\nfunc g z # \xFF\n",
+        Err((5, Cause::NotText)),
+    ),
+    (
+        b"cilk 1\nfunc main z\n  call g z\nend\nfunc g z 1\n",
+        Err((3, Cause::UnknownName)),
+    ),
+];
+
+/// Declarations and names at their limits: a name has 32 bytes at most, whatever it names.
+const LONG: &[Text] = &[
+    (b"cilk 1\nmem a 1000000\nfunc main z\nend\n", Ok(())),
+    (b"cilk 1\nmem a 999999\nmem x\nfunc main z\nend\n", Ok(())),
+    (
+        b"cilk 1\nmem a 1000000\nmem x\nfunc main z\nend\n",
+        Err((3, Cause::TooMany)),
+    ),
+    (
+        b"cilk 1\nmem a2345678901234567890123456789012\nreducer b2345678901234567890123456789012 sum\nfunc main c2345678901234567890123456789012\nlet d2345678901234567890123456789012 = 0\nend\nfunc e2345678901234567890123456789012 z\nend\n",
+        Ok(()),
+    ),
+    (
+        b"cilk 1\nmem a23456789012345678901234567890123\n",
+        Err((2, Cause::BadWord)),
+    ),
+    (
+        b"cilk 1\nreducer b23456789012345678901234567890123 sum\n",
+        Err((2, Cause::BadWord)),
+    ),
+    (
+        b"cilk 1\nfunc main c23456789012345678901234567890123\nend\n",
+        Err((2, Cause::BadWord)),
+    ),
+    (
+        b"cilk 1\nfunc main z\nlet d23456789012345678901234567890123 = 0\nend\n",
+        Err((3, Cause::BadWord)),
+    ),
+    (
+        b"cilk 1\nfunc main z\nend\nfunc e23456789012345678901234567890123 z\nend\n",
+        Err((4, Cause::BadWord)),
+    ),
+];
+
+#[test]
+fn texts(rt: HostRuntime) {
+    check_texts(&rt, rt.alloc(), Form::Program, CAUSES);
+    check_texts(&rt, rt.alloc(), Form::Program, FIRST_LINES);
+    check_texts(&rt, rt.alloc(), Form::Program, NESTING);
+    check_texts(&rt, rt.alloc(), Form::Program, LONG);
+}
+
+const FIB: &[u8] =
+    b"cilk 1\nmem x\nreducer h sum\nfunc main z\n  put h 0\n  call fib 10\n  get r h\n  write x r\nend\nfunc fib n\n  let t = n < 2\n  if t\n    update h n\n  else\n    let a = n - 1\n    let b = n - 2\n    spawn fib a\n    call fib b\n    sync\n  end\nend\n";
+
+/// Each shorter text than all lines, but for the last line's end, is none of a program.
+#[test]
+fn prefixes(rt: HostRuntime) {
+    for end in 0..=FIB.len() {
+        let found = read(rt.alloc(), Form::Program, &FIB[..end]);
+        equal(&rt, &end, &(found == Some(Ok(()))), &(FIB.len() - end < 2));
+    }
+}
+
+/// A function's name and parameter, its first and last line, and how many statements it has.
+type Outline<'f> = (&'f str, &'f str, (u32, u32), usize);
+
+fn outline_of(program: &Program<Global>, function: usize) -> Option<Outline<'_>> {
+    match program.functions.as_slice().get(function) {
+        Some(found) => Some((
+            found.name.as_str(),
+            found.parameter.as_str(),
+            (found.line, found.end_line),
+            found.body.as_slice().len(),
+        )),
+        None => None,
+    }
+}
+
+fn register_of(program: &Program<Global>, function: usize, place: usize) -> Option<&str> {
+    match program.functions.as_slice().get(function) {
+        Some(found) => match found.registers.as_slice().get(place) {
+            Some(name) => Some(name.as_str()),
+            None => None,
+        },
+        None => None,
+    }
+}
+
+fn statement_of(program: &Program<Global>, function: usize, place: usize) -> Option<Statement> {
+    match program.functions.as_slice().get(function) {
+        Some(found) => found.body.as_slice().get(place).copied(),
+        None => None,
+    }
+}
+
+/// A statement behind the number of its function and its place there.
+type Placed = (usize, usize, Statement);
+
+/// What a program has. Each part stands behind the number of its function, and behind the last a none.
+struct Contents {
+    text: &'static [u8],
+    main: u32,
+    functions: &'static [(usize, Option<Outline<'static>>)],
+    registers: &'static [(usize, usize, Option<&'static str>)],
+}
+
+/// The program has these functions.
+fn are_functions(rt: &impl Abort, program: &Program<Global>, wanted: &Contents) {
+    for (function, outline) in wanted.functions {
+        equal(rt, function, &outline_of(program, *function), outline);
+    }
+}
+
+/// These registers stand at their places.
+fn are_registers(rt: &impl Abort, program: &Program<Global>, wanted: &Contents) {
+    for (function, place, name) in wanted.registers {
+        equal(rt, place, &register_of(program, *function, *place), name);
+    }
+}
+
+/// These statements stand at their places.
+fn are_statements(rt: &impl Abort, program: &Program<Global>, wanted: &[Placed]) {
+    for (function, place, statement) in wanted {
+        let found = statement_of(program, *function, *place);
+        equal(rt, place, &found, &Some(*statement));
+    }
+}
+
+/// The text means a program that has this, and in which these statements stand.
+fn check(
+    rt: &impl Abort,
+    alloc: Global,
+    wanted: &Contents,
+    statements: &[Placed],
+) -> Result<(), Fail> {
+    let program = Program::parse(alloc, wanted.text)?;
+    equal(rt, &"main", &program.main(), &wanted.main);
+    are_functions(rt, &program, wanted);
+    are_registers(rt, &program, wanted);
+    are_statements(rt, &program, statements);
+    Ok(())
+}
+
+const FIBONACCI: &Contents = &Contents {
+    text: FIB,
+    main: 0,
+    functions: &[
+        (0, Some(("main", "z", (4, 9), 4))),
+        (1, Some(("fib", "n", (10, 21), 10))),
+        (2, None),
+    ],
+    registers: &[
+        (1, 0, Some("n")),
+        (1, 1, Some("t")),
+        (1, 2, Some("a")),
+        (1, 3, Some("b")),
+        (1, 4, None),
+    ],
+};
+
+/// The first function calls the last one, and `main`, the second one, calls the first.
+const CALLS: &Contents = &Contents {
+    text: b"cilk 1\nfunc f n\n  call g n\nend\nfunc main z\n  let main = 1\n  call f main\nend\n func  g\tx # c\nend",
+    main: 1,
+    functions: &[
+        (0, Some(("f", "n", (2, 4), 1))),
+        (1, Some(("main", "z", (5, 8), 2))),
+        (2, Some(("g", "x", (9, 10), 0))),
+        (3, None),
+    ],
+    registers: &[],
+};
+
+#[test]
+fn fibonacci(rt: HostRuntime) -> Result<(), Fail> {
+    let register = at(2);
+    let value = Expression::Less(Operand::Held(at(1)), Operand::Number(2));
+    let argument = Operand::Held(at(3));
+    let (line, function) = (11, 1);
+    check(
+        &rt,
+        rt.alloc(),
+        FIBONACCI,
+        &[
+            (
+                1,
+                0,
+                Statement::Let {
+                    line,
+                    register,
+                    value,
+                },
+            ),
+            (
+                1,
+                1,
+                Statement::If {
+                    line: 12,
+                    register,
+                    otherwise: 4,
+                },
+            ),
+            (
+                1,
+                3,
+                Statement::Else {
+                    line: 14,
+                    after: 10,
+                },
+            ),
+            (
+                1,
+                6,
+                Statement::Spawn {
+                    line: 17,
+                    function,
+                    argument,
+                },
+            ),
+            (1, 9, Statement::End { line: 20 }),
+        ],
+    )
+}
+
+#[test]
+fn names_of_the_whole_text(rt: HostRuntime) -> Result<(), Fail> {
+    let to_last = Statement::Call {
+        line: 3,
+        function: 2,
+        argument: Operand::Held(at(1)),
+    };
+    let to_first = Statement::Call {
+        line: 7,
+        function: 0,
+        argument: Operand::Held(at(2)),
+    };
+    check(&rt, rt.alloc(), CALLS, &[(0, 0, to_last), (1, 1, to_first)])
+}
+
+/// The most of each.
+const LIMITS: &[Limit] = &[
+    // `if`s in one another.
+    (
+        Much {
+            form: Form::Program,
+            head: "cilk 1\nfunc main z\n",
+            line: ("if z\n", None),
+            closing: "end\n",
+            tail: "end\n",
+        },
+        64,
+        67,
+    ),
+    // Statements and the `end` of their function.
+    (
+        Much {
+            form: Form::Program,
+            head: "cilk 1\n# c\nfunc main z\n",
+            line: ("\nsync\n", None),
+            closing: "",
+            tail: "end\n",
+        },
+        99_999,
+        200_004,
+    ),
+    // Functions beside `main`.
+    (
+        Much {
+            form: Form::Program,
+            head: "cilk 1\nfunc main z\nend\n",
+            line: ("func f", Some(" z\nend\n")),
+            closing: "",
+            tail: "",
+        },
+        999,
+        2_002,
+    ),
+    // Registers beside a parameter.
+    (
+        Much {
+            form: Form::Program,
+            head: "cilk 1\nfunc main z\n",
+            line: ("let r", Some(" = z\n")),
+            closing: "",
+            tail: "end\n",
+        },
+        15,
+        18,
+    ),
+    // Reducers.
+    (
+        Much {
+            form: Form::Program,
+            head: "cilk 1\n",
+            line: ("reducer h", Some(" sum\n")),
+            closing: "",
+            tail: "func main z\nend\n",
+        },
+        256,
+        258,
+    ),
+];
+
+#[test]
+fn limits(rt: HostRuntime) -> Result<(), Fail> {
+    check_limits(&rt, rt.alloc(), LIMITS)
+}
+
+/// The most lines, behind three.
+const LINES: &[Limit] = &[(
+    Much {
+        form: Form::Program,
+        head: "cilk 1\nfunc main z\nend\n",
+        line: ("\n", None),
+        closing: "",
+        tail: "",
+    },
+    3_999_997,
+    4_000_001,
+)];
+
+#[test]
+fn many_lines(rt: HostRuntime) -> Result<(), Fail> {
+    check_limits(&rt, rt.alloc(), LINES)
+}
+
+#[test]
+fn names_of_cells(rt: HostRuntime) -> Result<(), Fail> {
+    let program = Program::parse(rt.alloc(), b"cilk 1\nmem x\nmem a 2\nfunc main z\nend\n")?;
+    let shape = program.shape(rt.alloc())?;
+    is_shaped(&rt, &shape, &[]);
+    has_cells(&rt, rt.alloc(), program.mems.as_slice())
+}
