@@ -1,38 +1,10 @@
-//! Whether two receipts, or two shapes, are the same.
+//! Whether two shapes are the same.
 
 ghost use Rattle.std.specs.Prelude.{◌≡◌, ◌↔◌, IsTrue};
 ghost use Rattle.race_gate.specs.Shapes.{shape_of};
 
-use race_gate::{Answer, Receipt};
 use std::alloc::Allocator;
-use text_words::{Act, Monoid, Request, Shape};
-
-fn is_same_act(one: Act, other: Act) -> bool
-    ensures { IsTrue result ↔ one ≡ other }
-{
-    one == other
-}
-
-fn is_same_request(one: Request, other: Request) -> bool
-    ensures { IsTrue result ↔ one ≡ other }
-{
-    one.strand == other.strand && is_same_act(one.act, other.act) && one.line == other.line
-}
-
-fn is_same_answer(one: Answer, other: Answer) -> bool
-    ensures { IsTrue result ↔ one ≡ other }
-{
-    one == other
-}
-
-/// Whether the two are one receipt.
-pub fn is_same_receipt(one: Receipt, other: Receipt) -> bool
-    ensures { IsTrue result ↔ one ≡ other }
-{
-    one.number == other.number
-        && is_same_request(one.request, other.request)
-        && is_same_answer(one.answer, other.answer)
-}
+use text_words::{Monoid, Shape};
 
 fn is_same_monoid(one: Monoid, other: Monoid) -> bool
     ensures { IsTrue result ↔ one ≡ other }
