@@ -1,6 +1,0 @@
-use Rattle.std.proofs.Common.{◌≡◌}
-use Rattle.program_tests.proofs.reports.answers.Given as goal
-
--- the gate keeps its shape
-abbrev pub invariant-loop-request : goal.invariant-loop-request
-invariant-loop-request l = l.gate.shape ≡ l.initial.gate.shape

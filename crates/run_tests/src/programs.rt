@@ -1,0 +1,21 @@
+//! Tests of runs of programs: their steps, elisions, replays and reports.
+
+#[cfg(test)]
+mod elisions;
+#[cfg(test)]
+mod frames;
+#[cfg(test)]
+mod gathered;
+#[cfg(test)]
+mod locks;
+#[cfg(test)]
+mod meeting;
+pub mod openings;
+#[cfg(test)]
+mod replays;
+#[cfg(test)]
+mod reports;
+#[cfg(test)]
+mod steps;
+#[cfg(test)]
+mod workers;

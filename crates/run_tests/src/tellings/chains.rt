@@ -1,0 +1,219 @@
+//! Worked histories: where the strands of two entries part, and what encloses an entry.
+
+use super::asked::{Deed, asked};
+use Act::{Bump, Call, Return, Spawn, Sync};
+use race_gate::{Entry, Gate};
+use spawn_chains::{Lineage, chain};
+use std::alloc::Global;
+use text_words::Act;
+
+/// The number of a spawn's entry, the strand that came by its child, and the one that came by its next.
+type Told = Option<(usize, u32, u32)>;
+
+/// The numbers of two entries, and where their strands part.
+type Parted = (usize, usize, Told);
+
+/// The number of an entry, and the numbers of those that enclose what its strand does there.
+type Enclosed<'a> = (usize, &'a [usize]);
+
+const ADDS: Act = Bump(0, 1);
+
+/// Whether the strands of the two entries part there.
+fn part_at(alloc: Global, gate: &Gate<Global>, first: usize, second: usize, wanted: Told) -> bool {
+    let entries = gate.history();
+    if first == 0 || second == 0 || first > entries.len() || second > entries.len() {
+        return false;
+    }
+    let Ok(lineage) = Lineage::new(alloc, entries) else {
+        return false;
+    };
+    let strand = entries[first - 1].request.strand;
+    let other = entries[second - 1].request.strand;
+    let parting = lineage.parting(entries, strand, other);
+    match parting {
+        Some(found) => wanted == Some((found.entry, found.by_child, found.by_next)),
+        None => wanted.is_none(),
+    }
+}
+
+/// Whether the strands of each two entries part where it is said.
+fn they_part(alloc: Global, gate: &Gate<Global>, cases: &[Parted]) -> bool {
+    for (first, second, wanted) in cases {
+        if !part_at(alloc, gate, *first, *second, *wanted) {
+            return false;
+        }
+    }
+    true
+}
+
+/// Whether these entries enclose what the strand of the entry with this number does there.
+fn enclose(alloc: Global, entries: &[Entry], number: usize, wanted: &[usize]) -> bool {
+    if number == 0 || number > entries.len() {
+        return false;
+    }
+    let strand = entries[number - 1].request.strand;
+    match chain(alloc, &entries[..number - 1], strand) {
+        Ok(found) => found.as_slice() == wanted,
+        Err(_) => false,
+    }
+}
+
+/// Whether what encloses each entry is what is said.
+fn are_enclosed(alloc: Global, entries: &[Entry], cases: &[Enclosed<'_>]) -> bool {
+    for (number, wanted) in cases {
+        if !enclose(alloc, entries, *number, wanted) {
+            return false;
+        }
+    }
+    true
+}
+
+/// Whether a gate that is asked for these acts answers them, and then the partings are so, and what encloses entries.
+fn are_told(alloc: Global, deeds: &[Deed], parted: &[Parted], enclosed: &[Enclosed<'_>]) -> bool {
+    match asked(alloc, 1, &[], deeds) {
+        Some(gate) => {
+            they_part(alloc, &gate, parted) && are_enclosed(alloc, gate.history(), enclosed)
+        }
+        None => false,
+    }
+}
+
+/// What a gate is asked for, where strands part then, and what encloses entries.
+type History<'a> = (&'a [Deed], &'a [Parted], &'a [Enclosed<'a>]);
+
+const HISTORIES: &[History<'static>] = &[
+    // Two spawns one after another: the second is on the next side of the first.
+    (
+        &[
+            (0, 1, Spawn),
+            (2, 1, Spawn),
+            (1, 1, ADDS),
+            (4, 1, ADDS),
+            (5, 1, ADDS),
+        ],
+        &[
+            (3, 4, Some((1, 1, 4))),
+            (4, 3, Some((1, 1, 4))),
+            (3, 5, Some((1, 1, 5))),
+            (4, 5, Some((2, 4, 5))),
+            (1, 3, None),
+            (5, 2, None),
+            (4, 4, None),
+        ],
+        &[],
+    ),
+    // A spawn by a child: what is on both of its sides is on the child's side of the outer one, its join as well.
+    (
+        &[
+            (0, 1, Spawn),
+            (1, 1, Spawn),
+            (2, 1, ADDS),
+            (4, 1, ADDS),
+            (5, 1, ADDS),
+            (4, 1, Return),
+            (5, 1, Sync),
+            (6, 1, ADDS),
+        ],
+        &[
+            (4, 3, Some((1, 4, 2))),
+            (4, 5, Some((2, 4, 5))),
+            (3, 5, Some((1, 5, 2))),
+            (8, 3, Some((1, 6, 2))),
+            (4, 8, None),
+            (8, 5, None),
+        ],
+        &[],
+    ),
+    // Two blocks of a called function: what is before the sync reaches what is behind it.
+    (
+        &[
+            (0, 1, Call),
+            (0, 1, Spawn),
+            (1, 1, ADDS),
+            (2, 1, Sync),
+            (1, 1, Return),
+            (3, 1, Return),
+            (3, 1, Spawn),
+            (4, 1, ADDS),
+            (5, 1, ADDS),
+        ],
+        &[
+            (3, 4, Some((2, 1, 2))),
+            (8, 9, Some((7, 4, 5))),
+            (3, 8, None),
+            (9, 4, None),
+            (6, 3, None),
+        ],
+        &[],
+    ),
+    // A call, in it a spawn, in the child a call that returns and another: what has returned encloses nothing, and a join stands where
+    // its block began.
+    (
+        &[
+            (0, 1, ADDS),
+            (0, 1, Call),
+            (0, 1, Spawn),
+            (1, 1, Call),
+            (1, 1, ADDS),
+            (1, 1, Return),
+            (1, 1, Call),
+            (1, 1, ADDS),
+            (2, 1, ADDS),
+            (1, 1, Return),
+            (1, 1, Return),
+            (2, 1, Sync),
+            (3, 1, ADDS),
+            (3, 1, Return),
+            (3, 1, ADDS),
+        ],
+        &[],
+        &[
+            (1, &[]),
+            (2, &[]),
+            (3, &[2]),
+            (4, &[3, 2]),
+            (5, &[4, 3, 2]),
+            (8, &[7, 3, 2]),
+            (9, &[2]),
+            (11, &[3, 2]),
+            (13, &[2]),
+            (15, &[]),
+        ],
+    ),
+    // A spawn by a child, and its join: the outer spawn encloses both, and the inner one its own child alone.
+    (
+        &[
+            (0, 1, Spawn),
+            (1, 1, Spawn),
+            (4, 1, ADDS),
+            (5, 1, ADDS),
+            (4, 1, Return),
+            (5, 1, Sync),
+            (6, 1, ADDS),
+            (2, 1, ADDS),
+        ],
+        &[],
+        &[(3, &[2, 1]), (4, &[1]), (7, &[1]), (8, &[])],
+    ),
+];
+
+#[test]
+fn where_strands_part_and_what_encloses_them(rt: HostRuntime) {
+    for (deeds, parted, enclosed) in HISTORIES {
+        assert!(rt; are_told(rt.alloc(), deeds, parted, enclosed));
+    }
+}
+
+/// Fifty spawns: the one with the number n has the child 2n and the next 2n + 1, but for the first.
+#[test]
+fn a_loop(rt: HostRuntime) {
+    let mut deeds = [(0u32, 1u32, Spawn); 52];
+    deeds[1] = (2, 1, Spawn);
+    for before in 2..50u32 {
+        deeds[before as usize] = (2 * before + 1, 1, Spawn);
+    }
+    deeds[50] = (40, 1, ADDS);
+    deeds[51] = (80, 1, ADDS);
+    const PARTED: &[Parted] = &[(51, 52, Some((20, 40, 80))), (52, 1, None)];
+    assert!(rt; are_told(rt.alloc(), &deeds, PARTED, &[]));
+}

@@ -1,0 +1,125 @@
+//! Whole explanations.
+
+use super::asked::{Deed, answers};
+use super::texts::is_text;
+use Act::{Call, Get, Put, Return, Spawn, Sync, Write};
+use program_text::Program;
+use race_explanations::explanation;
+use race_gate::Gate;
+use std::alloc::{AllocError, Global};
+use std::process::Abort;
+use text_words::Act;
+
+/// What is told of the gate's history as a run of the program of this text is this.
+fn is_told(
+    rt: &impl Abort,
+    alloc: Global,
+    text: &str,
+    program: &Program<Global>,
+    gate: &Gate<Global>,
+    wanted: &str,
+) -> Result<(), AllocError> {
+    let bytes = text.as_bytes();
+    let told = explanation(alloc, false, "p.cilk", bytes, program, gate.history())?;
+    is_text(rt, told.as_slice(), wanted);
+    Ok(())
+}
+
+/// The same of a program whose strands did these acts, on these lines.
+fn is_explained(
+    rt: &impl Abort,
+    alloc: Global,
+    text: &str,
+    program: &Program<Global>,
+    deeds: &[Deed],
+    wanted: &str,
+) -> Result<(), AllocError> {
+    let shape = program.shape(alloc)?;
+    let mut gate = Gate::new(alloc, &shape, 1000)?;
+    assert!(rt; answers(&mut gate, deeds));
+    is_told(rt, alloc, text, program, &gate, wanted)
+}
+
+/// The same of the program of this text. Whether it is one, and there was memory.
+fn explains(rt: &impl Abort, alloc: Global, text: &str, deeds: &[Deed], wanted: &str) -> bool {
+    match Program::parse(alloc, text.as_bytes()) {
+        Ok(program) => is_explained(rt, alloc, text, &program, deeds, wanted).is_ok(),
+        Err(_) => false,
+    }
+}
+
+/// A program's text, what its strands did, and what is told of it.
+type Case<'a> = (&'a str, &'a [Deed], &'a str);
+
+const CASES: &[Case<'static>] = &[
+    // A function is spawned twice, and races with itself: both lines are one, and the spawns tell the two apart.
+    (
+        "cilk 1\nmem x\nfunc main z\n  spawn f 1\n  spawn f 2\n  sync\nend\nfunc f v\n  write x v\nend\n",
+        &[
+            (0, 4, Spawn),
+            (1, 9, Write(0, 1)),
+            (1, 10, Return),
+            (2, 5, Spawn),
+            (4, 9, Write(0, 2)),
+        ],
+        "race: write-write on x, 1 time\n  \
+         --> p.cilk:9\n   \
+         |\n \
+         9 |   write x v\n   \
+         |   --------- this write, in `f`\n   \
+         = spawned at line 4, in `main`: spawn f 1\n   \
+         |\n \
+         9 |   write x v\n   \
+         |   ^^^^^^^^^ this write, in `f`, may run before it or after it\n   \
+         = spawned at line 5, in `main`: spawn f 2\n   \
+         |\n \
+         4 |   spawn f 1\n   \
+         |   --------- here they part: what is spawned comes to line 9, while `main` goes on to line 5\n   \
+         = help: a `sync` in `main` before line 5 would order them\n\n\
+         1 refusal at 1 pair of lines, among 5 requests\n",
+    ),
+    // A get while a spawn is outstanding that was not at the put.
+    (
+        "cilk 1\nreducer s sum\nfunc main z\nput s 1\nspawn f 1\nget a s\nsync\nend\nfunc f v\nend\n",
+        &[(0, 4, Put(0, 1)), (0, 5, Spawn), (2, 6, Get(0))],
+        "view-read race: reads with other peers of s, 1 time\n  \
+         --> p.cilk:6\n   \
+         |\n \
+         4 | put s 1\n   \
+         | ------- this put, in `main`\n   \
+         |\n \
+         6 | get a s\n   \
+         | ^^^^^^^ this get, in `main`, has other peers\n   \
+         |\n \
+         5 | spawn f 1\n   \
+         | --------- this spawn is outstanding at line 6, and not at line 4\n   \
+         = help: move what stands on line 6 behind the `sync` of `main`, where this spawn has ended\n\n\
+         1 refusal at 1 pair of lines, among 3 requests\n",
+    ),
+    // A get with nothing before it, in a function that was called.
+    (
+        "cilk 1\nreducer s last\nfunc main z\ncall f 1\nend\nfunc f v\nget a s\nend\n",
+        &[(0, 4, Call), (0, 7, Get(0))],
+        "unset get: nothing was put before into s, 1 time\n \
+         --> p.cilk:7\n  \
+         |\n\
+         7 | get a s\n  \
+         | ^^^^^^^ this get, in `f`, finds nothing\n  \
+         = called at line 4, in `main`: call f 1\n  \
+         = help: a `put` into it has to come first in the serial order\n\n\
+         1 refusal at 1 pair of lines, among 2 requests\n",
+    ),
+    // Nothing was refused.
+    (
+        "cilk 1\nmem x\nfunc main z\nwrite x 1\nend\n",
+        &[(0, 4, Write(0, 1)), (0, 5, Sync)],
+        "0 refusals at 0 pairs of lines, among 2 requests\n",
+    ),
+];
+
+#[test]
+fn runs_are_explained(rt: HostRuntime) {
+    for (text, deeds, wanted) in CASES {
+        assert!(rt; explains(&rt, rt.alloc(), text, deeds, wanted), "{wanted}");
+    }
+}
