@@ -18,6 +18,7 @@ pub struct Want {
 }
 
 /// What a statement asks; None where it asks nothing.
+#[inline(always)]
 pub fn act_of(registers: &[u64; REGISTERS], statement: Statement) -> Option<Act>
     requires { IsTrue (is_placed statement) }
     ensures { result ≡ act_of statement registers.now }
