@@ -7,15 +7,18 @@
 //! names of one file.
 #![tactic(auto)]
 
-ghost use Rattle.std.specs.Prelude.{⊤, None, IfOk};
+ghost use Rattle.std.specs.Prelude.{⊤, None, IfOk, ◌≡◌, ◌≤◌, false};
 ghost use Rattle.tool_commands.specs.Jobs.{IsInRange};
 ghost use Rattle.tool_commands.specs.Names.{SparesProgram};
 ghost use Rattle.tool_commands.specs.Sources.{unknown_sources};
+ghost use Rattle.tool_commands.specs.Watched.{has_failed};
 
 use std::fs::{self, File};
 use std::io::{self, IsTerminal};
 use std::os::unix::fs::MetadataExt;
 use std::process::ExitCode;
+use std::sync::Wait;
+use std::thread::Threads;
 use tool_commands::{
     CliFault, Host, Job, Watched, check_names, exit_of, perform, perform_alone, read_args,
 };
@@ -92,16 +95,37 @@ fn job_of(rt: &HostRuntime, host: &Watched<System<'_>>) -> Result<Job, CliFault>
     Ok(job)
 }
 
-fn main(rt: HostRuntime) -> ExitCode {
-    let mut host = Watched::new(System { rt: &rt });
-    let mut output = Watched::new(io::writer(&rt));
-    let answer = match job_of(&rt, &host) {
-        Ok(job @ (Job::Run { .. } | Job::Record { .. } | Job::Explain { .. })) => {
-            perform(&rt, rt.alloc(), &mut host, &job, &mut output)
+/// Does the job. What starts no thread is done without the leave to start one.
+fn done<R: Threads + Wait + Sync>(
+    threads: &R,
+    rt: &HostRuntime,
+    host: &mut Watched<System<'_>>,
+    job: &Job,
+) -> Result<u8, CliFault>
+    requires host { has_failed host.old ≡ false }
+    requires ranges { IsInRange job.now }
+    ensures { IfOk result (λ status. status ≤ 4) }
+{
+    let mut output = Watched::new(io::writer(rt));
+    match job {
+        Job::Run { .. } | Job::Record { .. } | Job::Explain { .. } => {
+            perform(threads, rt.alloc(), host, job, &mut output)
         }
-        Ok(job) => perform_alone(rt.alloc(), &mut host, &job, &mut output),
-        Err(fault) => Err(fault),
-    };
+        job => perform_alone(rt.alloc(), host, job, &mut output),
+    }
+}
+
+/// Does what the words of the command line ask for.
+fn answer_of<R: Threads + Wait + Sync>(threads: &R, rt: &HostRuntime) -> Result<u8, CliFault>
+    ensures { IfOk result (λ status. status ≤ 4) }
+{
+    let mut host = Watched::new(System { rt });
+    let job = job_of(rt, &host)?;
+    done(threads, rt, &mut host, &job)
+}
+
+fn main(rt: HostRuntime) -> ExitCode {
+    let answer = answer_of(&rt, &rt);
     tell(&rt, &answer);
     ExitCode::from(exit_of(&answer))
 }

@@ -36,7 +36,7 @@ pub enum Color {
 }
 
 /// What the words of the command line ask for.
-#[derive(Debug, Drop)]
+#[derive(Debug)]
 pub enum Job {
     /// To judge the trace in this file, or on standard input where there is none, with this limit on the entries of its history.
     Judge {
@@ -81,6 +81,36 @@ pub enum Job {
     Show {
         text: String,
     },
+}
+
+/// Written out, so that what lets a job go calls one function.
+impl Drop for Job {
+    fn drop(self) {
+        match self {
+            Job::Judge { file: _, limit: _ } => {}
+            Job::Elide { file: _, limit: _ } => {}
+            Job::Run {
+                file: _,
+                workers: _,
+                limit: _,
+            } => {}
+            Job::Record {
+                file: _,
+                workers: _,
+                limit: _,
+                trace: _,
+            } => {}
+            Job::Explain {
+                file: _,
+                workers: _,
+                limit: _,
+                color: _,
+            } => {}
+            Job::Replay { file: _, trace: _ } => {}
+            Job::Draw { file: _ } => {}
+            Job::Show { text: _ } => {}
+        }
+    }
 }
 
 /// Where a word of a command stands.
