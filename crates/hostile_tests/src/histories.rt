@@ -115,7 +115,8 @@ fn check_run<R: Abort + Threads + Wait + Sync>(
     program: &Program<Global>,
 ) -> Result<(), RunFault> {
     let whole = played(rt, alloc, program, 1, Prank::Turns)?;
-    Ok(check(rt, alloc, program, whole.entries.as_slice())?)
+    let entries = whole.entries.to_vec(alloc)?;
+    Ok(check(rt, alloc, program, entries.as_slice())?)
 }
 
 #[test]

@@ -5,7 +5,7 @@ ghost use Rattle.std.specs.Prelude.{◌≡◌, ◌<◌, ◌≤◌, [], IfOk};
 use crate::pranks::{Prank, Prankster};
 use locked_replay::{LockedGate, RunFault, Seat, Whole, WorkerLog, gather};
 use program_text::Program;
-use race_gate::Gate;
+use race_gate::ShortGate;
 use std::alloc::{AllocError, Global};
 use std::marker::Brand;
 use std::sync::Wait;
@@ -17,11 +17,11 @@ use steal_workers::run;
 const PARTS: u64 = 64;
 
 /// A gate of the program, which was asked nothing.
-pub fn gate_for(alloc: Global, program: &Program<Global>) -> Result<Gate<Global>, AllocError>
+pub fn gate_for(alloc: Global, program: &Program<Global>) -> Result<ShortGate, AllocError>
     ensures { IfOk result (λ gate. gate.history ≡ []) }
 {
     let shape = program.shape(alloc)?;
-    Gate::new(alloc, &shape, 1_000_000)
+    ShortGate::new(alloc, &shape, 1_000_000)
 }
 
 /// What the workers bring back that ask a gate with a prank.

@@ -8,4 +8,3 @@ pub mod Wholes
 mod Faulted
 mod Gathered
 pub mod Rising
-mod Cleared

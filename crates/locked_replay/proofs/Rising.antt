@@ -2,10 +2,12 @@
 -- rs: receipts; at: a place among them; r: the receipt there; d: what a list gives where it has no receipt
 use Rattle.std.proofs.Common.{◌≡◌, ℕ, zero, suc, ◌+◌, ◌-◌, ◌<◌, List, [], ◌∷◌, ◌++◌, length, take, get_or, Some, refl, ap, sym, subst, arith, ◌∙◌}
 use Rattle.std.specs.List.{AllAdjacentBelow, slice_get}
-use Rattle.std.proofs.lemmas.Option.{get_or_from_slice_get, same_Some}
+use Rattle.std.proofs.lemmas.Option.{get_or_from_slice_get}
+use Rattle.std.proofs.lemmas.List.{get_or_default}
 use Rattle.std.proofs.lemmas.List.Sorted.{all_adjacent_more}
 use Rattle.model_histories.specs.declared.answer.Entry.{Entry}
 use Rattle.model_histories.specs.declared.reply.Receipt.{Receipt}
+use Rattle.short_receipts.specs.Entries.{entry_of}
 use Rattle.locked_replay.specs.Receipts.{receipt_of, Rises, RisesAt}
 use Rattle.locked_replay.proofs.Marking.{one_more}
 
@@ -40,10 +42,13 @@ rises_told rs at before here low one next = (
   (λ positive rises. let r = (some_there rs at low).0 in omega (arith, one r, next r, rises positive r)),
 )
 
--- whether the receipt at a place is that of an entry, by another receipt that is
-module _ (rs : List Receipt) (at : ℕ) (r given : Receipt) (number : ℕ) (entry : Entry) (is : slice_get rs at ≡ Some r) (same : r.number ≡ number) (told : given ≡ receipt_of number entry) where
-  pub not_told : (slice_get rs at ≡ Some given → ⊥) → r ≡ receipt_of r.number entry → ⊥
-  not_told none here = none (is ∙ ap (λ (x : Receipt). Some x) (here ∙ ap (λ n. receipt_of n entry) same ∙ sym told))
+-- whether the receipt at a place is of the entry at another
+module _ (rs : List Receipt) (at : ℕ) (r : Receipt) (es : List Entry) (place : ℕ) (e : Entry) (is : slice_get rs at ≡ Some r) where
+  abbrev IsOf : Type 0
+  IsOf = (e : Entry) (d : Receipt) → entry_of (get_or rs at d) ≡ get_or es place e
 
-  pub is_told : slice_get rs at ≡ Some given → r ≡ receipt_of r.number entry
-  is_told here = same_Some r given (sym is ∙ here) ∙ told ∙ ap (λ n. receipt_of n entry) (sym same)
+  pub is_told : IsOf → r ≡ receipt_of r.number (get_or es place e)
+  is_told all = ap (receipt_of r.number) (ap entry_of (sym (get_or_from_slice_get rs at r r is)) ∙ all e r)
+
+  pub not_told : place < length es → (IsOf → ⊥) → r ≡ receipt_of r.number (get_or es place e) → ⊥
+  not_told low none here = none (λ f d. ap entry_of (get_or_from_slice_get rs at r d is ∙ here) ∙ get_or_default es place e f low)

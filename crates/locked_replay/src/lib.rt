@@ -25,5 +25,6 @@ pub use logs::check_logs;
 pub use opening::gate_for;
 pub use run_replay::{ReplayFault, replay};
 pub use seat::Seat;
+pub use short_receipts::Entries;
 pub use whole::{Whole, check_run, gather};
 pub use worker::WorkerLog;

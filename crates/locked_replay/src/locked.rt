@@ -6,8 +6,7 @@ ghost use Rattle.model_races.specs.Memory.{IsMemory};
 ghost use Rattle.model_histories.specs.Replies.{Judges, reply_of};
 
 use crate::seat::Seat;
-use race_gate::{Gate, GateFault, Receipt};
-use std::alloc::Global;
+use race_gate::{GateFault, Receipt, ShortGate};
 use std::sync::atomic::AtomicU64;
 use std::sync::ledger::{Blank, Book, Ledger};
 use std::sync::{Mutex, MutexGuard, Wait};
@@ -39,7 +38,7 @@ pub trait Ask<L: Ledger> {
 /// what was asked on all seats, which is the length of the history.
 #[derive(Drop)]
 struct Round<L: Ledger> {
-    gate: Gate<Global>,
+    gate: ShortGate,
     total: Book<L>,
     ghost counted: { total.total ≡ length gate.history },
 }
@@ -83,7 +82,7 @@ pub struct LockedGate<L: Ledger> {
 
 impl<L: Ledger> LockedGate<L> {
     /// The gate behind its lock, and a seat on which nothing was asked, with all parts of the blank, which are so many.
-    pub fn new(gate: Gate<Global>, blank: Blank, parts: u64) -> (LockedGate<L>, Seat<L>)
+    pub fn new(gate: ShortGate, blank: Blank, parts: u64) -> (LockedGate<L>, Seat<L>)
         requires empty { gate.history ≡ [] }
         requires name { blank.name ≡ L.name }
         requires all { blank.parts ≡ L.parts }
@@ -146,7 +145,7 @@ impl<L: Ledger> LockedGate<L> {
     }
 
     /// The gate that lies under the lock, whose history is judged and whose memory is what that leaves.
-    pub fn into_gate(self) -> Gate<Global>
+    pub fn into_gate(self) -> ShortGate
         ensures judged { IsJudged result.shape result.history }
         ensures values { IsMemory result.shape.cells result.history result.memory }
     {

@@ -3,14 +3,14 @@
 ghost use Rattle.std.specs.Prelude.{◌≡◌, ◌↔◌, ◌≤◌, ◌^◌, [], true, length, reverse, IsTrue, IfOk, OnOk, MatchOption, Err};
 ghost use Rattle.std.specs.Bool.{MatchBool};
 ghost use Rattle.std.specs.List.{All, sum_by};
-ghost use Rattle.model_histories.specs.Extensions.{IsCleanAnswer};
 ghost use Rattle.locked_replay.specs.Receipts.{Rises, AreMarked};
 ghost use Rattle.locked_replay.specs.Logs.{all_receipts, all_asked, AreTheirs, AreWhole};
 
 use crate::fault::RunFault;
 use crate::receipts::mark_all;
 use crate::worker::WorkerLog;
-use race_gate::{Entry, Gate};
+use race_gate::ShortGate;
+use short_receipts::Entries;
 use std::alloc::{AllocError, Global};
 use std::sync::ledger::Ledger;
 
@@ -28,12 +28,12 @@ fn count_of<L: Ledger>(logs: &[WorkerLog<L>]) -> Option<u64>
 }
 
 /// Marks the entries whose receipts are in the logs, where the receipts rise in number in each log, and no entry has two of them.
-fn mark_logs<L: Ledger>(marks: &mut [bool], entries: &[Entry], logs: &[WorkerLog<L>]) -> bool
-    requires { length marks.old ≡ length entries.now }
-    ensures { AreMarked marks.old entries.now [] →
+fn mark_logs<L: Ledger>(marks: &mut [bool], entries: &Entries, logs: &[WorkerLog<L>]) -> bool
+    requires { length marks.old ≡ length entries.now.items }
+    ensures { AreMarked marks.old entries.now.items [] →
         MatchBool result
-        (All (λ log. Rises log.receipts.items) logs.now × AreMarked marks.new entries.now (all_receipts logs.now))
-        (¬ (AreTheirs entries.now logs.now)) }
+        (All (λ log. Rises log.receipts.items) logs.now × AreMarked marks.new entries.now.items (all_receipts logs.now))
+        (¬ (AreTheirs entries.now.items logs.now)) }
 {
     for log in logs {
         if !mark_all(marks, entries, &log.receipts) {
@@ -46,31 +46,20 @@ fn mark_logs<L: Ledger>(marks: &mut [bool], entries: &[Entry], logs: &[WorkerLog
 /// Whether in each log the receipts rise in number, and all of them together are those of the entries, each once.
 fn are_theirs<L: Ledger>(
     alloc: Global,
-    entries: &[Entry],
+    entries: &Entries,
     logs: &[WorkerLog<L>],
 ) -> Result<bool, AllocError>
-    ensures { IfOk result (λ theirs. IsTrue theirs ↔ AreTheirs entries.now logs.now) }
+    ensures { IfOk result (λ theirs. IsTrue theirs ↔ AreTheirs entries.now.items logs.now) }
 {
+    let length = entries.len();
     let Some(count) = count_of(logs) else {
         return Ok(false);
     };
-    if count != entries.len() as u64 {
+    if count != length as u64 {
         return Ok(false);
     }
-    let mut marks = vec![in alloc; false; entries.len()]?;
+    let mut marks = vec![in alloc; false; length]?;
     Ok(mark_logs(marks.as_mut_slice(), entries, logs))
-}
-
-/// Whether it is known that no receipt of the logs is a refusal.
-pub(crate) fn are_clean<L: Ledger>(logs: &[WorkerLog<L>]) -> bool
-    ensures { IsTrue result → All (λ receipt. IsCleanAnswer receipt.answer) (all_receipts logs.now) }
-{
-    for log in logs {
-        if !log.receipts.are_clean() {
-            return false;
-        }
-    }
-    true
 }
 
 /// What was asked on all seats, or None where no u64 holds it.
@@ -88,7 +77,7 @@ fn asked_of<L: Ledger>(logs: &[WorkerLog<L>]) -> Option<u64>
 /// as much was asked on all seats. Stopped where the gate is stopped, and else Torn only where they aren't whole.
 pub fn check_logs<L: Ledger>(
     alloc: Global,
-    gate: &Gate<Global>,
+    gate: &ShortGate,
     logs: &[WorkerLog<L>],
 ) -> Result<(), RunFault>
     ensures whole { OnOk result (AreWhole (reverse gate.now.history) logs.now) }
@@ -99,14 +88,16 @@ pub fn check_logs<L: Ledger>(
     if gate.is_stopped() {
         return Err(RunFault::Stopped);
     }
-    let Ok(theirs) = are_theirs(alloc, gate.history(), logs) else {
+    let entries = gate.history();
+    let length = entries.len() as u64;
+    let Ok(theirs) = are_theirs(alloc, entries, logs) else {
         return Err(RunFault::Memory);
     };
     if !theirs {
         return Err(RunFault::Torn);
     }
     match asked_of(logs) {
-        Some(asked) if asked == gate.history().len() as u64 => Ok(()),
+        Some(asked) if asked == length => Ok(()),
         _ => Err(RunFault::Torn),
     }
 }

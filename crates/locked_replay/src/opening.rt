@@ -6,7 +6,7 @@ ghost use Rattle.model_histories.specs.States.{opening};
 ghost use Rattle.program_text.specs.Shapes.{shape_in};
 
 use program_text::Program;
-use race_gate::Gate;
+use race_gate::ShortGate;
 use std::alloc::{AllocError, Global};
 
 /// A gate of the cells and reducers that the program declares, which was asked nothing, and whose history takes so many entries.
@@ -14,10 +14,10 @@ pub fn gate_for(
     alloc: Global,
     program: &Program<Global>,
     limit: u32,
-) -> Result<Gate<Global>, AllocError>
+) -> Result<ShortGate, AllocError>
     requires { limit ≤ most_entries }
     ensures { IfOk result (λ gate. gate ≡ opening (shape_in program.now) limit) }
 {
     let shape = program.shape(alloc)?;
-    Gate::new(alloc, &shape, limit)
+    ShortGate::new(alloc, &shape, limit)
 }

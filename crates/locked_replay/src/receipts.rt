@@ -3,38 +3,25 @@
 ghost use Rattle.std.specs.Prelude.{◌≡◌, ◌↔◌, ◌++◌, ◌∷◌, ◌<◌, [], ◌⊎◌, List, IsTrue, Some, length, slice_get};
 ghost use Rattle.std.specs.Bool.{MatchBool};
 ghost use Rattle.model_histories.specs.declared.reply.Receipt.{Receipt as OneReceipt};
-ghost use Rattle.locked_replay.specs.Receipts.{receipt_of, Rises, RisesAt, AreMarked, AreAstray};
+ghost use Rattle.locked_replay.specs.Receipts.{Rises, RisesAt, AreMarked, AreAstray};
 
-use race_gate::{Entry, Receipt};
-use short_receipts::Receipts;
-
-/// The receipt of the entry with this number.
-#[inline(always)]
-fn receipt_of(number: u32, entry: Entry) -> Receipt
-    ensures { result ≡ receipt_of number entry }
-{
-    Receipt {
-        number,
-        request: entry.request,
-        answer: entry.answer,
-    }
-}
+use short_receipts::{Entries, Receipts};
 
 /// Marks the entry whose receipt is at this place, where there is one that was not marked.
-fn mark(marks: &mut [bool], entries: &[Entry], receipts: &Receipts, at: usize) -> bool
-    requires marks { length marks.old ≡ length entries.now }
+fn mark(marks: &mut [bool], entries: &Entries, receipts: &Receipts, at: usize) -> bool
+    requires marks { length marks.old ≡ length entries.now.items }
     requires there { at < length receipts.now.items }
     ensures length { length marks.new ≡ length marks.old }
     ensures marks { (met : List OneReceipt) (receipt : OneReceipt) → slice_get receipts.now.items at ≡ Some receipt →
-        AreMarked marks.old entries.now met →
-        MatchBool result (AreMarked marks.new entries.now (met ++ receipt ∷ [])) (AreAstray entries.now (met ++ receipt ∷ [])) }
+        AreMarked marks.old entries.now.items met →
+        MatchBool result (AreMarked marks.new entries.now.items (met ++ receipt ∷ [])) (AreAstray entries.now.items (met ++ receipt ∷ [])) }
 {
     let number = receipts.number(at);
     if number == 0 || number as usize > entries.len() {
         return false;
     }
     let place = number as usize - 1;
-    if marks[place] || !receipts.is_at(at, receipt_of(number, entries[place])) {
+    if marks[place] || !entries.is_of(place, receipts, at) {
         return false;
     }
     marks[place] = true;
@@ -50,13 +37,13 @@ fn rises_at(receipts: &Receipts, at: usize) -> bool
 }
 
 /// Marks the entries whose receipts these are, where the receipts rise in number, and each is that of an entry that was not marked.
-pub fn mark_all(marks: &mut [bool], entries: &[Entry], receipts: &Receipts) -> bool
-    requires { length marks.old ≡ length entries.now }
+pub fn mark_all(marks: &mut [bool], entries: &Entries, receipts: &Receipts) -> bool
+    requires { length marks.old ≡ length entries.now.items }
     ensures length { length marks.new ≡ length marks.old }
-    ensures marks { (met : List OneReceipt) → AreMarked marks.old entries.now met →
+    ensures marks { (met : List OneReceipt) → AreMarked marks.old entries.now.items met →
         MatchBool result
-        (Rises receipts.now.items × AreMarked marks.new entries.now (met ++ receipts.now.items))
-        ((Rises receipts.now.items → ⊥) ⊎ AreAstray entries.now (met ++ receipts.now.items)) }
+        (Rises receipts.now.items × AreMarked marks.new entries.now.items (met ++ receipts.now.items))
+        ((Rises receipts.now.items → ⊥) ⊎ AreAstray entries.now.items (met ++ receipts.now.items)) }
 {
     for at in 0..receipts.len() {
         if !rises_at(receipts, at) {

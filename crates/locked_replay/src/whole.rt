@@ -14,12 +14,13 @@ ghost use Rattle.locked_replay.specs.Strange.{run_fault_of, IsStrangeGate};
 
 use crate::fault::RunFault;
 use crate::locked::LockedGate;
-use crate::logs::{are_clean, check_logs};
+use crate::logs::check_logs;
 use crate::same::is_same_shape;
 use crate::worker::WorkerLog;
 use program_text::Program;
-use race_gate::{Answer, Entry, Gate};
+use race_gate::{Answer, ShortGate};
 use run_replay::{ReplayFault, follow};
+use short_receipts::Entries;
 use std::alloc::{Allocator, Global};
 use std::sync::ledger::Ledger;
 
@@ -27,7 +28,7 @@ use std::sync::ledger::Ledger;
 #[derive(Drop)]
 pub struct Whole {
     /// The entries of its history, the oldest first.
-    pub entries: Vec<Entry>,
+    pub entries: Entries,
     /// What the cells hold at its end.
     pub memory: Vec<u64>,
     /// Whether nothing was refused.
@@ -42,23 +43,18 @@ fn is_clean_answer(answer: Answer) -> bool
 }
 
 /// Whether no answer is a refusal.
-fn is_clean(entries: &[Entry]) -> bool
-    ensures { IsTrue result ↔ IsClean entries.now }
+fn is_clean(entries: &Entries) -> bool
+    ensures { IsTrue result ↔ IsClean entries.now.items }
 {
-    for entry in entries {
-        if !is_clean_answer(entry.answer) {
+    if entries.are_clean() {
+        return true;
+    }
+    for at in 0..entries.len() {
+        if !is_clean_answer(entries.get(at).answer) {
             return false;
         }
     }
     true
-}
-
-/// Whether no answer is a refusal. Where the receipts of the entries tell it, the entries are not looked at.
-fn is_clean_as_told(told: bool, entries: &[Entry]) -> bool
-    requires { IsTrue told → IsClean entries.now }
-    ensures { IsTrue result ↔ IsClean entries.now }
-{
-    told || is_clean(entries)
 }
 
 /// The fault of a history that is no finished run.
@@ -77,7 +73,7 @@ fn fault_of(fault: ReplayFault) -> RunFault
 pub fn check_run<B: Allocator>(
     alloc: Global,
     program: &Program<B>,
-    gate: &Gate<Global>,
+    gate: &ShortGate,
 ) -> Result<(), RunFault>
     ensures shape { OnOk result (gate.now.shape ≡ shape_in program.now) }
     ensures run { OnOk result (IsFinishedRun program.now.functions (shape_in program.now) gate.now.history) }
@@ -99,8 +95,8 @@ pub fn check_run<B: Allocator>(
 fn parts_of<B: Allocator>(
     alloc: Global,
     program: &Program<B>,
-    gate: Gate<Global>,
-) -> Result<(Vec<Entry>, Vec<u64>), RunFault>
+    gate: ShortGate,
+) -> Result<(Entries, Vec<u64>), RunFault>
     ensures shape { OnOk result (gate.shape ≡ shape_in program.now) }
     ensures entries { IfOk result (λ parts. reverse parts.0.items ≡ gate.history) }
     ensures memory { IfOk result (λ parts. parts.1.items ≡ gate.memory) }
@@ -113,7 +109,7 @@ fn parts_of<B: Allocator>(
         return Err(RunFault::Strange);
     }
     let (entries, memory) = gate.into_parts();
-    match follow(alloc, program, entries.as_slice()) {
+    match follow(alloc, program, &entries) {
         Ok(()) => Ok((entries, memory)),
         Err(fault) => Err(fault_of(fault)),
     }
@@ -124,7 +120,7 @@ fn parts_of<B: Allocator>(
 fn whole_of<L: Ledger, B: Allocator>(
     alloc: Global,
     program: &Program<B>,
-    gate: Gate<Global>,
+    gate: ShortGate,
     logs: Vec<WorkerLog<L>>,
 ) -> Result<Whole, RunFault>
     ensures shape { OnOk result (gate.shape ≡ shape_in program.now) }
@@ -137,11 +133,10 @@ fn whole_of<L: Ledger, B: Allocator>(
     ensures faults { IfErr result (HasFault program.now.functions (shape_in program.now) gate logs.items) }
 {
     check_logs(alloc, &gate, logs.as_slice())?;
-    let told_clean = are_clean(logs.as_slice());
     // The replay may have the room of the receipts.
     drop(logs);
     let (entries, memory) = parts_of(alloc, program, gate)?;
-    let clean = is_clean_as_told(told_clean, entries.as_slice());
+    let clean = is_clean(&entries);
     Ok(Whole {
         entries,
         memory,

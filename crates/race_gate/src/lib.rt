@@ -9,8 +9,8 @@
 //! is that of the last granted write and the granted bumps since, and each value of a get that of the last granted put, combined in
 //! serial order with the granted updates that lie between the two. [`judge_all`] carries the theorem in its contract: whatever the
 //! requests are, the history that the gate keeps is judged, and there is one reply to each request.
-//! [`Gate::judge`] says the same of one request, and [`Core::judge`] says it where no history is kept. The laws of the definitions are
-//! in the module `laws`.
+//! [`Gate::judge`] says the same of one request, [`ShortGate::judge`] where entries are kept in less room, and [`Core::judge`] where no
+//! history is kept. The laws of the definitions are in the module `laws`.
 #![tactic(auto)]
 
 mod access;
@@ -19,6 +19,7 @@ mod judging;
 pub mod laws;
 mod reducers;
 mod replies;
+mod short_gate;
 mod step;
 mod tracks;
 
@@ -26,3 +27,4 @@ pub use gate::Gate;
 pub use judging::Core;
 pub use model_histories::{Answer, Entry, GateFault, Receipt, Reply};
 pub use replies::judge_all;
+pub use short_gate::ShortGate;

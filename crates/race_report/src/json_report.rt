@@ -156,7 +156,8 @@ fn refusals_of<A: Allocator>(
     if whole.clean {
         return Ok(Vec::new(alloc));
     }
-    refusal_values(alloc, program, whole.entries.as_slice())
+    let entries = whole.entries.to_vec(alloc)?;
+    refusal_values(alloc, program, entries.as_slice())
 }
 
 /// Numbers as values.
@@ -264,9 +265,8 @@ pub fn report<A: Allocator>(
     requires clean { IsTrue whole.now.clean ↔ IsClean (reverse whole.now.entries.items) }
     ensures { IfOk result (λ text. text.items ≡ report_text (contents program.now).known whole.now.entries.items whole.now.memory.items) }
 {
-    let entries = whole.entries.as_slice();
     let refusals = refusals_of(alloc, program, whole)?;
     let memory = memory_value(alloc, program.mems.as_slice(), whole.memory.as_slice())?;
-    let report = report_value(alloc, whole.clean, entries.len(), memory, refusals)?;
+    let report = report_value(alloc, whole.clean, whole.entries.len(), memory, refusals)?;
     report.to_vec(alloc)
 }

@@ -18,6 +18,7 @@ use crate::cast::Cast;
 use crate::turn::{Misfit, confirm};
 use program_text::Program;
 use race_gate::{Answer, Core, Entry};
+use short_receipts::Entries;
 use std::alloc::{AllocError, Allocator};
 use thiserror::Error;
 
@@ -119,37 +120,33 @@ fn play_all<A: Allocator + Copy, B: Allocator>(
 }
 
 /// Whether the last entry is the return of the root function.
-fn is_finished(entries: &[Entry]) -> bool
-    ensures { IsTrue result ↔ IsFinished (reverse entries.now) }
+fn is_finished(entries: &Entries) -> bool
+    ensures { IsTrue result ↔ IsFinished (reverse entries.now.items) }
 {
-    if entries.is_empty() {
-        return false;
-    }
-    matches!(entries[entries.len() - 1].answer, Answer::Finished)
+    let count = entries.len();
+    count > 0 && matches!(entries.get(count - 1).answer, Answer::Finished)
 }
 
 /// Plays entries that are judged, the oldest first, on what has been opened.
 fn follow_all<A: Allocator + Copy, B: Allocator>(
     cast: &mut Cast<A>,
     program: &Program<B>,
-    entries: &[Entry],
+    entries: &Entries,
 ) -> Result<(), ReplayFault>
-    requires judged { IsJudged (shape_in program.now) (reverse entries.now) }
-    requires within { length entries.now ≤ most_entries }
+    requires judged { IsJudged (shape_in program.now) (reverse entries.now.items) }
+    requires within { length entries.now.items ≤ most_entries }
     requires opens { OpensIn program.now.functions (shape_in program.now)
         (opening (shape_in program.now) most_entries) cast.old.slots.items cast.old.homes.items cast.old.places.items }
-    ensures finished { OnOk result (IsFinishedRun program.now.functions (shape_in program.now) (reverse entries.now)) }
+    ensures finished { OnOk result (IsFinishedRun program.now.functions (shape_in program.now) (reverse entries.now.items)) }
     ensures unfinished { result ≡ Err ReplayFault.Unfinished →
-        IsUnfinishedRun program.now.functions (shape_in program.now) (reverse entries.now) }
+        IsUnfinishedRun program.now.functions (shape_in program.now) (reverse entries.now.items) }
     ensures strange { (number : ℕ) → result ≡ Err (ReplayFault.Strange number) →
-        IsStrange program.now.functions (shape_in program.now) entries.now number }
+        IsStrange program.now.functions (shape_in program.now) entries.now.items number }
 {
-    let mut number: u32 = 0;
-    for entry in entries {
-        number += 1;
-        match cast.play(program, *entry) {
+    for at in 0..entries.len() {
+        match cast.play(program, entries.get(at)) {
             Ok(()) => {}
-            Err(Misfit::Strange) => return Err(ReplayFault::Strange(number)),
+            Err(Misfit::Strange) => return Err(ReplayFault::Strange(at as u32 + 1)),
             Err(Misfit::Memory) => return Err(ReplayFault::Memory),
         }
     }
@@ -205,17 +202,18 @@ pub fn replay<A: Allocator + Copy, B: Allocator>(
 pub fn follow<A: Allocator + Copy, B: Allocator>(
     alloc: A,
     program: &Program<B>,
-    entries: &[Entry],
+    entries: &Entries,
 ) -> Result<(), ReplayFault>
-    requires { IsJudged (shape_in program.now) (reverse entries.now) }
-    ensures finished { OnOk result (IsFinishedRun program.now.functions (shape_in program.now) (reverse entries.now)) }
+    requires { IsJudged (shape_in program.now) (reverse entries.now.items) }
+    ensures finished { OnOk result (IsFinishedRun program.now.functions (shape_in program.now) (reverse entries.now.items)) }
     ensures unfinished { result ≡ Err ReplayFault.Unfinished →
-        IsUnfinishedRun program.now.functions (shape_in program.now) (reverse entries.now) }
+        IsUnfinishedRun program.now.functions (shape_in program.now) (reverse entries.now.items) }
     ensures strange { (number : ℕ) → result ≡ Err (ReplayFault.Strange number) →
-        IsStrange program.now.functions (shape_in program.now) entries.now number }
+        IsStrange program.now.functions (shape_in program.now) entries.now.items number }
 {
     if entries.len() > 1_000_000 {
-        return replay(alloc, program, entries);
+        let entries = entries.to_vec(alloc)?;
+        return replay(alloc, program, entries.as_slice());
     }
     let mut cast = Cast::open(alloc, program)?;
     let spawns = entries.len() / ENTRIES_OF_SPAWN;

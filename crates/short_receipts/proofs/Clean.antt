@@ -4,13 +4,10 @@ use Rattle.std.specs.List.{All}
 use Rattle.std.proofs.lemmas.List.Elements.{All-nil, All-cons}
 use Rattle.model_histories.specs.declared.reply.Receipt.{Receipt}
 use Rattle.model_histories.specs.Extensions.{IsCleanAnswer}
-use Rattle.short_receipts.specs.declared.deed.Short.{Short}
-use Rattle.short_receipts.specs.declared.deed.Deed.{Deed}
-use Rattle.short_receipts.specs.declared.deed.Deed.TheVariants.{Open, Spawn, Call, Pass, Join, Wait, Resume, End, EndJoin, Finish}
-use Rattle.short_receipts.specs.declared.deed.Deed.TheVariants.{Read, Write, Bump, Update, Put, Get, Long}
 use Rattle.short_receipts.specs.declared.packed.Packed.{Packed}
 use Rattle.short_receipts.specs.Packing.{unpacked}
-use Rattle.short_receipts.specs.Shorts.{answer_of, index_of, is_long, plain}
+use Rattle.short_receipts.specs.Shorts.{Short, Deed, answer_of, index_of, is_long, plain}
+use Rattle.short_receipts.specs.Shorts.{Open, Spawn, Call, Pass, Join, Wait, Resume, End, EndJoin, Finish, Read, Write, Bump, Update, Put, Get, Long}
 use Rattle.short_receipts.specs.Lists.{receipt_in, receipts_of}
 
 clean_deed : (deed : Deed) → IsCleanAnswer (answer_of deed)

@@ -1,31 +1,10 @@
 -- What is packed is unpacked again.
-use Rattle.std.proofs.Common.{◌≡◌, ◌≢◌, ◌+◌, ◌*◌, ℕ, true, refl, sym, ap, subst, ◌∙◌, arith}
+use Rattle.std.proofs.Common.{◌≡◌, ◌≢◌, ◌+◌, ◌*◌, ◌^◌, ℕ, true, refl, sym, ap, subst, ◌∙◌, arith}
 use Rattle.model_histories.specs.declared.reply.Receipt.{Receipt}
-use Rattle.short_receipts.specs.declared.deed.Short.{Short}
-use Rattle.short_receipts.specs.declared.deed.Deed.{Deed}
-use Rattle.short_receipts.specs.declared.deed.Deed.TheVariants.{Open, Spawn, Call, Pass, Join, Wait, Resume, End, EndJoin, Finish}
-use Rattle.short_receipts.specs.declared.deed.Deed.TheVariants.{Read, Write, Bump, Update, Put, Get, Long}
-use Rattle.short_receipts.specs.Shorts.{IsShortOf, is_long, plain}
-use Rattle.short_receipts.specs.Packing.{deed_with, first_of, second_of, tag_of, unpacked, number_in, strand_in, line_in, tag_in, IsStart}
-
-deed-again : (deed : Deed) → deed_with (tag_of deed) (first_of deed) (second_of deed) ≡ deed
-deed-again (Open child join) = refl
-deed-again (Spawn child join) = refl
-deed-again Call = refl
-deed-again Pass = refl
-deed-again (Join join) = refl
-deed-again Wait = refl
-deed-again Resume = refl
-deed-again End = refl
-deed-again (EndJoin join) = refl
-deed-again Finish = refl
-deed-again (Read cell value) = refl
-deed-again (Write cell value) = refl
-deed-again (Bump cell value) = refl
-deed-again (Update reducer value) = refl
-deed-again (Put reducer value) = refl
-deed-again (Get reducer value) = refl
-deed-again (Long low high) = refl
+use Rattle.model_accesses.specs.declared.request.Act.{Act}
+use Rattle.model_histories.specs.declared.answer.Answer.{Answer}
+use Rattle.short_receipts.specs.Shorts.{Short, Deed, IsShortOf, act_of, answer_of, index_of, is_long, plain}
+use Rattle.short_receipts.specs.Packing.{deed_with, unpacked, number_in, strand_in, line_in, tag_in, IsStart}
 
 number-still : (start tag : ℕ) → number_in (start + 576460752303423488 * tag) ≡ number_in start
 number-still start tag = omega arith
@@ -44,24 +23,34 @@ parts : (short : Short) (number strand line : ℕ) (deed : Deed) → number ≡ 
     ◌≡◌ {A = Short} (record { number = number; strand = strand; line = line; deed = deed }) short
 parts short number strand line deed same_number same_strand same_line same_deed = grind (arith, same_number, same_strand, same_line, same_deed)
 
-packed-again : (start tag first second number strand line : ℕ) (deed : Deed) → IsStart start number strand line →
-    tag ≡ tag_of deed → first ≡ first_of deed → second ≡ second_of deed →
+packed-again : (start tag first second number strand line : ℕ) → IsStart start number strand line →
     unpacked (record { head = start + 576460752303423488 * tag; first = first; second = second })
-    ≡ record { number = number; strand = strand; line = line; deed = deed }
+    ≡ record { number = number; strand = strand; line = line; deed = deed_with tag first second }
 unfolding unpacked
-packed-again start tag first second number strand line deed is same_tag same_first same_second =
+packed-again start tag first second number strand line is =
     let head = start + 576460752303423488 * tag in
-    parts (record { number = number; strand = strand; line = line; deed = deed }) (number_in head) (strand_in head) (line_in head) (deed_with (tag_in head) first second)
+    parts (record { number = number; strand = strand; line = line; deed = deed_with tag first second })
+    (number_in head) (strand_in head) (line_in head) (deed_with (tag_in head) first second)
     (number-still start tag ∙ is.1) (strand-still start tag ∙ is.2) (line-still start tag ∙ is.3)
-    (ap (λ t. deed_with t first second) (tag-again start tag is.0 ∙ same_tag)
-    ∙ (ap (λ f. deed_with (tag_of deed) f second) same_first ∙ (ap (deed_with (tag_of deed) (first_of deed)) same_second ∙ deed-again deed)))
+    (ap (λ t. deed_with t first second) (tag-again start tag is.0))
 
--- a deed that says what was asked and answered, under a head that says who asked where, is the receipt
-pub packed-is : (start tag first second : ℕ) (deed : Deed) (receipt : Receipt) → IsStart start receipt.number receipt.request.strand receipt.request.line →
-    tag ≡ tag_of deed → first ≡ first_of deed → second ≡ second_of deed → IsShortOf receipt.request.act receipt.answer deed →
+-- numbers that say what was asked and answered, under a head that says who asked where, are the receipt
+pub packed-is : (start tag first second : ℕ) (receipt : Receipt) → IsStart start receipt.number receipt.request.strand receipt.request.line →
+    IsShortOf receipt.request.act receipt.answer (deed_with tag first second) →
     (is_long (unpacked (record { head = start + 576460752303423488 * tag; first = first; second = second })).deed ≢ true)
     × (plain (unpacked (record { head = start + 576460752303423488 * tag; first = first; second = second })) ≡ receipt)
-packed-is start tag first second deed receipt is same_tag same_first same_second of_these =
+packed-is start tag first second receipt is of_these =
     subst (λ (short : Short). (is_long short.deed ≢ true) × (plain short ≡ receipt))
-    (sym (packed-again start tag first second receipt.number receipt.request.strand receipt.request.line deed is same_tag same_first same_second))
+    (sym (packed-again start tag first second receipt.number receipt.request.strand receipt.request.line is))
     (of_these.0, grind (arith, of_these.1, of_these.2))
+
+-- the receipt of equal parts
+pub plain-parts : (short : Short) (number strand line : ℕ) (act : Act) (answer : Answer) → number ≡ short.number → strand ≡ short.strand → line ≡ short.line →
+    act ≡ act_of short.deed → answer ≡ answer_of short.deed →
+    ◌≡◌ {A = Receipt} (record { number = number; request = record { strand = strand; line = line; act = act }; answer = answer }) (plain short)
+plain-parts short number strand line act answer same_number same_strand same_line same_act same_answer =
+    grind (arith, same_number, same_strand, same_line, same_act, same_answer)
+
+-- the place of what is kept beside
+pub long-index : (tag first second : ℕ) → is_long (deed_with tag first second) ≡ true → index_of (deed_with tag first second) ≡ second * 2 ^ 32 + first
+long-index tag first second long = grind (arith, long)

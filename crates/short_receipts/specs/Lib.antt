@@ -1,3 +1,4 @@
 pub mod Shorts
 pub mod Packing
 pub mod Lists
+pub mod Entries

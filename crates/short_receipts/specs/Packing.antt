@@ -1,9 +1,10 @@
 -- A receipt in sixteen bytes: its number, its strand, its line and its deed's tag stand in one number, the head.
-use Rattle.std.specs.Prelude.{◌≡◌, ℕ, ◌*◌, ◌/◌, ◌%◌, ◌^◌, ◌==◌, if◌then◌else◌}
-use Rattle.short_receipts.specs.declared.deed.Short.{Short}
-use Rattle.short_receipts.specs.declared.deed.Deed.{Deed}
-use Rattle.short_receipts.specs.declared.deed.Deed.TheVariants.{Open, Spawn, Call, Pass, Join, Wait, Resume, End, EndJoin, Finish}
-use Rattle.short_receipts.specs.declared.deed.Deed.TheVariants.{Read, Write, Bump, Update, Put, Get, Long}
+use Rattle.std.specs.Prelude.{◌≡◌, ℕ, ◌*◌, ◌/◌, ◌%◌, ◌^◌, ◌==◌, ◌<◌, if◌then◌else◌}
+use Rattle.short_receipts.specs.Shorts.{Short, Deed, IsShortOf}
+use Rattle.short_receipts.specs.Shorts.{Open, Spawn, Call, Pass, Join, Wait, Resume, End, EndJoin, Finish, Read, Write, Bump, Update, Put, Get, Long}
+use Rattle.model_accesses.specs.declared.request.Act.{Act}
+use Rattle.model_histories.specs.declared.answer.Answer.{Answer}
+use Rattle.short_receipts.specs.declared.deed.Numbers.{Numbers}
 use Rattle.short_receipts.specs.declared.packed.Packed.{Packed}
 
 -- how many numbers, strands and lines a head can name
@@ -15,52 +16,6 @@ strands = 2 ^ 22
 
 abbrev pub lines : ℕ
 lines = 2 ^ 17
-
--- which of the deeds it is, and its two numbers, which are 0 where it has none
-abbrev pub tag_of : Deed → ℕ
-tag_of (Open child join) = 0
-tag_of (Spawn child join) = 1
-tag_of Call = 2
-tag_of Pass = 3
-tag_of (Join join) = 4
-tag_of Wait = 5
-tag_of Resume = 6
-tag_of End = 7
-tag_of (EndJoin join) = 8
-tag_of Finish = 9
-tag_of (Read cell value) = 10
-tag_of (Write cell value) = 11
-tag_of (Bump cell value) = 12
-tag_of (Update reducer value) = 13
-tag_of (Put reducer value) = 14
-tag_of (Get reducer value) = 15
-tag_of (Long low high) = 16
-
-abbrev pub first_of : Deed → ℕ
-first_of (Open child join) = child
-first_of (Spawn child join) = child
-first_of (Join join) = join
-first_of (EndJoin join) = join
-first_of (Read cell value) = cell
-first_of (Write cell value) = cell
-first_of (Bump cell value) = cell
-first_of (Update reducer value) = reducer
-first_of (Put reducer value) = reducer
-first_of (Get reducer value) = reducer
-first_of (Long low high) = low
-first_of _ = 0
-
-abbrev pub second_of : Deed → ℕ
-second_of (Open child join) = join
-second_of (Spawn child join) = join
-second_of (Read cell value) = value
-second_of (Write cell value) = value
-second_of (Bump cell value) = value
-second_of (Update reducer value) = value
-second_of (Put reducer value) = value
-second_of (Get reducer value) = value
-second_of (Long low high) = high
-second_of _ = 0
 
 -- the deed of these numbers
 abbrev pub deed_with : (tag first second : ℕ) → Deed
@@ -81,6 +36,10 @@ deed_with tag first second =
     if tag == 13 then Update first second else
     if tag == 14 then Put first second else
     if tag == 15 then Get first second else Long first second
+
+-- the numbers, of a deed that is not kept beside, say what was asked and answered
+abbrev pub IsToldBy : Act → Answer → Numbers → Type 0
+IsToldBy asked answered numbers = (numbers.tag < 16) × IsShortOf asked answered (deed_with numbers.tag numbers.first numbers.second)
 
 -- what stands in a head
 abbrev pub number_in : ℕ → ℕ

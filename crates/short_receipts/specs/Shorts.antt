@@ -5,10 +5,37 @@ use Rattle.model_accesses.specs.declared.request.Act.TheVariants as act
 use Rattle.model_histories.specs.declared.answer.Answer.{Answer}
 use Rattle.model_histories.specs.declared.answer.Answer.TheVariants as answer
 use Rattle.model_histories.specs.declared.reply.Receipt.{Receipt}
-use Rattle.short_receipts.specs.declared.deed.Short.{Short}
-use Rattle.short_receipts.specs.declared.deed.Deed.{Deed}
-use Rattle.short_receipts.specs.declared.deed.Deed.TheVariants.{Open, Spawn, Call, Pass, Join, Wait, Resume, End, EndJoin, Finish}
-use Rattle.short_receipts.specs.declared.deed.Deed.TheVariants.{Read, Write, Bump, Update, Put, Get, Long}
+
+-- What was asked and answered, in small numbers.
+pub data Deed : Type 0 where
+  -- a spawn that opened a block, and a further spawn of a block
+  Open : (child join : ℕ) → Deed
+  Spawn : (child join : ℕ) → Deed
+  Call : Deed
+  -- a sync with no open block
+  Pass : Deed
+  Join : (join : ℕ) → Deed
+  Wait : Deed
+  -- the return of a called function
+  Resume : Deed
+  End : Deed
+  EndJoin : (join : ℕ) → Deed
+  Finish : Deed
+  Read : (cell value : ℕ) → Deed
+  Write : (cell value : ℕ) → Deed
+  Bump : (cell value : ℕ) → Deed
+  Update : (reducer value : ℕ) → Deed
+  Put : (reducer value : ℕ) → Deed
+  Get : (reducer value : ℕ) → Deed
+  -- the receipt is kept beside, at the place with these halves
+  Long : (low high : ℕ) → Deed
+
+-- A receipt in small numbers.
+pub record Short : Type 0 where
+  pub number : ℕ
+  pub strand : ℕ
+  pub line : ℕ
+  pub deed : Deed
 
 -- what was asked
 abbrev pub act_of : Deed → Act

@@ -4,21 +4,22 @@ ghost use Rattle.std.specs.Prelude.{◌≡◌, ◌↔◌, ◌<◌, ◌++◌, ◌
 ghost use Rattle.std.specs.List.{All};
 ghost use Rattle.model_histories.specs.declared.reply.Receipt.{Receipt as OneReceipt};
 ghost use Rattle.model_histories.specs.Extensions.{IsCleanAnswer};
-ghost use Rattle.short_receipts.specs.Shorts.{index_of as index_spec, plain as plain_spec};
+ghost use Rattle.short_receipts.specs.Packing.{unpacked};
+ghost use Rattle.short_receipts.specs.Shorts.{index_of as index_spec, is_long as is_long_spec, plain as plain_spec};
 
-use crate::deed::{Short, index_of, is_long, is_same, plain};
 use crate::packed::{Packed, long_at, packed_of};
 use model_histories::Receipt;
 use std::alloc::{AllocError, Global};
 use std::marker::Model;
 
 /// The receipt that is kept beside.
-fn long_of(longs: &[Receipt], short: Short) -> Receipt
-    ensures { result ≡ get_or longs.now (index_spec short.deed) (plain_spec short) }
+fn long_of(longs: &[Receipt], short: Packed) -> Receipt
+    requires { is_long_spec (unpacked short).deed ≡ true }
+    ensures { result ≡ get_or longs.now (index_spec (unpacked short).deed) (plain_spec (unpacked short)) }
 {
-    match longs.get(index_of(short.deed) as usize) {
+    match longs.get(short.index() as usize) {
         Some(receipt) => *receipt,
-        None => plain(short),
+        None => short.plain(),
     }
 }
 
@@ -138,11 +139,11 @@ impl Receipts {
         requires { at < length self.now.items }
         ensures { slice_get self.now.items at ≡ Some result }
     {
-        let short = self.shorts[at].unpack();
-        if is_long(short.deed) {
+        let short = self.shorts[at];
+        if short.is_long() {
             long_of(self.longs.as_slice(), short)
         } else {
-            plain(short)
+            short.plain()
         }
     }
 
@@ -170,17 +171,15 @@ impl Receipts {
         }
     }
 
-    /// Whether the receipt at a place is this one.
+    /// Whether it is seen at once that the receipt at a place is that of another list: both are kept short, and in the same bytes.
     #[inline(always)]
-    pub fn is_at(&self, at: usize, receipt: Receipt) -> bool
-        requires { at < length self.now.items }
-        ensures { IsTrue result ↔ slice_get self.now.items at ≡ Some receipt }
+    pub(crate) fn is_plainly(&self, at: usize, other: &Receipts, place: usize) -> bool
+        requires at { at < length self.now.items }
+        requires place { place < length other.now.items }
+        ensures { IsTrue result → slice_get self.now.items at ≡ slice_get other.now.items place }
     {
-        if self.shorts[at].is_long() {
-            is_same(self.either(at), receipt)
-        } else {
-            self.shorts[at].is_of(receipt)
-        }
+        let short = self.shorts[at];
+        !short.is_long() && short.is_same(other.shorts[place])
     }
 
     /// The receipt at a place.
@@ -192,7 +191,7 @@ impl Receipts {
         if self.shorts[at].is_long() {
             self.either(at)
         } else {
-            plain(self.shorts[at].unpack())
+            self.shorts[at].plain()
         }
     }
 }

@@ -1,15 +1,17 @@
 //! A receipt in sixteen bytes.
 
-ghost use Rattle.std.specs.Prelude.{◌≡◌, ◌≢◌, ◌↔◌, IsTrue, true};
+ghost use Rattle.std.specs.Prelude.{◌≡◌, ◌≢◌, ◌↔◌, ◌+◌, ◌%◌, ◌^◌, IsTrue, true};
 ghost use Rattle.std.specs.Option.{IfSome};
 ghost use Rattle.model_histories.specs.declared.reply.Receipt.{Receipt as SpecReceipt};
-ghost use Rattle.short_receipts.specs.Shorts.{index_of as index_spec, is_long as is_long_spec, plain as plain_spec};
-ghost use Rattle.short_receipts.specs.Packing.{deed_with as deed_spec, first_of as first_spec, second_of as second_spec, tag_of as tag_spec};
+ghost use Rattle.short_receipts.specs.Shorts.{act_of as act_spec, answer_of as answer_spec, index_of as index_spec};
+ghost use Rattle.short_receipts.specs.Shorts.{is_long as is_long_spec, plain as plain_spec};
+ghost use Rattle.short_receipts.specs.Packing.{deed_with as deed_spec};
 ghost use Rattle.short_receipts.specs.Packing.{IsStart, unpacked};
 
-use crate::deed::{Deed, Short, deed_of, is_deed};
-use model_accesses::Request;
-use model_histories::Receipt;
+use crate::deed::numbers_of;
+use model_accesses::{Act, Request};
+use model_histories::{Answer, Receipt};
+use model_strands::Spawned;
 use std::mem::size_of;
 
 /// How many numbers a head can name: more than a history can have.
@@ -34,95 +36,44 @@ pub struct Packed {
 
 const _: () = prove!(size_of::<Packed>() == 16);
 
-/// Which of the deeds it is.
+/// A spawn that was answered so; the spawner goes on as the strand behind its child.
 #[inline(always)]
-fn tag_of(deed: Deed) -> u64
-    ensures { result ≡ tag_spec deed }
+fn split(child: u32, join: u32, first: bool) -> Answer
+    ensures { result ≡ Answer.Split (record { child = child; next = (child + 1) % 2 ^ 32; join = join; first = first }) }
 {
-    match deed {
-        Deed::Open(..) => 0,
-        Deed::Spawn(..) => 1,
-        Deed::Call => 2,
-        Deed::Pass => 3,
-        Deed::Join(_) => 4,
-        Deed::Wait => 5,
-        Deed::Resume => 6,
-        Deed::End => 7,
-        Deed::EndJoin(_) => 8,
-        Deed::Finish => 9,
-        Deed::Read(..) => 10,
-        Deed::Write(..) => 11,
-        Deed::Bump(..) => 12,
-        Deed::Update(..) => 13,
-        Deed::Put(..) => 14,
-        Deed::Get(..) => 15,
-        Deed::Long(..) => LONG,
-    }
+    Answer::Split(Spawned {
+        child,
+        next: child.wrapping_add(1),
+        join,
+        first,
+    })
 }
 
-/// Its first number, and 0 where it has none.
+/// What was asked and answered, by one choice for both.
 #[inline(always)]
-fn first_of(deed: Deed) -> u32
-    ensures { result ≡ first_spec deed }
+fn told_of(tag: u64, first: u32, second: u32) -> (Act, Answer)
+    ensures act { result.0 ≡ act_spec (deed_spec tag first second) }
+    ensures answer { result.1 ≡ answer_spec (deed_spec tag first second) }
 {
-    match deed {
-        Deed::Call | Deed::Pass | Deed::Wait | Deed::Resume | Deed::End | Deed::Finish => 0,
-        Deed::Join(first)
-        | Deed::EndJoin(first)
-        | Deed::Open(first, _)
-        | Deed::Spawn(first, _)
-        | Deed::Read(first, _)
-        | Deed::Write(first, _)
-        | Deed::Bump(first, _)
-        | Deed::Update(first, _)
-        | Deed::Put(first, _)
-        | Deed::Get(first, _)
-        | Deed::Long(first, _) => first,
-    }
-}
-
-/// Its second number, and 0 where it has none.
-#[inline(always)]
-fn second_of(deed: Deed) -> u32
-    ensures { result ≡ second_spec deed }
-{
-    match deed {
-        Deed::Open(_, second)
-        | Deed::Spawn(_, second)
-        | Deed::Read(_, second)
-        | Deed::Write(_, second)
-        | Deed::Bump(_, second)
-        | Deed::Update(_, second)
-        | Deed::Put(_, second)
-        | Deed::Get(_, second)
-        | Deed::Long(_, second) => second,
-        _ => 0,
-    }
-}
-
-/// The deed of these numbers.
-#[inline(always)]
-fn deed_with(tag: u64, first: u32, second: u32) -> Deed
-    ensures { result ≡ deed_spec tag first second }
-{
+    let value = u64::from(second);
     match tag {
-        0 => Deed::Open(first, second),
-        1 => Deed::Spawn(first, second),
-        2 => Deed::Call,
-        3 => Deed::Pass,
-        4 => Deed::Join(first),
-        5 => Deed::Wait,
-        6 => Deed::Resume,
-        7 => Deed::End,
-        8 => Deed::EndJoin(first),
-        9 => Deed::Finish,
-        10 => Deed::Read(first, second),
-        11 => Deed::Write(first, second),
-        12 => Deed::Bump(first, second),
-        13 => Deed::Update(first, second),
-        14 => Deed::Put(first, second),
-        15 => Deed::Get(first, second),
-        _ => Deed::Long(first, second),
+        0 => (Act::Spawn, split(first, second, true)),
+        1 => (Act::Spawn, split(first, second, false)),
+        2 => (Act::Call, Answer::Same),
+        3 => (Act::Sync, Answer::Same),
+        4 => (Act::Sync, Answer::Joined(first)),
+        5 => (Act::Sync, Answer::Waits),
+        6 => (Act::Return, Answer::Resumed),
+        7 => (Act::Return, Answer::Ended),
+        8 => (Act::Return, Answer::EndedJoined(first)),
+        9 => (Act::Return, Answer::Finished),
+        10 => (Act::Read(first), Answer::Value(value)),
+        11 => (Act::Write(first, value), Answer::Granted),
+        12 => (Act::Bump(first, value), Answer::Granted),
+        13 => (Act::Update(first, value), Answer::Granted),
+        14 => (Act::Put(first, value), Answer::Granted),
+        15 => (Act::Get(first), Answer::Value(value)),
+        _ => (Act::Call, Answer::Same),
     }
 }
 
@@ -140,17 +91,17 @@ fn start_of(number: u32, request: Request) -> Option<u64>
     Some(number + NUMBERS * (strand + STRANDS * line))
 }
 
-/// The receipt in sixteen bytes, where it has such. The tag is asked directly behind the deed, so that the deed's cases are told apart once.
+/// The receipt in sixteen bytes, where it has such.
 #[inline(always)]
 pub fn packed_of(receipt: Receipt) -> Option<Packed>
     ensures { IfSome result (λ packed. (is_long_spec (unpacked packed).deed ≢ true) × (plain_spec (unpacked packed) ≡ receipt)) }
 {
     let start = start_of(receipt.number, receipt.request)?;
-    let deed = deed_of(receipt.request.act, receipt.answer)?;
+    let numbers = numbers_of(receipt.request.act, receipt.answer)?;
     Some(Packed {
-        head: start + HEADS * tag_of(deed),
-        first: first_of(deed),
-        second: second_of(deed),
+        head: start + HEADS * numbers.tag,
+        first: numbers.first,
+        second: numbers.second,
     })
 }
 
@@ -168,6 +119,14 @@ pub fn long_at(place: usize) -> Packed
 }
 
 impl Packed {
+    /// Whether the two are the same bytes.
+    #[inline(always)]
+    pub fn is_same(self, other: Packed) -> bool
+        ensures { IsTrue result ↔ self ≡ other }
+    {
+        self.head == other.head && self.first == other.first && self.second == other.second
+    }
+
     /// Whether the receipt is kept beside.
     #[inline(always)]
     pub fn is_long(self) -> bool
@@ -197,34 +156,28 @@ impl Packed {
         (self.head / (NUMBERS * STRANDS) % LINES) as u32
     }
 
+    /// The receipt that it stands for, where none is kept beside.
     #[inline(always)]
-    fn deed(self) -> Deed
-        ensures { result ≡ (unpacked self).deed }
+    pub fn plain(self) -> Receipt
+        ensures { result ≡ plain_spec (unpacked self) }
     {
-        deed_with(self.head / HEADS, self.first, self.second)
-    }
-
-    /// The receipt in small numbers.
-    #[inline(always)]
-    pub fn unpack(self) -> Short
-        ensures { result ≡ unpacked self }
-    {
-        Short {
+        let (act, answer) = told_of(self.head / HEADS, self.first, self.second);
+        Receipt {
             number: self.number(),
-            strand: self.strand(),
-            line: self.line(),
-            deed: self.deed(),
+            request: Request {
+                strand: self.strand(),
+                line: self.line(),
+                act,
+            },
+            answer,
         }
     }
 
-    /// Whether the receipt in sixteen bytes is this one. The deed comes last, so that its cases are told apart once.
-    #[inline(always)]
-    pub fn is_of(self, receipt: Receipt) -> bool
-        ensures { IsTrue result ↔ plain_spec (unpacked self) ≡ receipt }
+    /// The place of the receipt that is kept beside.
+    pub fn index(self) -> u64
+        requires { is_long_spec (unpacked self).deed ≡ true }
+        ensures { result ≡ index_spec (unpacked self).deed }
     {
-        self.number() == receipt.number
-            && self.strand() == receipt.request.strand
-            && self.line() == receipt.request.line
-            && is_deed(self.deed(), receipt.request.act, receipt.answer)
+        u64::from(self.second) * 4_294_967_296 + u64::from(self.first)
     }
 }

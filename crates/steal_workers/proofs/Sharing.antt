@@ -8,7 +8,7 @@ use Rattle.std.specs.contracts.alloc.Global as Heap
 use Rattle.std.specs.contracts.impls.GlobalAllocator.TheImpl.{ghosts}
 use Rattle.std.proofs.Crossing.{crosses, send}
 use Rattle.std.proofs.sync.ledger.Book.TheSendSync as book
-use Rattle.model_histories.proofs.answer.Entry.TheSendSync as entry
+use Rattle.short_receipts.proofs.entries.Entries.TheSendSync as entries
 use Rattle.locked_replay.below.branch_names.proofs.branches.Branches.TheSendSync as branches
 use Rattle.locked_replay.below.view_read_rule.proofs.reads.ReadPeers.TheSendSync as peers
 use Rattle.locked_replay.below.sp_labels.proofs.roster.Strands.TheSendSync as strands
@@ -17,7 +17,7 @@ use Rattle.locked_replay.below.reducer_views.proofs.touched.Slot.TheLaws.TheKnot
 use Rattle.locked_replay.below.reducer_views.specs.contracts.pieces.Piece as Piece
 use Rattle.locked_replay.below.reducer_views.specs.contracts.views.Views as Views
 use Rattle.race_gate.specs.contracts.reducers.ReducerTracks as ReducerTracks
-use Rattle.race_gate.specs.contracts.gate.Gate as Gate
+use Rattle.race_gate.specs.contracts.short_gate.ShortGate as ShortGate
 use Rattle.locked_replay.specs.contracts.locked.Round as Round
 use Rattle.locked_replay.specs.contracts.locked.LockedGate as LockedGate
 
@@ -31,8 +31,8 @@ module _ (c : clone.Ghosts (Heap.the_row).Denot) where
   reducers_send : IsSend (ReducerTracks.the_row Heap.the_row ghosts c)
   reducers_send = let a = views_send in search (sendable, crosses, branches.the_send, peers.the_send, send) depth 40 fits 20000
 
-  pub gate_send : IsSend (Gate.the_row Heap.the_row ghosts c)
-  gate_send = let a = reducers_send in search (sendable, crosses, entry.the_send, strands.the_send, shadow.the_send, send) depth 40 fits 20000
+gate_send : IsSend ShortGate.the_row
+gate_send = search (sendable, crosses, reducers_send, entries.the_send, strands.the_send, shadow.the_send, send) depth 40 fits 20000
 
 module _ (L : RattleType) (g : ledger.Ghosts L.Denot) where
   round_send : IsSend (Round.the_row L g)

@@ -27,7 +27,7 @@ use crate::watched::Watched;
 use locked_replay::{RunFault, Whole};
 use program_text::Program;
 use race_explanations::explanation;
-use race_gate::{Entry, Gate};
+use race_gate::{Entry, ShortGate};
 use race_report::{push_number, push_words};
 use source_quotes::fault_message;
 use std::alloc::{AllocError, Global};
@@ -141,14 +141,14 @@ fn whole_told(
         let told = clean_told(alloc, program, whole.memory.as_slice())?;
         return Ok((told, End::Clean));
     }
-    let entries = whole.entries.as_slice();
+    let entries = whole.entries.to_vec(alloc)?;
     let told = explanation(
         alloc,
         manner.is_painted,
         manner.file,
         text,
         program,
-        entries,
+        entries.as_slice(),
     )?;
     Ok((told, End::Raced))
 }
@@ -184,14 +184,15 @@ fn cut_told(
     manner: &Manner<'_>,
     text: &[u8],
     program: &Program<Global>,
-    gate: &Gate<Global>,
+    gate: &ShortGate,
     limit: u32,
 ) -> Result<(Vec<u8>, End), CliFault>
     requires { WantsMore (contents program.now) limit }
     ensures ok { IfOk result (λ told. TellsEnd manner.now text.now (contents program.now) limit told.0.items told.1) }
     ensures fault { IfErr result (IsRunFault (contents program.now) limit) }
 {
-    let entries = gate.history();
+    let entries = gate.history().to_vec(alloc)?;
+    let entries = entries.as_slice();
     if entries.len() < limit as usize {
         return Err(CliFault::Limit);
     }

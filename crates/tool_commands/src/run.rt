@@ -21,7 +21,7 @@ use locked_replay::{
     Ask, LockedGate, RunFault, Seat, Whole, WorkerLog, check_run, gate_for, gather,
 };
 use program_text::Program;
-use race_gate::{Gate, GateFault, Receipt};
+use race_gate::{GateFault, Receipt, ShortGate};
 use race_report::{push_words, report};
 use std::alloc::{AllocError, Global};
 use std::io::{Read, Write};
@@ -103,7 +103,7 @@ fn run_through<L: Ledger + Send + Sync, D: Door + Sync, R: Threads + Wait + Sync
 }
 
 /// What the gate shows behind workers that brought no logs: that its history is no finished run, or that it is one which nobody brought.
-fn left(alloc: Global, program: &Program<Global>, gate: &Gate<Global>, limit: u32) -> RunFault
+fn left(alloc: Global, program: &Program<Global>, gate: &ShortGate, limit: u32) -> RunFault
     requires { IsRight gate.now }
     ensures { IsRunFault (contents program.now) limit (fault_of_run result) }
 {
@@ -114,7 +114,7 @@ fn left(alloc: Global, program: &Program<Global>, gate: &Gate<Global>, limit: u3
 }
 
 /// Limit where the gate's history is a run of the program that has come to the limit, and is not at its end.
-fn full(alloc: Global, program: &Program<Global>, gate: &Gate<Global>, limit: u32) -> RunFault
+fn full(alloc: Global, program: &Program<Global>, gate: &ShortGate, limit: u32) -> RunFault
     requires { IsRight gate.now }
     ensures { IsRunFault (contents program.now) limit (fault_of_run result) }
 {
@@ -122,7 +122,10 @@ fn full(alloc: Global, program: &Program<Global>, gate: &Gate<Global>, limit: u3
     if entries.len() < limit as usize {
         return left(alloc, program, gate, limit);
     }
-    match outcome_of(alloc, program, entries) {
+    let Ok(entries) = entries.to_vec(alloc) else {
+        return RunFault::Memory;
+    };
+    match outcome_of(alloc, program, entries.as_slice()) {
         Ok(Outcome::Unfinished) => RunFault::Limit,
         Ok(_) => left(alloc, program, gate, limit),
         Err(_) => RunFault::Memory,
@@ -133,7 +136,7 @@ fn full(alloc: Global, program: &Program<Global>, gate: &Gate<Global>, limit: u3
 fn stopped(
     alloc: Global,
     program: &Program<Global>,
-    gate: &Gate<Global>,
+    gate: &ShortGate,
     limit: u32,
     fault: RunFault,
 ) -> RunFault
@@ -153,7 +156,7 @@ fn stopped(
 fn met(
     alloc: Global,
     program: &Program<Global>,
-    gate: &Gate<Global>,
+    gate: &ShortGate,
     limit: u32,
     fault: RunFault,
 ) -> RunFault
@@ -175,7 +178,7 @@ pub struct Cut {
     /// Why.
     pub fault: RunFault,
     /// The gate that the workers left, where they brought no logs.
-    pub gate: Option<Gate<Global>>,
+    pub gate: Option<ShortGate>,
 }
 
 /// The finished run that the workers brought back, of at most `limit` entries.

@@ -63,7 +63,8 @@ pub fn traced_run<D: Door + Sync, R: Threads + Wait + Sync>(
         Err(fault) => return Err(fault_of(fault)),
     };
     let line = report_line(alloc, program, &whole)?;
-    let trace = trace_of(alloc, program, whole.entries.as_slice())?;
+    let entries = whole.entries.to_vec(alloc)?;
+    let trace = trace_of(alloc, program, entries.as_slice())?;
     let status = whole_status(&whole);
     Ok(Traced {
         line,

@@ -10,7 +10,7 @@ use locked_replay::{LockedGate, RunFault, Seat, Whole, WorkerLog, gather};
 use model_accesses::{Kind, Rule, Witness};
 use model_strands::Spawned;
 use program_text::Program;
-use race_gate::{Answer, Entry, Gate, GateFault};
+use race_gate::{Answer, Entry, GateFault, ShortGate};
 use short_receipts::Receipts;
 use std::alloc::{AllocError, Global};
 use std::marker::Brand;
@@ -199,7 +199,7 @@ fn gate(
     alloc: Global,
     program: &Program<Global>,
     three_cells: bool,
-) -> Result<Gate<Global>, AllocError>
+) -> Result<ShortGate, AllocError>
     ensures { IfOk result (λ gate. gate.history ≡ []) }
 {
     if three_cells {
@@ -210,8 +210,10 @@ fn gate(
 }
 
 /// Whether the run has these entries, is not clean, and leaves this memory.
-fn is_whole(whole: &Whole, run: &Run<'_>) -> bool {
-    whole.entries.as_slice() == run.entries && whole.memory.as_slice() == run.memory && !whole.clean
+fn is_whole(alloc: Global, whole: &Whole, run: &Run<'_>) -> Result<bool, AllocError> {
+    let entries = whole.entries.to_vec(alloc)?;
+    let is_memory = whole.memory.as_slice() == run.memory;
+    Ok(entries.as_slice() == run.entries && is_memory && !whole.clean)
 }
 
 /// What is gathered from these logs is this run, with its report.
@@ -225,7 +227,7 @@ fn is_gathered<L: Ledger>(
 ) -> Result<(), RunFault> {
     let whole = gather(alloc, program, locked, logs)?;
     let reported = is_reported(alloc, program, &whole, run.told);
-    assert!(rt; reported && is_whole(&whole, run));
+    assert!(rt; reported && is_whole(alloc, &whole, run)?);
     Ok(())
 }
 
@@ -236,7 +238,7 @@ fn found_on<L: Ledger, R: Abort + Wait>(
     blank: Blank,
     parts: u64,
     program: &Program<Global>,
-    gate: Gate<Global>,
+    gate: ShortGate,
     case: &Case<'_>,
 ) -> Result<(), RunFault>
     requires empty { gate.history ≡ [] }

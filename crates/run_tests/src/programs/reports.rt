@@ -11,8 +11,9 @@ ghost use Rattle.race_report.specs.VerdictText.{HasWords};
 use super::openings::gate_for;
 use locked_replay::Whole;
 use program_text::Program;
-use race_gate::{Answer, Entry, Gate, GateFault, Receipt, Reply};
+use race_gate::{Answer, GateFault, Receipt, Reply, ShortGate};
 use race_report::{report, verdict_lines};
+use short_receipts::Entries;
 use std::alloc::{AllocError, Global};
 use text_words::{Act, Request};
 
@@ -22,14 +23,19 @@ fn is_clean_answer(answer: Answer) -> bool
     !matches!(answer, Answer::Refused { .. } | Answer::Unset)
 }
 
-fn is_clean(entries: &[Entry]) -> bool
-    ensures { IsTrue result ↔ IsClean entries.now }
+fn is_clean(entries: &Entries) -> bool
+    ensures { IsTrue result ↔ IsClean entries.now.items }
 {
-    entries.iter().all(|entry| is_clean_answer(entry.answer))
+    for at in 0..entries.len() {
+        if !is_clean_answer(entries.get(at).answer) {
+            return false;
+        }
+    }
+    true
 }
 
 /// Whether the gate answers these.
-fn answers(gate: &mut Gate<Global>, requests: &[Request]) -> bool
+fn answers(gate: &mut ShortGate, requests: &[Request]) -> bool
     ensures { IsTrue result → gate.new.shape ≡ gate.old.shape }
 {
     for request in requests {
@@ -41,24 +47,19 @@ fn answers(gate: &mut Gate<Global>, requests: &[Request]) -> bool
 }
 
 /// What the gate of this program keeps.
-fn whole_of(
-    alloc: Global,
-    program: &Program<Global>,
-    gate: &Gate<Global>,
-) -> Result<Whole, AllocError>
-    requires { gate.now.shape ≡ shape_known (contents program.now).known }
-    ensures entries { IfOk result (λ whole. AreTellable (shape_known (contents program.now).known) whole.entries.items) }
-    ensures memory { IfOk result (λ whole. length whole.memory.items ≡ cells_of program.now.mems) }
-    ensures clean { IfOk result (λ whole. IsTrue whole.clean ↔ IsClean (reverse whole.entries.items)) }
+fn whole_of(program: &Program<Global>, gate: ShortGate) -> Whole
+    requires { gate.shape ≡ shape_known (contents program.now).known }
+    ensures entries { AreTellable (shape_known (contents program.now).known) result.entries.items }
+    ensures memory { length result.memory.items ≡ cells_of program.now.mems }
+    ensures clean { IsTrue result.clean ↔ IsClean (reverse result.entries.items) }
 {
-    let entries = Vec::from_slice(alloc, gate.history())?;
-    let memory = Vec::from_slice(alloc, gate.memory())?;
-    let clean = is_clean(entries.as_slice());
-    Ok(Whole {
+    let (entries, memory) = gate.into_parts();
+    let clean = is_clean(&entries);
+    Whole {
         entries,
         memory,
         clean,
-    })
+    }
 }
 
 /// Whether this is the report of a run of this program.
@@ -74,16 +75,11 @@ pub fn is_reported(alloc: Global, program: &Program<Global>, whole: &Whole, want
 }
 
 /// Whether this is the report of what the gate of this program keeps.
-fn is_told(
-    alloc: Global,
-    program: &Program<Global>,
-    gate: &Gate<Global>,
-    wanted: &str,
-) -> Result<bool, AllocError>
-    requires { gate.now.shape ≡ shape_known (contents program.now).known }
+fn is_told(alloc: Global, program: &Program<Global>, gate: ShortGate, wanted: &str) -> bool
+    requires { gate.shape ≡ shape_known (contents program.now).known }
 {
-    let whole = whole_of(alloc, program, gate)?;
-    Ok(is_reported(alloc, program, &whole, wanted))
+    let whole = whole_of(program, gate);
+    is_reported(alloc, program, &whole, wanted)
 }
 
 /// Whether this is the report of what a gate of this program answers to these requests.
@@ -97,7 +93,7 @@ fn is_report(
     if !answers(&mut gate, requests) {
         return Ok(false);
     }
-    is_told(alloc, program, &gate, wanted)
+    Ok(is_told(alloc, program, gate, wanted))
 }
 
 /// The same of the program of this text.

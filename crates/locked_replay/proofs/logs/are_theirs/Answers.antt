@@ -4,14 +4,14 @@ use Rattle.locked_replay.proofs.Theirs.{unmarked, told_theirs, told_others}
 use Rattle.locked_replay.proofs.logs.are_theirs.Goals as goal
 
 pub returns-in_default : goal.returns-in_default
-returns-in_default g c = told_others c.args.logs.now c.args.entries.now (λ same. search rules)
+returns-in_default g c = told_others c.args.logs.now c.args.entries.now.items (λ same. search rules)
 
-pub returns-then-count-entries : goal.returns-then-count-entries
-returns-then-count-entries g c = told_others c.args.logs.now c.args.entries.now (λ same. search rules)
+pub returns-then-count-length : goal.returns-then-count-length
+returns-then-count-length g c = told_others c.args.logs.now c.args.entries.now.items (λ same. search rules)
 
 pub returns : goal.returns
 returns g c =
-    let entries = c.args.entries.now in
+    let entries = c.args.entries.now.items in
     let none : c.as_mut_slice.result.now ≡ replicate (length entries) false = search rules in
     let told = c.mark_logs.ensures (subst (λ (marks : List Bool). AreMarked marks entries []) (sym none) (unmarked entries)) in
     told_theirs c.args.logs.now c.mark_logs.result _ entries told (search rules)

@@ -7,7 +7,7 @@ use Rattle.locked_replay.proofs.logs.mark_logs.Goals as goal
 pub returns-then-not-mark_all : goal.returns-then-not-mark_all
 returns-then-not-mark_all g c are =
     let logs = c.args.logs.now in
-    let entries = c.args.entries.now in
+    let entries = c.args.entries.now.items in
     let before = all_receipts (take c.loop-log.log-index logs) in
     let refused = c.if-not-mark_all.ensures.marks before (c.loop-log.invariant.1 are).1 in
     not_theirs logs c.loop-log.log-index c.log-item.result (search rules) c.log-item.is entries
@@ -16,7 +16,7 @@ returns-then-not-mark_all g c are =
 pub loop-log-preserved : goal.loop-log-preserved
 loop-log-preserved g c =
     let logs = c.args.logs.now in
-    let entries = c.args.entries.now in
+    let entries = c.args.entries.now.items in
     let marks = c.mark_all.new.marks in
     let before = all_receipts (take c.loop-log.log-index logs) in
     let low : c.loop-log.log-index < length logs = search rules in (

@@ -18,8 +18,8 @@ returns-then-not-mark-clause-marks c met are =
     let there = some_there list.items c.loop-at.at (search rules) in
     let receipt : Receipt = there.0 in
     let astray = c.if-not-mark.ensures.marks (met ++ take c.loop-at.at list.items) receipt there.1 (c.loop-at.invariant.2 met are) in
-    inr (astray_at c.args.entries.now met list.items c.loop-at.at receipt (search rules)
-    (subst (λ (x : Receipt). AreAstray c.args.entries.now ((met ++ take c.loop-at.at list.items) ++ x ∷ []))
+    inr (astray_at c.args.entries.now.items met list.items c.loop-at.at receipt (search rules)
+    (subst (λ (x : Receipt). AreAstray c.args.entries.now.items ((met ++ take c.loop-at.at list.items) ++ x ∷ []))
     (sym (get_or_from_slice_get list.items c.loop-at.at receipt receipt there.1)) astray))
 
 pub loop-at-preserved : goal.loop-at-preserved
@@ -30,6 +30,6 @@ loop-at-preserved c =
       c.mark.ensures.length ∙ c.loop-at.invariant.0,
       rise_more list.items c.loop-at.at c.loop-at.invariant.1 (c.rises_at.ensures.0 c.if-not-rises_at.false),
       λ met are.
-          subst (AreMarked c.mark.new.marks c.args.entries.now) (taken met list.items c.loop-at.at receipt (search rules) there.1)
+          subst (AreMarked c.mark.new.marks c.args.entries.now.items) (taken met list.items c.loop-at.at receipt (search rules) there.1)
           (c.if-not-mark.ensures.marks (met ++ take c.loop-at.at list.items) receipt there.1 (c.loop-at.invariant.2 met are)),
     )

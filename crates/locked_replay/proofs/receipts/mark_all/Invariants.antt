@@ -6,6 +6,6 @@ use Rattle.locked_replay.proofs.receipts.mark_all.Given as goal
 
 abbrev pub invariant-loop-at : goal.invariant-loop-at
 invariant-loop-at l =
-    (length l.marks ≡ length l.entries) ×
+    (length l.marks ≡ length l.entries.items) ×
     AllAdjacentBelow (λ one next. one.number < next.number) l.receipts.items l.at ×
-    ((met : List Receipt) → AreMarked l.initial.marks l.entries met → AreMarked l.marks l.entries (met ++ take l.at l.receipts.items))
+    ((met : List Receipt) → AreMarked l.initial.marks l.entries.items met → AreMarked l.marks l.entries.items (met ++ take l.at l.receipts.items))

@@ -5,7 +5,7 @@ use Rattle.locked_replay.proofs.whole.parts_of.Goals as goal
 
 pub returns-clause-strange : goal.returns-clause-strange
 returns-clause-strange g c =
-    λ e. told_strange c.args.program.now.functions _ c.args.gate c.as_slice.result.now c.in-Err.fault (search rules)
+    λ e. told_strange c.args.program.now.functions _ c.args.gate c.into_parts-entries.result.0.items c.in-Err.fault (search rules)
     (λ same. c.in-Err.ensures.unfinished (ap (λ (f : ReplayFault). Err f) same))
     (λ number same. c.in-Err.ensures.strange number (ap (λ (f : ReplayFault). Err f) same))
     (search rules)

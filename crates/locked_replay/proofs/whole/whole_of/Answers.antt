@@ -1,14 +1,12 @@
-use Rattle.std.proofs.Common.{List, reverse, IsTrue, Err, sym, subst, ap, ◌∙◌}
-use Rattle.std.specs.List.{All}
+use Rattle.std.proofs.Common.{List, reverse, IsTrue, Err, subst, ap}
 use Rattle.std.proofs.lemmas.Result.{err_from_is_err_and}
 use Rattle.model_histories.specs.declared.answer.Entry.{Entry}
 use Rattle.model_histories.specs.Extensions.{IsClean}
 use Rattle.program_text.specs.Shapes.{shape_in}
 use Rattle.locked_replay.specs.declared.fault.RunFault.{RunFault}
 use Rattle.locked_replay.specs.declared.worker.WorkerLog.{WorkerLog}
-use Rattle.locked_replay.specs.Logs.{all_receipts, AreWhole}
-use Rattle.locked_replay.proofs.Reversed.{oldest_first, clean_either}
-use Rattle.locked_replay.proofs.Cleared.{IsCleared, whole_clean}
+use Rattle.locked_replay.specs.Logs.{AreWhole}
+use Rattle.locked_replay.proofs.Reversed.{clean_either}
 use Rattle.locked_replay.proofs.Faulted.{run_faulted}
 use Rattle.locked_replay.proofs.whole.whole_of.Goals as goal
 
@@ -28,16 +26,7 @@ returns-in_err-entries-clause-faults g c =
     (λ e. c.in_err-entries.ensures.faults.1 (ap (λ (f : RunFault). Err f) e))
     (λ e. c.in_err-entries.ensures.faults.2 (ap (λ (f : RunFault). Err f) e)))
 
-pub is_clean_as_told-clean-requires : goal.is_clean_as_told-clean-requires
-is_clean_as_told-clean-requires g c told =
-    let oldest = reverse c.args.gate.history in
-    let whole = subst (λ (l : List (WorkerLog _)). AreWhole oldest l) c.as_slice.ensures.value c.in_ok-check_logs.ensures.whole in
-    let all = subst (λ (l : List (WorkerLog _)). All IsCleared (all_receipts l)) c.as_slice-2.ensures.value (c.are_clean-told_clean.ensures told) in
-    let listed = c.as_slice-3.ensures.value ∙ oldest_first c.in_ok-entries.entries.items c.args.gate.history c.in_ok-entries.ensures.entries in
-    subst IsClean (sym listed) (whole_clean oldest c.args.logs.items whole all)
-
 pub returns-clause-clean : goal.returns-clause-clean
 returns-clause-clean g c =
-    let tells = clean_either c.as_slice-3.result.now c.is_clean_as_told-clean.result c.is_clean_as_told-clean.ensures in
-    subst (λ (l : List Entry). (IsTrue c.is_clean_as_told-clean.result → IsClean l) × (IsClean l → IsTrue c.is_clean_as_told-clean.result))
-    (ap reverse c.as_slice-3.ensures.value ∙ c.in_ok-entries.ensures.entries) tells
+    let tells = clean_either c.in_ok-entries.entries.items c.is_clean-clean.result c.is_clean-clean.ensures in
+    subst (λ (l : List Entry). (IsTrue c.is_clean-clean.result → IsClean l) × (IsClean l → IsTrue c.is_clean-clean.result)) c.in_ok-entries.ensures.entries tells

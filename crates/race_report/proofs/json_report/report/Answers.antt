@@ -14,13 +14,13 @@ use Rattle.race_report.proofs.CleanRuns.{told_clean}
 use Rattle.race_report.proofs.json_report.report.Goals as goal
 
 -- the parts as they were made are those of the report
-parts_told : (known : Known) (entries listed : List Entry) (values held : List ℕ) (mems : List Mem) (clean : Bool) (memory : Data) (refusals : List Data) →
-    listed ≡ entries → held ≡ values → mems ≡ known.mems → clean ≡ is_clean (refusals_told known entries) → memory ≡ memory_told mems held →
-    refusals ≡ refusals_told known entries → report_with clean (length listed) memory refusals ≡ report_told known entries values
-parts_told known entries listed values held mems clean memory refusals same_entries same_values same_mems same_clean same_memory same_refusals =
+parts_told : (known : Known) (entries : List Entry) (count : ℕ) (values held : List ℕ) (mems : List Mem) (clean : Bool) (memory : Data) (refusals : List Data) →
+    count ≡ length entries → held ≡ values → mems ≡ known.mems → clean ≡ is_clean (refusals_told known entries) → memory ≡ memory_told mems held →
+    refusals ≡ refusals_told known entries → report_with clean count memory refusals ≡ report_told known entries values
+parts_told known entries count values held mems clean memory refusals same_count same_values same_mems same_clean same_memory same_refusals =
     let cells = same_memory ∙ ap (λ (ms : List Mem). memory_told ms held) same_mems ∙ ap (λ (vs : List ℕ). memory_told known.mems vs) same_values in
-    ap (λ (c : Bool). report_with c (length listed) memory refusals) same_clean ∙
-    ap (λ (es : List Entry). report_with (is_clean (refusals_told known entries)) (length es) memory refusals) same_entries ∙
+    ap (λ (c : Bool). report_with c count memory refusals) same_clean ∙
+    ap (λ (n : ℕ). report_with (is_clean (refusals_told known entries)) n memory refusals) same_count ∙
     ap (λ (m : Data). report_with (is_clean (refusals_told known entries)) (length entries) m refusals) cells ∙
     ap (λ (rs : List Data). report_with (is_clean (refusals_told known entries)) (length entries) (memory_told known.mems values) rs) same_refusals
 
@@ -31,8 +31,8 @@ returns g c =
     let values = c.args.whole.now.memory.items in
     let told : view c.in_ok-report.report ≡ report_told known entries values =
     c.in_ok-report.ensures ∙
-    parts_told known entries c.as_slice-entries.result.now values c.as_slice-2.result.now c.as_slice.result.now c.args.whole.now.clean _ _
-    c.as_slice-entries.ensures.value c.as_slice-2.ensures.value c.as_slice.ensures (told_clean known entries c.args.whole.now.clean c.requires.clean)
+    parts_told known entries c.len.result values c.as_slice-2.result.now c.as_slice.result.now c.args.whole.now.clean _ _
+    c.len.ensures c.as_slice-2.ensures.value c.as_slice.ensures (told_clean known entries c.args.whole.now.clean c.requires.clean)
     c.in_ok-memory.ensures c.in_ok-refusals.ensures in
     let whole : has_float (view c.in_ok-report.report) ≡ false = ap has_float told ∙ report_whole known entries values in
     IfOk-weaker c.to_vec.result (λ text. has_float (view c.in_ok-report.report) ≡ false → text.items ≡ compact_text (view c.in_ok-report.report))

@@ -1,4 +1,4 @@
-use Rattle.std.proofs.Common.{rules, List, reverse, sym, subst}
+use Rattle.std.proofs.Common.{rules, List, reverse, sym, subst, ◌∙◌}
 use Rattle.model_histories.specs.declared.answer.Entry.{Entry}
 use Rattle.model_histories.specs.Legal.{IsLegal}
 use Rattle.program_text.specs.Shapes.{shape_in}
@@ -21,7 +21,7 @@ pub explanation-requires : goal.explanation-requires
 explanation-requires c = record {
   legal = (
     shape_in c.args.program.now,
-    subst (λ (entries : List Entry). IsLegal (shape_in c.args.program.now) (reverse entries)) (sym c.as_slice-entries.ensures.value)
+    subst (λ (entries : List Entry). IsLegal (shape_in c.args.program.now) (reverse entries)) (sym (c.as_slice-2.ensures.value ∙ c.in_ok-entries.ensures))
         c.requires.run.0.run.judged.legal,
   );
 }
