@@ -415,7 +415,8 @@ impl<A: Allocator> Elision<A> {
         }));
     }
 
-    /// Begins a function above the topmost one.
+    /// Begins a function above the topmost one. Out of line, since the elision of a `pfor` takes a quarter less time so.
+    #[inline(never)]
     fn begin(&mut self, function: u32, argument: u64) -> Result<(), AllocError>
         requires { (state_of self.old).over ≡ false }
         ensures { OnOk result (state_of self.new ≡ with_begun (state_of self.old) (top_of self.old) function argument) }
