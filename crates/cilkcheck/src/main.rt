@@ -8,10 +8,10 @@
 #![tactic(auto)]
 
 ghost use Rattle.std.specs.Prelude.{⊤, None, IfOk, ◌≡◌, ◌≤◌, false};
-ghost use Rattle.tool_commands.specs.Jobs.{IsInRange};
-ghost use Rattle.tool_commands.specs.Names.{SparesProgram};
-ghost use Rattle.tool_commands.specs.Sources.{unknown_sources};
-ghost use Rattle.tool_commands.specs.Watched.{has_failed};
+ghost use Rattle.command_words.specs.Jobs.{IsInRange};
+ghost use Rattle.command_words.specs.Names.{SparesProgram};
+ghost use Rattle.command_streams.specs.Sources.{unknown_sources};
+ghost use Rattle.command_streams.specs.Watched.{has_failed};
 
 use std::fs::{self, File};
 use std::io::{self, IsTerminal};

@@ -2,7 +2,7 @@
 
 ghost use Rattle.std.specs.Prelude.{◌≡◌, ◌<◌, ◌≤◌, false};
 ghost use Rattle.model_histories.specs.Shapes.{most_entries};
-ghost use Rattle.tool_commands.specs.Watched.{has_failed};
+ghost use Rattle.command_streams.specs.Watched.{has_failed};
 
 mod drawings;
 mod elisions;

@@ -1,17 +1,1 @@
-mod Bytes
-mod Reading
-mod Failing
-mod Causes
-mod ElisionCauses
-mod ExplanationCauses
-mod Pairs
-mod Answering
-mod Meeting
-mod Buffering
-mod ShortNames
-mod DrawingCauses
-mod ReplayCauses
-mod RunCauses
-mod CleanReports
-mod RunFaults
-mod TracedCauses
+pub mod Explaining

@@ -3,21 +3,22 @@ use Rattle.std.specs.Prelude.{ℕ, Bool, true, false, ◌≡◌, ◌⊎◌, Opti
 use Rattle.std.specs.String.{string_bytes}
 use Rattle.std.specs.Io.KnownBytes.{Appends}
 use Rattle.model_histories.specs.declared.reply.Reply.{Reply}
-use Rattle.tool_commands.specs.declared.fault.CliFault.{CliFault}
-use Rattle.tool_commands.specs.declared.words.Job.{Job}
-use Rattle.tool_commands.specs.declared.words.Job.TheVariants.{Judge, Elide, Run, Record, Explain, Replay, Draw, Show}
-use Rattle.tool_commands.specs.declared.words.Color.{Color}
-use Rattle.tool_commands.specs.declared.words.Color.TheVariants.{Auto, Always, Never}
-use Rattle.tool_commands.specs.Explanations.{Manner, IsExplained, HasExplanationCause}
-use Rattle.tool_commands.specs.Drawings.{IsDrawn, HasDrawingCause}
-use Rattle.tool_commands.specs.Elided.{IsElided, HasElisionCause}
-use Rattle.tool_commands.specs.Faults.{status_of_fault}
-use Rattle.tool_commands.specs.Replays.{reading, IsReplayed, HasReplayCause}
-use Rattle.tool_commands.specs.Runs.{IsRan, HasRunCause}
-use Rattle.tool_commands.specs.Sources.{Sources, source_of}
-use Rattle.tool_commands.specs.Statuses.{status_of_replies}
-use Rattle.tool_commands.specs.Streams.{IsAnswered, HasCause, StopsWriting}
-use Rattle.tool_commands.specs.Traced.{IsTraced, IsReportCut, HasTracedCause}
+use Rattle.command_streams.specs.declared.fault.CliFault.{CliFault}
+use Rattle.command_words.specs.declared.words.Job.{Job}
+use Rattle.command_words.specs.declared.words.Job.TheVariants.{Judge, Elide, Run, Record, Explain, Replay, Draw, Show}
+use Rattle.command_words.specs.declared.words.Color.{Color}
+use Rattle.command_words.specs.declared.words.Color.TheVariants.{Auto, Always, Never}
+use Rattle.other_commands.specs.Explanations.{Manner, IsExplained, HasExplanationCause}
+use Rattle.other_commands.specs.Drawings.{IsDrawn, HasDrawingCause}
+use Rattle.other_commands.specs.Elided.{IsElided, HasElisionCause}
+use Rattle.command_streams.specs.Faults.{status_of_fault}
+use Rattle.command_streams.specs.Readings.{reading}
+use Rattle.other_commands.specs.Replays.{IsReplayed, HasReplayCause}
+use Rattle.run_command.specs.Runs.{IsRan, HasRunCause}
+use Rattle.command_streams.specs.Sources.{Sources, source_of}
+use Rattle.judge_command.specs.Statuses.{status_of_replies}
+use Rattle.command_streams.specs.Streams.{IsAnswered, HasCause, StopsWriting}
+use Rattle.other_commands.specs.Traced.{IsTraced, IsReportCut, HasTracedCause}
 
 -- whether words are painted, as these words ask for: on a terminal, of which nothing is said here, always, or never
 abbrev pub IsPaintedBy : Color → Bool → Type 0

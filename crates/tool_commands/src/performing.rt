@@ -4,24 +4,19 @@ ghost use Rattle.std.specs.Prelude.{◌≡◌, ◌↔◌, ◌<◌, ◌≤◌, �
 ghost use Rattle.model_histories.specs.Shapes.{most_entries};
 ghost use Rattle.std.specs.String.{string_bytes};
 ghost use Rattle.std.specs.Io.KnownBytes.{Appends};
-ghost use Rattle.tool_commands.specs.Jobs.{IsInRange};
-ghost use Rattle.tool_commands.specs.Streams.{StopsWriting};
-ghost use Rattle.tool_commands.specs.Watched.{held, has_failed, is_delivered};
+ghost use Rattle.command_words.specs.Jobs.{IsInRange};
+ghost use Rattle.command_streams.specs.Streams.{StopsWriting};
+ghost use Rattle.command_streams.specs.Watched.{held, has_failed, is_delivered};
 ghost use Rattle.tool_commands.specs.Performed.{IsPerformed, IsPaintedBy, HasJobCause, IsRecorded};
 ghost use Rattle.tool_commands.specs.Performed.{IsRecordedFirst, BarsTrace, LacksFile, IsAlone, status_of_answer};
 
-use crate::draw::draw_text;
-use crate::elide::elide_text;
-use crate::explain::{Manner, explain_text};
-use crate::fault::CliFault;
-use crate::host::Host;
-use crate::judge::judge_stream;
-use crate::replay::replay_text;
-use crate::run::{OpenDoor, run_text};
-use crate::streams::write_text;
-use crate::traced::{traced_text, write_traced};
-use crate::watched::Watched;
-use crate::words::{Color, Job};
+use command_streams::{CliFault, Host, Watched, write_text};
+use command_words::{Color, Job};
+use judge_command::judge_stream;
+use other_commands::{
+    Manner, draw_text, elide_text, explain_text, replay_text, traced_text, write_traced,
+};
+use run_command::{OpenDoor, run_text};
 use std::alloc::Global;
 use std::io::Write;
 use std::sync::Wait;
@@ -356,7 +351,7 @@ pub fn perform_alone<H: Host, W: Write>(
 /// Does a job, and answers its exit status, which is 0 to 4: what [`judge_stream`], [`elide_text`], [`run_text`],
 /// [`explain_text`], [`replay_text`] or [`draw_text`] does with standard input or the files of its names, or writes the text that is to be
 /// shown. What is written is delivered then. All files of a job that are read are opened before one is read. A run that is recorded is done
-/// as [`run_traced_text`](crate::run_traced_text) does it; the file of its trace is created once the run is done, and has the trace before
+/// as [`run_traced_text`](other_commands::run_traced_text) does it; the file of its trace is created once the run is done, and has the trace before
 /// the report is written.
 ///
 /// It answers [`CliFault::Read`] exactly where the host has failed, by a file that can't be opened or a reader that fails, and

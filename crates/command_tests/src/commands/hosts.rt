@@ -1,9 +1,9 @@
 //! Jobs over a standard input and files that are texts in memory.
 
 ghost use Rattle.std.specs.Prelude.{◌<◌, ◌≤◌, ⊤, None, IfOk};
-ghost use Rattle.tool_commands.specs.Jobs.{IsInRange};
+ghost use Rattle.command_words.specs.Jobs.{IsInRange};
 ghost use Rattle.tool_commands.specs.Performed.{IsAlone};
-ghost use Rattle.tool_commands.specs.Sources.{unknown_sources};
+ghost use Rattle.command_streams.specs.Sources.{unknown_sources};
 
 use super::Wanted::{Lacking, Text};
 use super::worked::{FIB, PAIR};

@@ -1,8 +1,8 @@
 //! Runs whose trace is written.
 
 ghost use Rattle.std.specs.Prelude.{⊤, [], Some, IfOk};
-ghost use Rattle.tool_commands.specs.Jobs.{IsInRange};
-ghost use Rattle.tool_commands.specs.Sources.{unknown_sources};
+ghost use Rattle.command_words.specs.Jobs.{IsInRange};
+ghost use Rattle.command_streams.specs.Sources.{unknown_sources};
 
 use super::Command::{Follow, Judge};
 use super::Wanted::{Status, Text};

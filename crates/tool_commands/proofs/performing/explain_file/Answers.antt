@@ -1,7 +1,7 @@
 use Rattle.std.proofs.lemmas.Result.{err_from_is_err_and}
 use Rattle.std.specs.String.{string_bytes}
-use Rattle.tool_commands.specs.Watched.{held}
-use Rattle.tool_commands.proofs.ExplanationCauses.{unread}
+use Rattle.command_streams.specs.Watched.{held}
+use Rattle.tool_commands.proofs.Explaining.{unread}
 use Rattle.tool_commands.proofs.performing.explain_file.Goals as goal
 
 pub returns-in_err-program-clause-fault : goal.returns-in_err-program-clause-fault

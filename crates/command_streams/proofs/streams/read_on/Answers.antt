@@ -1,0 +1,197 @@
+use Rattle.std.proofs.Common.{◌≡◌, ◌+◌, ◌-◌, ◌++◌, ◌∙◌, Err, List, ℕ, length, refl, sym, ap, rules, arith, length-drop, length-append}
+use Rattle.std.proofs.lemmas.Result.{err_from_is_err_and}
+use Rattle.trace_text.specs.Pieces.{IsBegun}
+use Rattle.command_streams.specs.Watched.{held, calls_of}
+use Rattle.command_streams.proofs.Bytes.{uncalled, called_both}
+use Rattle.command_streams.specs.declared.fault.CliFault.{CliFault}
+use Rattle.command_streams.specs.declared.fault.CliFault.TheVariants.{Read}
+use Rattle.command_streams.proofs.Failing.{step_failed, none_failed, text_unread}
+use Rattle.command_streams.proofs.Reading.{IsReadOn, on_first, on_read, on_taken, on_end, on_fault, on_stop, on_away}
+use Rattle.command_streams.proofs.streams.read_on.Goals as goal
+
+pub loop-text-init : goal.loop-text-init
+loop-text-init g c = record {
+  read = λ bytes counted is.
+      on_first (bytes ++ c.args.text.items) (g.R.Read.remaining (held c.args.input.now)) bytes c.args.text.items c.args.done c.args.begun refl counted is;
+  short = c.requires.short;
+  size = search rules;
+  fresh = c.requires.fresh;
+  grown = omega arith;
+  calls = uncalled _ (calls_of c.args.input.now);
+}
+
+pub returns-in_err-read_until-clause-fault : goal.returns-in_err-read_until-clause-fault
+returns-in_err-read_until-clause-fault g c =
+    let gone = err_from_is_err_and c.from_residual.result c.from_residual.ensures.1 in
+    let before = g.R.Read.remaining (held c.args.input.now) in
+    let now = g.R.Read.remaining (held c.loop-text.input) in
+    rw (gone.1, gone.2) (λ bytes counted is.
+    on_stop (bytes ++ c.args.text.items) before now c.loop-text.count c.loop-text.begun c.loop-text.text.items (c.loop-text.invariant.read bytes counted is)
+    (g.R.Read.remaining (held c.read_until.new.input)) _ c.in_err-read_until.ensures.fault)
+
+pub returns-in_err-read_until-clause-calls : goal.returns-in_err-read_until-clause-calls
+returns-in_err-read_until-clause-calls g c =
+    let inv = c.loop-text.invariant in
+    called_both _ _ _ (calls_of c.args.input.now) (calls_of c.loop-text.input) (calls_of c.read_until.new.input)
+    (omega (arith, inv.short, inv.grown)) inv.calls c.in_err-read_until.ensures.calls
+
+pub loop-text-preserved : goal.loop-text-preserved
+loop-text-preserved g c =
+    let inv = c.loop-text.invariant in
+    let before = g.R.Read.remaining (held c.args.input.now) in
+    let now = g.R.Read.remaining (held c.loop-text.input) in
+    let next = g.R.Read.remaining (held c.read_until.new.input) in
+    let pieces = c.in_ok-read_until.ensures.taken in
+    let new : List ℕ = c.read_until.new.text.items in
+    let slice : c.as_slice.result.now ≡ new = c.as_slice.ensures.value in
+    let long = ap length pieces.added in
+    let longer = length-append c.loop-text.text.items pieces.pieces in
+    let left = ap length c.remove_front.ensures in
+    let dropped = length-drop c.in-Ok.taken new in
+    let on : (bytes : List ℕ) → length bytes ≡ c.args.done → IsBegun bytes c.args.begun → IsReadOn (bytes ++ c.args.text.items) before next c.loop-text.count c.loop-text.begun new =
+    λ bytes counted is.
+    on_read (bytes ++ c.args.text.items) before now next c.loop-text.count c.loop-text.size c.loop-text.begun c.loop-text.text.items new _ pieces (inv.read bytes counted is) in
+    let first = on c.requires.begun.0 c.requires.begun.1 c.requires.begun.2 in
+    let within = (rw slice at (c.in-Ok.ensures first.bytes first.begun_with)).0 in
+    record {
+      read = λ bytes counted is.
+          let one = on bytes counted is in
+          let took = rw slice at (c.in-Ok.ensures one.bytes one.begun_with) in
+          on_taken (bytes ++ c.args.text.items) before next c.loop-text.count c.loop-text.begun new one
+          c.in-Ok.taken c.remove_front.new.text.items c.take.new.self took.0 c.remove_front.ensures took.1;
+      short = omega (arith, pieces.short, left, dropped, within);
+      size = search rules;
+      fresh = c.in_ok-read_until.ensures.fresh;
+      grown = omega (arith, inv.grown, long, longer, left, dropped, within);
+      calls = called_both _ _ _ (calls_of c.args.input.now) (calls_of c.loop-text.input) (calls_of c.read_until.new.input)
+          (omega (arith, inv.grown, long, longer, left, dropped, within)) inv.calls (c.in_ok-read_until.ensures.counted (search rules));
+    }
+
+pub returns-in-Err-clause-fault : goal.returns-in-Err-clause-fault
+returns-in-Err-clause-fault g c bytes counted is =
+    let before = g.R.Read.remaining (held c.args.input.now) in
+    let now = g.R.Read.remaining (held c.loop-text.input) in
+    let next = g.R.Read.remaining (held c.read_until.new.input) in
+    let new : List ℕ = c.read_until.new.text.items in
+    let slice : c.as_slice.result.now ≡ new = c.as_slice.ensures.value in
+    let on : IsReadOn (bytes ++ c.args.text.items) before next c.loop-text.count c.loop-text.begun new =
+    on_read (bytes ++ c.args.text.items) before now next c.loop-text.count c.loop-text.size c.loop-text.begun c.loop-text.text.items new _
+    c.in_ok-read_until.ensures.taken (c.loop-text.invariant.read bytes counted is) in
+    on_away (bytes ++ c.args.text.items) before next c.loop-text.count c.loop-text.begun new on
+    (g.R.Read.remaining (held c.read_away.new.input)) c.in-Err.fault c.read_away.result
+    (rw slice at (c.in-Err.ensures on.bytes on.begun_with))
+    (λ all long kept. c.read_away.ensures.fault all (search rules) kept)
+
+pub returns-in-Err-clause-calls : goal.returns-in-Err-clause-calls
+returns-in-Err-clause-calls g c =
+    let inv = c.loop-text.invariant in
+    let pieces = c.in_ok-read_until.ensures.taken in
+    let long = ap length pieces.added in
+    let longer = length-append c.loop-text.text.items pieces.pieces in
+    called_both _ _ _ (calls_of c.args.input.now) (calls_of c.read_until.new.input) (calls_of c.read_away.new.input)
+    (omega (arith, inv.grown, pieces.short, long, longer))
+    (called_both (c.loop-text.count + length c.read_until.new.text.items - (c.args.done + length c.args.text.items)) _ _ (calls_of c.args.input.now) (calls_of c.loop-text.input) (calls_of c.read_until.new.input)
+    (omega (arith, inv.grown, long, longer)) inv.calls (c.in_ok-read_until.ensures.counted (search rules)))
+    c.read_away.ensures.calls
+
+pub returns-in-Ok-end-clause-ok : goal.returns-in-Ok-end-clause-ok
+returns-in-Ok-end-clause-ok g c bytes counted is =
+    let before = g.R.Read.remaining (held c.args.input.now) in
+    let now = g.R.Read.remaining (held c.loop-text.input) in
+    let next = g.R.Read.remaining (held c.read_until.new.input) in
+    let new : List ℕ = c.read_until.new.text.items in
+    let slice : c.as_slice-2.result.now ≡ new = c.as_slice-2.ensures.value in
+    let pieces = c.in_ok-read_until.ensures.taken in
+    let on : IsReadOn (bytes ++ c.args.text.items) before next c.loop-text.count c.loop-text.begun new =
+    on_read (bytes ++ c.args.text.items) before now next c.loop-text.count c.loop-text.size c.loop-text.begun c.loop-text.text.items new _
+    pieces (c.loop-text.invariant.read bytes counted is) in
+    on_end (bytes ++ c.args.text.items) before next c.loop-text.count c.loop-text.begun new on _ pieces.short (pieces.end (search rules))
+    (rw slice at (c.in-Ok-end.ensures on.bytes on.begun_with))
+
+pub returns-in-Ok-end-clause-calls : goal.returns-in-Ok-end-clause-calls
+returns-in-Ok-end-clause-calls g c =
+    let inv = c.loop-text.invariant in
+    called_both _ _ _ (calls_of c.args.input.now) (calls_of c.loop-text.input) (calls_of c.read_until.new.input)
+    (omega (arith, inv.short, inv.grown)) inv.calls c.in_ok-read_until.ensures.calls
+
+pub returns-clause-fault : goal.returns-clause-fault
+returns-clause-fault g c bytes counted is =
+    let before = g.R.Read.remaining (held c.args.input.now) in
+    let now = g.R.Read.remaining (held c.loop-text.input) in
+    let next = g.R.Read.remaining (held c.read_until.new.input) in
+    let new : List ℕ = c.read_until.new.text.items in
+    let slice : c.as_slice-2.result.now ≡ new = c.as_slice-2.ensures.value in
+    let pieces = c.in_ok-read_until.ensures.taken in
+    let on : IsReadOn (bytes ++ c.args.text.items) before next c.loop-text.count c.loop-text.begun new =
+    on_read (bytes ++ c.args.text.items) before now next c.loop-text.count c.loop-text.size c.loop-text.begun c.loop-text.text.items new _
+    pieces (c.loop-text.invariant.read bytes counted is) in
+    rw c.from.ensures
+    (on_fault (bytes ++ c.args.text.items) before next c.loop-text.count c.loop-text.begun new on _ pieces.short (pieces.end (search rules))
+    (rw slice at (c.in-Err-end.ensures on.bytes on.begun_with)))
+
+pub returns-clause-calls : goal.returns-clause-calls
+returns-clause-calls g c =
+    let inv = c.loop-text.invariant in
+    called_both _ _ _ (calls_of c.args.input.now) (calls_of c.loop-text.input) (calls_of c.read_until.new.input)
+    (omega (arith, inv.short, inv.grown)) inv.calls c.in_ok-read_until.ensures.calls
+
+pub read_until-requires-clause-fresh : goal.read_until-requires-clause-fresh
+read_until-requires-clause-fresh g c = c.loop-text.invariant.fresh
+
+pub read_until-requires-clause-room : goal.read_until-requires-clause-room
+read_until-requires-clause-room g c = omega (arith, c.loop-text.auto.piece, c.requires.room)
+
+pub read_until-requires-clause-short : goal.read_until-requires-clause-short
+read_until-requires-clause-short g c = c.loop-text.invariant.short
+
+pub returns-in_err-read_until-clause-failed : goal.returns-in_err-read_until-clause-failed
+returns-in_err-read_until-clause-failed g c =
+    let gone = err_from_is_err_and c.from_residual.result c.from_residual.ensures.1 in
+    step_failed _ Read _ c.in_err-read_until.field-0.0 (gone.1 ∙ ap (λ (f : CliFault). Err f) gone.2) c.in_err-read_until.ensures.failed
+
+pub read_away-requires-clause-fresh : goal.read_away-requires-clause-fresh
+read_away-requires-clause-fresh g c = c.in_ok-read_until.ensures.fresh
+
+pub read_away-requires-clause-room : goal.read_away-requires-clause-room
+read_away-requires-clause-room g c = omega (arith, c.read_until.auto.piece, c.loop-text.auto.piece, c.requires.room)
+
+pub returns-in-Err-clause-failed : goal.returns-in-Err-clause-failed
+returns-in-Err-clause-failed g c = (
+  λ is. let same : c.read_away.result ≡ Read = cc in c.read_away.ensures.failed.0 same,
+  λ is. ap (λ (f : CliFault). Err f) (c.read_away.ensures.failed.1 is),
+)
+
+pub returns-in-Ok-end-clause-failed : goal.returns-in-Ok-end-clause-failed
+returns-in-Ok-end-clause-failed g c = let fresh = c.in_ok-read_until.ensures.fresh in (λ is. cc, λ is. cc)
+
+pub returns-clause-failed : goal.returns-clause-failed
+returns-clause-failed g c =
+    none_failed _ Read _ c.from.result refl (λ is. text_unread _ (sym c.from.ensures ∙ is)) c.in_ok-read_until.ensures.fresh
+
+pub remove_front-requires : goal.remove_front-requires
+remove_front-requires g c =
+    let before = g.R.Read.remaining (held c.args.input.now) in
+    let now = g.R.Read.remaining (held c.loop-text.input) in
+    let next = g.R.Read.remaining (held c.read_until.new.input) in
+    let new : List ℕ = c.read_until.new.text.items in
+    let slice : c.as_slice.result.now ≡ new = c.as_slice.ensures.value in
+    let first : IsReadOn (c.requires.begun.0 ++ c.args.text.items) before next c.loop-text.count c.loop-text.begun new =
+    on_read (c.requires.begun.0 ++ c.args.text.items) before now next c.loop-text.count c.loop-text.size c.loop-text.begun c.loop-text.text.items new _
+    c.in_ok-read_until.ensures.taken (c.loop-text.invariant.read c.requires.begun.0 c.requires.begun.1 c.requires.begun.2) in
+    (rw slice at (c.in-Ok.ensures first.bytes first.begun_with)).0
+
+pub loop-text-smaller : goal.loop-text-smaller
+loop-text-smaller g c =
+    let inv = c.loop-text.invariant in
+    let before = g.R.Read.remaining (held c.args.input.now) in
+    let now = g.R.Read.remaining (held c.loop-text.input) in
+    let next = g.R.Read.remaining (held c.read_until.new.input) in
+    let pieces = c.in_ok-read_until.ensures.taken in
+    let new : List ℕ = c.read_until.new.text.items in
+    let slice : c.as_slice.result.now ≡ new = c.as_slice.ensures.value in
+    let first : IsReadOn (c.requires.begun.0 ++ c.args.text.items) before next c.loop-text.count c.loop-text.begun new =
+    on_read (c.requires.begun.0 ++ c.args.text.items) before now next c.loop-text.count c.loop-text.size c.loop-text.begun c.loop-text.text.items new _
+    pieces (inv.read c.requires.begun.0 c.requires.begun.1 c.requires.begun.2) in
+    let within = (rw slice at (c.in-Ok.ensures first.bytes first.begun_with)).0 in
+    let left = ap length c.remove_front.ensures in
+    omega (arith, inv.size, pieces.reached (search rules), pieces.short, left, length-drop c.in-Ok.taken new, within)

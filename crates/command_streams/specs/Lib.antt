@@ -1,0 +1,9 @@
+pub mod Watched
+pub mod Faults
+pub mod Sources
+pub mod Streams
+pub mod Readings
+pub mod LineBuffers
+pub mod Tellings
+pub mod ElisionText
+pub mod Outcomes

@@ -1,0 +1,157 @@
+-- What is told to a person of a program's text: of a run of the program, or of the text's fault.
+use Rattle.std.specs.Prelude.{ℕ, ◌≡◌, ◌≤◌, ◌⊎◌, Bool, Option, List, ◌++◌, length, reverse, codes, decimal}
+use Rattle.std.specs.Io.KnownBytes.{Appends}
+use Rattle.text_words.specs.declared.fault.Cause.{Cause}
+use Rattle.text_words.specs.Declarations.{cells_of}
+use Rattle.text_words.specs.Text.{lines}
+use Rattle.program_text.specs.Drafts.{Contents}
+use Rattle.program_text.specs.Grammar.{TextMeans}
+use Rattle.program_text.specs.Faults.{TextFaults}
+use Rattle.model_histories.specs.declared.answer.Entry.{Entry}
+use Rattle.model_races.specs.Memory.{IsMemory}
+use Rattle.model_histories.specs.Extensions.{IsFinished, IsClean}
+use Rattle.model_runs.specs.Runs.{IsRun, IsFinishedRun}
+use Rattle.locked_replay.specs.Laws.{SpeaksForAll}
+use Rattle.source_quotes.specs.FaultTexts.{TellsFault}
+use Rattle.race_explanations.specs.Explained.{IsExplanation}
+use Rattle.command_streams.specs.declared.fault.CliFault.{CliFault}
+use Rattle.command_streams.specs.declared.fault.CliFault.TheVariants.{Read, Write, TooLong, Memory}
+use Rattle.other_commands.specs.declared.explain.End.{End}
+use Rattle.other_commands.specs.declared.explain.End.TheVariants.{Clean, Raced, Cut}
+use Rattle.command_streams.specs.ElisionText.{memory_text}
+use Rattle.command_streams.specs.Readings.{Reading, StopsReader, shape_of_program}
+use Rattle.run_command.specs.Runs.{IsRunFault}
+use Rattle.command_streams.specs.Streams.{IsRead}
+
+-- how it is told: whether words are painted, and by which name the text's file is called
+pub record Manner : Type 0 where
+  pub is_painted : Bool
+  pub file : List ℕ
+
+-- ---- texts
+
+abbrev pub clean_words : List ℕ
+clean_words = codes "clean for every schedule: no run of this program has a race, and each leaves this memory\n"
+
+-- what is told where nothing was refused: that no schedule has a race, and the memory that each leaves
+abbrev pub clean_text : Contents → List ℕ → List ℕ
+clean_text program memory = clean_words ++ memory_text program.known.mems memory
+
+abbrev pub cut_words : List ℕ
+cut_words = codes "this is no whole run: the limit ended it after "
+
+abbrev pub cut_behind : List ℕ
+cut_behind = codes " requests, and there may be more to tell\n"
+
+-- what is told behind the races of a run that the limit ended
+abbrev pub cut_text : ℕ → List ℕ
+cut_text limit = (cut_words ++ decimal limit) ++ cut_behind
+
+-- ---- a run
+
+-- A finished run in which nothing was refused is told, which speaks for every schedule.
+pub record IsCleanTold (program : Contents) (limit : ℕ) (told : List ℕ) : Type 0 where
+  pub entries : List Entry
+  pub memory : List ℕ
+  pub run : IsFinishedRun program.functions (shape_of_program program) (reverse entries)
+  pub within : length entries ≤ limit
+  pub left : IsMemory (cells_of program.known.mems) (reverse entries) memory
+  pub clean : IsClean (reverse entries)
+  pub speaks : SpeaksForAll program.functions (shape_of_program program) (reverse entries)
+  pub told_is : told ≡ clean_text program memory
+
+-- The races of a finished run are told.
+pub record IsRacedTold (manner : Manner) (text : List ℕ) (program : Contents) (limit : ℕ) (told : List ℕ) : Type 0 where
+  pub entries : List Entry
+  pub run : IsFinishedRun program.functions (shape_of_program program) (reverse entries)
+  pub within : length entries ≤ limit
+  pub raced : IsClean (reverse entries) → ⊥
+  pub explains : IsExplanation manner.is_painted manner.file (lines text) program entries told
+
+-- The races are told of a run that came to the limit and not to its end, and that it is no whole run.
+pub record IsCutTold (manner : Manner) (text : List ℕ) (program : Contents) (limit : ℕ) (told : List ℕ) : Type 0 where
+  pub entries : List Entry
+  pub run : IsRun program.functions (shape_of_program program) (reverse entries)
+  pub full : limit ≤ length entries
+  pub unfinished : IsFinished (reverse entries) → ⊥
+  pub explanation : List ℕ
+  pub explains : IsExplanation manner.is_painted manner.file (lines text) program entries explanation
+  pub told_is : told ≡ explanation ++ cut_text (length entries)
+
+-- A run with this end is told.
+abbrev pub TellsEnd : Manner → (text : List ℕ) → Contents → (limit : ℕ) → (told : List ℕ) → End → Type 0
+TellsEnd manner text program limit told Clean = IsCleanTold program limit told
+TellsEnd manner text program limit told Raced = IsRacedTold manner text program limit told
+TellsEnd manner text program limit told Cut = IsCutTold manner text program limit told
+
+abbrev pub status_of_end : End → ℕ
+status_of_end Clean = 0
+status_of_end Raced = 1
+status_of_end Cut = 4
+
+-- A run of the program is told that the text means.
+pub record IsRunTold (manner : Manner) (text : List ℕ) (limit : ℕ) (told : List ℕ) (status : ℕ) : Type 0 where
+  pub program : Contents
+  pub end : End
+  pub means : TextMeans text program
+  pub tells : TellsEnd manner text program limit told end
+  pub status_is : status ≡ status_of_end end
+
+-- The first fault of the text is told.
+pub record IsFaultTold (manner : Manner) (text : List ℕ) (told : List ℕ) (status : ℕ) : Type 0 where
+  pub number : ℕ
+  pub why : Cause
+  pub faults : TextFaults text number why
+  pub tells : TellsFault manner.is_painted manner.file (lines text) number why told
+  pub status_is : status ≡ 2
+
+-- What a text means is told, or why it means nothing.
+abbrev pub Explains : Manner → (text : List ℕ) → (limit : ℕ) → (told : List ℕ) → (status : ℕ) → Type 0
+Explains manner text limit told status = IsRunTold manner text limit told status ⊎ IsFaultTold manner text told status
+
+-- Why nothing is told of the program that a text means.
+pub record IsUntold (text : List ℕ) (limit : ℕ) (fault : CliFault) : Type 0 where
+  pub program : Contents
+  pub means : TextMeans text program
+  pub stops : IsRunFault program limit fault
+
+-- Why nothing is told of a text: each fault has its cause.
+abbrev pub StopsTelling : (text : List ℕ) → (limit : ℕ) → CliFault → Type 0
+StopsTelling text limit Memory = Unit {0}
+StopsTelling text limit fault = IsUntold text limit fault
+
+-- ---- reading and writing
+
+-- A text was read, and what is told of it was written.
+pub record IsExplained (manner : Manner) (reader : Reading) (wrote writes : Option (List ℕ)) (limit status : ℕ) : Type 0 where
+  pub text : List ℕ
+  pub told : List ℕ
+  pub read : IsRead reader.before reader.behind text
+  pub explains : Explains manner text limit told status
+  pub written : Appends wrote writes told
+
+-- A text was read, and only a part of what is told of it could be written.
+pub record IsExplanationCut (manner : Manner) (reader : Reading) (wrote writes : Option (List ℕ)) (limit : ℕ) : Type 0 where
+  pub text : List ℕ
+  pub told : List ℕ
+  pub status : ℕ
+  pub part : List ℕ
+  pub rest : List ℕ
+  pub read : IsRead reader.before reader.behind text
+  pub explains : Explains manner text limit told status
+  pub written : Appends wrote writes part
+  pub prefix : part ++ rest ≡ told
+
+-- A text was read, and nothing is told of it.
+pub record IsUntoldText (reader : Reading) (limit : ℕ) (fault : CliFault) : Type 0 where
+  pub text : List ℕ
+  pub read : IsRead reader.before reader.behind text
+  pub untold : StopsTelling text limit fault
+
+-- Why nothing is told, or not all: each fault has its cause.
+abbrev pub HasExplanationCause : Manner → Reading → (wrote writes : Option (List ℕ)) → (limit : ℕ) → CliFault → Type 0
+HasExplanationCause manner reader wrote writes limit Read = Unit {0}
+HasExplanationCause manner reader wrote writes limit Write = IsExplanationCut manner reader wrote writes limit
+HasExplanationCause manner reader wrote writes limit TooLong = StopsReader reader TooLong
+HasExplanationCause manner reader wrote writes limit Memory = Unit {0}
+HasExplanationCause manner reader wrote writes limit fault = IsUntoldText reader limit fault

@@ -1,0 +1,6 @@
+pub mod Declarations
+pub mod Elided
+pub mod Replays
+pub mod Drawings
+pub mod Traced
+pub mod Explanations

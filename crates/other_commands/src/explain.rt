@@ -1,0 +1,301 @@
+//! Explaining a run of the program that a reader gives.
+
+ghost use Rattle.std.specs.Prelude.{◌≡◌, ◌↔◌, ◌<◌, ◌≤◌, ◌≢◌, ◌++◌, true, false, length};
+ghost use Rattle.std.specs.Prelude.{reverse, decimal, IfOk, IfErr, OnOk, IsErrOf, IsTrue};
+ghost use Rattle.program_text.specs.Grammar.{TextMeans};
+ghost use Rattle.program_text.specs.Faults.{TextFaults};
+ghost use Rattle.program_text.specs.Programs.{contents};
+ghost use Rattle.model_histories.specs.Shapes.{most_entries};
+ghost use Rattle.model_races.specs.Memory.{IsMemory};
+ghost use Rattle.model_histories.specs.Extensions.{IsClean};
+ghost use Rattle.program_text.specs.Shapes.{shape_in};
+ghost use Rattle.model_runs.specs.Runs.{IsFinishedRun};
+ghost use Rattle.run_replay.specs.Replays.{IsUnfinishedRun};
+ghost use Rattle.command_streams.specs.Watched.{held, has_failed, is_delivered, calls_of, IsCalledAtMost};
+ghost use Rattle.command_streams.specs.Streams.{most_reads};
+ghost use Rattle.command_streams.specs.Readings.{reading};
+ghost use Rattle.run_command.specs.Runs.{IsRunFault, WantsMore};
+ghost use Rattle.other_commands.specs.Explanations.{Manner as SpecManner, clean_words, clean_text, cut_words, cut_behind, cut_text};
+ghost use Rattle.other_commands.specs.Explanations.{TellsEnd, status_of_end, Explains, StopsTelling, IsExplained, HasExplanationCause};
+
+use crate::elide::push_memory;
+use command_streams::{CliFault, Outcome, Watched, outcome_of, read_text, write_text};
+use locked_replay::{RunFault, Whole};
+use program_text::Program;
+use race_explanations::explanation;
+use race_gate::{Entry, ShortGate};
+use race_report::{push_number, push_words};
+use run_command::{Door, PARTS, fault_of, some_run};
+use source_quotes::fault_message;
+use std::alloc::{AllocError, Global};
+use std::io::{Read, Write};
+use std::marker::{Brand, Model};
+use std::sync::Wait;
+use std::sync::ledger::Blank;
+use std::thread::Threads;
+use text_words::TextFault;
+
+/// How something is told to a person.
+#[derive(Debug, Drop)]
+pub struct Manner<'a> {
+    /// Whether words are painted, as on a terminal.
+    pub is_painted: bool,
+    /// The name of the program's file.
+    pub file: &'a str,
+}
+
+impl<'a> Model for Manner<'a> {
+    ghost use Rattle.other_commands.specs.Explanations.{Manner as SpecManner};
+
+    ghost Value = { SpecManner };
+
+    ghost view = { λ manner. record { is_painted = manner.is_painted; file = manner.file.now } };
+}
+
+/// How a run that is told ended.
+#[derive(Clone, Copy, Debug, PartialEq, Eq)]
+pub enum End {
+    /// It came to its end, and nothing was refused.
+    Clean,
+    /// It came to its end, and something was refused.
+    Raced,
+    /// The limit ended it.
+    Cut,
+}
+
+impl End {
+    /// The exit status: 0, 1 or 4.
+    pub fn status(self) -> u8
+        ensures { result ≡ status_of_end self }
+    {
+        match self {
+            End::Clean => 0,
+            End::Raced => 1,
+            End::Cut => 4,
+        }
+    }
+}
+
+/// What is told where nothing was refused, before the memory.
+fn clean_words() -> &'static str
+    ensures { result.now ≡ clean_words }
+{
+    "clean for every schedule: no run of this program has a race, and each leaves this memory\n"
+}
+
+/// What is told where the limit ended a run, before its number of requests.
+fn cut_words() -> &'static str
+    ensures { result.now ≡ cut_words }
+{
+    "this is no whole run: the limit ended it after "
+}
+
+/// What is told behind the number of requests.
+fn cut_behind() -> &'static str
+    ensures { result.now ≡ cut_behind }
+{
+    " requests, and there may be more to tell\n"
+}
+
+/// What is told where nothing was refused.
+fn clean_told(
+    alloc: Global,
+    program: &Program<Global>,
+    memory: &[u64],
+) -> Result<Vec<u8>, AllocError>
+    ensures { IfOk result (λ told. told.items ≡ clean_text (contents program.now) memory.now) }
+{
+    let mut told = Vec::new(alloc);
+    push_words(&mut told, clean_words())?;
+    push_memory(&mut told, program.mems.as_slice(), memory)?;
+    Ok(told)
+}
+
+/// Adds that the limit ended a run after so many requests.
+fn push_cut(told: &mut Vec<u8>, count: usize) -> Result<(), AllocError>
+    ensures { OnOk result (told.new.items ≡ told.old.items ++ cut_text count) }
+{
+    push_number(told, cut_words(), count as u64)?;
+    push_words(told, cut_behind())
+}
+
+/// What is told of a finished run.
+fn whole_told(
+    alloc: Global,
+    manner: &Manner<'_>,
+    text: &[u8],
+    program: &Program<Global>,
+    whole: &Whole,
+    limit: u32,
+) -> Result<(Vec<u8>, End), AllocError>
+    requires run { IsFinishedRun program.now.functions (shape_in program.now) (reverse whole.now.entries.items) }
+    requires memory { IsMemory (shape_in program.now).cells (reverse whole.now.entries.items) whole.now.memory.items }
+    requires clean { IsTrue whole.now.clean ↔ IsClean (reverse whole.now.entries.items) }
+    requires within { length whole.now.entries.items ≤ limit }
+    ensures { IfOk result (λ told. TellsEnd manner.now text.now (contents program.now) limit told.0.items told.1) }
+{
+    if whole.clean {
+        let told = clean_told(alloc, program, whole.memory.as_slice())?;
+        return Ok((told, End::Clean));
+    }
+    let entries = whole.entries.to_vec(alloc)?;
+    let told = explanation(
+        alloc,
+        manner.is_painted,
+        manner.file,
+        text,
+        program,
+        entries.as_slice(),
+    )?;
+    Ok((told, End::Raced))
+}
+
+/// What is told of a run that came to the limit and not to its end.
+fn unfinished_told(
+    alloc: Global,
+    manner: &Manner<'_>,
+    text: &[u8],
+    program: &Program<Global>,
+    entries: &[Entry],
+    limit: u32,
+) -> Result<(Vec<u8>, End), AllocError>
+    requires run { IsUnfinishedRun program.now.functions (shape_in program.now) (reverse entries.now) }
+    requires full { limit ≤ length entries.now }
+    ensures { IfOk result (λ told. TellsEnd manner.now text.now (contents program.now) limit told.0.items told.1) }
+{
+    let mut told = explanation(
+        alloc,
+        manner.is_painted,
+        manner.file,
+        text,
+        program,
+        entries,
+    )?;
+    push_cut(&mut told, entries.len())?;
+    Ok((told, End::Cut))
+}
+
+/// What is told of a run that wants more entries than the limit, from the gate that it left.
+fn cut_told(
+    alloc: Global,
+    manner: &Manner<'_>,
+    text: &[u8],
+    program: &Program<Global>,
+    gate: &ShortGate,
+    limit: u32,
+) -> Result<(Vec<u8>, End), CliFault>
+    requires { WantsMore (contents program.now) limit }
+    ensures ok { IfOk result (λ told. TellsEnd manner.now text.now (contents program.now) limit told.0.items told.1) }
+    ensures fault { IfErr result (IsRunFault (contents program.now) limit) }
+{
+    let entries = gate.history().to_vec(alloc)?;
+    let entries = entries.as_slice();
+    if entries.len() < limit as usize {
+        return Err(CliFault::Limit);
+    }
+    match outcome_of(alloc, program, entries)? {
+        Outcome::Unfinished => Ok(unfinished_told(alloc, manner, text, program, entries, limit)?),
+        _ => Err(CliFault::Limit),
+    }
+}
+
+/// What is told of some run of a program by so many workers.
+fn run_told<D: Door + Sync, R: Threads + Wait + Sync>(
+    rt: &R,
+    alloc: Global,
+    manner: &Manner<'_>,
+    text: &[u8],
+    program: &Program<Global>,
+    workers: usize,
+    door: &D,
+    limit: u32,
+) -> Result<(Vec<u8>, End), CliFault>
+    requires workers { (0 < workers) × (workers ≤ 64) }
+    requires limit { limit ≤ most_entries }
+    ensures ok { IfOk result (λ told. TellsEnd manner.now text.now (contents program.now) limit told.0.items told.1) }
+    ensures fault { IfErr result (IsRunFault (contents program.now) limit) }
+{
+    let cut = match some_run::<Brand, D, R>(
+        rt,
+        alloc,
+        program,
+        workers,
+        door,
+        limit,
+        Blank::new(PARTS),
+    ) {
+        Ok(whole) => return Ok(whole_told(alloc, manner, text, program, &whole, limit)?),
+        Err(cut) => cut,
+    };
+    match (cut.fault, &cut.gate) {
+        (RunFault::Limit, Some(gate)) => cut_told(alloc, manner, text, program, gate, limit),
+        (fault, _) => Err(fault_of(fault)),
+    }
+}
+
+/// What is told of a program's text, and the exit status.
+fn told_of<D: Door + Sync, R: Threads + Wait + Sync>(
+    rt: &R,
+    alloc: Global,
+    manner: &Manner<'_>,
+    text: &[u8],
+    workers: usize,
+    door: &D,
+    limit: u32,
+) -> Result<(Vec<u8>, u8), CliFault>
+    requires workers { (0 < workers) × (workers ≤ 64) }
+    requires limit { limit ≤ most_entries }
+    ensures ok { IfOk result (λ told. Explains manner.now text.now limit told.0.items told.1) }
+    ensures fault { IfErr result (StopsTelling text.now limit) }
+{
+    let program = match Program::parse(alloc, text) {
+        Ok(program) => program,
+        Err(TextFault::Memory) => return Err(CliFault::Memory),
+        Err(TextFault::At { line, why }) => {
+            let told = fault_message(alloc, manner.is_painted, manner.file, text, line, why)?;
+            return Ok((told, 2));
+        }
+    };
+    let (told, end) = run_told(rt, alloc, manner, text, &program, workers, door, limit)?;
+    Ok((told, end.status()))
+}
+
+/// Reads a program to its end, runs it by so many workers as [`run_text`](run_command::run_text) does, and tells a person of the run, in lines of
+/// text: each pair of lines that raced, with both lines, the spawns and calls that led there, the spawn where the two part, and what would
+/// order them. Where nothing was refused it tells that this is so for every schedule, and the memory. Where the limit ended the run it
+/// tells the races until then, and that it is no whole run. Of a text that means no program it tells the fault. The exit status is 0 where
+/// nothing was refused, 1 where something was, 2 for a fault of the text, and 4 where the limit ended the run.
+///
+/// It answers [`CliFault::Read`] or [`CliFault::Write`] exactly where the reader or the writer has failed, [`CliFault::TooLong`] for more
+/// than 67,108,864 bytes, [`CliFault::Stopped`], [`CliFault::Torn`] or [`CliFault::Strange`] where the workers brought no finished run, and
+/// [`CliFault::Memory`] where a growth was refused or a thread could not be started. Nothing is written then, but for the part that a
+/// failed write has taken.
+pub fn explain_text<D: Door + Sync, P: Read, W: Write, R: Threads + Wait + Sync>(
+    rt: &R,
+    alloc: Global,
+    manner: &Manner<'_>,
+    program: &mut Watched<P>,
+    workers: usize,
+    door: &D,
+    output: &mut Watched<W>,
+    limit: u32,
+) -> Result<u8, CliFault>
+    requires reader { has_failed program.old ≡ false }
+    requires writer { has_failed output.old ≡ false }
+    requires workers { (0 < workers) × (workers ≤ 64) }
+    requires limit { limit ≤ most_entries }
+    ensures answered { IfOk result (IsExplained manner.now (reading (P.remaining (held program.old)) (P.remaining (held program.new)))
+        (W.contents (held output.old)) (W.contents (held output.new)) limit) }
+    ensures fault { IfErr result (HasExplanationCause manner.now (reading (P.remaining (held program.old)) (P.remaining (held program.new)))
+        (W.contents (held output.old)) (W.contents (held output.new)) limit) }
+    ensures read_failed { IsErrOf result CliFault.Read ↔ IsTrue (has_failed program.new) }
+    ensures delivered { OnOk result (is_delivered output.new ≡ true) }
+    ensures write_failed { IsErrOf result CliFault.Write ↔ IsTrue (has_failed output.new) }
+    ensures reads { IsCalledAtMost most_reads (calls_of program.old) (calls_of program.new) }
+    ensures unwritten { IfErr result (λ fault. fault ≢ CliFault.Write → output.new ≡ output.old) }
+{
+    let text = read_text(alloc, program)?;
+    let (told, status) = told_of(rt, alloc, manner, text.as_slice(), workers, door, limit)?;
+    write_text(output, told.as_slice())?;
+    Ok(status)
+}

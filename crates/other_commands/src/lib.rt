@@ -1,0 +1,27 @@
+//! The commands `elide`, `explain`, `replay`, `draw` and `run --trace`: what is read, to what is written.
+//!
+//! [`elide_text`] carries the theorem of `elide`: at status 0 the bytes that were read mean a program, and what was written are the lines
+//! of the memory and of the number of requests of its one evaluation, in which each spawn is a call, and which makes no more requests than
+//! the limit. At the fault Limit an evaluation, if there is one, makes more. [`run_traced_text`] carries that of `run --trace`: the report
+//! and the text of the trace that were written are those of one and the same run. [`replay_text`] carries that of `replay`: at a status
+//! the bytes that were read mean a program and a trace which declare the same, a gate answered each request of the trace, and what was
+//! written tells of the gate's entries that they are a finished run, a run that is not finished, or which of them is the first strange
+//! one. [`explain_text`] carries that of `explain`: at status 0, 1 or 4 the bytes that were read mean a program, and what was written tells
+//! a person of a run of it, which is finished and clean, finished with races, or cut by the limit; at 2 they mean none, and the first fault
+//! is told. [`draw_text`] carries that of `draw`: at a status the bytes that were read mean a trace, a gate answered each request of it,
+//! and what was written is the drawing of that gate's history: its nodes are the strands that have begun, its black edges those of the
+//! dag, its red ones the refusals with their witnesses.
+#![tactic(auto)]
+
+mod declarations;
+mod draw;
+mod elide;
+mod explain;
+mod replay;
+mod traced;
+
+pub use draw::draw_text;
+pub use elide::elide_text;
+pub use explain::{End, Manner, explain_text};
+pub use replay::replay_text;
+pub use traced::{Traced, run_traced_text, traced_run, traced_text, write_traced};

@@ -1,0 +1,3 @@
+pub mod CleanReports
+pub mod RunCauses
+pub mod RunFaults

@@ -1,4 +1,0 @@
-use Rattle.tool_commands.proofs.judge.tell.Goals as goal
-
-pub returns-in-Illegal : goal.returns-in-Illegal
-returns-in-Illegal g c wrote replies tells = rw c.in-Illegal.is (c.note_fault.ensures wrote replies tells)
