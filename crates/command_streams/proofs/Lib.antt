@@ -1,7 +1,7 @@
 pub mod Buffering
 pub mod Bytes
 pub mod Failing
-pub mod Reading
+mod Reading
 pub mod RunStatuses
 pub mod TakenLines
 pub mod Telling

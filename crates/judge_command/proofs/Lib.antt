@@ -1,2 +1,2 @@
-pub mod Causes
-pub mod Meeting
+mod Causes
+mod Meeting

@@ -1,8 +1,8 @@
-pub mod Answering
-pub mod DrawingCauses
-pub mod ElisionCauses
+mod Answering
+mod DrawingCauses
+mod ElisionCauses
 pub mod ExplanationCauses
-pub mod Pairs
-pub mod ReplayCauses
-pub mod ShortNames
+mod Pairs
+mod ReplayCauses
+mod ShortNames
 pub mod TracedCauses

@@ -1,3 +1,3 @@
 pub mod CleanReports
 pub mod RunCauses
-pub mod RunFaults
+mod RunFaults

@@ -1,1 +1,1 @@
-pub mod Explaining
+mod Explaining
