@@ -5,3 +5,4 @@ pub mod CleanRuns
 pub mod JudgedRuns
 pub mod Schedules
 pub mod Digits
+pub mod RefusalTexts

@@ -1,23 +1,26 @@
 //! The report of a run.
 
-ghost use Rattle.std.specs.Prelude.{◌≡◌, ◌<◌, ◌≤◌, ◌↔◌, true, false, length, map, option_map, reverse, string_bytes, IfOk, IsTrue, IsSome};
-ghost use Rattle.serde_json.specs.Data.{number, unsigned};
-ghost use Rattle.serde_json.specs.View.{view};
+ghost use Rattle.std.specs.Prelude.{◌≡◌, ◌<◌, ◌≤◌, ◌↔◌, ◌++◌, List, codes, true, false, length, map, reverse, string_bytes, IfOk, OnOk, IsTrue, IsSome};
+ghost use Rattle.std.specs.Option.{option_to_list};
+ghost use Rattle.json.specs.Print.{quoted};
+ghost use Rattle.serde_json.specs.Data.{Data, number, unsigned};
+ghost use Rattle.serde_json.specs.View.{view, items_of};
+ghost use Rattle.serde_json.specs.Written.{comma_if, compact_text, items_text};
 ghost use Rattle.text_words.specs.Declarations.{cells_of};
 ghost use Rattle.program_text.specs.Programs.{contents};
 ghost use Rattle.model_histories.specs.Shapes.{IsInRange};
 ghost use Rattle.model_histories.specs.Extensions.{IsClean};
 ghost use Rattle.race_report.specs.VerdictText.{kind_asked};
-ghost use Rattle.race_report.specs.Refusals.{name_asked, line_of_entry, witness_told, refusal_told, answer_told, refusals_told};
-ghost use Rattle.race_report.specs.ReportText.{cells_told, memory_told, report_with, report_text};
+ghost use Rattle.race_report.specs.Refusals.{name_asked, line_of_entry, witness_told, answer_told, refusals_told};
+ghost use Rattle.race_report.specs.ReportText.{cells_told, memory_told, first_words, last_words, refusal_head, report_text};
 ghost use Rattle.race_report.specs.Conditions.{shape_known, IsTellable, AreTellable};
 
-use crate::verdict::rule_of_refusal;
-use locked_replay::Whole;
+use crate::verdict::{push_number, push_words, rule_of_refusal};
+use locked_replay::{Entries, Whole};
 use model_accesses::Witness;
 use program_text::Program;
 use race_gate::{Answer, Entry};
-use serde_json::{Map, Value, json, put};
+use serde_json::{Map, Value, put};
 use std::alloc::{AllocError, Allocator, Global};
 use text_words::{Act, Mem, Request};
 use trace_text::cell_name;
@@ -45,119 +48,116 @@ fn name_of<A: Allocator>(
 }
 
 /// The line of the entry with this number.
-#[tactic(auto, using(std::proofs::lemmas::Option::gets))]
-fn line_of_entry(entries: &[Entry], number: u32) -> u32
+fn line_of_entry(entries: &Entries, number: u32) -> u32
     requires first { 0 < number }
-    requires last { number ≤ length entries.now }
-    ensures { result ≡ line_of_entry entries.now number }
+    requires last { number ≤ length entries.now.items }
+    ensures { result ≡ line_of_entry entries.now.items number }
 {
-    entries[number as usize - 1].request.line
+    entries.get(number as usize - 1).request.line
 }
 
-/// The witness of a refusal.
-fn witness_value(alloc: Global, entries: &[Entry], witness: Witness) -> Result<Value, AllocError>
-    requires first { 0 < witness.entry }
-    requires last { witness.entry ≤ length entries.now }
-    ensures { IfOk result (λ value. view value ≡ witness_told entries.now witness) }
+/// Adds a text in quotes.
+fn push_quoted(alloc: Global, text: &mut Vec<u8>, words: String) -> Result<(), AllocError>
+    ensures { OnOk result (text.new.items ≡ text.old.items ++ quoted (string_bytes words.entry)) }
 {
-    json!(in alloc; {
-        "entry": witness.entry,
-        "line": line_of_entry(entries, witness.entry),
-        "strand": witness.strand,
-    })
+    let words = Value::from(words).to_vec(alloc)?;
+    text.extend_from_slice(words.as_slice())
 }
 
-/// A refusal, which is the entry with this number.
-fn refusal_value<A: Allocator>(
+/// Adds what is told of a refusal, which is the entry with this number, before its witness, behind a comma where others stand before it.
+fn push_refusal<A: Allocator>(
     alloc: Global,
+    text: &mut Vec<u8>,
     program: &Program<A>,
     number: usize,
     request: Request,
     rule: &str,
-    witness: Value,
-) -> Result<Value, AllocError>
+    later: bool,
+) -> Result<(), AllocError>
     requires access { IsSome (kind_asked request.act) }
     requires within { IsInRange (shape_known (contents program.now).known) request.act }
-    ensures { IfOk result (λ value. view value ≡ refusal_told (contents program.now).known number request rule.now (view witness)) }
+    ensures { OnOk result (text.new.items ≡
+        (text.old.items ++ comma_if later) ++ refusal_head (contents program.now).known number request rule.now) }
 {
     let name = name_of(alloc, program, request.act)?;
-    json!(in alloc; {
-        "name": name,
-        "witness": witness,
-        "entry": number,
-        "line": request.line,
-        "rule": rule,
-        "strand": request.strand,
-    })
+    if later {
+        push_words(text, ",")?;
+    }
+    push_number(text, "{\"entry\":", number as u64)?;
+    push_number(text, ",\"line\":", u64::from(request.line))?;
+    push_words(text, ",\"name\":")?;
+    push_quoted(alloc, text, name)?;
+    push_words(text, ",\"rule\":\"")?;
+    push_words(text, rule)?;
+    push_number(text, "\",\"strand\":", u64::from(request.strand))?;
+    push_words(text, ",\"witness\":")
 }
 
-/// What is told of the entry with this number, where it is a refusal.
-fn entry_value<A: Allocator>(
+/// Adds what is told of a witness, with which the refusal ends.
+fn push_witness(text: &mut Vec<u8>, entries: &Entries, witness: Witness) -> Result<(), AllocError>
+    requires first { 0 < witness.entry }
+    requires last { witness.entry ≤ length entries.now.items }
+    ensures { OnOk result (text.new.items ≡ text.old.items ++ (compact_text (witness_told entries.now.items witness) ++ codes "}")) }
+{
+    let line = line_of_entry(entries, witness.entry);
+    push_number(text, "{\"entry\":", u64::from(witness.entry))?;
+    push_number(text, ",\"line\":", u64::from(line))?;
+    push_number(text, ",\"strand\":", u64::from(witness.strand))?;
+    push_words(text, "}}")
+}
+
+/// Adds what is told of the entry with this number, where it is a refusal, behind others where there are some. It says whether there are
+/// some now.
+fn push_entry<A: Allocator>(
     alloc: Global,
+    text: &mut Vec<u8>,
     program: &Program<A>,
-    entries: &[Entry],
+    entries: &Entries,
     number: usize,
     entry: Entry,
-) -> Result<Option<Value>, AllocError>
-    requires { IsTellable (shape_known (contents program.now).known) (length entries.now) entry }
-    ensures { IfOk result (λ told.
-        option_map view told ≡ answer_told (contents program.now).known entries.now number entry.request entry.answer) }
+    later: bool,
+) -> Result<bool, AllocError>
+    requires { IsTellable (shape_known (contents program.now).known) (length entries.now.items) entry }
+    ensures { IfOk result (λ some. (rest : List Data) → text.new.items ++ items_text some (items_of rest) ≡ text.old.items ++ items_text later
+        (items_of (option_to_list (answer_told (contents program.now).known entries.now.items number entry.request entry.answer) ++ rest))) }
 {
     match entry.answer {
         Answer::Refused { witness, .. } => {
             let rule = rule_of_refusal(entry.request.act, witness.kind);
-            let witness = witness_value(alloc, entries, witness)?;
-            let refusal = refusal_value(alloc, program, number, entry.request, rule, witness)?;
-            Ok(Some(refusal))
+            push_refusal(alloc, text, program, number, entry.request, rule, later)?;
+            push_witness(text, entries, witness)?;
+            Ok(true)
         }
         Answer::Unset => {
-            let refusal = refusal_value(
-                alloc,
-                program,
-                number,
-                entry.request,
-                "unset",
-                Value::Null,
-            )?;
-            Ok(Some(refusal))
+            push_refusal(alloc, text, program, number, entry.request, "unset", later)?;
+            push_words(text, "null}")?;
+            Ok(true)
         }
-        _ => Ok(None),
+        _ => Ok(later),
     }
 }
 
-/// The refusals, in order of entries.
-fn refusal_values<A: Allocator>(
+/// Adds the refusals, in order of entries, and the bracket behind them. Where it is known that there are none, no entry is looked at.
+fn push_refusals<A: Allocator>(
     alloc: Global,
-    program: &Program<A>,
-    entries: &[Entry],
-) -> Result<Vec<Value>, AllocError>
-    requires { AreTellable (shape_known (contents program.now).known) entries.now }
-    ensures { IfOk result (λ told. map view told.items ≡ refusals_told (contents program.now).known entries.now) }
-{
-    let mut told = Vec::new(alloc);
-    for (before, entry) in entries.iter().enumerate() {
-        if let Some(refusal) = entry_value(alloc, program, entries, before + 1, *entry)? {
-            told.push(refusal)?;
-        }
-    }
-    Ok(told)
-}
-
-/// The refusals of a run. Where it is known that there are none, no entry is looked at.
-fn refusals_of<A: Allocator>(
-    alloc: Global,
+    text: &mut Vec<u8>,
     program: &Program<A>,
     whole: &Whole,
-) -> Result<Vec<Value>, AllocError>
+) -> Result<(), AllocError>
     requires entries { AreTellable (shape_known (contents program.now).known) whole.now.entries.items }
     requires clean { IsTrue whole.now.clean ↔ IsClean (reverse whole.now.entries.items) }
-    ensures { IfOk result (λ told. map view told.items ≡ refusals_told (contents program.now).known whole.now.entries.items) }
+    ensures { OnOk result (text.new.items ≡ text.old.items ++
+        items_text false (items_of (refusals_told (contents program.now).known whole.now.entries.items))) }
 {
     if whole.clean {
-        return Ok(Vec::new(alloc));
+        return push_words(text, "]");
     }
-    let entries = whole.entries.to_vec(alloc)?;
-    refusal_values(alloc, program, entries.as_slice())
+    let entries = &whole.entries;
+    let mut some = false;
+    for at in 0..entries.len() {
+        some = push_entry(alloc, text, program, entries, at + 1, entries.get(at), some)?;
+    }
+    push_words(text, "]")
 }
 
 /// Numbers as values.
@@ -197,55 +197,39 @@ fn memory_value(alloc: Global, mems: &[Mem], values: &[u64]) -> Result<Value, Al
     Ok(Value::from(members))
 }
 
-/// The report of a clean run of so many entries.
-fn clean_report(
+/// Adds what each memory holds, under its name.
+fn push_memory(
     alloc: Global,
-    entries: usize,
-    memory: Value,
-    refusals: Vec<Value>,
-) -> Result<Value, AllocError>
-    ensures { IfOk result (λ value. view value ≡ report_with true entries (view memory) (map view refusals.items)) }
+    text: &mut Vec<u8>,
+    mems: &[Mem],
+    values: &[u64],
+) -> Result<(), AllocError>
+    requires { length values.now ≡ cells_of mems.now }
+    ensures { OnOk result (text.new.items ≡ text.old.items ++ compact_text (memory_told mems.now values.now)) }
 {
-    json!(in alloc; {
-        "memory": memory,
-        "refusals": refusals,
-        "clean": true,
-        "entries": entries,
-        "schedules": "clean for every schedule",
-    })
+    let memory = memory_value(alloc, mems, values)?.to_vec(alloc)?;
+    text.extend_from_slice(memory.as_slice())
 }
 
-/// The report of a run of so many entries that is not clean.
-fn refused_report(
-    alloc: Global,
-    entries: usize,
-    memory: Value,
-    refusals: Vec<Value>,
-) -> Result<Value, AllocError>
-    ensures { IfOk result (λ value. view value ≡ report_with false entries (view memory) (map view refusals.items)) }
-{
-    json!(in alloc; {
-        "memory": memory,
-        "refusals": refusals,
-        "clean": false,
-        "entries": entries,
-    })
-}
-
-/// A report of so many entries.
-fn report_value(
-    alloc: Global,
-    clean: bool,
-    entries: usize,
-    memory: Value,
-    refusals: Vec<Value>,
-) -> Result<Value, AllocError>
-    ensures { IfOk result (λ value. view value ≡ report_with clean entries (view memory) (map view refusals.items)) }
+/// What a report begins with, before the number of entries.
+fn first_words(clean: bool) -> &'static str
+    ensures { result.now ≡ first_words clean }
 {
     if clean {
-        clean_report(alloc, entries, memory, refusals)
+        "{\"clean\":true"
     } else {
-        refused_report(alloc, entries, memory, refusals)
+        "{\"clean\":false"
+    }
+}
+
+/// What a report ends with, behind the refusals.
+fn last_words(clean: bool) -> &'static str
+    ensures { result.now ≡ last_words clean }
+{
+    if clean {
+        ",\"schedules\":\"clean for every schedule\"}"
+    } else {
+        "}"
     }
 }
 
@@ -265,8 +249,18 @@ pub fn report<A: Allocator>(
     requires clean { IsTrue whole.now.clean ↔ IsClean (reverse whole.now.entries.items) }
     ensures { IfOk result (λ text. text.items ≡ report_text (contents program.now).known whole.now.entries.items whole.now.memory.items) }
 {
-    let refusals = refusals_of(alloc, program, whole)?;
-    let memory = memory_value(alloc, program.mems.as_slice(), whole.memory.as_slice())?;
-    let report = report_value(alloc, whole.clean, whole.entries.len(), memory, refusals)?;
-    report.to_vec(alloc)
+    let mut text = Vec::new(alloc);
+    push_words(&mut text, first_words(whole.clean))?;
+    push_number(&mut text, ",\"entries\":", whole.entries.len() as u64)?;
+    push_words(&mut text, ",\"memory\":")?;
+    push_memory(
+        alloc,
+        &mut text,
+        program.mems.as_slice(),
+        whole.memory.as_slice(),
+    )?;
+    push_words(&mut text, ",\"refusals\":[")?;
+    push_refusals(alloc, &mut text, program, whole)?;
+    push_words(&mut text, last_words(whole.clean))?;
+    Ok(text)
 }

@@ -1,6 +1,0 @@
-use Rattle.std.proofs.Common.{arith}
-use Rattle.std.proofs.lemmas.Grind.{common_steps}
-use Rattle.race_report.proofs.json_report.refusal_values.Goals as goal
-
-pub loop-before-preserved : goal.loop-before-preserved
-loop-before-preserved g c = grind (arith, common_steps)
