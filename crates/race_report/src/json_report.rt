@@ -1,18 +1,17 @@
 //! The report of a run.
 
-ghost use Rattle.std.specs.Prelude.{◌≡◌, ◌<◌, ◌≤◌, ◌↔◌, ◌++◌, List, codes, true, false, length, map, reverse, string_bytes, IfOk, OnOk, IsTrue, IsSome};
+ghost use Rattle.std.specs.Prelude.{◌≡◌, ◌<◌, ◌≤◌, ◌↔◌, ◌++◌, List, true, false, length, map, reverse, string_bytes, IfOk, OnOk, IsTrue, IsSome};
 ghost use Rattle.std.specs.Option.{option_to_list};
-ghost use Rattle.json.specs.Print.{quoted};
-ghost use Rattle.serde_json.specs.Data.{Data, number, unsigned};
+ghost use Rattle.serde_json.specs.Data.{Data, number, string, unsigned};
 ghost use Rattle.serde_json.specs.View.{view, items_of};
-ghost use Rattle.serde_json.specs.Written.{comma_if, compact_text, items_text};
+ghost use Rattle.serde_json.specs.Written.{has_float, comma_if, compact_text, items_text};
 ghost use Rattle.text_words.specs.Declarations.{cells_of};
 ghost use Rattle.program_text.specs.Programs.{contents};
 ghost use Rattle.model_histories.specs.Shapes.{IsInRange};
 ghost use Rattle.model_histories.specs.Extensions.{IsClean};
 ghost use Rattle.race_report.specs.VerdictText.{kind_asked};
-ghost use Rattle.race_report.specs.Refusals.{name_asked, line_of_entry, witness_told, answer_told, refusals_told};
-ghost use Rattle.race_report.specs.ReportText.{cells_told, memory_told, first_words, last_words, refusal_head, report_text};
+ghost use Rattle.race_report.specs.Refusals.{name_asked, line_of_entry, answer_told, refusals_told};
+ghost use Rattle.race_report.specs.ReportText.{cells_told, memory_told, first_words, last_words, refusal_head, witness_tail, report_text};
 ghost use Rattle.race_report.specs.Conditions.{shape_known, IsTellable, AreTellable};
 
 use crate::verdict::{push_number, push_words, rule_of_refusal};
@@ -56,12 +55,20 @@ fn line_of_entry(entries: &Entries, number: u32) -> u32
     entries.get(number as usize - 1).request.line
 }
 
-/// Adds a text in quotes.
-fn push_quoted(alloc: Global, text: &mut Vec<u8>, words: String) -> Result<(), AllocError>
-    ensures { OnOk result (text.new.items ≡ text.old.items ++ quoted (string_bytes words.entry)) }
+/// Adds the compact text of a value in which no number is a float.
+fn push_value(alloc: Global, text: &mut Vec<u8>, value: &Value) -> Result<(), AllocError>
+    requires { has_float (view value.now) ≡ false }
+    ensures { OnOk result (text.new.items ≡ text.old.items ++ compact_text (view value.now)) }
 {
-    let words = Value::from(words).to_vec(alloc)?;
-    text.extend_from_slice(words.as_slice())
+    let written = value.to_vec(alloc)?;
+    text.extend_from_slice(written.as_slice())
+}
+
+/// What stands before a refusal: a comma, where there is one before it.
+fn comma(later: bool) -> &'static str
+    ensures { result.now ≡ comma_if later }
+{
+    if later { "," } else { "" }
 }
 
 /// Adds what is told of a refusal, which is the entry with this number, before its witness, behind a comma where others stand before it.
@@ -79,14 +86,12 @@ fn push_refusal<A: Allocator>(
     ensures { OnOk result (text.new.items ≡
         (text.old.items ++ comma_if later) ++ refusal_head (contents program.now).known number request rule.now) }
 {
-    let name = name_of(alloc, program, request.act)?;
-    if later {
-        push_words(text, ",")?;
-    }
+    let name = Value::from(name_of(alloc, program, request.act)?);
+    push_words(text, comma(later))?;
     push_number(text, "{\"entry\":", number as u64)?;
     push_number(text, ",\"line\":", u64::from(request.line))?;
     push_words(text, ",\"name\":")?;
-    push_quoted(alloc, text, name)?;
+    push_value(alloc, text, &name)?;
     push_words(text, ",\"rule\":\"")?;
     push_words(text, rule)?;
     push_number(text, "\",\"strand\":", u64::from(request.strand))?;
@@ -97,7 +102,7 @@ fn push_refusal<A: Allocator>(
 fn push_witness(text: &mut Vec<u8>, entries: &Entries, witness: Witness) -> Result<(), AllocError>
     requires first { 0 < witness.entry }
     requires last { witness.entry ≤ length entries.now.items }
-    ensures { OnOk result (text.new.items ≡ text.old.items ++ (compact_text (witness_told entries.now.items witness) ++ codes "}")) }
+    ensures { OnOk result (text.new.items ≡ text.old.items ++ witness_tail entries.now.items witness) }
 {
     let line = line_of_entry(entries, witness.entry);
     push_number(text, "{\"entry\":", u64::from(witness.entry))?;
@@ -197,20 +202,6 @@ fn memory_value(alloc: Global, mems: &[Mem], values: &[u64]) -> Result<Value, Al
     Ok(Value::from(members))
 }
 
-/// Adds what each memory holds, under its name.
-fn push_memory(
-    alloc: Global,
-    text: &mut Vec<u8>,
-    mems: &[Mem],
-    values: &[u64],
-) -> Result<(), AllocError>
-    requires { length values.now ≡ cells_of mems.now }
-    ensures { OnOk result (text.new.items ≡ text.old.items ++ compact_text (memory_told mems.now values.now)) }
-{
-    let memory = memory_value(alloc, mems, values)?.to_vec(alloc)?;
-    text.extend_from_slice(memory.as_slice())
-}
-
 /// What a report begins with, before the number of entries.
 fn first_words(clean: bool) -> &'static str
     ensures { result.now ≡ first_words clean }
@@ -249,16 +240,12 @@ pub fn report<A: Allocator>(
     requires clean { IsTrue whole.now.clean ↔ IsClean (reverse whole.now.entries.items) }
     ensures { IfOk result (λ text. text.items ≡ report_text (contents program.now).known whole.now.entries.items whole.now.memory.items) }
 {
+    let memory = memory_value(alloc, program.mems.as_slice(), whole.memory.as_slice())?;
     let mut text = Vec::new(alloc);
     push_words(&mut text, first_words(whole.clean))?;
     push_number(&mut text, ",\"entries\":", whole.entries.len() as u64)?;
     push_words(&mut text, ",\"memory\":")?;
-    push_memory(
-        alloc,
-        &mut text,
-        program.mems.as_slice(),
-        whole.memory.as_slice(),
-    )?;
+    push_value(alloc, &mut text, &memory)?;
     push_words(&mut text, ",\"refusals\":[")?;
     push_refusals(alloc, &mut text, program, whole)?;
     push_words(&mut text, last_words(whole.clean))?;
