@@ -3,7 +3,7 @@ use Rattle.std.proofs.Common.{◌≡◌, ◌≤◌, ◌⊎◌, inl, inr, List, [
 use Rattle.std.specs.Prelude.{Contains}
 use Rattle.std.proofs.lemmas.List.Elements.{All-weaker, All-push, Contains-append_left, Contains-push}
 use Rattle.locked_replay.specs.declared.fault.RunFault.{RunFault}
-use Rattle.steal_workers.specs.Faults.{rank_or_last, IsFirst, IsFirstOf}
+use Rattle.worker_steps.specs.Faults.{rank_or_last, IsFirst, IsFirstOf}
 
 pub first_more : (faults : List (Option RunFault)) (first other next : Option RunFault) → IsFirstOf faults first → IsFirst first other next → IsFirstOf (faults ++ other ∷ []) next
 first_more faults first other next before more =

@@ -1,8 +1,8 @@
 use Rattle.std.proofs.Common.{◌≡◌, ◌∷◌, true, false, None, Ok, Err, refl, sym, subst, ap, ◌∙◌}
 use Rattle.locked_replay.specs.declared.fault.RunFault.TheVariants.{Strange}
-use Rattle.steal_workers.specs.Faults.{IsFirstOf, refused_thread}
+use Rattle.worker_steps.specs.Faults.{IsFirstOf, refused_thread}
+use Rattle.steal_workers.specs.Ending.{faults_of, saw_end, Tells}
 use Rattle.steal_workers.specs.Finishing.{some_finished}
-use Rattle.steal_workers.specs.Workers.{faults_of, saw_end, Tells}
 use Rattle.steal_workers.proofs.Ready.{same_end}
 use Rattle.steal_workers.proofs.pool.told.Goals as goal
 
