@@ -1,13 +1,39 @@
 -- What a run answers, by the workers that it hired and those that came back.
-use Rattle.std.specs.Prelude.{◌≡◌, ◌⊎◌, ◌<◌, ℕ, Bool, true, false, List, [], ◌∷◌, length, All, Result, Err}
-use Rattle.std.specs.List.{sum_by}
+use Rattle.std.specs.Prelude.{◌≡◌, ◌⊎◌, ◌<◌, ℕ, Bool, true, false, List, [], ◌∷◌, length, map, All, Option, Some, None, Result, Err, IsOkAnd}
+use Rattle.std.specs.List.{sum_by, list_any}
 use Rattle.std.specs.Global.{Vec}
 use Rattle.locked_replay.specs.declared.fault.RunFault.{RunFault}
-use Rattle.locked_replay.specs.declared.fault.RunFault.TheVariants.{Memory}
+use Rattle.locked_replay.specs.declared.fault.RunFault.TheVariants.{Strange, Memory}
 use Rattle.locked_replay.specs.declared.worker.WorkerLog.{WorkerLog}
-use Rattle.steal_workers.specs.declared.worker.Worker.{Worker}
-use Rattle.steal_workers.specs.Reaches.{HaveRoot}
-use Rattle.steal_workers.specs.Workers.{stations_of, own_hands, IsReady, IsTold, TornAtJoin}
+use Rattle.worker_steps.specs.declared.worker.Worker.{Worker}
+use Rattle.worker_steps.specs.Faults.{refused_thread, IsFirstOf}
+use Rattle.worker_steps.specs.Workers.{stations_of, TornAtJoin}
+use Rattle.steal_workers.specs.Beginning.{own_hands, HaveRoot, IsReady}
+use Rattle.steal_workers.specs.Finishing.{finishes}
+
+module _ {L : Type 0} where
+  abbrev pub faults_of : List (Worker L) → List (Option RunFault)
+  faults_of = map (λ worker. worker.fault)
+
+  -- whether a worker saw the run's end
+  abbrev pub saw_end : List (Worker L) → Bool
+  saw_end = list_any (λ worker. list_any (λ receipt. finishes receipt.answer) worker.receipts.items)
+
+  -- the logs hold the receipts of these workers, in their order
+  abbrev pub AreLogsOf : List (Worker L) → List (WorkerLog L) → Type 0
+  AreLogsOf workers logs = map (λ log. log.receipts) logs ≡ map (λ worker. worker.receipts) workers
+
+  -- what a run answers by the first fault that was met, and by whether its end was seen: what the workers brought, where there was none and
+  -- it was
+  abbrev pub Tells : Option RunFault → Bool → List (Worker L) → Result (Vec (WorkerLog L)) RunFault → Type 0
+  Tells (Some fault) ended workers result = result ≡ Err fault
+  Tells None true workers result = IsOkAnd result (λ logs. AreLogsOf workers logs.items)
+  Tells None false workers result = result ≡ Err Strange
+
+  -- whether all threads could be started, and how the workers came back, decide what a run answers
+  abbrev pub IsTold : Bool → List (Worker L) → Result (Vec (WorkerLog L)) RunFault → Type 0
+  IsTold all workers result =
+      (first : Option RunFault) × IsFirstOf (refused_thread all ∷ faults_of workers) first × Tells first (saw_end workers) workers result
 
 -- the first list is the second, less some of its items
 abbrev pub AreSomeOf : {X : Type 0} → List X → List X → Type 0

@@ -1,11 +1,13 @@
-use Rattle.std.proofs.Common.{rules, ◌++◌, ◌∷◌, [], map, sym, subst, ap, ◌∙◌}
+use Rattle.std.proofs.Common.{rules, ◌≡◌, ◌++◌, ◌∷◌, [], map, sym, subst, ap, arith, ◌∙◌}
 use Rattle.std.specs.Prelude.{All}
-use Rattle.std.proofs.lemmas.List.{map-append}
+use Rattle.std.proofs.lemmas.List.{map-append, map-id}
+use Rattle.std.proofs.lemmas.Iterator.Adapters.{YieldsList-from_vec}
+use Rattle.std.proofs.lemmas.Iterator.Consumers.{YieldsList-end}
 use Rattle.std.proofs.lemmas.List.Elements.{All-push}
 use Rattle.std.specs.declared.thread.PromisedHandle.{PromisedHandle}
 use Rattle.steal_workers.specs.declared.pool.Hired.{Hired}
-use Rattle.steal_workers.specs.declared.worker.Worker.{Worker}
-use Rattle.steal_workers.specs.Workers.{station_of, stations_of, TornAtJoin}
+use Rattle.worker_steps.specs.declared.worker.Worker.{Worker}
+use Rattle.worker_steps.specs.Workers.{station_of, stations_of, TornAtJoin}
 use Rattle.steal_workers.proofs.pool.finish.Goals as goal
 
 pub loop-thread-preserved : goal.loop-thread-preserved
@@ -22,3 +24,12 @@ loop-thread-preserved g c =
           ∙ ap stations_of (sym (map-append began yielded (thread ∷ [])));
       torn = subst (All TornAtJoin) (sym c.push_reserved.ensures.items) (All-push TornAtJoin c.loop-thread.back.items c.join.result was.torn c.join.ensures.1);
     }
+
+pub returns-clause-stations : goal.returns-clause-stations
+returns-clause-stations g c =
+    let all = YieldsList-end (YieldsList-from_vec c.args.running.items c.into_iter-thread-iterator.ensures.into_iter_gives.0 (omega (arith, c.into_iter-thread-iterator.ensures.into_iter_gives.1, c.args.running.ok.0))) c.loop-thread.yielded c.loop-thread.thread-iterator c.loop-thread.yielded_by c.next.result c.next.new.self c.in-None.is c.next.ensures.steps in
+    let whole : c.loop-thread.yielded ≡ c.args.running.items = sym (map-id c.loop-thread.yielded) ∙ all.0 in
+    c.loop-thread.invariant.back ∙ ap (λ hs. stations_of (map (λ h. h.promise.0.value) hs)) whole
+
+pub returns-clause-torn : goal.returns-clause-torn
+returns-clause-torn g c = c.loop-thread.invariant.torn

@@ -1,6 +1,6 @@
 use Rattle.std.specs.Prelude.{◌∷◌, take}
-use Rattle.steal_workers.specs.Faults.{IsFirstOf}
-use Rattle.steal_workers.specs.Workers.{faults_of}
+use Rattle.worker_steps.specs.Faults.{IsFirstOf}
+use Rattle.steal_workers.specs.Ending.{faults_of}
 use Rattle.steal_workers.proofs.pool.first_fault.Given as goal
 
 abbrev pub invariant-loop-worker : goal.invariant-loop-worker

@@ -1,4 +1,4 @@
-use Rattle.std.proofs.Common.{rules, ◌++◌, ◌∷◌, [], map, sym, ap, arith, ◌∙◌}
+use Rattle.std.proofs.Common.{rules, ◌++◌, ◌∷◌, [], map, ap, arith, ◌∙◌}
 use Rattle.std.specs.List.{sum_by}
 use Rattle.std.proofs.lemmas.List.{map-append}
 use Rattle.std.proofs.lemmas.List.Sums.{sum_by_push}

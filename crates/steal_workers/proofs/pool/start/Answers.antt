@@ -1,8 +1,10 @@
-use Rattle.std.proofs.Common.{rules, ◌≡◌, ◌++◌, ◌∷◌, [], map, sym, subst, ap, ◌∙◌}
-use Rattle.std.proofs.lemmas.List.{map-append}
+use Rattle.std.proofs.Common.{rules, ◌≡◌, ◌++◌, ◌∷◌, [], map, sym, subst, ap, arith, ◌∙◌}
+use Rattle.std.proofs.lemmas.List.{map-append, map-id}
+use Rattle.std.proofs.lemmas.Iterator.Adapters.{YieldsList-from_vec}
+use Rattle.std.proofs.lemmas.Iterator.Consumers.{YieldsList-end}
 use Rattle.std.specs.declared.thread.PromisedHandle.{PromisedHandle}
 use Rattle.steal_workers.specs.declared.pool.Hired.{Hired}
-use Rattle.steal_workers.specs.declared.worker.Worker.{Worker}
+use Rattle.worker_steps.specs.declared.worker.Worker.{Worker}
 use Rattle.steal_workers.specs.Ending.{AreSomeOf}
 use Rattle.steal_workers.proofs.Endings.{some-push, some-less}
 use Rattle.steal_workers.proofs.pool.start.Goals as goal
@@ -31,3 +33,21 @@ loop-worker-preserved g c = record {
   some = some-less _ c.loop-worker.yielded c.in-Some.worker c.loop-worker.invariant.some;
   fewer = λ refused. search rules;
 }
+
+pub returns-clause-hired : goal.returns-clause-hired
+returns-clause-hired g c all_began =
+    let all = YieldsList-end (YieldsList-from_vec c.args.hired.items c.into_iter-worker-iterator.ensures.into_iter_gives.0 (omega (arith, c.into_iter-worker-iterator.ensures.into_iter_gives.1, c.args.hired.ok.0))) c.loop-worker.yielded c.loop-worker.worker-iterator c.loop-worker.yielded_by c.next.result c.next.new.self c.in-None.is c.next.ensures.steps in
+    let whole : c.loop-worker.yielded ≡ c.args.hired.items = sym (map-id c.loop-worker.yielded) ∙ all.0 in
+    c.loop-worker.invariant.hired all_began ∙ whole
+
+pub returns-clause-some : goal.returns-clause-some
+returns-clause-some g c =
+    let all = YieldsList-end (YieldsList-from_vec c.args.hired.items c.into_iter-worker-iterator.ensures.into_iter_gives.0 (omega (arith, c.into_iter-worker-iterator.ensures.into_iter_gives.1, c.args.hired.ok.0))) c.loop-worker.yielded c.loop-worker.worker-iterator c.loop-worker.yielded_by c.next.result c.next.new.self c.in-None.is c.next.ensures.steps in
+    let whole : c.loop-worker.yielded ≡ c.args.hired.items = sym (map-id c.loop-worker.yielded) ∙ all.0 in
+    subst (AreSomeOf (map (λ h. h.promise.0.value) c.loop-worker.running.items)) whole c.loop-worker.invariant.some
+
+pub returns-clause-at_most : goal.returns-clause-at_most
+returns-clause-at_most g c = omega (arith, c.loop-worker.invariant.at_most)
+
+pub returns-clause-fewer : goal.returns-clause-fewer
+returns-clause-fewer g c refused = omega (arith, c.loop-worker.invariant.fewer refused)

@@ -1,0 +1,22 @@
+-- Workers as they are hired, and as the first of them begins.
+use Rattle.std.specs.Prelude.{◌≡◌, ◌<◌, List, [], ◌∷◌, length, map, All}
+use Rattle.worker_steps.specs.declared.hand.Hand.{Hand}
+use Rattle.worker_steps.specs.declared.worker.Worker.{Worker}
+use Rattle.worker_steps.specs.Hands.{hand}
+use Rattle.worker_steps.specs.Reaches.{own_view, AllLeadTo}
+use Rattle.worker_steps.specs.Workers.{stations_of, owns_of, others_of}
+
+-- the first owner has pushed the first strand, and nothing else was done
+abbrev pub HaveRoot : List Hand → Type 0
+HaveRoot views = (rest : List Hand) × (views ≡ hand (0 ∷ []) [] ∷ rest) × All (λ v. v ≡ hand [] []) rest
+
+module _ {L : Type 0} where
+  abbrev pub own_hands : List (Worker L) → List Hand
+  own_hands = map (λ worker. own_view worker.ends)
+
+  -- they are some, each reaches the deques of all, and nothing was pushed yet
+  abbrev pub IsReady : List (Worker L) → Type 0
+  IsReady workers =
+      (0 < length workers)
+      × AllLeadTo (owns_of (stations_of workers)) (others_of (stations_of workers))
+      × All (λ v. v ≡ hand [] []) (own_hands workers)

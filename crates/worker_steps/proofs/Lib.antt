@@ -1,0 +1,5 @@
+pub mod Asking
+pub mod Balances
+pub mod Grown
+pub mod Joins
+pub mod Thefts
