@@ -4,7 +4,7 @@ use Rattle.model_histories.specs.declared.reply.Receipt.{Receipt}
 use Rattle.frame_steps.specs.States.{State}
 use Rattle.frame_steps.specs.Frames.{IsAfter}
 use Rattle.worker_steps.specs.Workers.{AsksFor, IsWanted}
-use Rattle.worker_steps.proofs.Asking.{on_ok, roomy}
+use Rattle.worker_steps.proofs.Asking.{on_ok, roomy, ends_at_join}
 use Rattle.worker_steps.proofs.worker.Worker.step.Goals as goal
 
 pub returns-clause-asks : goal.returns-clause-asks
@@ -21,3 +21,13 @@ returns-clause-asks g c =
     let roomed = subst (IsAfter functions function argument history) (sym c.deref_mut-2.ensures.value) reserved in
     c.next-want.ensures.asks x ((c.next-want.ensures.only function argument history x roomed).0 can) in
     on_ok c.follow.result (AsksFor task c.args.self.now.receipts.items c.follow.new.self.receipts.items) (receipt, ap (λ receipts. receipts.items) c.follow.ensures.receipts ∙ kept.1, refl, wanted)
+
+pub returns-clause-joins : goal.returns-clause-joins
+returns-clause-joins g c =
+    let kept = c.in_ok-answer.ensures.kept in
+    let request : Request = record { strand = c.args.task.now.strand; act = c.next-want.result.act; line = c.next-want.result.line } in
+    let receipt : Receipt = record { number = kept.0; request = request; answer = c.in_ok-answer.answer } in
+    ends_at_join c.follow.result c.follow.new.self.receipts.items c.args.self.now.receipts.items receipt (ap (λ receipts. receipts.items) c.follow.ensures.receipts ∙ kept.1) c.follow.ensures.joins
+
+pub returns-clause-torn : goal.returns-clause-torn
+returns-clause-torn g c torn = absurd (c.follow.ensures.torn torn)
