@@ -44,16 +44,22 @@ row_steps row at line next old fed put new e f g h k rest =
     regroup : (old feeds word rest : List ℕ) → (((old ++ feeds) ++ word) ++ 10 ∷ []) ++ rest ≡ old ++ (feeds ++ ((word ++ 10 ∷ []) ++ rest))
     regroup old feeds word rest = simp append_assoc
 
--- the words of a `func`
-pub begin_text : (code : Code) (fed first second third name parameter : List ℕ) → name ≡ code.name → parameter ≡ code.parameter
-    → first ≡ fed ++ codes "func" → second ≡ first ++ 32 ∷ name → third ≡ second ++ 32 ∷ parameter → third ≡ fed ++ (begin_row code).text
-begin_text code fed first second third name parameter e f g h k =
-    k ∙ (ap (λ (t : List ℕ). t ++ 32 ∷ parameter) (h ∙ ap (λ (t : List ℕ). t ++ 32 ∷ name) g)
-    ∙ (regroup fed (codes "func") name parameter
-    ∙ (ap (λ (t : List ℕ). fed ++ (codes "func" ++ 32 ∷ (t ++ 32 ∷ (parameter ++ [])))) e
-    ∙ ap (λ (t : List ℕ). fed ++ (codes "func" ++ 32 ∷ (code.name ++ 32 ∷ (t ++ [])))) f)))
+-- the text of a row and the feed behind it are put at once
+pub row_once : (row : Row) (at line next : ℕ) (old fed new : List ℕ) → line ≡ row.line → next ≡ row.line + 1
+    → fed ≡ old ++ replicate {A = ℕ} (line - at) 10 → new ≡ fed ++ (row.text ++ 10 ∷ []) → PrintsRows old at (row ∷ []) new next
+row_once row at line next old fed new e f g h =
+    row_steps row at line next old fed (fed ++ row.text) new e f g refl (h ∙ sym (append_assoc fed row.text (10 ∷ [])))
+
+-- the line of a `func`
+pub begin_line : (code : Code) (fed new name parameter : List ℕ) → name ≡ code.name → parameter ≡ code.parameter
+    → new ≡ fed ++ (codes "func " ++ (name ++ 32 ∷ (parameter ++ 10 ∷ []))) → new ≡ fed ++ ((begin_row code).text ++ 10 ∷ [])
+begin_line code fed new name parameter e f g =
+    g ∙ (regroup fed (codes "func") name parameter
+    ∙ (ap (λ (t : List ℕ). fed ++ ((codes "func" ++ 32 ∷ (t ++ 32 ∷ (parameter ++ []))) ++ 10 ∷ [])) e
+    ∙ ap (λ (t : List ℕ). fed ++ ((codes "func" ++ 32 ∷ (code.name ++ 32 ∷ (t ++ []))) ++ 10 ∷ [])) f))
   where
-    regroup : (fed word name parameter : List ℕ) → ((fed ++ word) ++ 32 ∷ name) ++ 32 ∷ parameter ≡ fed ++ (word ++ 32 ∷ (name ++ 32 ∷ (parameter ++ [])))
+    regroup : (fed word name parameter : List ℕ) → fed ++ (word ++ 32 ∷ (name ++ 32 ∷ (parameter ++ 10 ∷ [])))
+        ≡ fed ++ ((word ++ 32 ∷ (name ++ 32 ∷ (parameter ++ []))) ++ 10 ∷ [])
     regroup fed word name parameter = simp (append_assoc, append-nil)
 
 -- rows behind one another
@@ -119,23 +125,23 @@ rows_with version mems reducers functions =
     map (declared_row (known_of version mems reducers)) (declarations mems reducers) ++ rows_of_functions (known_of version mems reducers) (names_of functions) functions
 
 -- the rows behind the first line
-pub rows_printed : (contents : Contents) (mems : List Mem) (reducers : List Reducer) (functions : List Code) (word start first second middle new : List ℕ) (at next : ℕ)
+pub rows_printed : (contents : Contents) (mems : List Mem) (reducers : List Reducer) (functions : List Code) (word first middle new : List ℕ) (at next : ℕ)
     → mems ≡ contents.known.mems → reducers ≡ contents.known.reducers → functions ≡ contents.functions → word ≡ version_spelling contents.known.version
-    → start ≡ codes "cilk" → first ≡ start ++ 32 ∷ word → second ≡ first ++ 10 ∷ []
-    → PrintsRows second 2 (map (declared_row (known_of contents.known.version mems reducers)) (declarations mems reducers)) middle at
+    → first ≡ codes "cilk " ++ (word ++ 10 ∷ [])
+    → PrintsRows first 2 (map (declared_row (known_of contents.known.version mems reducers)) (declarations mems reducers)) middle at
     → PrintsRows middle at (rows_of_functions (known_of contents.known.version mems reducers) (names_of functions) functions) new next → new ≡ plain_text contents
-rows_printed contents mems reducers functions word start first second middle new at next e f g h i j k l m =
+rows_printed contents mems reducers functions word first middle new at next e f g h k l m =
     let version = contents.known.version in
     let all = rows_join (map (declared_row (known_of version mems reducers)) (declarations mems reducers)) (rows_of_functions (known_of version mems reducers) (names_of functions) functions)
-    second middle new 2 at next l m [] in
+    first middle new 2 at next l m [] in
     let own : rows_with version mems reducers functions ≡ rows contents =
     ap (λ (ms : List Mem). rows_with version ms reducers functions) e
     ∙ (ap (λ (rs : List Reducer). rows_with version contents.known.mems rs functions) f ∙ ap (λ (fs : List Code). rows_with version contents.known.mems contents.known.reducers fs) g) in
-    let head : second ≡ (codes "cilk" ++ 32 ∷ version_spelling version) ++ 10 ∷ [] =
-    k ∙ ap (λ (t : List ℕ). t ++ 10 ∷ []) (j ∙ (ap (λ (t : List ℕ). t ++ 32 ∷ word) i ∙ ap (λ (t : List ℕ). codes "cilk" ++ 32 ∷ t) h)) in
+    let head : first ≡ (codes "cilk" ++ 32 ∷ version_spelling version) ++ 10 ∷ [] =
+    k ∙ ap (λ (t : List ℕ). codes "cilk " ++ (t ++ 10 ∷ [])) h in
     sym (append-nil new)
     ∙ (all
-    ∙ (ap (λ (t : List Row). second ++ text_from 2 t) (append-nil (rows_with version mems reducers functions) ∙ own)
+    ∙ (ap (λ (t : List Row). first ++ text_from 2 t) (append-nil (rows_with version mems reducers functions) ∙ own)
     ∙ (ap (λ (t : List ℕ). t ++ text_from 2 (rows contents)) head
     ∙ ap (λ (t : List ℕ). ((codes "cilk" ++ 32 ∷ t) ++ 10 ∷ []) ++ text_from 2 (rows contents)) (sym (append-nil (version_spelling version))))))
 

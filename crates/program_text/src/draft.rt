@@ -234,18 +234,20 @@ impl<'a, A: Allocator + Copy> Draft<'a, A> {
             (λ _. Extends at self.old Ends self.new)
             (IsRoomFault at self.old Ends) }
     {
-        let Some(mut function) = self.current.take() else {
+        let Some(function) = &mut self.current else {
             return Err(fault(at, Cause::BadNesting));
         };
         if at > LINES || self.lines > STATEMENTS {
             return Err(fault(at, Cause::TooMany));
         }
-        if function.end(at)? {
-            self.current = Some(function);
-        } else {
+        let was_part = function.end(at)?;
+        self.lines += 1;
+        if was_part {
+            return Ok(());
+        }
+        if let Some(function) = self.current.take() {
             self.functions.push(function.into_function(at))?;
         }
-        self.lines += 1;
         Ok(())
     }
 

@@ -14,8 +14,9 @@ use crate::function::Function;
 use crate::program::Program;
 use program_lines::{Statement, put_statement};
 use std::alloc::{AllocError, Allocator};
+use std::fmt::Write;
 use text_words::{Mem, Name, Reducer, version_word};
-use trace_text::{put_declarations, put_feeds, put_word};
+use trace_text::{put_declarations, put_feeds};
 
 /// The line of a statement.
 fn statement_line(statement: &Statement) -> u32
@@ -115,11 +116,10 @@ fn put_begin<A: Allocator, B: Allocator>(
 ) -> Result<u64, AllocError>
     ensures { IfOk result (λ next. PrintsRows (string_bytes out.old) at (begin_row function.now ∷ []) (string_bytes out.new) next) }
 {
+    let name = function.name.as_str();
+    let parameter = function.parameter.as_str();
     put_feeds(out, at, u64::from(function.line))?;
-    out.push_str("func")?;
-    put_word(out, function.name.as_str())?;
-    put_word(out, function.parameter.as_str())?;
-    out.push_str("\n")?;
+    writeln!(out, "func {name} {parameter}")?;
     Ok(u64::from(function.line) + 1)
 }
 
@@ -132,8 +132,7 @@ fn put_end<A: Allocator, B: Allocator>(
     ensures { IfOk result (λ next. PrintsRows (string_bytes out.old) at (end_row function.now ∷ []) (string_bytes out.new) next) }
 {
     put_feeds(out, at, u64::from(function.end_line))?;
-    out.push_str("end")?;
-    out.push_str("\n")?;
+    out.push_str("end\n")?;
     Ok(u64::from(function.end_line) + 1)
 }
 
@@ -202,9 +201,8 @@ impl<A: Allocator> Program<A> {
     fn text<B: Allocator>(&self, alloc: B) -> Result<Vec<u8, B>, AllocError>
         ensures { IfOk result (λ text. text.items ≡ plain_text (contents self.now)) }
     {
-        let mut out = String::from_str(alloc, "cilk")?;
-        put_word(&mut out, version_word(self.version))?;
-        out.push_str("\n")?;
+        let version = version_word(self.version);
+        let mut out = format!(in alloc; "cilk {version}\n")?;
         let mems = self.mems.as_slice();
         let reducers = self.reducers.as_slice();
         let at = put_declared(&mut out, mems, reducers)?;

@@ -1,19 +1,26 @@
 -- What stands in a text behind several additions.
-use Rattle.std.proofs.Common.{◌≡◌, ℕ, List, ◌++◌, ap, ◌∙◌, append_assoc}
+use Rattle.std.proofs.Common.{◌≡◌, ℕ, List, [], ◌++◌, ◌∙◌, append_assoc}
 
-pub two_pushed : (old a b one two : List ℕ) → one ≡ old ++ a → two ≡ one ++ b → two ≡ old ++ (a ++ b)
-two_pushed old a b one two first second = second ∙ ap (λ t. t ++ b) first ∙ append_assoc old a b
+-- the cause of a fault, its place, its line, and what may help
+pub fault_pushed : (old title colon cause feed place marked help one two three four five six : List ℕ) → one ≡ old ++ title →
+    two ≡ one ++ colon ++ cause ++ feed → three ≡ two ++ place → four ≡ three ++ marked → five ≡ four ++ feed → six ≡ five ++ help →
+    six ≡ old ++ (title ++ colon ++ cause ++ feed ++ place ++ marked ++ feed ++ help)
+fault_pushed old title colon cause feed place marked help one two three four five six first second third fourth fifth sixth =
+    let flat : six ≡ old ++ title ++ colon ++ cause ++ feed ++ place ++ marked ++ feed ++ help = cc in
+    flat ∙ simp append_assoc
 
-pub three_pushed : (old a b c one two three : List ℕ) → one ≡ old ++ a → two ≡ one ++ b → three ≡ two ++ c → three ≡ old ++ (a ++ b ++ c)
-three_pushed old a b c one two three first second third =
-    third ∙ ap (λ t. t ++ c) (two_pushed old a b one two first second) ∙ append_assoc old (a ++ b) c
+-- a line behind its number
+pub quote_pushed : (old column paint digits bar unpaint blank line feed one two three four five six : List ℕ) → one ≡ old ++ column →
+    two ≡ one ++ paint ++ digits ++ bar → three ≡ two ++ unpaint → four ≡ three ++ blank → five ≡ four ++ line → six ≡ five ++ feed →
+    six ≡ old ++ (column ++ (paint ++ (digits ++ bar) ++ unpaint) ++ blank ++ line ++ feed)
+quote_pushed old column paint digits bar unpaint blank line feed one two three four five six first second third fourth fifth sixth =
+    let flat : six ≡ old ++ column ++ paint ++ digits ++ bar ++ unpaint ++ blank ++ line ++ feed = cc in
+    flat ∙ simp append_assoc
 
-pub four_pushed : (old a b c d one two three four : List ℕ) → one ≡ old ++ a → two ≡ one ++ b → three ≡ two ++ c → four ≡ three ++ d →
-    four ≡ old ++ (a ++ b ++ c ++ d)
-four_pushed old a b c d one two three four first second third fourth =
-    fourth ∙ ap (λ t. t ++ d) (three_pushed old a b c one two three first second third) ∙ append_assoc old (a ++ b ++ c) d
-
-pub five_pushed : (old a b c d e one two three four five : List ℕ) → one ≡ old ++ a → two ≡ one ++ b → three ≡ two ++ c → four ≡ three ++ d → five ≡ four ++ e →
-    five ≡ old ++ (a ++ b ++ c ++ d ++ e)
-five_pushed old a b c d e one two three four five first second third fourth fifth =
-    fifth ∙ ap (λ t. t ++ e) (four_pushed old a b c d one two three four first second third fourth) ∙ append_assoc old (a ++ b ++ c ++ d) e
+-- a place in a file: the column of numbers, the name and a line, and an empty line at the left
+pub place_pushed : (old column sign blank file colon digits feed gutter one two three four five six : List ℕ) → one ≡ old ++ column ++ sign →
+    two ≡ one ++ blank ++ file ++ colon → three ≡ two ++ [] ++ digits → four ≡ three ++ feed → five ≡ four ++ gutter → six ≡ five ++ feed →
+    six ≡ old ++ (column ++ sign ++ blank ++ file ++ colon ++ digits ++ feed ++ gutter ++ feed)
+place_pushed old column sign blank file colon digits feed gutter one two three four five six first second third fourth fifth sixth =
+    let flat : six ≡ old ++ column ++ sign ++ blank ++ file ++ colon ++ [] ++ digits ++ feed ++ gutter ++ feed = cc in
+    flat ∙ simp append_assoc

@@ -1,5 +1,5 @@
 -- The lines of a source text, and what stands on them.
-use Rattle.std.specs.Prelude.{ℕ, ◌+◌, ◌-◌, Bool, true, false, List, [], ◌∷◌, take, drop, slice_get, unwrap_or, if◌then◌else◌}
+use Rattle.std.specs.Prelude.{ℕ, ◌+◌, ◌-◌, List, [], ◌∷◌, drop, slice_get, unwrap_or, if◌then◌else◌}
 use Rattle.text_words.specs.Text.{is_blank, is_hash}
 
 -- the line with this number, from 1 on, and none behind the last

@@ -1,12 +1,11 @@
 //! Why a program's text means nothing, for a person.
 
-ghost use Rattle.std.specs.Prelude.{◌≡◌, ◌++◌, IfOk, OnOk, codes};
+ghost use Rattle.std.specs.Prelude.{◌≡◌, ◌++◌, IfOk, OnOk};
 ghost use Rattle.text_words.specs.Text.{lines};
-ghost use Rattle.source_quotes.specs.Quotes.{look_of, painted, place, marked};
-ghost use Rattle.source_quotes.specs.FaultTexts.{meaning, fault_title, fault_text, TellsFault};
+ghost use Rattle.source_quotes.specs.FaultTexts.{meaning, fault_text, TellsFault};
 
 use crate::hint::hint;
-use crate::look::{Look, Paint, push_marked, push_painted, push_place};
+use crate::look::{Look, Paint, push_marked, push_painted, push_place, push_three};
 use crate::source::Source;
 use race_report::push_words;
 use std::alloc::{AllocError, Allocator};
@@ -33,17 +32,7 @@ fn meaning_of(why: Cause) -> &'static str
     }
 }
 
-/// Adds the cause.
-fn push_cause<A: Allocator>(text: &mut Vec<u8, A>, look: Look, why: Cause) -> Result<(), AllocError>
-    ensures { OnOk result (text.new.items ≡ text.old.items ++ fault_title look why) }
-{
-    push_painted(text, look, Paint::Red, "error")?;
-    push_words(text, ": ")?;
-    push_words(text, meaning_of(why))?;
-    push_words(text, "\n")
-}
-
-/// Adds the cause, the place, and the faulty line with a sign below it.
+/// Adds the cause, the place, the faulty line with a sign below it, and what may help.
 fn push_fault<A: Allocator, B: Allocator>(
     text: &mut Vec<u8, A>,
     look: Look,
@@ -51,13 +40,16 @@ fn push_fault<A: Allocator, B: Allocator>(
     source: &Source<'_, B>,
     number: u32,
     why: Cause,
+    help: &[u8],
 ) -> Result<(), AllocError>
-    ensures { OnOk result (text.new.items ≡ text.old.items ++ fault_text look file.now source.now number why) }
+    ensures { OnOk result (text.new.items ≡ text.old.items ++ (fault_text look file.now source.now number why ++ help.now)) }
 {
-    push_cause(text, look, why)?;
+    push_painted(text, look, Paint::Red, "error")?;
+    push_three(text, ": ", meaning_of(why), "\n")?;
     push_place(text, look, file, number)?;
     push_marked(text, look, source, number, b'^')?;
-    push_words(text, "\n")
+    push_words(text, "\n")?;
+    text.extend_from_slice(help)
 }
 
 /// What is told of a program's text that has a fault at this line: the meaning of the cause, the line with a sign below it, and what may
@@ -74,9 +66,8 @@ pub fn fault_message<A: Allocator + Copy>(
 {
     let source = Source::new(alloc, text)?;
     let look = Look::of(is_painted, &source);
-    let mut told = Vec::new(alloc);
-    push_fault(&mut told, look, file, &source, number, why)?;
     let help = hint(alloc, look, &source, number, why)?;
-    told.extend_from_slice(help.as_slice())?;
+    let mut told = Vec::new(alloc);
+    push_fault(&mut told, look, file, &source, number, why, help.as_slice())?;
     Ok(told)
 }

@@ -3,35 +3,51 @@
 ghost use Rattle.std.specs.Prelude.{◌<◌, length, IfSome};
 ghost use Rattle.text_words.specs.Text.{IsTextLine};
 
-use crate::look::{Look, push_noted};
+use crate::look::{Look, push_noted, push_three};
 use crate::source::Source;
 use race_report::{push_number, push_words};
 use std::alloc::{AllocError, Allocator};
 use text_words::{Cause, Words, as_text, is_name};
 
+/// The first words of lines of a program, and the form of the lines that begin with each.
+const FORMS: &[(&str, &str)] = &[
+    ("cilk", "cilk 1, or cilk 2, as the first line"),
+    (
+        "mem",
+        "mem NAME, or mem NAME LENGTH with a length from 1 to 1000000",
+    ),
+    (
+        "reducer",
+        "reducer NAME MONOID, with sum, min, max, last, or in version 2 digits",
+    ),
+    ("func", "func NAME PARAMETER"),
+    (
+        "let",
+        "let r = VALUE, or let r = VALUE + VALUE, also with -, * and <",
+    ),
+    ("read", "read r CELL"),
+    ("write", "write CELL VALUE"),
+    ("bump", "bump CELL VALUE, in version 2"),
+    ("update", "update REDUCER VALUE"),
+    ("put", "put REDUCER VALUE"),
+    ("get", "get r REDUCER"),
+    ("spawn", "spawn FUNCTION VALUE"),
+    ("call", "call FUNCTION VALUE"),
+    ("sync", "sync"),
+    ("if", "if r"),
+    ("else", "else"),
+    ("end", "end"),
+    ("pfor", "pfor r COUNT FUNCTION, in version 2"),
+];
+
 /// The form of the lines of a program that begin with a word.
 fn form_of(word: &str) -> Option<&'static str> {
-    match word {
-        "cilk" => Some("cilk 1, or cilk 2, as the first line"),
-        "mem" => Some("mem NAME, or mem NAME LENGTH with a length from 1 to 1000000"),
-        "reducer" => Some("reducer NAME MONOID, with sum, min, max, last, or in version 2 digits"),
-        "func" => Some("func NAME PARAMETER"),
-        "let" => Some("let r = VALUE, or let r = VALUE + VALUE, also with -, * and <"),
-        "read" => Some("read r CELL"),
-        "write" => Some("write CELL VALUE"),
-        "bump" => Some("bump CELL VALUE, in version 2"),
-        "update" => Some("update REDUCER VALUE"),
-        "put" => Some("put REDUCER VALUE"),
-        "get" => Some("get r REDUCER"),
-        "spawn" => Some("spawn FUNCTION VALUE"),
-        "call" => Some("call FUNCTION VALUE"),
-        "sync" => Some("sync"),
-        "if" => Some("if r"),
-        "else" => Some("else"),
-        "end" => Some("end"),
-        "pfor" => Some("pfor r COUNT FUNCTION, in version 2"),
-        _ => None,
+    for (first, form) in FORMS {
+        if *first == word {
+            return Some(form);
+        }
     }
+    None
 }
 
 /// The limit that a line with this first word may pass.
@@ -49,48 +65,99 @@ fn limit_of(word: &str) -> &'static str {
     }
 }
 
-/// The first words of a line.
-fn first_words<'a>(line: &'a [u8]) -> (&'a str, &'a str) {
+/// The first three words of a line; where there are fewer, nothing in their place.
+fn first_words<'a>(line: &'a [u8]) -> (&'a str, &'a str, &'a str) {
     let Some(text) = as_text(line) else {
-        return ("", "");
+        return ("", "", "");
     };
     let mut words = Words::of_line(text);
     let first = words.take().unwrap_or("");
-    (first, words.take().unwrap_or(""))
+    let second = words.take().unwrap_or("");
+    (first, second, words.take().unwrap_or(""))
 }
 
 /// Whether a line gives a program the name, as a memory, a reducer or a function.
 fn declares(line: &[u8], name: &str) -> bool {
-    let (first, second) = first_words(line);
+    let (first, second, _) = first_words(line);
     second == name && (first == "mem" || first == "reducer" || first == "func")
 }
 
-/// Adds a note: these words, a word in quotes, and these words.
-fn push_note<A: Allocator>(
-    text: &mut Vec<u8, A>,
-    look: Look,
-    front: &str,
-    word: &str,
-    back: &str,
-) -> Result<(), AllocError> {
-    push_noted(text, look)?;
-    push_words(text, front)?;
-    push_words(text, "`")?;
-    push_words(text, word)?;
-    push_words(text, "`")?;
-    push_words(text, back)?;
-    push_words(text, "\n")
+/// Whether lines with this first word assign the register behind it.
+fn is_assignment(first: &str) -> bool {
+    matches!(first, "let" | "read" | "get" | "pfor")
 }
 
-/// Adds the form of the lines with this first word.
-fn push_form<A: Allocator>(
-    text: &mut Vec<u8, A>,
+/// Whether a line of a function makes a register of this name known.
+fn assigns(line: &[u8], name: &str) -> bool {
+    let (first, second, third) = first_words(line);
+    if first == "func" {
+        third == name
+    } else {
+        second == name && is_assignment(first)
+    }
+}
+
+/// Notes, a line each. That there was no memory for a part is noted, and asked for once, at the end.
+struct Notes<A: Allocator> {
+    text: Vec<u8, A>,
     look: Look,
-    first: &str,
-) -> Result<(), AllocError> {
+    is_short: bool,
+}
+
+impl<A: Allocator> Notes<A> {
+    /// Notes that there is no memory.
+    fn fail(&mut self) {
+        self.is_short = true;
+    }
+
+    /// Adds words.
+    fn words(&mut self, words: &str) {
+        self.is_short |= push_words(&mut self.text, words).is_err();
+    }
+
+    /// Begins a note.
+    fn begin(&mut self, words: &str) {
+        self.is_short |= push_noted(&mut self.text, self.look).is_err();
+        self.words(words);
+    }
+
+    /// Adds a word in quotes, and the words behind it.
+    fn quoted(&mut self, word: &str, behind: &str) {
+        self.is_short |= push_three(&mut self.text, "`", word, "`").is_err();
+        self.words(behind);
+    }
+
+    /// Adds the number of a line, and ends the note.
+    fn line(&mut self, number: u64) {
+        self.is_short |= push_number(&mut self.text, "", number).is_err();
+        self.words("\n");
+    }
+
+    /// All notes. Errors where there was no memory for a part.
+    fn end(self) -> Result<Vec<u8, A>, AllocError> {
+        let Notes {
+            text,
+            look: _,
+            is_short,
+        } = self;
+        if is_short {
+            return Err(AllocError);
+        }
+        Ok(text)
+    }
+}
+
+/// Notes the form of the lines with this first word.
+fn note_form<A: Allocator>(notes: &mut Notes<A>, first: &str) {
     match form_of(first) {
-        Some(form) => push_note(text, look, "the form of this line is ", form, ""),
-        None => push_note(text, look, "no line begins with ", first, ""),
+        Some(form) => {
+            notes.begin("the form of this line is ");
+            notes.quoted(form, "\n");
+        }
+        None => {
+            notes.begin("no line begins with ");
+            notes.quoted(first, "\n");
+        }
     }
 }
 
@@ -101,99 +168,66 @@ fn declared_at(lines: &[&[u8]], name: &str) -> Option<usize>
     lines.iter().position(|line| declares(line, name))
 }
 
-/// Adds where a name was declared before.
-fn push_earlier<A: Allocator>(
-    text: &mut Vec<u8, A>,
-    look: Look,
-    before: &[&[u8]],
-    name: &str,
-) -> Result<(), AllocError> {
-    let Some(place) = declared_at(before, name) else {
-        return Ok(());
-    };
-    push_noted(text, look)?;
-    push_words(text, "`")?;
-    push_words(text, name)?;
-    push_number(text, "` is declared at line ", place as u64 + 1)?;
-    push_words(text, "\n")
+/// Notes where a name was declared before.
+fn note_earlier<A: Allocator>(notes: &mut Notes<A>, before: &[&[u8]], name: &str) {
+    if let Some(place) = declared_at(before, name) {
+        notes.begin("");
+        notes.quoted(name, " is declared at line ");
+        notes.line(place as u64 + 1);
+    }
 }
 
-/// What is open behind some lines: the lines of each `func` and `if` that has no `end` yet, the innermost last.
-fn open_lines<A: Allocator>(alloc: A, lines: &[&[u8]]) -> Result<Vec<usize, A>, AllocError> {
-    let mut open = Vec::new(alloc);
-    for (place, line) in lines.iter().enumerate() {
-        match first_words(line).0 {
-            "func" | "if" => open.push(place)?,
-            "end" => {
-                open.pop();
-            }
+/// The place of the innermost `func` or `if` on these lines that has no `end` yet.
+fn open_at(lines: &[&[u8]]) -> Option<usize>
+    ensures { IfSome result (λ place. place < length lines.now) }
+{
+    let mut place = lines.len();
+    let mut ends = 0_usize;
+    while place > 0 {
+        place -= 1;
+        match first_words(lines[place]).0 {
+            "func" | "if" if ends == 0 => return Some(place),
+            "func" | "if" => ends -= 1,
+            "end" => ends += 1,
             _ => {}
         }
     }
-    Ok(open)
+    None
 }
 
-/// The name that a word begins with: that of an array before its index, and of others the whole word.
-fn name_of(word: &str) -> &str {
-    match word.split_once('[') {
-        Some((name, _)) => name,
-        None => word,
-    }
-}
-
-/// The index in the word of an array's cell, and nothing of other words.
-fn index_of(word: &str) -> &str {
-    match word.split_once('[') {
-        Some((_, index)) => index.strip_suffix(']').unwrap_or(index),
-        None => "",
-    }
-}
-
-/// The first six words of a line, which are all that a statement has; where there are fewer, nothing in their place.
-fn six_words(line: &str) -> [&str; 6]
-    requires { IsTextLine line.now }
-{
-    let mut words = Words::of_line(line);
-    [
-        words.take().unwrap_or(""),
-        words.take().unwrap_or(""),
-        words.take().unwrap_or(""),
-        words.take().unwrap_or(""),
-        words.take().unwrap_or(""),
-        words.take().unwrap_or(""),
-    ]
-}
-
-/// What a statement uses, names and numbers, at most three: not the register that it assigns. Other lines use nothing.
-fn used_by(line: &str) -> [&str; 3]
-    requires { IsTextLine line.now }
-{
-    match six_words(line) {
-        ["let", _, _, left, _, right] => [left, right, ""],
-        ["read", _, cell, ..] => [name_of(cell), index_of(cell), ""],
-        ["write" | "bump", cell, value, ..] => [name_of(cell), index_of(cell), value],
-        ["update" | "put" | "spawn" | "call", name, value, ..] => [name, value, ""],
-        ["get", _, reducer, ..] => [reducer, "", ""],
-        ["pfor", _, count, function, ..] => [count, function, ""],
-        ["if", register, ..] => [register, "", ""],
-        _ => ["", "", ""],
-    }
-}
-
-/// Whether a line of a function makes a register of this name known.
-fn assigns(line: &[u8], name: &str) -> bool {
-    let Some(text) = as_text(line) else {
-        return false;
-    };
-    let mut words = Words::of_line(text);
-    match words.take() {
-        Some("let" | "read" | "get" | "pfor") => words.take() == Some(name),
-        Some("func") => {
-            words.take();
-            words.take() == Some(name)
+/// Notes what is open before a line that may not stand there.
+fn note_open<A: Allocator>(notes: &mut Notes<A>, before: &[&[u8]]) {
+    match open_at(before) {
+        Some(place) => {
+            notes.begin("the ");
+            notes.quoted(
+                first_words(before[place]).0,
+                " that is open here begins at line ",
+            );
+            notes.line(place as u64 + 1);
         }
-        _ => false,
+        None => notes.begin("no function is open here\n"),
     }
+}
+
+/// The names that a statement uses, each once: all behind its first word but for that of the register that it assigns.
+fn used_by<'a, A: Allocator>(alloc: A, line: &'a str) -> Result<Vec<&'a str, A>, AllocError>
+    requires { IsTextLine line.now }
+{
+    let mut names = Vec::new(alloc);
+    let mut words = Words::of_line(line);
+    if is_assignment(words.take().unwrap_or("")) {
+        words.take();
+    }
+    while let Some(word) = words.take() {
+        for part in word.split('[') {
+            let name = part.strip_suffix(']').unwrap_or(part);
+            if is_name(name) && !names.contains(&name) {
+                names.push(name)?;
+            }
+        }
+    }
+    Ok(names)
 }
 
 /// The lines of the function that the last of these lines stands in, from its `func` on.
@@ -211,57 +245,26 @@ fn is_known<B: Allocator>(source: &Source<'_, B>, function: &[&[u8]], name: &str
         || declared_at(source.as_slice(), name).is_some()
 }
 
-/// Adds each name that a line uses and that nothing makes known, once.
-fn push_unknown<A: Allocator, B: Allocator>(
-    text: &mut Vec<u8, A>,
-    look: Look,
+/// Notes each name that a line uses and that nothing makes known, once.
+fn note_unknown<A: Allocator + Copy, B: Allocator>(
+    alloc: A,
+    notes: &mut Notes<A>,
     source: &Source<'_, B>,
     number: u32,
-) -> Result<(), AllocError> {
+) {
     let Some(line) = as_text(source.line(number)) else {
-        return Ok(());
+        return;
+    };
+    let Ok(used) = used_by(alloc, line) else {
+        return notes.fail();
     };
     let function = function_lines(source.before(number));
-    let used = used_by(line);
-    for (place, name) in used.iter().enumerate() {
-        let is_told = used[..place].contains(name);
-        if is_name(name) && !is_told && !is_known(source, function, name) {
-            push_note(
-                text,
-                look,
-                "",
-                name,
-                " is declared nowhere, and no line above assigns it",
-            )?;
+    for name in used.as_slice() {
+        if !is_known(source, function, name) {
+            notes.begin("");
+            notes.quoted(name, " is declared nowhere, and no line above assigns it\n");
         }
     }
-    Ok(())
-}
-
-/// Adds what is open before a line that may not stand there.
-fn push_open<A: Allocator + Copy>(
-    alloc: A,
-    text: &mut Vec<u8, A>,
-    look: Look,
-    before: &[&[u8]],
-) -> Result<(), AllocError> {
-    let open = open_lines(alloc, before)?;
-    let Some(place) = open.as_slice().last() else {
-        push_noted(text, look)?;
-        return push_words(text, "no function is open here\n");
-    };
-    let Some(line) = before.get(*place) else {
-        return Ok(());
-    };
-    push_noted(text, look)?;
-    push_words(text, "the `")?;
-    push_words(text, first_words(line).0)?;
-    push_number(
-        text,
-        "` that is open here begins at line ",
-        *place as u64 + 1,
-    )?;
-    push_words(text, "\n")
 }
 
 /// What may help, a note a line.
@@ -272,23 +275,26 @@ pub(crate) fn hint<A: Allocator + Copy, B: Allocator>(
     number: u32,
     why: Cause,
 ) -> Result<Vec<u8, A>, AllocError> {
-    let mut text = Vec::new(alloc);
-    let (first, second) = first_words(source.line(number));
+    let (first, second, _) = first_words(source.line(number));
     let before = source.before(number);
+    let mut notes = Notes {
+        text: Vec::new(alloc),
+        look,
+        is_short: false,
+    };
     match why {
-        Cause::BadWord | Cause::BadNumber => push_form(&mut text, look, first)?,
+        Cause::BadWord | Cause::BadNumber => note_form(&mut notes, first),
         Cause::UnknownName => {
-            push_form(&mut text, look, first)?;
-            push_unknown(&mut text, look, source, number)?;
+            note_form(&mut notes, first);
+            note_unknown(alloc, &mut notes, source, number);
         }
-        Cause::TwiceNamed => push_earlier(&mut text, look, before, second)?,
-        Cause::BadNesting => push_open(alloc, &mut text, look, before)?,
+        Cause::TwiceNamed => note_earlier(&mut notes, before, second),
+        Cause::BadNesting => note_open(&mut notes, before),
         Cause::TooMany => {
-            push_noted(&mut text, look)?;
-            push_words(&mut text, limit_of(first))?;
-            push_words(&mut text, "\n")?;
+            notes.begin(limit_of(first));
+            notes.words("\n");
         }
         Cause::NotText | Cause::BadHeader | Cause::NoMain => {}
     }
-    Ok(text)
+    notes.end()
 }

@@ -1,9 +1,10 @@
 //! How quotes look, and the parts that they are made of.
 
-ghost use Rattle.std.specs.Prelude.{◌≡◌, ◌≤◌, ◌++◌, OnOk, length, decimal, replicate, codes, take, drop};
+ghost use Rattle.std.specs.Prelude.{◌≡◌, ◌≤◌, ◌++◌, OnOk, length, decimal, replicate, take, drop};
 ghost use Rattle.source_quotes.specs.Lines.{line_in, blanks, end_from, statement_length};
-ghost use Rattle.source_quotes.specs.Quotes.{look_of, paint_code, before_paint, behind_paint, painted, numbered};
-ghost use Rattle.source_quotes.specs.Quotes.{gutter, quote, sign, marked, pointer, place, noted, counted};
+ghost use Rattle.source_quotes.specs.declared.look.Paint.TheVariants.{Blue};
+ghost use Rattle.source_quotes.specs.Quotes.{look_of, before_paint, behind_paint, painted};
+ghost use Rattle.source_quotes.specs.Quotes.{gutter, quote, sign, marked, place, noted, counted};
 
 use crate::source::Source;
 use itoa::Buffer;
@@ -11,7 +12,7 @@ use race_report::{push_number, push_words};
 use std::alloc::{AllocError, Allocator};
 
 /// What words are painted in, on a terminal.
-#[derive(Clone, Copy, Debug, PartialEq, Eq)]
+#[derive(Clone, Copy)]
 pub enum Paint {
     /// What is wrong.
     Red,
@@ -22,7 +23,7 @@ pub enum Paint {
 }
 
 /// How quotes look.
-#[derive(Clone, Copy, Debug, PartialEq, Eq)]
+#[derive(Clone, Copy)]
 pub struct Look {
     /// Whether words are painted, for a terminal.
     pub is_painted: bool,
@@ -42,41 +43,39 @@ impl Look {
     }
 }
 
-/// What a terminal is told, behind an escape, before painted words.
-fn code_of(paint: Paint) -> &'static str
-    ensures { result.now ≡ paint_code paint }
+/// What stands before painted words.
+fn before(look: Look, paint: Paint) -> &'static str
+    ensures { result.now ≡ before_paint look.is_painted paint }
 {
+    if !look.is_painted {
+        return "";
+    }
     match paint {
-        Paint::Red => "[1;31m",
-        Paint::Blue => "[1;34m",
-        Paint::Bold => "[1m",
+        Paint::Red => "\u{1b}[1;31m",
+        Paint::Blue => "\u{1b}[1;34m",
+        Paint::Bold => "\u{1b}[1m",
     }
 }
 
-/// Adds what stands before painted words.
-fn push_before<A: Allocator>(
+/// What stands behind painted words.
+fn behind(look: Look) -> &'static str
+    ensures { result.now ≡ behind_paint look.is_painted }
+{
+    if look.is_painted { "\u{1b}[0m" } else { "" }
+}
+
+/// Adds words behind others.
+pub(crate) fn push_three<A: Allocator>(
     text: &mut Vec<u8, A>,
-    look: Look,
-    paint: Paint,
+    first: &str,
+    second: &str,
+    third: &str,
 ) -> Result<(), AllocError>
-    ensures { OnOk result (text.new.items ≡ text.old.items ++ before_paint look.is_painted paint) }
+    ensures { OnOk result (text.new.items ≡ text.old.items ++ first.now ++ second.now ++ third.now) }
 {
-    if !look.is_painted {
-        return Ok(());
-    }
-    text.push(27)?;
-    push_words(text, code_of(paint))
-}
-
-/// Adds what stands behind painted words.
-fn push_behind<A: Allocator>(text: &mut Vec<u8, A>, look: Look) -> Result<(), AllocError>
-    ensures { OnOk result (text.new.items ≡ text.old.items ++ behind_paint look.is_painted) }
-{
-    if !look.is_painted {
-        return Ok(());
-    }
-    text.push(27)?;
-    push_words(text, "[0m")
+    push_words(text, first)?;
+    push_words(text, second)?;
+    push_words(text, third)
 }
 
 /// Adds words in a paint.
@@ -88,9 +87,7 @@ pub fn push_painted<A: Allocator>(
 ) -> Result<(), AllocError>
     ensures { OnOk result (text.new.items ≡ text.old.items ++ painted look paint words.now) }
 {
-    push_before(text, look, paint)?;
-    push_words(text, words)?;
-    push_behind(text, look)
+    push_three(text, before(look, paint), words, behind(look))
 }
 
 /// Adds a byte so many times.
@@ -107,37 +104,26 @@ fn push_repeated<A: Allocator>(
     Ok(())
 }
 
-/// Adds the number of a line at the left.
-fn push_numbered<A: Allocator>(
-    text: &mut Vec<u8, A>,
-    look: Look,
-    number: u32,
-) -> Result<(), AllocError>
-    ensures { OnOk result (text.new.items ≡ text.old.items ++ numbered look number) }
+/// Adds this sign at the left of what is no line of the source.
+fn push_left<A: Allocator>(text: &mut Vec<u8, A>, look: Look, sign: &str) -> Result<(), AllocError>
+    ensures { OnOk result (text.new.items ≡ text.old.items ++ replicate look.width 32 ++ painted look Blue sign.now) }
 {
-    let mut buffer = Buffer::new();
-    let digits = buffer.format(number);
-    push_repeated(text, look.width.saturating_sub(digits.len()), b' ')?;
-    push_before(text, look, Paint::Blue)?;
-    push_words(text, digits)?;
-    push_words(text, " |")?;
-    push_behind(text, look)
+    push_repeated(text, look.width, b' ')?;
+    push_painted(text, look, Paint::Blue, sign)
 }
 
 /// Adds the left of what is no line of the source.
 pub fn push_gutter<A: Allocator>(text: &mut Vec<u8, A>, look: Look) -> Result<(), AllocError>
     ensures { OnOk result (text.new.items ≡ text.old.items ++ gutter look) }
 {
-    push_repeated(text, look.width, b' ')?;
-    push_painted(text, look, Paint::Blue, " |")
+    push_left(text, look, " |")
 }
 
 /// Adds what stands before a note beside the source.
 pub fn push_noted<A: Allocator>(text: &mut Vec<u8, A>, look: Look) -> Result<(), AllocError>
     ensures { OnOk result (text.new.items ≡ text.old.items ++ noted look) }
 {
-    push_repeated(text, look.width, b' ')?;
-    push_painted(text, look, Paint::Blue, " =")?;
+    push_left(text, look, " =")?;
     push_words(text, " ")
 }
 
@@ -150,7 +136,11 @@ pub fn push_quote<A: Allocator, B: Allocator>(
 ) -> Result<(), AllocError>
     ensures { OnOk result (text.new.items ≡ text.old.items ++ quote look source.now number) }
 {
-    push_numbered(text, look, number)?;
+    let mut buffer = Buffer::new();
+    let digits = buffer.format(number);
+    push_repeated(text, look.width.saturating_sub(digits.len()), b' ')?;
+    push_three(text, before(look, Paint::Blue), digits, " |")?;
+    push_words(text, behind(look))?;
     push_words(text, " ")?;
     text.extend_from_slice(source.line(number))?;
     push_words(text, "\n")
@@ -208,9 +198,9 @@ pub fn push_sign<A: Allocator>(
     push_gutter(text, look)?;
     push_words(text, " ")?;
     text.extend_from_slice(front)?;
-    push_before(text, look, Paint::Red)?;
+    push_words(text, before(look, Paint::Red))?;
     push_repeated(text, end_of(statement), mark)?;
-    push_behind(text, look)
+    push_words(text, behind(look))
 }
 
 /// Adds the line of the source with this number, and this sign below its statement.
@@ -235,29 +225,9 @@ pub fn push_count<A: Allocator>(
 ) -> Result<(), AllocError>
     ensures { OnOk result (text.new.items ≡ text.old.items ++ counted count word.now) }
 {
+    let plural = if count == 1 { "" } else { "s" };
     push_number(text, "", count as u64)?;
-    push_words(text, " ")?;
-    push_words(text, word)?;
-    if count == 1 {
-        return Ok(());
-    }
-    push_words(text, "s")
-}
-
-/// Adds the name of a file and a line of it.
-fn push_pointer<A: Allocator>(
-    text: &mut Vec<u8, A>,
-    look: Look,
-    file: &str,
-    number: u32,
-) -> Result<(), AllocError>
-    ensures { OnOk result (text.new.items ≡ text.old.items ++ pointer look file.now number) }
-{
-    push_repeated(text, look.width, b' ')?;
-    push_painted(text, look, Paint::Blue, "-->")?;
-    push_words(text, " ")?;
-    push_words(text, file)?;
-    push_number(text, ":", u64::from(number))
+    push_three(text, " ", word, plural)
 }
 
 /// Adds where in a file it is: its name and a line, and an empty line at the left.
@@ -269,7 +239,9 @@ pub fn push_place<A: Allocator>(
 ) -> Result<(), AllocError>
     ensures { OnOk result (text.new.items ≡ text.old.items ++ place look file.now number) }
 {
-    push_pointer(text, look, file, number)?;
+    push_left(text, look, "-->")?;
+    push_three(text, " ", file, ":")?;
+    push_number(text, "", u64::from(number))?;
     push_words(text, "\n")?;
     push_gutter(text, look)?;
     push_words(text, "\n")

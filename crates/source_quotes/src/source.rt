@@ -10,7 +10,7 @@ use std::marker::Model;
 use text_words::{split_line, without_return};
 
 /// A text by its lines, each without what ends it. Contracts see the list of the lines.
-#[derive(Debug, Drop)]
+#[derive(Drop)]
 pub struct Source<'a, A: Allocator> {
     lines: Vec<&'a [u8], A>,
 }
