@@ -18,13 +18,11 @@ mod verdicts;
 mod words;
 mod worked;
 
-use crate::checks::same_text;
 use crate::devices::Filling;
 use std::alloc::{AllocError, Global};
 use std::io::Read;
 use std::process::Abort;
 use std::sync::Wait;
-use std::test::Fail;
 use std::thread::Threads;
 use tool_commands::{
     CliFault, Manner, OpenDoor, Watched, draw_text, elide_text, explain_text, judge_stream,
@@ -273,16 +271,9 @@ fn has_ended(answer: &Result<u8, CliFault>, status: u8) -> bool {
     }
 }
 
-/// The command has ended with this status, and neither its reader nor its writer has failed.
-fn is_ended(rt: &impl Abort, outcome: &Outcome, status: u8, what: &str) {
-    let has_failed = outcome.read_failed || outcome.write_failed;
-    assert!(rt; !has_failed && has_ended(&outcome.answer, status), "{what}");
-}
-
-/// It has, and has written this text.
-fn is_written(rt: &impl Abort, outcome: &Outcome, status: u8, text: &str) {
-    is_ended(rt, outcome, status, text);
-    same_text(rt, outcome.output.held.as_slice(), text.as_bytes());
+/// Whether the command has ended with this status, and neither its reader nor its writer has failed.
+fn is_ended(outcome: &Outcome, status: u8) -> bool {
+    has_ended(&outcome.answer, status) && !outcome.read_failed && !outcome.write_failed
 }
 
 /// Whether these bytes are those of one of the texts.
@@ -295,104 +286,65 @@ fn is_one_of(bytes: &[u8], texts: &[&str]) -> bool {
     false
 }
 
-/// It has, and has written one of these texts.
-fn is_among(rt: &impl Abort, outcome: &Outcome, status: u8, texts: &[&str]) {
-    is_ended(rt, outcome, status, "one of several texts");
-    assert!(rt; is_one_of(outcome.output.held.as_slice(), texts));
+/// Whether the fault has this status and text.
+fn is_fault(alloc: Global, fault: &CliFault, status: u8, wanted: &str) -> bool {
+    match format!(in alloc; "{fault}") {
+        Ok(told) => fault.status() == status && told.as_str() == wanted,
+        Err(_) => false,
+    }
 }
 
-/// The fault has this status and text.
-fn is_fault(
-    rt: &impl Abort,
-    alloc: Global,
-    fault: &CliFault,
-    status: u8,
-    wanted: &str,
-) -> Result<(), Fail> {
-    let told = format!(in alloc; "{fault}")?;
-    same_text(rt, told.as_bytes(), wanted.as_bytes());
-    assert!(rt; fault.status() == status, "{wanted}");
-    Ok(())
-}
-
-/// The command has written nothing, and answers a fault with this status and text.
-fn has_fault(
-    rt: &impl Abort,
-    alloc: Global,
-    outcome: &Outcome,
-    status: u8,
-    wanted: &str,
-) -> Result<(), Fail> {
-    assert!(rt; outcome.output.held.is_empty());
+/// Whether the command has written nothing, and answers a fault with this status and text.
+fn has_fault(alloc: Global, outcome: &Outcome, status: u8, wanted: &str) -> bool {
     match &outcome.answer {
-        Ok(_) => {
-            assert!(rt; false, "{wanted}");
-            Ok(())
-        }
-        Err(fault) => is_fault(rt, alloc, fault, status, wanted),
+        Ok(_) => false,
+        Err(fault) => { outcome.output.held.is_empty() && is_fault(alloc, fault, status, wanted) }
     }
 }
 
-/// The reader has failed behind so many reads, which is told, and nothing is written.
-fn is_unread(rt: &impl Abort, outcome: &Outcome, left: u32) {
-    let is_told = matches!(outcome.answer, Err(CliFault::Read));
-    assert!(rt;
-        is_told && outcome.read_failed && outcome.output.held.is_empty(),
-        "at read {left}"
-    );
+/// Whether the reader has failed, which is told, and nothing is written.
+fn is_unread(outcome: &Outcome) -> bool {
+    matches!(outcome.answer, Err(CliFault::Read))
+        && outcome.read_failed
+        && outcome.output.held.is_empty()
 }
 
-/// A file was not there, which is told, and nothing is written.
-fn is_lacking(rt: &impl Abort, alloc: Global, outcome: &Outcome) -> Result<(), Fail> {
-    is_unread(rt, outcome, 0);
-    assert!(rt; !outcome.write_failed);
-    has_fault(rt, alloc, outcome, 2, "read")
+/// Whether the text was too long, which was told after so many reads, and nothing is written.
+fn is_too_long(outcome: &Outcome, least: u64, most: u64) -> bool {
+    matches!(outcome.answer, Err(CliFault::TooLong))
+        && !outcome.read_failed
+        && outcome.output.held.is_empty()
+        && least <= outcome.reads
+        && outcome.reads <= most
 }
 
-/// The reader was interrupted, which is told as a failure, and nothing is written.
-fn is_interrupted(rt: &impl Abort, outcome: &Outcome) {
-    is_unread(rt, outcome, 0);
-    assert!(rt; outcome.reads == 1);
-}
-
-/// The text was too long, which was told after so many reads, and nothing is written.
-fn is_too_long(rt: &impl Abort, outcome: &Outcome, least: u64, most: u64) {
-    let is_told = matches!(outcome.answer, Err(CliFault::TooLong));
-    assert!(rt; is_told && !outcome.read_failed && outcome.output.held.is_empty());
-    assert!(rt; least <= outcome.reads && outcome.reads <= most);
-}
-
-/// The writer, which went along with so many calls, has failed just where they are fewer than the text takes, and holds what they wrote.
-fn has_filled(rt: &impl Abort, outcome: &Outcome, left: u32, calls: u32, text: &str) {
-    let (is_cut, is_told) = (left < calls, matches!(outcome.answer, Err(CliFault::Write)));
-    let has_ended = has_ended(&outcome.answer, 0);
-    assert!(rt;
-        is_told == is_cut && outcome.write_failed == is_cut && has_ended != is_cut,
-        "{left} writes"
-    );
+/// Whether the writer, which went along with so many calls, has failed just where they are fewer than the text takes, and holds what they
+/// wrote.
+fn has_filled(outcome: &Outcome, left: u32, calls: u32, text: &str) -> bool {
+    let is_cut = left < calls;
     let (front, _) = text.as_bytes().split_at(text.len().min(left as usize));
-    same_text(rt, outcome.output.held.as_slice(), front);
+    matches!(outcome.answer, Err(CliFault::Write)) == is_cut
+        && outcome.write_failed == is_cut
+        && has_ended(&outcome.answer, 0) != is_cut
+        && outcome.output.held.as_slice() == front
 }
 
-/// The outcome is what is wanted.
-fn is_met(
-    rt: &impl Abort,
-    alloc: Global,
-    outcome: &Outcome,
-    wanted: Wanted<'_>,
-) -> Result<(), Fail> {
+/// Whether the outcome is what is wanted.
+fn is_met(alloc: Global, outcome: &Outcome, wanted: Wanted<'_>) -> bool {
+    let written = outcome.output.held.as_slice();
     match wanted {
-        Status(status) => is_ended(rt, outcome, status, "a status"),
-        Text(status, text) => is_written(rt, outcome, status, text),
-        Among(status, texts) => is_among(rt, outcome, status, texts),
-        Fault(status, text) => has_fault(rt, alloc, outcome, status, text)?,
-        Lacking => is_lacking(rt, alloc, outcome)?,
-        Unread(left) => is_unread(rt, outcome, left),
-        Interrupted => is_interrupted(rt, outcome),
-        TooLong(least, most) => is_too_long(rt, outcome, least, most),
-        Filled(takes, calls, text) => has_filled(rt, outcome, takes.calls(), calls, text),
+        Status(status) => is_ended(outcome, status),
+        Text(status, text) => is_ended(outcome, status) && written == text.as_bytes(),
+        Among(status, texts) => is_ended(outcome, status) && is_one_of(written, texts),
+        Fault(status, text) => has_fault(alloc, outcome, status, text),
+        Lacking => {
+            is_unread(outcome) && !outcome.write_failed && has_fault(alloc, outcome, 2, "read")
+        }
+        Unread(_) => is_unread(outcome),
+        Interrupted => is_unread(outcome) && outcome.reads == 1,
+        TooLong(least, most) => is_too_long(outcome, least, most),
+        Filled(takes, calls, text) => has_filled(outcome, takes.calls(), calls, text),
     }
-    Ok(())
 }
 
 /// What comes of the command over this reader and writer.
@@ -409,6 +361,12 @@ fn done<P: Read + Drop, R: Abort + Threads + Wait + Sync>(
     outcome_of(answer, &input, output)
 }
 
+/// The outcome is what is wanted.
+fn meets(rt: &impl Abort, alloc: Global, outcome: &Outcome, wanted: Wanted<'_>) {
+    let written = outcome.output.held.as_slice();
+    assert!(rt; is_met(alloc, outcome, wanted), "it wrote {written:?}");
+}
+
 /// The command over this reader does what is wanted.
 fn check<P: Read + Drop, R: Abort + Threads + Wait + Sync>(
     rt: &R,
@@ -416,9 +374,9 @@ fn check<P: Read + Drop, R: Abort + Threads + Wait + Sync>(
     command: Command<'_>,
     reader: P,
     wanted: Wanted<'_>,
-) -> Result<(), Fail> {
+) {
     let outcome = done(rt, alloc, command, reader, wanted.writer(alloc));
-    is_met(rt, alloc, &outcome, wanted)
+    meets(rt, alloc, &outcome, wanted);
 }
 
 /// Appends a number between two texts.
@@ -447,13 +405,8 @@ fn push_numbers(
 type Case<'a> = (Command<'a>, &'a str, Wanted<'a>);
 
 /// Each command over the text beside it does what is wanted.
-fn check_all<R: Abort + Threads + Wait + Sync>(
-    rt: &R,
-    alloc: Global,
-    cases: &[Case<'_>],
-) -> Result<(), Fail> {
+fn check_all<R: Abort + Threads + Wait + Sync>(rt: &R, alloc: Global, cases: &[Case<'_>]) {
     for (command, text, wanted) in cases {
-        check(rt, alloc, *command, text.as_bytes(), *wanted)?;
+        check(rt, alloc, *command, text.as_bytes(), *wanted);
     }
-    Ok(())
 }

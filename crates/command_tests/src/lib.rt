@@ -5,7 +5,6 @@
 #![tactic(auto)]
 
 #[cfg(test)]
-mod checks;
-#[cfg(test)]
 mod commands;
-pub mod devices;
+#[cfg(test)]
+mod devices;

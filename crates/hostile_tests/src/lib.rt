@@ -15,7 +15,8 @@ mod growths;
 mod histories;
 #[cfg(test)]
 mod limits;
-pub mod pranks;
+#[cfg(test)]
+mod pranks;
 #[cfg(test)]
 mod receipts;
 pub mod refusing;

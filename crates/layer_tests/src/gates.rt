@@ -6,7 +6,8 @@ mod accesses;
 mod cores;
 #[cfg(test)]
 mod dag;
-pub mod draws;
+#[cfg(test)]
+mod draws;
 #[cfg(test)]
 mod gate;
 #[cfg(test)]

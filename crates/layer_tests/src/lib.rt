@@ -7,7 +7,9 @@
 
 #[cfg(test)]
 mod checks;
-pub mod gates;
+#[cfg(test)]
+mod gates;
 #[cfg(test)]
 mod strands;
-pub mod texts;
+#[cfg(test)]
+mod texts;

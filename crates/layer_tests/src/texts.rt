@@ -32,6 +32,7 @@ mod pieces;
 mod printing;
 #[cfg(test)]
 mod programs;
-pub mod registers;
+#[cfg(test)]
+mod registers;
 #[cfg(test)]
 mod traces;

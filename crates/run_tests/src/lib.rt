@@ -5,5 +5,7 @@
 //! tests. They are one crate, since the libraries are read anew for the proof of each crate, for that of its tests and for its edits.
 #![tactic(auto)]
 
-pub mod programs;
-pub mod tellings;
+#[cfg(test)]
+mod programs;
+#[cfg(test)]
+mod tellings;

@@ -10,7 +10,8 @@ mod gathered;
 mod locks;
 #[cfg(test)]
 mod meeting;
-pub mod openings;
+#[cfg(test)]
+mod openings;
 #[cfg(test)]
 mod replays;
 #[cfg(test)]

@@ -8,7 +8,8 @@ mod chains;
 mod drawings;
 #[cfg(test)]
 mod explanations;
-pub mod openings;
+#[cfg(test)]
+mod openings;
 #[cfg(test)]
 mod pairs;
 #[cfg(test)]

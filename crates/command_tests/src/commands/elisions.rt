@@ -70,8 +70,8 @@ const ELIDED: &[Case<'static>] = &[
 ];
 
 #[test]
-fn elisions_and_programs_without_one(rt: HostRuntime) -> Result<(), Fail> {
-    check_all(&rt, rt.alloc(), ELIDED)
+fn elisions_and_programs_without_one(rt: HostRuntime) {
+    check_all(&rt, rt.alloc(), ELIDED);
 }
 
 /// A program of 20,001 cells.
@@ -103,22 +103,18 @@ const WRITERS: &[Takes] = &[
 ];
 
 /// Its elision is these lines, which are written to a writer just where it goes along with enough calls.
-fn check_wide<R: Abort + Threads + Wait + Sync>(
-    rt: &R,
-    alloc: Global,
-    lines: &str,
-) -> Result<(), Fail> {
+fn check_wide<R: Abort + Threads + Wait + Sync>(rt: &R, alloc: Global, lines: &str) {
     let program = WIDE.as_bytes();
-    check(rt, alloc, Elide(MOST), program, Text(0, lines))?;
+    check(rt, alloc, Elide(MOST), program, Text(0, lines));
     for takes in WRITERS {
         let wanted = Filled(*takes, 208_906, lines);
-        check(rt, alloc, Elide(MOST), program, wanted)?;
+        check(rt, alloc, Elide(MOST), program, wanted);
     }
-    Ok(())
 }
 
 #[test]
 fn an_elision_of_many_cells_that_can_be_written_or_not(rt: HostRuntime) -> Result<(), Fail> {
     let lines = left_by_wide(rt.alloc())?;
-    check_wide(&rt, rt.alloc(), lines.as_str())
+    check_wide(&rt, rt.alloc(), lines.as_str());
+    Ok(())
 }

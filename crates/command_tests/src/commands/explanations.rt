@@ -4,7 +4,6 @@ use super::Command::Explain;
 use super::Wanted::Text;
 use super::worked::{ENDLESS, FIB};
 use super::{Case, check_all};
-use std::test::Fail;
 
 /// A write beside a spawned function that writes the same cell, and then no end. One worker goes on with `main` first.
 const RACE_AND_NO_END: &str =
@@ -60,6 +59,6 @@ const EXPLAINED: &[Case<'static>] = &[
 /// A clean run is told with its memory, a race that comes before the limit, a run without an end as cut, and what is wrong with a text
 /// that is no program.
 #[test]
-fn clean_racy_cut_and_meaningless_programs_are_explained(rt: HostRuntime) -> Result<(), Fail> {
-    check_all(&rt, rt.alloc(), EXPLAINED)
+fn clean_racy_cut_and_meaningless_programs_are_explained(rt: HostRuntime) {
+    check_all(&rt, rt.alloc(), EXPLAINED);
 }

@@ -8,7 +8,6 @@ use std::alloc::Global;
 use std::io;
 use std::process::Abort;
 use std::sync::Wait;
-use std::test::Fail;
 use std::thread::Threads;
 
 /// A command over a short text, of so many bytes, and the text that it writes, in so many calls: one for each byte, and the flush.
@@ -68,11 +67,7 @@ const SHORT: &[Short] = &[
 ];
 
 /// A reader that fails before the text has ended is told, and one that would fail later is as good as another.
-fn check_reader<R: Abort + Threads + Wait + Sync>(
-    rt: &R,
-    alloc: Global,
-    short: Short,
-) -> Result<(), Fail> {
+fn check_reader<R: Abort + Threads + Wait + Sync>(rt: &R, alloc: Global, short: Short) {
     let text = short.read.as_bytes();
     assert!(rt; text.len() == short.bytes as usize);
     for left in 0..short.bytes.saturating_add(3) {
@@ -81,9 +76,8 @@ fn check_reader<R: Abort + Threads + Wait + Sync>(
         } else {
             Text(0, short.written)
         };
-        check(rt, alloc, short.command, Breaking { text, left }, wanted)?;
+        check(rt, alloc, short.command, Breaking { text, left }, wanted);
     }
-    Ok(())
 }
 
 /// A writer that takes so fails just where it goes along with too few calls.
@@ -92,64 +86,55 @@ fn check_taken<R: Abort + Threads + Wait + Sync>(
     alloc: Global,
     short: Short,
     takes: Takes,
-) -> Result<(), Fail> {
+) {
     let wanted = Filled(takes, short.calls, short.written);
-    check(rt, alloc, short.command, short.read.as_bytes(), wanted)
+    check(rt, alloc, short.command, short.read.as_bytes(), wanted);
 }
 
 /// A writer that takes nothing behind some calls does, and one that answers an error behind them.
-fn check_writer<R: Abort + Threads + Wait + Sync>(
-    rt: &R,
-    alloc: Global,
-    short: Short,
-) -> Result<(), Fail> {
+fn check_writer<R: Abort + Threads + Wait + Sync>(rt: &R, alloc: Global, short: Short) {
     for left in 0..short.calls.saturating_add(1) {
-        check_taken(rt, alloc, short, Takes::Calls(left))?;
-        check_taken(rt, alloc, short, Takes::CallsThenErrors(left))?;
+        check_taken(rt, alloc, short, Takes::Calls(left));
+        check_taken(rt, alloc, short, Takes::CallsThenErrors(left));
     }
-    Ok(())
 }
 
 #[test]
-fn a_reader_that_fails(rt: HostRuntime) -> Result<(), Fail> {
+fn a_reader_that_fails(rt: HostRuntime) {
     for short in SHORT {
-        check_reader(&rt, rt.alloc(), *short)?;
+        check_reader(&rt, rt.alloc(), *short);
     }
-    Ok(())
 }
 
 #[test]
-fn a_reader_that_is_interrupted(rt: HostRuntime) -> Result<(), Fail> {
+fn a_reader_that_is_interrupted(rt: HostRuntime) {
     for short in SHORT {
         let reader = InterruptedReader {
             text: short.read.as_bytes(),
             was_asked: false,
         };
-        check(&rt, rt.alloc(), short.command, reader, Interrupted)?;
+        check(&rt, rt.alloc(), short.command, reader, Interrupted);
     }
-    Ok(())
 }
 
 /// It gives a byte at each read, and is asked as often as a reader may be.
 #[test]
-fn a_reader_that_never_ends(rt: HostRuntime) -> Result<(), Fail> {
+fn a_reader_that_never_ends(rt: HostRuntime) {
     for short in SHORT {
         let wanted = TooLong(67_108_865, 67_108_865);
-        check(&rt, rt.alloc(), short.command, Spaces, wanted)?;
+        check(&rt, rt.alloc(), short.command, Spaces, wanted);
     }
-    Ok(())
 }
 
 #[test]
-fn a_reader_that_gives_too_much(rt: HostRuntime) -> Result<(), Fail> {
+fn a_reader_that_gives_too_much(rt: HostRuntime) {
     let reader = io::repeat(b' ');
-    check(&rt, rt.alloc(), Judge(MOST), reader, TooLong(0, 999))
+    check(&rt, rt.alloc(), Judge(MOST), reader, TooLong(0, 999));
 }
 
 #[test]
-fn a_writer_that_fails(rt: HostRuntime) -> Result<(), Fail> {
+fn a_writer_that_fails(rt: HostRuntime) {
     for short in SHORT {
-        check_writer(&rt, rt.alloc(), *short)?;
+        check_writer(&rt, rt.alloc(), *short);
     }
-    Ok(())
 }

@@ -7,7 +7,7 @@ ghost use Rattle.command_streams.specs.Sources.{unknown_sources};
 
 use super::Wanted::{Lacking, Text};
 use super::worked::{FIB, PAIR};
-use super::{MOST, Outcome, Wanted, is_met, manned, outcome_of};
+use super::{MOST, Outcome, Wanted, manned, meets, outcome_of};
 use crate::devices::{Breaking, Filling};
 use std::alloc::{AllocError, Global};
 use std::io::{self, Error, ErrorKind};
@@ -168,26 +168,20 @@ fn check_job<R: Abort + Threads + Wait + Sync>(
     texts: Texts<'_>,
     job: &Job,
     wanted: Wanted<'_>,
-) -> Result<(), Fail>
+)
     requires { IsInRange job.now }
 {
     let outcome = performed(rt, alloc, texts, job, wanted);
-    is_met(rt, alloc, &outcome, wanted)
+    meets(rt, alloc, &outcome, wanted);
 }
 
 /// The same of a job that starts no thread, by the call for such jobs.
-fn check_job_alone(
-    rt: &impl Abort,
-    alloc: Global,
-    texts: Texts<'_>,
-    job: &Job,
-    wanted: Wanted<'_>,
-) -> Result<(), Fail>
+fn check_job_alone(rt: &impl Abort, alloc: Global, texts: Texts<'_>, job: &Job, wanted: Wanted<'_>)
     requires ranges { IsInRange job.now }
     requires alone { IsAlone job.now }
 {
     let outcome = performed_alone(alloc, texts, job, wanted);
-    is_met(rt, alloc, &outcome, wanted)
+    meets(rt, alloc, &outcome, wanted);
 }
 
 /// The same by either call.
@@ -197,12 +191,12 @@ fn check_both<R: Abort + Threads + Wait + Sync>(
     texts: Texts<'_>,
     job: &Job,
     wanted: Wanted<'_>,
-) -> Result<(), Fail>
+)
     requires ranges { IsInRange job.now }
     requires alone { IsAlone job.now }
 {
-    check_job(rt, alloc, texts, job, wanted)?;
-    check_job_alone(rt, alloc, texts, job, wanted)
+    check_job(rt, alloc, texts, job, wanted);
+    check_job_alone(rt, alloc, texts, job, wanted);
 }
 
 /// Of the deed comes what is wanted, by either call.
@@ -212,7 +206,8 @@ fn check_either<R: Abort + Threads + Wait + Sync>(
     case: &(Texts<'_>, Deed, Wanted<'_>),
 ) -> Result<(), Fail> {
     let job = job_alone(alloc, case.1)?;
-    check_both(rt, alloc, case.0, &job, case.2)
+    check_both(rt, alloc, case.0, &job, case.2);
+    Ok(())
 }
 
 /// The job that runs the program in this file.
@@ -235,7 +230,8 @@ fn check_run<R: Abort + Threads + Wait + Sync>(
     case: &(Texts<'_>, &str, usize, Wanted<'_>),
 ) -> Result<(), Fail> {
     let job = run_job(rt, alloc, case.1, case.2)?;
-    check_job(rt, alloc, case.0, &job, case.3)
+    check_job(rt, alloc, case.0, &job, case.3);
+    Ok(())
 }
 
 /// FIB in a file.

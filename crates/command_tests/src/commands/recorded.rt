@@ -8,7 +8,6 @@ use super::Command::{Follow, Judge};
 use super::Wanted::{Status, Text};
 use super::worked::{FIB, LASTS, PAIR, SERIES, TURNS};
 use super::{MOST, Takes, check, has_ended, is_fault, limited, manned};
-use crate::checks::same_text;
 use crate::devices::{Breaking, Filling};
 use std::alloc::{AllocError, Global};
 use std::io::{self, Error, ErrorKind};
@@ -131,92 +130,66 @@ fn ran_recorded<R: Abort + Threads + Wait + Sync>(
     }
 }
 
-/// It has ended with this status, and no writer has failed.
-fn is_delivered(rt: &impl Abort, run: &Recorded, status: u8) {
-    assert!(rt; has_ended(&run.answer, status));
-    assert!(rt; run.trace_delivered && !run.trace_failed && !run.output_failed);
+/// Whether it has ended with this status, and no writer has failed.
+fn is_delivered(run: &Recorded, status: u8) -> bool {
+    has_ended(&run.answer, status) && run.trace_delivered && !run.trace_failed && !run.output_failed
 }
 
-/// It has, and its trace is this text.
-fn is_traced(rt: &impl Abort, run: &Recorded, status: u8, wanted: &str) {
-    is_delivered(rt, run, status);
-    same_text(rt, run.trace.held.as_slice(), wanted.as_bytes());
+/// Whether it has, and its trace is this text.
+fn is_traced(run: &Recorded, status: u8, wanted: &str) -> bool {
+    is_delivered(run, status) && run.trace.held.as_slice() == wanted.as_bytes()
 }
 
-/// It has, and its trace is one of a run of the program, with this status, which is told so.
-fn is_replayed<R: Abort + Threads + Wait + Sync>(
+/// Its trace is one of a run of the program, with this status, which is told so.
+fn check_replayed<R: Abort + Threads + Wait + Sync>(
     rt: &R,
     alloc: Global,
-    run: &Recorded,
+    trace: &[u8],
     status: u8,
     program: &str,
     wanted: &str,
-) -> Result<(), Fail> {
-    is_delivered(rt, run, status);
-    let trace = run.trace.held.as_slice();
-    check(rt, alloc, Follow(program), trace, Text(status, wanted))?;
-    check(rt, alloc, Judge(MOST), trace, Status(status))
+) {
+    check(rt, alloc, Follow(program), trace, Text(status, wanted));
+    check(rt, alloc, Judge(MOST), trace, Status(status));
 }
 
-/// A trace of SHORT whose writer goes along with too few calls.
-fn is_trace_cut(rt: &impl Abort, run: &Recorded, left: u32) {
-    let is_told = matches!(run.answer, Err(CliFault::Unwritten));
-    assert!(rt;
-        is_told && run.trace_failed && !run.trace_delivered,
-        "{left} writes"
-    );
-    assert!(rt; run.output.held.is_empty() && !run.output_failed);
-    assert!(rt;
-        SHORT_TRACE
+/// Whether the writer of the trace of SHORT went along with too few calls.
+fn is_trace_cut(run: &Recorded) -> bool {
+    matches!(run.answer, Err(CliFault::Unwritten))
+        && run.trace_failed
+        && !run.trace_delivered
+        && run.output.held.is_empty()
+        && !run.output_failed
+        && SHORT_TRACE
             .as_bytes()
             .starts_with(run.trace.held.as_slice())
-    );
 }
 
-/// One whose writer goes along with so many, of which it takes 30: one for each byte, and the flush.
-fn is_trace_taken(rt: &impl Abort, run: &Recorded, left: u32) {
-    if left < 30 {
-        return is_trace_cut(rt, run, left);
-    }
-    is_traced(rt, run, 0, SHORT_TRACE);
-    let report = run.output.held.as_slice();
-    same_text(rt, report, SHORT_REPORT.as_bytes());
+/// Whether the writer of the report of SHORT went along with too few calls.
+fn is_report_cut(run: &Recorded) -> bool {
+    matches!(run.answer, Err(CliFault::Write))
+        && run.trace_delivered
+        && run.output_failed
+        && run.trace.held.as_slice() == SHORT_TRACE.as_bytes()
 }
 
-/// A report of SHORT whose writer goes along with too few calls.
-fn is_report_cut(rt: &impl Abort, run: &Recorded, left: u32) {
-    let is_told = matches!(run.answer, Err(CliFault::Write));
-    assert!(rt;
-        is_told && run.trace_delivered && run.output_failed,
-        "{left} writes"
-    );
-    let trace = run.trace.held.as_slice();
-    same_text(rt, trace, SHORT_TRACE.as_bytes());
-}
-
-/// A run that the limit ended, of which nothing is written.
-fn is_unfinished(rt: &impl Abort, run: &Recorded) {
-    assert!(rt; matches!(run.answer, Err(CliFault::Limit)));
-    assert!(rt; run.trace.held.is_empty() && run.output.held.is_empty());
-}
-
-/// It is what is wanted.
-fn is_told<R: Abort + Threads + Wait + Sync>(
-    rt: &R,
-    alloc: Global,
-    run: &Recorded,
-    told: Told<'_>,
-) -> Result<(), Fail> {
+/// Whether it is what is wanted, but for the replay of its trace. The writer of the trace of SHORT takes 30 calls: one for each byte, and
+/// the flush.
+fn is_told(run: &Recorded, told: Told<'_>) -> bool {
     match told {
-        Traced(status, trace) => is_traced(rt, run, status, trace),
-        Replays(status, program, wanted) => {
-            is_replayed(rt, alloc, run, status, program, wanted)?;
+        Traced(status, trace) => is_traced(run, status, trace),
+        Replays(status, _, _) => is_delivered(run, status),
+        TraceTaken(takes) if takes.calls() < 30 => is_trace_cut(run),
+        TraceTaken(_) => {
+            is_traced(run, 0, SHORT_TRACE) && run.output.held.as_slice() == SHORT_REPORT.as_bytes()
         }
-        TraceTaken(takes) => is_trace_taken(rt, run, takes.calls()),
-        ReportTaken(takes) => is_report_cut(rt, run, takes.calls()),
-        Unfinished => is_unfinished(rt, run),
+        ReportTaken(_) => is_report_cut(run),
+        Unfinished => {
+            matches!(run.answer, Err(CliFault::Limit))
+                && run.trace.held.is_empty()
+                && run.output.held.is_empty()
+        }
     }
-    Ok(())
 }
 
 /// Recorded by so many workers, the run of the program is what is wanted.
@@ -226,9 +199,13 @@ fn check_recorded<R: Abort + Threads + Wait + Sync>(
     program: &str,
     workers: usize,
     told: Told<'_>,
-) -> Result<(), Fail> {
+) {
     let run = ran_recorded(rt, alloc, program, workers, told);
-    is_told(rt, alloc, &run, told)
+    let trace = run.trace.held.as_slice();
+    assert!(rt; is_told(&run, told), "it wrote {trace:?}");
+    if let Replays(status, program, wanted) = told {
+        check_replayed(rt, alloc, trace, status, program, wanted);
+    }
 }
 
 /// Workers, a program, and what is wanted of its run by them.
@@ -263,31 +240,28 @@ const RUNS: &[(usize, &str, Told<'static>)] = &[
 ];
 
 #[test]
-fn each_trace_is_known_or_replays(rt: HostRuntime) -> Result<(), Fail> {
+fn each_trace_is_known_or_replays(rt: HostRuntime) {
     for (workers, program, told) in RUNS {
-        check_recorded(&rt, rt.alloc(), program, *workers, *told)?;
+        check_recorded(&rt, rt.alloc(), program, *workers, *told);
     }
-    Ok(())
 }
 
 #[test]
-fn a_trace_that_cannot_be_written(rt: HostRuntime) -> Result<(), Fail> {
+fn a_trace_that_cannot_be_written(rt: HostRuntime) {
     for left in 0..32u32 {
         let told = TraceTaken(Takes::CallsThenErrors(left));
-        check_recorded(&rt, rt.alloc(), SHORT, 2, told)?;
+        check_recorded(&rt, rt.alloc(), SHORT, 2, told);
         let told = TraceTaken(Takes::Calls(left));
-        check_recorded(&rt, rt.alloc(), SHORT, 2, told)?;
+        check_recorded(&rt, rt.alloc(), SHORT, 2, told);
     }
-    Ok(())
 }
 
 #[test]
-fn a_report_that_cannot_be_written_behind_its_trace(rt: HostRuntime) -> Result<(), Fail> {
+fn a_report_that_cannot_be_written_behind_its_trace(rt: HostRuntime) {
     for left in 0..93u32 {
         let told = ReportTaken(Takes::CallsThenErrors(left));
-        check_recorded(&rt, rt.alloc(), SHORT, 2, told)?;
+        check_recorded(&rt, rt.alloc(), SHORT, 2, told);
     }
-    Ok(())
 }
 
 /// A program in the file `program`, and what was created.
@@ -456,12 +430,12 @@ enum Leaves {
     NoProgram,
 }
 
-/// SHORT is reported, and its trace is in a file of this name.
-fn is_kept(rt: &impl Abort, left: &Left<'_>, name: &str) {
-    let (report, trace) = (left.output.held.as_slice(), left.desk.held.as_slice());
-    same_text(rt, report, SHORT_REPORT.as_bytes());
-    same_text(rt, trace, SHORT_TRACE.as_bytes());
-    assert!(rt; left.desk.name.as_str() == name && left.desk.created == 1);
+/// Whether SHORT is reported, and its trace is in a file of this name.
+fn is_kept(left: &Left<'_>, name: &str) -> bool {
+    left.output.held.as_slice() == SHORT_REPORT.as_bytes()
+        && left.desk.held.as_slice() == SHORT_TRACE.as_bytes()
+        && left.desk.name.as_str() == name
+        && left.desk.created == 1
 }
 
 /// Whether it is answered so.
@@ -474,13 +448,13 @@ fn is_answered(answer: &Result<u8, CliFault>, leaves: Leaves) -> bool {
     }
 }
 
-/// The desk is left so.
-fn is_left(rt: &impl Abort, left: &Left<'_>, leaves: Leaves) {
-    assert!(rt; is_answered(&left.answer, leaves));
-    match leaves {
-        Leaves::Trace(name) => is_kept(rt, left, name),
-        _ => assert!(rt; left.output.held.is_empty() && left.desk.created == 0),
-    }
+/// Whether the desk is left so.
+fn is_left(left: &Left<'_>, leaves: Leaves) -> bool {
+    is_answered(&left.answer, leaves)
+        && match leaves {
+            Leaves::Trace(name) => is_kept(left, name),
+            _ => left.output.held.is_empty() && left.desk.created == 0,
+        }
 }
 
 /// The desk that is asked so is left so.
@@ -491,7 +465,8 @@ fn check_desk<R: Abort + Threads + Wait + Sync>(
     leaves: Leaves,
 ) -> Result<(), Fail> {
     let job = asked.job(rt, alloc)?;
-    is_left(rt, &done_at(rt, alloc, asked.program, &job), leaves);
+    let left = done_at(rt, alloc, asked.program, &job);
+    assert!(rt; is_left(&left, leaves), "{}", asked.trace);
     Ok(())
 }
 
@@ -529,18 +504,13 @@ fn named(alloc: Global, job: &Job) -> Result<(), CliFault> {
     check_names(alloc, &host, job)
 }
 
-/// The job is refused with this text, or passes.
-fn is_named(
-    rt: &impl Abort,
-    alloc: Global,
-    found: &Result<(), CliFault>,
-    wanted: Option<&str>,
-) -> Result<(), Fail> {
-    match found {
-        Ok(()) => assert!(rt; wanted.is_none()),
-        Err(fault) => is_fault(rt, alloc, fault, 2, wanted.unwrap_or("no fault"))?,
+/// Whether the job is refused with this text, or passes.
+fn is_named(alloc: Global, found: &Result<(), CliFault>, wanted: Option<&str>) -> bool {
+    match (found, wanted) {
+        (Ok(()), None) => true,
+        (Err(fault), Some(text)) => is_fault(alloc, fault, 2, text),
+        _ => false,
     }
-    Ok(())
 }
 
 /// The job that replays the trace in a file of this name, or that writes it.
@@ -568,7 +538,8 @@ fn check_name(
     wanted: Option<&str>,
 ) -> Result<(), Fail> {
     let job = job_with(alloc, trace, is_replayed)?;
-    is_named(rt, alloc, &named(alloc, &job), wanted)
+    assert!(rt; is_named(alloc, &named(alloc, &job), wanted), "{trace}");
+    Ok(())
 }
 
 const NAMED: &str =

@@ -4,7 +4,6 @@ use super::Command::Replay;
 use super::Wanted::{Fault, Text};
 use super::worked::{ENDLESS, PAIR};
 use super::{Case, check_all};
-use std::test::Fail;
 
 /// Its run in which the write comes first, without the last request.
 const MOST_OF_PAIR: &str =
@@ -96,6 +95,6 @@ const REPLAYED: &[Case<'static>] = &[
 
 /// Also of traces whose declarations are not their program's, and of texts with faults.
 #[test]
-fn replays(rt: HostRuntime) -> Result<(), Fail> {
-    check_all(&rt, rt.alloc(), REPLAYED)
+fn replays(rt: HostRuntime) {
+    check_all(&rt, rt.alloc(), REPLAYED);
 }

@@ -3,12 +3,11 @@
 use super::Command::Run;
 use super::Wanted::{Among, Text};
 use super::worked::PAIR;
-use super::{Case, MOST, Outcome, Wanted, check_all, is_met, outcome_of};
+use super::{Case, MOST, Outcome, Wanted, check_all, meets, outcome_of};
 use std::alloc::Global;
 use std::process::Abort;
 use std::sync::Wait;
 use std::sync::atomic::{AtomicBool, AtomicU64, Ordering};
-use std::test::Fail;
 use std::thread;
 use std::thread::Threads;
 use tool_commands::{Door, Watched, run_text};
@@ -53,8 +52,8 @@ const SCHEDULED: &[Case<'static>] = &[
 
 /// Each schedule tells one refusal, and one worker goes on with the spawner.
 #[test]
-fn runs_that_no_door_decides(rt: HostRuntime) -> Result<(), Fail> {
-    check_all(&rt, rt.alloc(), SCHEDULED)
+fn runs_that_no_door_decides(rt: HostRuntime) {
+    check_all(&rt, rt.alloc(), SCHEDULED);
 }
 
 /// What comes of a run of PAIR by two workers through a door.
@@ -76,9 +75,9 @@ fn check_pair<D: Door + Sync, R: Abort + Threads + Wait + Sync>(
     alloc: Global,
     door: &D,
     wanted: Wanted<'_>,
-) -> Result<(), Fail> {
+) {
     let outcome = ran_pair(rt, alloc, door, wanted);
-    is_met(rt, alloc, &outcome, wanted)
+    meets(rt, alloc, &outcome, wanted);
 }
 
 const TURNS: u32 = 1_000_000;
@@ -130,7 +129,7 @@ fn check_order<R: Abort + Threads + Wait + Sync>(
     second: u32,
     times: u64,
     wanted: &str,
-) -> Result<(), Fail> {
+) {
     let order = Order {
         first,
         second,
@@ -138,7 +137,7 @@ fn check_order<R: Abort + Threads + Wait + Sync>(
         comings_of_first: AtomicU64::new(0),
         comings_of_second: AtomicU64::new(0),
     };
-    check_pair(rt, alloc, &order, Text(1, wanted))
+    check_pair(rt, alloc, &order, Text(1, wanted));
 }
 
 /// Which strand comes first, which second, how often the first comes before, and the report.
@@ -149,11 +148,10 @@ const ORDERS: &[(u32, u32, u64, &str)] = &[
 ];
 
 #[test]
-fn the_first_access_is_the_witness(rt: HostRuntime) -> Result<(), Fail> {
+fn the_first_access_is_the_witness(rt: HostRuntime) {
     for (first, second, times, wanted) in ORDERS {
-        check_order(&rt, rt.alloc(), *first, *second, *times, wanted)?;
+        check_order(&rt, rt.alloc(), *first, *second, *times, wanted);
     }
-    Ok(())
 }
 
 /// Holds whichever of strands 1 and 2 comes first until the other has come too.
@@ -195,14 +193,13 @@ impl Door for Meeting {
 }
 
 #[test]
-fn two_at_once(rt: HostRuntime) -> Result<(), Fail> {
+fn two_at_once(rt: HostRuntime) {
     let meeting = Meeting {
         first: AtomicBool::new(false),
         second: AtomicBool::new(false),
         given_up: AtomicBool::new(false),
         met: AtomicBool::new(false),
     };
-    check_pair(&rt, rt.alloc(), &meeting, Among(1, REPORTS))?;
+    check_pair(&rt, rt.alloc(), &meeting, Among(1, REPORTS));
     assert!(rt; meeting.met.load(Ordering::SeqCst));
-    Ok(())
 }

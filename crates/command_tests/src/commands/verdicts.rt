@@ -77,8 +77,8 @@ const CONTROL: &[Case<'static>] = &[
 ];
 
 #[test]
-fn control_and_values(rt: HostRuntime) -> Result<(), Fail> {
-    check_all(&rt, rt.alloc(), CONTROL)
+fn control_and_values(rt: HostRuntime) {
+    check_all(&rt, rt.alloc(), CONTROL);
 }
 
 /// Accesses of a cell that race or not.
@@ -135,8 +135,8 @@ const RACES: &[Case<'static>] = &[
 ];
 
 #[test]
-fn races_and_bumps(rt: HostRuntime) -> Result<(), Fail> {
-    check_all(&rt, rt.alloc(), RACES)
+fn races_and_bumps(rt: HostRuntime) {
+    check_all(&rt, rt.alloc(), RACES);
 }
 
 /// Reducers, and their views in blocks.
@@ -225,8 +225,8 @@ const REDUCED: &[Case<'static>] = &[
 ];
 
 #[test]
-fn reducers(rt: HostRuntime) -> Result<(), Fail> {
-    check_all(&rt, rt.alloc(), REDUCED)
+fn reducers(rt: HostRuntime) {
+    check_all(&rt, rt.alloc(), REDUCED);
 }
 
 /// A loop of 10,000 spawns, with a write behind each hundredth. The children, which end, are strands 1, 4, 6, and so on. The one with an even
@@ -271,13 +271,14 @@ fn spawns_in_a_long_loop(rt: HostRuntime) -> Result<(), Fail> {
     let text = spawn_loop(rt.alloc())?;
     let lines = loop_verdicts(rt.alloc())?;
     let wanted = Text(0, lines.as_str());
-    check(&rt, rt.alloc(), Judge(MOST), text.as_bytes(), wanted)
+    check(&rt, rt.alloc(), Judge(MOST), text.as_bytes(), wanted);
+    Ok(())
 }
 
 #[test]
-fn want_of_memory_for_a_text(rt: HostRuntime) -> Result<(), Fail> {
+fn want_of_memory_for_a_text(rt: HostRuntime) {
     let fault = CliFault::from(TextFault::Memory);
-    is_fault(&rt, rt.alloc(), &fault, 3, "memory")
+    assert!(rt; is_fault(rt.alloc(), &fault, 3, "memory"));
 }
 
 const UNSET: Reply = Reply::Done(Receipt {

@@ -30,29 +30,27 @@ enum Asks<'a> {
 use Asks::{Does, Refused, Shows};
 
 /// Whether it is the job that is printed so.
-fn is_job(alloc: Global, found: &Result<Job, CliFault>, wanted: &str) -> Result<bool, AllocError> {
+fn is_job(alloc: Global, found: &Result<Job, CliFault>, wanted: &str) -> bool {
     match found {
-        Ok(job) => {
-            let told = format!(in alloc; "{job:?}")?;
-            Ok(told.as_str() == wanted)
-        }
-        Err(_) => Ok(false),
+        Ok(job) => match format!(in alloc; "{job:?}") {
+            Ok(told) => told.as_str() == wanted,
+            Err(_) => false,
+        },
+        Err(_) => false,
     }
 }
 
-/// Whether it is the fault that words are not understood, with this text.
+/// Whether it is the fault that words are not understood, with this text and status 2.
 fn is_refused(found: &Result<Job, CliFault>, whole: &str) -> bool {
     match found {
-        Err(CliFault::Usage(text)) => text.as_str() == whole,
-        _ => false,
-    }
-}
-
-/// Whether it has status 2.
-fn has_status_two(found: &Result<Job, CliFault>) -> bool {
-    match found {
+        Err(fault) => {
+            fault.status() == 2
+                && match fault {
+                    CliFault::Usage(text) => text.as_str() == whole,
+                    _ => false,
+                }
+        }
         Ok(_) => false,
-        Err(fault) => fault.status() == 2,
     }
 }
 
@@ -65,15 +63,11 @@ fn is_shown(found: &Result<Job, CliFault>, part: &str) -> bool {
 }
 
 /// Whether it is what is asked for.
-fn is_asked(
-    alloc: Global,
-    found: &Result<Job, CliFault>,
-    asks: Asks<'_>,
-) -> Result<bool, AllocError> {
+fn is_asked(alloc: Global, found: &Result<Job, CliFault>, asks: Asks<'_>) -> bool {
     match asks {
         Does(wanted) => is_job(alloc, found, wanted),
-        Refused(whole) => Ok(has_status_two(found) && is_refused(found, whole)),
-        Shows(part) => Ok(is_shown(found, part)),
+        Refused(whole) => is_refused(found, whole),
+        Shows(part) => is_shown(found, part),
     }
 }
 
@@ -83,23 +77,11 @@ fn read(alloc: Global, line: &str) -> Result<Result<Job, CliFault>, AllocError> 
     Ok(read_words(alloc, words.as_slice()))
 }
 
-/// What the words of this line ask for is this.
-fn is_met(
-    rt: &impl Abort,
-    alloc: Global,
-    found: &Result<Job, CliFault>,
-    asks: Asks<'_>,
-    line: &str,
-) -> Result<(), Fail> {
-    let is_asked = is_asked(alloc, found, asks)?;
-    assert!(rt; is_asked, "{line}");
-    Ok(())
-}
-
 /// They ask for this.
 fn check(rt: &impl Abort, alloc: Global, line: &str, asks: Asks<'_>) -> Result<(), Fail> {
     let found = read(alloc, line)?;
-    is_met(rt, alloc, &found, asks, line)
+    assert!(rt; is_asked(alloc, &found, asks), "{line}");
+    Ok(())
 }
 
 /// Words, and what they ask for.

@@ -11,8 +11,6 @@ use linked_list_allocator::LocalHeap;
 use shadow_history::{Shadow, Witness, laws};
 use sp_labels::Strands;
 use std::alloc::{AllocError, Allocator, Global};
-use std::process::Abort;
-use std::test::Fail;
 
 /// What a strand does: the accesses are to location 0 or 1.
 #[derive(Clone, Copy)]
@@ -97,37 +95,43 @@ macro_rules! witness {
 /// An act by a strand, and the witness that it finds.
 type Found = (u32, Act, Option<Witness>);
 
-/// Each act, by its strand, finds the witness beside it.
+/// Whether each act, by its strand, finds the witness beside it.
 fn finds_all<A: Allocator>(
-    rt: &impl Abort,
     strands: &mut Strands<Global>,
     shadow: &mut Shadow<A>,
     acts: &[Found],
-)
+) -> bool
     requires stands { StandsOn shadow.old strands.old }
     requires locations { 2 ≤ length shadow.old }
 {
     let mut entry = 0u32;
     for (strand, asked, expected) in acts {
         entry = entry.wrapping_add(1);
-        let found = step(strands, shadow, entry, *strand, *asked);
-        equal(rt, &entry, &found, expected);
+        if step(strands, shadow, entry, *strand, *asked) != *expected {
+            return false;
+        }
     }
+    true
 }
 
 /// The same of new strands.
-fn check_run(rt: &impl Abort, alloc: Global, acts: &[Found]) -> Result<(), AllocError> {
-    let (mut strands, mut shadow) = opening(alloc, alloc, 2)?;
-    finds_all(rt, &mut strands, &mut shadow, acts);
-    Ok(())
+fn finds_anew(alloc: Global, acts: &[Found]) -> bool {
+    match opening(alloc, alloc, 2) {
+        Ok((mut strands, mut shadow)) => finds_all(&mut strands, &mut shadow, acts),
+        Err(_) => false,
+    }
 }
 
-/// The same of each run.
-fn check(rt: &impl Abort, alloc: Global, runs: &[&[Found]]) -> Result<(), Fail> {
+/// Of how many runs it is so, up to the first of which it is not.
+fn found(alloc: Global, runs: &[&[Found]]) -> usize {
+    let mut count = 0usize;
     for acts in runs {
-        check_run(rt, alloc, acts)?;
+        if !finds_anew(alloc, acts) {
+            break;
+        }
+        count = count.wrapping_add(1);
     }
-    Ok(())
+    count
 }
 
 /// A bump, write or read by a child, and another access by its continuation, which finds the first or nothing. In another cell it finds
@@ -198,8 +202,8 @@ const RUNS: &[&[Found]] = &[
 ];
 
 #[test]
-fn an_access_finds_the_access_that_it_races_with(rt: HostRuntime) -> Result<(), Fail> {
-    check(&rt, rt.alloc(), RUNS)
+fn an_access_finds_the_access_that_it_races_with(rt: HostRuntime) {
+    equal(&rt, &"runs", &found(rt.alloc(), RUNS), &RUNS.len());
 }
 
 /// The bytes that the shadow history of so many locations takes from a heap of so many bytes: 0 where it is refused, and none without a
@@ -218,10 +222,9 @@ fn taken_from(heap: &LocalHeap, locations: u32) -> usize {
     }
 }
 
-/// The heap has used up so many bytes, and has no room for a second shadow history.
-fn is_used_up(rt: &impl Abort, heap: &LocalHeap, bytes: usize) {
-    let found = (heap.used(), Shadow::new(heap, 1).is_err());
-    equal(rt, &"bytes", &found, &(bytes, true));
+/// Whether the heap has used up so many bytes, and has no room for a second shadow history.
+fn is_used_up(heap: &LocalHeap, bytes: usize) -> bool {
+    heap.used() == bytes && Shadow::new(heap, 1).is_err()
 }
 
 /// A write and a read of location 1 find nothing.
@@ -230,34 +233,28 @@ const NOTHING: &[Found] = &[
     (0, Access(Kind::Read, 1), None),
 ];
 
-/// Accesses of so many locations take no bytes of the heap beyond so many, which their cells take.
-fn takes_no_more(
-    rt: &impl Abort,
-    alloc: Global,
-    heap: &LocalHeap,
-    locations: u32,
-    bytes: usize,
-) -> Result<(), AllocError>
+/// Whether accesses of so many locations take no bytes of the heap beyond so many, which their cells take.
+fn takes_no_more(alloc: Global, heap: &LocalHeap, locations: u32, bytes: usize) -> bool
     requires { 2 ≤ locations }
 {
-    let (mut strands, mut shadow) = opening(alloc, heap, locations)?;
-    is_used_up(rt, heap, bytes);
-    finds_all(rt, &mut strands, &mut shadow, NOTHING);
-    equal(rt, &"bytes", &heap.used(), &bytes);
-    Ok(())
+    match opening(alloc, heap, locations) {
+        Ok((mut strands, mut shadow)) => {
+            is_used_up(heap, bytes)
+                && finds_all(&mut strands, &mut shadow, NOTHING)
+                && heap.used() == bytes
+        }
+        Err(_) => false,
+    }
 }
 
-/// Accesses take no bytes beyond those of the cells of so many locations, and a heap of these has no room for a second allocation.
-fn takes_only(
-    rt: &impl Abort,
-    alloc: Global,
-    locations: u32,
-    bytes: usize,
-) -> Result<(), AllocError>
+/// Whether accesses take no bytes beyond those of the cells of so many locations, and a heap of these has no room for a second allocation.
+fn takes_only(alloc: Global, locations: u32, bytes: usize) -> bool
     requires { 2 ≤ locations }
 {
-    let heap = LocalHeap::new(alloc, bytes)?;
-    takes_no_more(rt, alloc, &heap, locations, bytes)
+    match LocalHeap::new(alloc, bytes) {
+        Ok(heap) => takes_no_more(alloc, &heap, locations, bytes),
+        Err(_) => false,
+    }
 }
 
 fn laws_hold() {
@@ -265,31 +262,22 @@ fn laws_hold() {
     laws::place_law();
 }
 
-/// The bytes of a million locations, a thousand times those of a thousand. A heap of as many has room for them, and one of 16 bytes less
-/// has none.
-fn bytes_of_many(rt: &impl Abort, alloc: Global) -> usize {
-    let bytes = taken(alloc, 64_000_000, 1_000_000).unwrap_or(0);
-    assert!(rt; 16 < bytes && bytes % 1_000 == 0);
-    let found = [
-        taken(alloc, 64_000, 1_000),
-        taken(alloc, bytes, 1_000_000),
-        taken(alloc, bytes.saturating_sub(16), 1_000_000),
-    ];
-    equal(
-        rt,
-        &bytes,
-        &found,
-        &[Some(bytes / 1_000), Some(bytes), Some(0)],
-    );
-    bytes
+/// Whether these are the bytes of a million locations, a thousand times those of a thousand. A heap of as many has room for them, and one of
+/// 16 bytes less has none.
+fn are_of_many(alloc: Global, bytes: usize) -> bool {
+    16 < bytes
+        && bytes % 1_000 == 0
+        && taken(alloc, 64_000, 1_000) == Some(bytes / 1_000)
+        && taken(alloc, bytes, 1_000_000) == Some(bytes)
+        && taken(alloc, bytes - 16, 1_000_000) == Some(0)
 }
 
 #[test]
-fn many_locations_take_one_allocation_or_are_refused(rt: HostRuntime) -> Result<(), Fail> {
+fn many_locations_take_one_allocation_or_are_refused(rt: HostRuntime) {
     laws_hold();
-    let bytes = bytes_of_many(&rt, rt.alloc());
-    takes_only(&rt, rt.alloc(), 1_000_000, bytes)?;
-    Ok(())
+    let bytes = taken(rt.alloc(), 64_000_000, 1_000_000).unwrap_or(0);
+    assert!(rt; are_of_many(rt.alloc(), bytes));
+    assert!(rt; takes_only(rt.alloc(), 1_000_000, bytes));
 }
 
 /// The dag of a run, and its granted accesses, each with its location, at the number of its entry.
@@ -423,24 +411,22 @@ fn run_alike(strands: &Strands<Global>, dag: &Dag) -> bool {
     true
 }
 
-/// An act that is drawn for a seed, with the number of its entry.
+/// An act that is drawn, with the number of its entry.
 #[derive(Clone, Copy)]
 struct Drawn {
-    seed: u64,
     entry: u32,
     strand: u32,
     asked: Act,
 }
 
 /// A drawn act of a strand that runs in the reference, or of strand 0, and the next state of the generator.
-fn draw_one(dag: &Dag, seed: u64, entry: u32, state: u64) -> (Drawn, u64) {
+fn draw_one(dag: &Dag, entry: u32, state: u64) -> (Drawn, u64) {
     let (most, state_then) = draw(state, 60);
     let (choice, state_last) = draw(state_then, 14);
     let (location, state_next) = draw(state_last, 2);
     let strand = running_below(dag, most);
     let asked = drawn_act(choice, location);
     let drawn = Drawn {
-        seed,
         entry,
         strand,
         asked,
@@ -472,46 +458,29 @@ fn keep(reference: &mut Reference, drawn: Drawn) {
     }
 }
 
-/// What is found is the reference's witness, and one exactly where any access races. The same strands run in both.
-fn compare(
-    rt: &impl Abort,
-    drawn: Drawn,
-    found: Option<Witness>,
-    runs: bool,
-    wanted: (Option<Witness>, bool),
-) {
-    let case = (drawn.seed, drawn.entry, drawn.strand);
-    let wanted = (wanted.0, wanted.1, true);
-    equal(rt, &case, &(found, found.is_some(), runs), &wanted);
-}
-
-/// Does an act in both, compares what they find, and says whether it races.
+/// Does an act in both, and says whether it races. None where what is found is not the reference's witness, or not one exactly where any
+/// access races, or not the same strands run in both.
 fn play_one(
-    rt: &impl Abort,
     strands: &mut Strands<Global>,
     shadow: &mut Shadow<Global>,
     reference: &mut Reference,
     drawn: Drawn,
-) -> bool
+) -> Option<bool>
     requires stands { StandsOn shadow.old strands.old }
     requires locations { 2 ≤ length shadow.old }
     ensures stands { StandsOn shadow.new strands.new }
     ensures locations { length shadow.new ≡ length shadow.old }
 {
-    let wanted = take(reference, drawn);
+    let (witness, races) = take(reference, drawn);
     let found = step(strands, shadow, drawn.entry, drawn.strand, drawn.asked);
-    let runs = run_alike(strands, &reference.dag);
-    compare(rt, drawn, found, runs, wanted);
-    wanted.1
+    let is_right = found == witness
+        && found.is_some() == races
+        && run_alike(strands, &reference.dag);
+    is_right.then_some(races)
 }
 
 /// How many of the 79 acts of this seed's run race.
-fn play_all(
-    rt: &impl Abort,
-    strands: &mut Strands<Global>,
-    shadow: &mut Shadow<Global>,
-    seed: u64,
-) -> u32
+fn play_all(strands: &mut Strands<Global>, shadow: &mut Shadow<Global>, seed: u64) -> Option<u32>
     requires stands { StandsOn shadow.old strands.old }
     requires locations { 2 ≤ length shadow.old }
 {
@@ -519,26 +488,31 @@ fn play_all(
     let mut state = seed;
     let mut raced = 0u32;
     for entry in 1..80u32 {
-        let (drawn, state_next) = draw_one(&reference.dag, seed, entry, state);
+        let (drawn, state_next) = draw_one(&reference.dag, entry, state);
         state = state_next;
-        let is_race = play_one(rt, strands, shadow, &mut reference, drawn);
-        raced = raced.saturating_add(u32::from(is_race));
+        match play_one(strands, shadow, &mut reference, drawn) {
+            Some(is_race) => raced = raced.saturating_add(u32::from(is_race)),
+            None => return None,
+        }
     }
-    raced
+    Some(raced)
 }
 
 /// The same of new strands.
-fn play(rt: &impl Abort, alloc: Global, seed: u64) -> Result<u32, AllocError> {
-    let (mut strands, mut shadow) = opening(alloc, alloc, 2)?;
-    Ok(play_all(rt, &mut strands, &mut shadow, seed))
+fn play(alloc: Global, seed: u64) -> Option<u32> {
+    match opening(alloc, alloc, 2) {
+        Ok((mut strands, mut shadow)) => play_all(&mut strands, &mut shadow, seed),
+        Err(_) => None,
+    }
 }
 
 #[test]
-fn random_runs_agree_with_the_scan(rt: HostRuntime) -> Result<(), Fail> {
+fn random_runs_agree_with_the_scan(rt: HostRuntime) {
     let mut raced = 0u32;
     for seed in 0..400u64 {
-        raced = raced.saturating_add(play(&rt, rt.alloc(), seed)?);
+        let found = play(rt.alloc(), seed);
+        equal(&rt, &seed, &found.is_some(), &true);
+        raced = raced.saturating_add(found.unwrap_or(0));
     }
     assert!(rt; raced > 1_000);
-    Ok(())
 }

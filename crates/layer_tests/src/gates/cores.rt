@@ -63,23 +63,28 @@ fn shown_by(core: &Core<Global>) -> Shown {
     )
 }
 
-/// Takes a step.
-fn take(rt: &impl Abort, core: &mut Core<Global>, step: Step) {
+/// Whether a step has its outcome.
+fn goes(core: &mut Core<Global>, step: Step) -> bool {
     match step {
-        Judges(act, outcome) => equal(rt, &act, &core.judge(request!(act)), &outcome),
-        Stops => core.stop(),
-        Shows(shown, cell) => {
-            equal(rt, &cell, &shown_by(core), &shown);
-            equal(rt, &cell, &core.memory().first(), &Some(&cell));
+        Judges(act, outcome) => core.judge(request!(act)) == outcome,
+        Stops => {
+            core.stop();
+            true
         }
+        Shows(shown, cell) => shown_by(core) == shown && core.memory().first() == Some(&cell),
     }
 }
 
-/// Takes the steps, one after another.
-fn take_all(rt: &impl Abort, core: &mut Core<Global>, steps: &[Step]) {
+/// How many of the steps have their outcomes, one after another, up to the first that has another.
+fn gone(core: &mut Core<Global>, steps: &[Step]) -> usize {
+    let mut count = 0usize;
     for step in steps {
-        take(rt, core, *step);
+        if !goes(core, *step) {
+            break;
+        }
+        count = count.wrapping_add(1);
     }
+    count
 }
 
 /// Takes the steps with a new core of this limit.
@@ -87,7 +92,7 @@ fn check(rt: &impl Abort, alloc: Global, limit: u32, steps: &[Step]) -> Result<(
     requires { limit ≤ most_entries }
 {
     let mut core = opening(alloc, &[], limit)?;
-    take_all(rt, &mut core, steps);
+    equal(rt, &"steps", &gone(&mut core, steps), &steps.len());
     Ok(())
 }
 
@@ -137,40 +142,43 @@ const REPLIES: [Reply; 5] = [
     Reply::Illegal(GateFault::Limit),
 ];
 
-/// Answers an access of a cell.
-fn answer_cell(core: &mut Core<Global>, request: Request) -> Result<Receipt, GateFault>
+/// The reply to an access of a cell.
+fn reply_to_cell(core: &mut Core<Global>, request: Request) -> Reply
     requires { (access : CellAccess) × sort_of request.act ≡ Sort.Cell access }
 {
-    core.check(request)?;
-    Ok(core.answer_cell(request))
+    match core.check(request) {
+        Ok(()) => Reply::Done(core.answer_cell(request)),
+        Err(fault) => Reply::Illegal(fault),
+    }
 }
 
-/// Answers an access of a reducer.
-fn answer_reducer(core: &mut Core<Global>, request: Request) -> Result<Receipt, GateFault>
+/// The reply to an access of a reducer.
+fn reply_to_reducer(core: &mut Core<Global>, request: Request) -> Reply
     requires { sort_of request.act ≡ Sort.Reducer }
 {
-    core.check(request)?;
-    core.answer_reducer(request)
-}
-
-/// What a request was answered, as a reply.
-fn told(answered: Result<Receipt, GateFault>) -> Reply {
-    match answered {
+    if let Err(fault) = core.check(request) {
+        return Reply::Illegal(fault);
+    }
+    match core.answer_reducer(request) {
         Ok(receipt) => Reply::Done(receipt),
         Err(fault) => Reply::Illegal(fault),
     }
 }
 
+/// The replies of a core that was asked nothing.
+fn replies_of(core: &mut Core<Global>) -> [Reply; 5] {
+    [
+        reply_to_cell(core, request!(Act::Write(0, 5))),
+        reply_to_reducer(core, request!(Act::Update(0, 2))),
+        core.reply_to_control(request!(Act::Sync)),
+        core.reply(request!(Act::Read(0))),
+        reply_to_cell(core, request!(Act::Read(0))),
+    ]
+}
+
 #[test]
 fn a_core_replies_to_requests_of_a_known_sort(rt: HostRuntime) -> Result<(), Fail> {
     let mut core = opening(rt.alloc(), &[Monoid::Sum], 4)?;
-    let replies = [
-        told(answer_cell(&mut core, request!(Act::Write(0, 5)))),
-        told(answer_reducer(&mut core, request!(Act::Update(0, 2)))),
-        core.reply_to_control(request!(Act::Sync)),
-        core.reply(request!(Act::Read(0))),
-        told(answer_cell(&mut core, request!(Act::Read(0)))),
-    ];
-    equal(&rt, &"replies", &replies, &REPLIES);
+    equal(&rt, &"replies", &replies_of(&mut core), &REPLIES);
     Ok(())
 }

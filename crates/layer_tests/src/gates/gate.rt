@@ -65,8 +65,6 @@ use random::agrees_in;
 use shadow_history::Witness;
 use sp_labels::Spawned;
 use std::alloc::{AllocError, Global};
-use std::process::Abort;
-use std::test::Fail;
 use text_words::{Act, Monoid, Monoids, Request, Shape};
 
 /// Three cells beside these reducers, or one where there are none.
@@ -95,23 +93,24 @@ fn receipt(number: u32, strand: u32, act: Act, answer: Answer) -> Receipt {
     }
 }
 
-/// The gate answers the receipt's request so.
-fn answers(rt: &impl Abort, gate: &mut Gate<Global>, expected: Receipt) {
-    let request = expected.request;
-    equal(rt, &request, &gate.judge(request), &Ok(expected));
+/// Whether the gate answers the receipt's request so.
+fn answers(gate: &mut Gate<Global>, expected: Receipt) -> bool {
+    gate.judge(expected.request) == Ok(expected)
 }
 
 /// A strand's act, and how a gate answers it.
 type Asked = (u32, Act, Answer);
 
-/// The gate, which was asked nothing, answers each act, by its strand, by what stands beside it, and then has no other entries.
-fn answers_all(rt: &impl Abort, gate: &mut Gate<Global>, acts: &[Asked]) {
+/// Whether the gate, which was asked nothing, answers each act, by its strand, by what stands beside it, and then has no other entries.
+fn answers_all(gate: &mut Gate<Global>, acts: &[Asked]) -> bool {
     let mut number = 0u32;
     for (strand, act, answer) in acts {
         number = number.wrapping_add(1);
-        answers(rt, gate, receipt(number, *strand, *act, *answer));
+        if !answers(gate, receipt(number, *strand, *act, *answer)) {
+            return false;
+        }
     }
-    equal(rt, &"entries", &gate.history().len(), &acts.len());
+    gate.history().len() == acts.len()
 }
 
 /// A request, and what the gate makes of it.
@@ -139,69 +138,64 @@ enum Asks<'a> {
     Drawn(u64, u64),
 }
 
-/// Asks a new gate with these reducers, and checks its answers.
-fn ask(
-    rt: &impl Abort,
-    alloc: Global,
-    gate: &mut Gate<Global>,
-    monoids: &[Monoid],
-    asks: Asks<'_>,
-) -> Result<(), Fail> {
+/// Whether a new gate with these reducers is and answers as it is to be. There is memory for it.
+fn goes(alloc: Global, gate: &mut Gate<Global>, monoids: &[Monoid], asks: Asks<'_>) -> bool {
     match asks {
-        Asks::Nothing => is_new(rt, gate),
-        Asks::Acts(acts) => answers_all(rt, gate, acts),
-        Asks::List(listed, end) => {
-            check_replies(rt, alloc, gate, listed)?;
-            ends(rt, gate, end);
-        }
-        Asks::Faults => answers_faults(rt, gate),
-        Asks::SpawnsLong => spawns_long(rt, gate),
-        Asks::Drawn(seed, state) => agrees_in(rt, gate, monoids, seed, state),
+        Asks::Nothing => is_new(gate),
+        Asks::Acts(acts) => answers_all(gate, acts),
+        Asks::List(listed, end) => replies_to(alloc, gate, listed) && ends(gate, end),
+        Asks::Faults => answers_faults(gate),
+        Asks::SpawnsLong => spawns_long(gate),
+        Asks::Drawn(seed, state) => agrees_in(gate, monoids, seed, state),
     }
-    Ok(())
 }
 
 /// The same of a gate of its own, with this limit.
-fn check_new(
-    rt: &impl Abort,
-    alloc: Global,
-    monoids: &[Monoid],
-    limit: u32,
-    asks: Asks<'_>,
-) -> Result<(), Fail> {
-    assert!(rt; limit <= 1_000_000 && monoids.len() <= 2);
-    let mut gate = opening_with(alloc, monoids, limit)?;
-    ask(rt, alloc, &mut gate, monoids, asks)
+fn goes_anew(alloc: Global, monoids: &[Monoid], limit: u32, asks: Asks<'_>) -> bool {
+    if limit > 1_000_000 || monoids.len() > 2 {
+        return false;
+    }
+    match opening_with(alloc, monoids, limit) {
+        Ok(mut gate) => goes(alloc, &mut gate, monoids, asks),
+        Err(_) => false,
+    }
 }
 
 /// The reducers of a program, and its acts with their answers.
 type Run<'a> = (&'a [Monoid], &'a [Asked]);
 
-/// Each act of each program, by its strand, is answered by what stands beside it.
-fn check(rt: &impl Abort, alloc: Global, runs: &[Run<'_>]) -> Result<(), Fail> {
+/// Of how many programs each act, by its strand, is answered by what stands beside it, up to the first of which one is not.
+fn answered(alloc: Global, runs: &[Run<'_>]) -> usize {
+    let mut count = 0usize;
     for (monoids, acts) in runs {
-        check_new(rt, alloc, monoids, 1_000_000, Asks::Acts(acts))?;
+        if !goes_anew(alloc, monoids, 1_000_000, Asks::Acts(acts)) {
+            break;
+        }
+        count = count.wrapping_add(1);
     }
-    Ok(())
+    count
 }
 
-/// The gate makes of each request what stands beside it.
-fn judges(rt: &impl Abort, gate: &mut Gate<Global>, outcomes: &[Outcome]) {
+/// Whether the gate makes of each request what stands beside it.
+fn judges(gate: &mut Gate<Global>, outcomes: &[Outcome]) -> bool {
     for (request, outcome) in outcomes {
-        equal(rt, request, &gate.judge(*request), outcome);
+        if gate.judge(*request) != *outcome {
+            return false;
+        }
     }
+    true
 }
 
-/// The gate has so many entries, is finished or not, and is stopped or not.
-fn stands(rt: &impl Abort, gate: &Gate<Global>, wanted: (usize, bool, bool)) {
-    let found = (gate.history().len(), gate.is_finished(), gate.is_stopped());
-    equal(rt, &"gate", &found, &wanted);
+/// Whether the gate has so many entries, is finished or not, and is stopped or not.
+fn stands(gate: &Gate<Global>, entries: usize, is_finished: bool, is_stopped: bool) -> bool {
+    gate.history().len() == entries
+        && gate.is_finished() == is_finished
+        && gate.is_stopped() == is_stopped
 }
 
-/// The gate has one cell and the limit 7, and was asked nothing.
-fn is_new(rt: &impl Abort, gate: &Gate<Global>) {
-    ends(rt, gate, (0, false, 0));
-    equal(rt, &"limit", &(gate.limit(), gate.shape().cells), &(7, 1));
+/// Whether the gate has one cell and the limit 7, and was asked nothing.
+fn is_new(gate: &Gate<Global>) -> bool {
+    ends(gate, (0, false, 0)) && gate.limit() == 7 && gate.shape().cells == 1
 }
 
 /// Accesses of cells, and control.
@@ -319,9 +313,10 @@ const RUNS: &[Run<'static>] = &[
 ];
 
 #[test]
-fn accesses_race_where_no_path_joins_their_strands(rt: HostRuntime) -> Result<(), Fail> {
-    check(&rt, rt.alloc(), RUNS)?;
-    check(&rt, rt.alloc(), reducers::RUNS)
+fn accesses_race_where_no_path_joins_their_strands(rt: HostRuntime) {
+    equal(&rt, &"cells", &answered(rt.alloc(), RUNS), &RUNS.len());
+    let found = answered(rt.alloc(), reducers::RUNS);
+    equal(&rt, &"reducers", &found, &reducers::RUNS.len());
 }
 
 /// The first fault of each request, by a gate of the limit 2.
@@ -341,30 +336,26 @@ const FAULTS: &[Outcome] = &[
 /// What a stopped gate makes of a request.
 const STOPPED: &[Outcome] = &[(asked!(0, Sync), Err(GateFault::Stopped))];
 
-/// A gate of the limit 2 answers by the first fault of each request.
-fn answers_faults(rt: &impl Abort, gate: &mut Gate<Global>) {
-    judges(rt, gate, FAULTS);
+/// Whether a gate of the limit 2 answers by the first fault of each request.
+fn answers_faults(gate: &mut Gate<Global>) -> bool {
+    if !judges(gate, FAULTS) {
+        return false;
+    }
     gate.stop();
-    judges(rt, gate, STOPPED);
-    stands(rt, gate, (2, false, true));
+    judges(gate, STOPPED) && stands(gate, 2, false, true)
 }
 
-/// The gate replies so to the requests, one to each.
-fn check_replies(
-    rt: &impl Abort,
-    alloc: Global,
-    gate: &mut Gate<Global>,
-    listed: Listed<'_>,
-) -> Result<(), Fail> {
-    let replies = judge_all(gate, alloc, listed.0)?;
-    equal(rt, &listed.0, &replies.as_slice(), &listed.1);
-    Ok(())
+/// Whether the gate replies so to the requests, one to each.
+fn replies_to(alloc: Global, gate: &mut Gate<Global>, listed: Listed<'_>) -> bool {
+    match judge_all(gate, alloc, listed.0) {
+        Ok(replies) => replies.as_slice() == listed.1,
+        Err(_) => false,
+    }
 }
 
-/// The gate has so many entries, has finished or not, is not stopped, and holds this number.
-fn ends(rt: &impl Abort, gate: &Gate<Global>, end: End) {
-    stands(rt, gate, (end.0, end.1, false));
-    equal(rt, &"cells", &gate.memory(), &[end.2].as_slice());
+/// Whether the gate has so many entries, has finished or not, is not stopped, and holds this number.
+fn ends(gate: &Gate<Global>, end: End) -> bool {
+    stands(gate, end.0, end.1, false) && gate.memory() == [end.2].as_slice()
 }
 
 /// Four writes, by a gate of the limit 3.
@@ -402,47 +393,35 @@ fn laws_hold() {
     laws::examples_law();
 }
 
-/// The strand spawns a child, which returns at once, in the entries behind this one. The first spawn is that of strand 0.
-fn spawn_and_return(
-    rt: &impl Abort,
-    gate: &mut Gate<Global>,
-    number: u32,
-    strand: u32,
-    child: u32,
-) {
+/// Whether the strand spawns a child, which returns at once, in the entries behind this one. The first spawn is that of strand 0.
+fn spawns(gate: &mut Gate<Global>, number: u32, strand: u32, child: u32) -> bool {
     let answer = split!(child, child.wrapping_add(1), 3, strand == 0);
     let number = number.wrapping_add(1);
-    answers(rt, gate, receipt(number, strand, Spawn, answer));
-    answers(
-        rt,
-        gate,
-        receipt(number.wrapping_add(1), child, Return, Ended),
-    );
+    answers(gate, receipt(number, strand, Spawn, answer))
+        && answers(gate, receipt(number.wrapping_add(1), child, Return, Ended))
 }
 
-/// Ten thousand spawns by a new gate's root function, with a write behind each hundredth, and the strand that is left.
-fn spawn_all(rt: &impl Abort, gate: &mut Gate<Global>) -> u32 {
+/// Whether there are ten thousand spawns by a new gate's root function, with a write behind each hundredth, and then its end.
+fn spawns_long(gate: &mut Gate<Global>) -> bool {
     let mut newest = 0;
     let mut number = 0u32;
     for k in 1..10_001u32 {
         let child = if k == 1 { 1 } else { 2 * k };
-        spawn_and_return(rt, gate, number, newest, child);
+        if !spawns(gate, number, newest, child) {
+            return false;
+        }
         newest = child + 1;
         number = number.wrapping_add(2);
         if k % 100 == 0 {
             number = number.wrapping_add(1);
-            answers(rt, gate, receipt(number, newest, Write(0, 7), Granted));
+            if !answers(gate, receipt(number, newest, Write(0, 7), Granted)) {
+                return false;
+            }
         }
     }
-    newest
-}
-
-/// The same, and the end of the root function.
-fn spawns_long(rt: &impl Abort, gate: &mut Gate<Global>) {
-    let newest = spawn_all(rt, gate);
-    equal(rt, &"newest", &newest, &20_001);
-    answers(rt, gate, receipt(20_101, newest, Sync, Joined(3)));
-    answers(rt, gate, receipt(20_102, 3, Return, Finished));
+    newest == 20_001
+        && answers(gate, receipt(20_101, newest, Sync, Joined(3)))
+        && answers(gate, receipt(20_102, 3, Return, Finished))
 }
 
 /// Gates without reducers, with these limits.
@@ -460,10 +439,14 @@ const GATES: &[(u32, Asks<'static>)] = &[
 ];
 
 #[test]
-fn a_gate_enters_from_its_begin_to_its_limit_or_end(rt: HostRuntime) -> Result<(), Fail> {
+fn a_gate_enters_from_its_begin_to_its_limit_or_end(rt: HostRuntime) {
     laws_hold();
     for (limit, asks) in GATES {
-        check_new(&rt, rt.alloc(), &[], *limit, *asks)?;
+        equal(
+            &rt,
+            limit,
+            &goes_anew(rt.alloc(), &[], *limit, *asks),
+            &true,
+        );
     }
-    Ok(())
 }

@@ -9,8 +9,7 @@ use access_table::Kind;
 use branch_names::Branches;
 use shadow_history::Witness;
 use sp_labels::Spawned;
-use std::alloc::Global;
-use std::process::Abort;
+use std::alloc::{AllocError, Global};
 use std::test::Fail;
 use view_read_rule::{ReadPeers, ViewVerdict};
 
@@ -28,10 +27,9 @@ const VERDICTS: [ViewVerdict; 4] = [
 
 // Strand 0 spawns 1 and 2, strand 1 puts, strand 2 asks for a get and spawns, strand 1 gets.
 fn judges_reads(
-    rt: &impl Abort,
     branches: &mut Branches<Global>,
     peers: &mut ReadPeers<Global>,
-) -> Result<(), Fail>
+) -> Result<[ViewVerdict; 4], AllocError>
     requires follows { Follows branches.old [] }
     requires reducers { length peers.old ≡ 1 }
     requires empty { Remembers peers.old [] }
@@ -64,13 +62,14 @@ fn judges_reads(
     );
     let same = peers.judge(branches, 0, Kind::Get, 1);
 
-    equal(rt, &"verdicts", &[unset, first, other, same], &VERDICTS);
-    Ok(())
+    Ok([unset, first, other, same])
 }
 
 #[test]
 fn judges_by_the_first_read(rt: HostRuntime) -> Result<(), Fail> {
     let mut peers = ReadPeers::new(rt.alloc(), 1)?;
     let mut branches = Branches::new(rt.alloc())?;
-    judges_reads(&rt, &mut branches, &mut peers)
+    let found = judges_reads(&mut branches, &mut peers)?;
+    equal(&rt, &"verdicts", &found, &VERDICTS);
+    Ok(())
 }

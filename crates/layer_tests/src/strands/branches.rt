@@ -6,12 +6,14 @@ ghost use Rattle.branch_names.specs.Names.{Follows};
 use crate::checks::equal;
 use branch_names::Branches;
 use sp_labels::Spawned;
-use std::alloc::Global;
-use std::process::Abort;
+use std::alloc::{AllocError, Global};
 use std::test::Fail;
 
+/// Whether there was room; whether join 3 had a name before it began, and then; and whether 0 and 3, 1 and 2, 0 and 1, 0 and 6 have one.
+const NAMES: [bool; 7] = [true, false, true, true, false, false, true];
+
 // A spawn by strand 0, the child's return, a sync that begins join 3; then the same by strand 3, and join 6.
-fn names_two_joins(rt: &impl Abort, branches: &mut Branches<Global>) -> Result<(), Fail>
+fn names_two_joins(branches: &mut Branches<Global>) -> Result<[bool; 7], AllocError>
     requires { Follows branches.old [] }
 {
     branches.reserve_event()?;
@@ -48,15 +50,15 @@ fn names_two_joins(rt: &impl Abort, branches: &mut Branches<Global>) -> Result<(
     branches.joined(6);
     let with_last = branches.same(0, 6);
 
-    equal(rt, &"room", &has_room, &true);
-    equal(rt, &"join 3", &(is_early, is_named), &(false, true));
-    let found = (with_join, children, with_child, with_last);
-    equal(rt, &"branches", &found, &(true, false, false, true));
-    Ok(())
+    Ok([
+        has_room, is_early, is_named, with_join, children, with_child, with_last,
+    ])
 }
 
 #[test]
 fn names_joins_as_their_openers(rt: HostRuntime) -> Result<(), Fail> {
     let mut branches = Branches::new(rt.alloc())?;
-    names_two_joins(&rt, &mut branches)
+    let found = names_two_joins(&mut branches)?;
+    equal(&rt, &"names", &found, &NAMES);
+    Ok(())
 }

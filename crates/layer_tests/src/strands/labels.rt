@@ -76,71 +76,64 @@ enum Step {
 
 use Step::{Calls, Fills, Relates, Reserves, Returns, Spawns, SpawnsLong, Stands, Syncs};
 
-/// The strand spawns, with this outcome.
-fn spawns(
-    rt: &impl Abort,
-    strands: &mut Strands<Global>,
-    strand: u32,
-    wanted: Result<Spawned, SpFault>,
-) {
-    equal(rt, &strand, &strands.spawn(strand), &wanted);
-}
-
-/// The strand returns, with this outcome.
-fn returns(
-    rt: &impl Abort,
-    strands: &mut Strands<Global>,
-    strand: u32,
-    wanted: Result<Returned, SpFault>,
-) {
-    equal(rt, &strand, &strands.ret(strand), &wanted);
-}
-
-fn spawns_long(rt: &impl Abort, strands: &mut Strands<Global>) {
+/// Whether ten thousand spawns in one block, each by the strand behind the one before, have their outcomes, and the children's returns.
+fn spawns_long(strands: &mut Strands<Global>) -> bool {
     let mut newest = 0;
     for k in 1..10_001u32 {
         let child = if k == 1 { 1 } else { 2 * k };
-        spawns(rt, strands, newest, split!(child, child + 1, 3, k == 1));
-        returns(rt, strands, child, Ok(Returned::Ended));
+        if strands.spawn(newest) != split!(child, child + 1, 3, k == 1)
+            || strands.ret(child) != Ok(Returned::Ended)
+        {
+            return false;
+        }
         newest = child + 1;
     }
+    true
 }
 
-fn fills(rt: &impl Abort, strands: &mut Strands<Global>) {
+/// Whether a million first spawns, each by the child of the one before, have their outcomes.
+fn fills(strands: &mut Strands<Global>) -> bool {
     let mut newest = 0;
     for k in 0..1_000_000u32 {
-        let spawned = split!(3 * k + 1, 3 * k + 2, 3 * k + 3, true);
-        spawns(rt, strands, newest, spawned);
+        if strands.spawn(newest) != split!(3 * k + 1, 3 * k + 2, 3 * k + 3, true) {
+            return false;
+        }
         newest = 3 * k + 1;
     }
+    true
 }
 
-/// Takes a step.
-fn take(rt: &impl Abort, strands: &mut Strands<Global>, step: Step) {
+/// Whether a step has its outcome.
+fn goes(strands: &mut Strands<Global>, step: Step) -> bool {
     match step {
-        Spawns(strand, wanted) => spawns(rt, strands, strand, wanted),
-        Syncs(strand, wanted) => equal(rt, &strand, &strands.sync(strand), &wanted),
-        Calls(strand) => equal(rt, &strand, &strands.call(strand), &Ok(())),
-        Returns(strand, wanted) => returns(rt, strands, strand, wanted),
-        Reserves(wanted) => equal(rt, &"room", &strands.reserve_event(), &wanted),
-        Stands(strand, wanted) => equal(rt, &strand, &standing(strands, strand), &wanted),
-        Relates(a, b, wanted) => equal(rt, &(a, b), &compare(strands, a, b), &wanted),
-        SpawnsLong => spawns_long(rt, strands),
-        Fills => fills(rt, strands),
+        Spawns(strand, wanted) => strands.spawn(strand) == wanted,
+        Syncs(strand, wanted) => strands.sync(strand) == wanted,
+        Calls(strand) => strands.call(strand).is_ok(),
+        Returns(strand, wanted) => strands.ret(strand) == wanted,
+        Reserves(wanted) => strands.reserve_event() == wanted,
+        Stands(strand, wanted) => standing(strands, strand) == wanted,
+        Relates(a, b, wanted) => compare(strands, a, b) == wanted,
+        SpawnsLong => spawns_long(strands),
+        Fills => fills(strands),
     }
 }
 
-/// Takes the steps, one after another.
-fn take_all(rt: &impl Abort, strands: &mut Strands<Global>, steps: &[Step]) {
+/// How many of the steps have their outcomes, one after another, up to the first that has another.
+fn gone(strands: &mut Strands<Global>, steps: &[Step]) -> usize {
+    let mut count = 0usize;
     for step in steps {
-        take(rt, strands, *step);
+        if !goes(strands, *step) {
+            break;
+        }
+        count = count.wrapping_add(1);
     }
+    count
 }
 
 /// Takes the steps with new strands.
 fn check(rt: &impl Abort, alloc: Global, steps: &[Step]) -> Result<(), Fail> {
     let mut strands = Strands::new(alloc)?;
-    take_all(rt, &mut strands, steps);
+    equal(rt, &"steps", &gone(&mut strands, steps), &steps.len());
     Ok(())
 }
 

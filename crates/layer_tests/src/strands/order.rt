@@ -9,16 +9,6 @@ use std::alloc::{AllocError, Allocator, Global};
 use std::process::Abort;
 use std::test::Fail;
 
-/// Room is asked for so many items.
-fn reserves(
-    rt: &impl Abort,
-    list: &mut OrderList<Global>,
-    count: u32,
-    wanted: Result<(), OrderFault>,
-) {
-    equal(rt, &count, &list.reserve(count), &wanted);
-}
-
 /// The item that is placed behind this one, or none without it or without room.
 fn placed(list: &mut OrderList<Global>, after: u32) -> Option<u32> {
     if list.reserved() > 0 && (after as usize) < list.len() {
@@ -26,11 +16,6 @@ fn placed(list: &mut OrderList<Global>, after: u32) -> Option<u32> {
     } else {
         None
     }
-}
-
-/// The item that is placed behind this one has this number.
-fn places(rt: &impl Abort, list: &mut OrderList<Global>, after: u32, wanted: u32) {
-    equal(rt, &after, &placed(list, after), &Some(wanted));
 }
 
 /// Whether an item stands before another, if both are there.
@@ -42,24 +27,14 @@ fn is_before(list: &OrderList<Global>, a: u32, b: u32) -> Option<bool> {
     }
 }
 
-/// Whether the first item of two stands before the second one, and whether the second one does.
-fn stand(rt: &impl Abort, list: &OrderList<Global>, pair: (u32, u32), wanted: [bool; 2]) {
-    let (a, b) = pair;
-    let found = [is_before(list, a, b), is_before(list, b, a)];
-    equal(rt, &pair, &found, &[Some(wanted[0]), Some(wanted[1])]);
-}
-
-/// The first item of each pair stands before the second one, and not behind it.
-fn stand_before(rt: &impl Abort, list: &OrderList<Global>, pairs: &[(u32, u32)]) {
-    for pair in pairs {
-        stand(rt, list, *pair, [true, false]);
+/// Whether the first item of each pair stands before the second one, and not behind it.
+fn stand_before(list: &OrderList<Global>, pairs: &[(u32, u32)]) -> bool {
+    for (a, b) in pairs {
+        if is_before(list, *a, *b) != Some(true) || is_before(list, *b, *a) != Some(false) {
+            return false;
+        }
     }
-}
-
-/// The list has so many items, and reserved room for so many more.
-fn has_items(rt: &impl Abort, list: &OrderList<Global>, items: usize, reserved: u32) {
-    let found = (list.len(), list.reserved() >= reserved);
-    equal(rt, &items, &found, &(items, true));
+    true
 }
 
 /// Where a spawn places its strands.
@@ -71,43 +46,45 @@ enum Order {
     Hebrew,
 }
 
-/// A spawn places its child and the strand behind it, and the join where it is the first of its block.
-fn spawns(rt: &impl Abort, list: &mut OrderList<Global>, order: Order, spawner: u32, child: u32) {
+/// Whether a spawn places its child and the strand behind it, and the join where it is the first of its block.
+fn spawns(list: &mut OrderList<Global>, order: Order, spawner: u32, child: u32) -> bool {
     let next = child.wrapping_add(1);
     let (before_next, before_join) = match order {
         Order::English => (child, next),
         Order::Hebrew => (spawner, child),
     };
-    reserves(rt, list, 3, Ok(()));
-    places(rt, list, spawner, child);
-    places(rt, list, before_next, next);
-    if spawner == 0 {
-        places(rt, list, before_join, next.wrapping_add(1));
-    }
+    list.reserve(3).is_ok()
+        && placed(list, spawner) == Some(child)
+        && placed(list, before_next) == Some(next)
+        && (spawner != 0 || placed(list, before_join) == Some(next.wrapping_add(1)))
 }
 
-/// Ten thousand spawns in one block, each by the strand behind the one before.
-fn spawns_long(rt: &impl Abort, list: &mut OrderList<Global>, order: Order) {
+/// Whether ten thousand spawns in one block do, each by the strand behind the one before.
+fn spawns_long(list: &mut OrderList<Global>, order: Order) -> bool {
     let mut newest = 0;
     for k in 1..10_001u32 {
         let child = if k == 1 { 1 } else { 2 * k };
-        spawns(rt, list, order, newest, child);
+        if !spawns(list, order, newest, child) {
+            return false;
+        }
         newest = child + 1;
     }
+    true
 }
 
-/// A hundred thousand items are placed behind the first one.
-fn places_many(rt: &impl Abort, list: &mut OrderList<Global>) {
+/// Whether a hundred thousand items are placed behind the first one, and stand in the other order.
+fn places_many(list: &mut OrderList<Global>) -> bool {
     for item in 1..100_001u32 {
-        places(rt, list, 0, item);
+        if placed(list, 0) != Some(item) {
+            return false;
+        }
     }
-}
-
-/// They stand in the other order.
-fn stand_as_placed(rt: &impl Abort, list: &OrderList<Global>) {
     for item in 1..100_000u32 {
-        stand(rt, list, (item + 1, item), [true, false]);
+        if !stand_before(list, &[(item + 1, item)]) {
+            return false;
+        }
     }
+    true
 }
 
 /// What is done with a list, or seen in it.
@@ -133,34 +110,36 @@ enum Step {
 
 use Step::{Has, HasNoRoom, IsNotBefore, Places, PlacesMany, Reserves, SpawnsLong, Stand};
 
-/// Takes a step.
-fn take(rt: &impl Abort, list: &mut OrderList<Global>, step: Step) {
+/// Whether a step has its outcome.
+fn goes(list: &mut OrderList<Global>, step: Step) -> bool {
     match step {
-        Reserves(count, wanted) => reserves(rt, list, count, wanted),
-        Places(after, wanted) => places(rt, list, after, wanted),
-        Has(items, reserved) => has_items(rt, list, items, reserved),
-        HasNoRoom => equal(rt, &"room", &list.reserved(), &0),
-        Stand(pairs) => stand_before(rt, list, pairs),
-        IsNotBefore(item) => stand(rt, list, (item, item), [false, false]),
-        PlacesMany => {
-            places_many(rt, list);
-            stand_as_placed(rt, list);
-        }
-        SpawnsLong(order) => spawns_long(rt, list, order),
+        Reserves(count, wanted) => list.reserve(count) == wanted,
+        Places(after, wanted) => placed(list, after) == Some(wanted),
+        Has(items, reserved) => list.len() == items && list.reserved() >= reserved,
+        HasNoRoom => list.reserved() == 0,
+        Stand(pairs) => stand_before(list, pairs),
+        IsNotBefore(item) => is_before(list, item, item) == Some(false),
+        PlacesMany => places_many(list),
+        SpawnsLong(order) => spawns_long(list, order),
     }
 }
 
-/// Takes the steps, one after another.
-fn take_all(rt: &impl Abort, list: &mut OrderList<Global>, steps: &[Step]) {
+/// How many of the steps have their outcomes, one after another, up to the first that has another.
+fn gone(list: &mut OrderList<Global>, steps: &[Step]) -> usize {
+    let mut count = 0usize;
     for step in steps {
-        take(rt, list, *step);
+        if !goes(list, *step) {
+            break;
+        }
+        count = count.wrapping_add(1);
     }
+    count
 }
 
 /// Takes the steps with a new list.
 fn check(rt: &impl Abort, alloc: Global, steps: &[Step]) -> Result<(), AllocError> {
     let mut list = OrderList::new(alloc)?;
-    take_all(rt, &mut list, steps);
+    equal(rt, &"steps", &gone(&mut list, steps), &steps.len());
     Ok(())
 }
 

@@ -1,6 +1,6 @@
 //! Worked views, with values from the definitions of the monoids.
 
-ghost use Rattle.std.specs.Prelude.{◌≡◌, ◌<◌, IsTrue, OnOk, length};
+ghost use Rattle.std.specs.Prelude.{◌≡◌, ◌<◌, IsTrue, length};
 
 use crate::checks::equal;
 use model_reducers::Monoid;
@@ -144,23 +144,14 @@ struct Run {
     ghost counted: { count ≡ length views.monoids },
 }
 
-/// There is room for an event of a strand or a join, which is there.
-fn reserve(rt: &impl Abort, run: &mut Run, strand: u32) -> Result<(), AllocError>
-    ensures room { OnOk result (IsTrue run.new.views.has_room) }
-    ensures there { OnOk result (strand < length run.new.views.strands) }
-{
-    run.views.reserve_event()?;
-    assert!(rt; run.views.has_room() && run.views.is_there(strand));
-    Ok(())
-}
-
-/// The spawn that begins this child and the strand after it: the first of its block where no join is given.
-fn spawn(rt: &impl Abort, run: &mut Run, strand: u32, child: u32, join: Option<u32>)
+/// Whether the spawn begins this child and the strand after it, which were not there: the first of its block where no join is given.
+fn spawns(run: &mut Run, strand: u32, child: u32, join: Option<u32>) -> bool
     requires room { IsTrue run.old.views.has_room }
     requires there { strand < length run.old.views.strands }
 {
-    assert!(rt; 0 < child && child < 100);
-    assert!(rt; run.views.is_there(child - 1) && !run.views.is_there(child));
+    if child == 0 || child > 99 || !run.views.is_there(child - 1) || run.views.is_there(child) {
+        return false;
+    }
     let spawned = Spawned {
         child,
         next: child + 1,
@@ -168,54 +159,61 @@ fn spawn(rt: &impl Abort, run: &mut Run, strand: u32, child: u32, join: Option<u
         first: join.is_none(),
     };
     run.views.spawned(strand, &spawned);
+    true
 }
 
-/// Checks what the strand sees in a reducer.
-fn sees(rt: &impl Abort, run: &Run, strand: u32, reducer: u32, wanted: Option<u64>) {
-    assert!(rt; run.views.is_there(strand) && (reducer as usize) < run.count);
-    let found = run.views.get(strand, reducer);
-    equal(rt, &(strand, reducer), &found, &wanted);
+/// Whether the strand, which is there, sees this in a reducer.
+fn sees(run: &Run, strand: u32, reducer: u32, wanted: Option<u64>) -> bool {
+    run.views.is_there(strand)
+        && (reducer as usize) < run.count
+        && run.views.get(strand, reducer) == wanted
 }
 
-/// Does what takes room.
-fn act_on(rt: &impl Abort, run: &mut Run, strand: u32, act: Act)
+/// Whether what takes room can be done.
+fn acts(run: &mut Run, strand: u32, act: Act) -> bool
     requires room { IsTrue run.old.views.has_room }
     requires there { strand < length run.old.views.strands }
 {
     match act {
-        Spawn(child, join) => spawn(rt, run, strand, child, join),
-        Begin => run.views.joined(strand),
-        Add(reducer, number) => {
-            assert!(rt; (reducer as usize) < run.count);
+        Spawn(child, join) => spawns(run, strand, child, join),
+        Begin => {
+            run.views.joined(strand);
+            true
+        }
+        Add(reducer, number) if (reducer as usize) < run.count => {
             run.views.update(strand, reducer, number);
+            true
         }
-        Put(reducer, number) => {
-            assert!(rt; (reducer as usize) < run.count);
+        Put(reducer, number) if (reducer as usize) < run.count => {
             run.views.put(strand, reducer, number);
+            true
         }
-        Sees(_, _) => assert!(rt; false),
+        _ => false,
     }
 }
 
-/// Takes a step.
-fn take(rt: &impl Abort, run: &mut Run, step: Step) -> Result<(), AllocError> {
+/// Whether a step has its outcome. There is memory for it.
+fn goes(run: &mut Run, step: Step) -> bool {
     let (strand, act) = step;
     if let Sees(reducer, wanted) = act {
-        sees(rt, run, strand, reducer, wanted);
-        return Ok(());
+        return sees(run, strand, reducer, wanted);
     }
-    reserve(rt, run, strand)?;
-    act_on(rt, run, strand, act);
-    Ok(())
+    run.views.reserve_event().is_ok()
+        && run.views.has_room()
+        && run.views.is_there(strand)
+        && acts(run, strand, act)
 }
 
-/// Takes the steps, one after another, with views that have no room for an event yet.
-fn take_all(rt: &impl Abort, run: &mut Run, steps: &[Step]) -> Result<(), AllocError> {
-    equal(rt, &"room", &run.views.has_room(), &false);
+/// How many of the steps have their outcomes, one after another, up to the first that has another.
+fn gone(run: &mut Run, steps: &[Step]) -> usize {
+    let mut count = 0usize;
     for step in steps {
-        take(rt, run, *step)?;
+        if !goes(run, *step) {
+            break;
+        }
+        count = count.wrapping_add(1);
     }
-    Ok(())
+    count
 }
 
 /// Takes the steps with new views of these reducers.
@@ -230,7 +228,9 @@ fn check(
         views,
         count: monoids.len(),
     };
-    take_all(rt, &mut run, steps)
+    equal(rt, &"room", &run.views.has_room(), &false);
+    equal(rt, &"steps", &gone(&mut run, steps), &steps.len());
+    Ok(())
 }
 
 /// A join combines the update of a child, which comes later, with that of its continuation.

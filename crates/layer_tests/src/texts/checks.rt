@@ -8,7 +8,6 @@ use crate::checks::equal;
 use program_text::Program;
 use std::alloc::Global;
 use std::process::Abort;
-use std::test::Fail;
 use text_words::{Cause, Mem, Monoid, Shape, TextFault};
 use trace_text::{Trace, cell_name};
 
@@ -53,35 +52,24 @@ pub fn check_texts(rt: &impl Abort, alloc: Global, form: Form, cases: &[Text]) {
     }
 }
 
-/// Checks what a cell is called.
-fn is_called(
-    rt: &impl Abort,
-    alloc: Global,
-    mems: &[Mem],
-    cell: u32,
-    name: &str,
-) -> Result<(), Fail>
+/// Whether this is what a cell is called.
+fn is_called(alloc: Global, mems: &[Mem], cell: u32, name: &str) -> bool
     requires numbered { IsTrue (is_numbered 0 mems.now) }
     requires within { cell < cells_of mems.now }
 {
-    let found = cell_name(alloc, mems, cell)?;
-    equal(rt, &cell, &found.as_str(), &name);
-    Ok(())
+    match cell_name(alloc, mems, cell) {
+        Ok(found) => found.as_str() == name,
+        Err(_) => false,
+    }
 }
 
-/// Of three cells, the first is `x` and the last the second of `a`.
-pub fn has_cells(rt: &impl Abort, alloc: Global, mems: &[Mem]) -> Result<(), Fail>
+/// Whether there are three cells, of which the first is `x` and the last the second of `a`, and reducers of these monoids.
+pub fn has_cells(alloc: Global, shape: &Shape<Global>, mems: &[Mem], monoids: &[Monoid]) -> bool
     requires numbered { IsTrue (is_numbered 0 mems.now) }
-    requires cells { cells_of mems.now ≡ 3 }
+    requires cells { cells_of mems.now ≡ shape.now.cells }
 {
-    is_called(rt, alloc, mems, 0, "x")?;
-    is_called(rt, alloc, mems, 2, "a[1]")
-}
-
-/// There are three cells, and reducers of these monoids.
-pub fn is_shaped(rt: &impl Abort, shape: &Shape<Global>, monoids: &[Monoid])
-    ensures { shape.now.cells ≡ 3 }
-{
-    assert!(rt; shape.cells == 3);
-    equal(rt, &"monoids", &shape.monoids.as_slice(), &monoids);
+    shape.cells == 3
+        && shape.monoids.as_slice() == monoids
+        && is_called(alloc, mems, 0, "x")
+        && is_called(alloc, mems, 2, "a[1]")
 }

@@ -1,32 +1,33 @@
 //! Lines of traces that are kept: each comes back as it was pushed, on both sides of each bound of the short form.
 
-use crate::checks::equal;
 use std::alloc::Global;
-use std::process::Abort;
-use std::test::Fail;
 use text_words::{Act, Request, TraceLine};
 use trace_lines::TraceLines;
 
-/// These are the lines, and no others.
-pub fn are_lines(rt: &impl Abort, lines: &TraceLines<Global>, wanted: &[TraceLine]) {
-    equal(rt, &"how many", &lines.len(), &wanted.len());
+/// Whether these are the lines, and no others.
+pub fn are_lines(lines: &TraceLines<Global>, wanted: &[TraceLine]) -> bool {
+    if lines.len() != wanted.len() {
+        return false;
+    }
     let mut given = lines.iter();
     for line in wanted {
-        equal(rt, line, &given.next(), &Some(*line));
+        if given.next() != Some(*line) {
+            return false;
+        }
     }
-    equal(rt, &"at the end", &given.next(), &None);
+    given.next().is_none()
 }
 
-/// What is pushed comes back, and nothing else.
-fn come_back(rt: &impl Abort, alloc: Global, lines: &[TraceLine]) -> Result<(), Fail> {
+/// Whether what is pushed comes back, and nothing else.
+fn come_back(alloc: Global, lines: &[TraceLine]) -> bool {
     let mut kept = TraceLines::new(alloc);
-    equal(rt, &"none yet", &kept.is_empty(), &true);
+    let was_empty = kept.is_empty();
     for line in lines {
-        kept.push(*line)?;
+        if kept.push(*line).is_err() {
+            return false;
+        }
     }
-    equal(rt, &"none", &kept.is_empty(), &false);
-    are_lines(rt, &kept, lines);
-    Ok(())
+    was_empty && !kept.is_empty() && are_lines(&kept, lines)
 }
 
 /// One behind another, of each kind, and with the greatest numbers that the short form has.
@@ -62,7 +63,7 @@ const LONG: &[TraceLine] = &[
 ];
 
 #[test]
-fn lines(rt: HostRuntime) -> Result<(), Fail> {
-    come_back(&rt, rt.alloc(), SHORT)?;
-    come_back(&rt, rt.alloc(), LONG)
+fn lines(rt: HostRuntime) {
+    assert!(rt; come_back(rt.alloc(), SHORT));
+    assert!(rt; come_back(rt.alloc(), LONG));
 }

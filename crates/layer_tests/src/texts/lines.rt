@@ -6,9 +6,7 @@ use program_lines::{
     Expression, FunctionNames, Item, NameScope, Operand, Statement, meaning_or_fault, one_meaning,
     plain_meaning, put_statement, read_line, room_for_registers,
 };
-use std::alloc::Global;
-use std::process::Abort;
-use std::test::Fail;
+use std::alloc::{AllocError, Global};
 use text_words::{Cause, Name, Names, Version, Words, as_text};
 
 /// A line, and what it says, as it is shown, or the cause why it says nothing.
@@ -22,49 +20,62 @@ fn item_of<'a>(scope: &NameScope<'_, '_, Global>, line: &'a [u8]) -> Result<Item
     }
 }
 
-/// Each line says what is shown beside it in this scope.
-fn check_lines(
-    rt: &impl Abort,
-    alloc: Global,
-    scope: &NameScope<'_, '_, Global>,
-    cases: &[Line],
-) -> Result<(), Fail> {
-    for (line, wanted) in cases {
-        let shown = format!(in alloc; "{:?}", item_of(scope, line))?;
-        equal(rt, line, &shown.as_str(), wanted);
+/// Whether the line says what is shown so.
+fn says(alloc: Global, scope: &NameScope<'_, '_, Global>, line: &[u8], wanted: &str) -> bool {
+    match format!(in alloc; "{:?}", item_of(scope, line)) {
+        Ok(shown) => shown.as_str() == wanted,
+        Err(_) => false,
     }
-    Ok(())
+}
+
+/// How many lines say what is shown beside them in this scope, up to the first that does not.
+fn said(alloc: Global, scope: &NameScope<'_, '_, Global>, cases: &[Line]) -> usize {
+    let mut count = 0usize;
+    for (line, wanted) in cases {
+        if !says(alloc, scope, line, wanted) {
+            break;
+        }
+        count = count.wrapping_add(1);
+    }
+    count
 }
 
 /// The functions `main` and `fib`.
-fn functions(alloc: Global) -> Result<FunctionNames<'static, Global>, Fail> {
+fn functions(alloc: Global) -> Result<FunctionNames<'static, Global>, AllocError> {
     let mut functions = FunctionNames::new(alloc);
     functions.add("main")?;
     functions.add("fib")?;
     Ok(functions)
 }
 
-/// What each line says in a text of that version that declares nothing, where the functions `main` and `fib` are named, of which the first
-/// has begun, and the registers `n` and `t`.
-fn check_inside(
-    rt: &impl Abort,
+/// The same in a text of that version that declares nothing, where these functions are named, of which the first has begun, and the
+/// registers `n` and `t`.
+fn said_beside(
     alloc: Global,
     version: Version,
+    functions: &FunctionNames<'_, Global>,
     cases: &[Line],
-) -> Result<(), Fail> {
-    let functions = functions(alloc)?;
+) -> usize {
     let names = Names::new(alloc, version);
     let registers = [Name::new("n"), Name::new("t")];
-    let scope = NameScope::new(&names, &functions, 1, &registers);
-    check_lines(rt, alloc, &scope, cases)
+    let scope = NameScope::new(&names, functions, 1, &registers);
+    said(alloc, &scope, cases)
 }
 
-/// What each line says where no function is named and no register.
-fn check_outside(rt: &impl Abort, alloc: Global, cases: &[Line]) -> Result<(), Fail> {
+/// The same where the functions are `main` and `fib`.
+fn said_inside(alloc: Global, version: Version, cases: &[Line]) -> usize {
+    match functions(alloc) {
+        Ok(functions) => said_beside(alloc, version, &functions, cases),
+        Err(_) => 0,
+    }
+}
+
+/// The same where no function is named and no register.
+fn said_outside(alloc: Global, cases: &[Line]) -> usize {
     let functions = FunctionNames::new(alloc);
     let names = Names::new(alloc, Version::One);
     let scope = NameScope::new(&names, &functions, 0, &[]);
-    check_lines(rt, alloc, &scope, cases)
+    said(alloc, &scope, cases)
 }
 
 /// Statements of the first version.
@@ -132,49 +143,39 @@ const KINDS: &[Line] = &[
 ];
 
 #[test]
-fn lines(rt: HostRuntime) -> Result<(), Fail> {
-    let alloc = rt.alloc();
-    check_inside(&rt, alloc, Version::One, FIRST)?;
-    check_inside(&rt, alloc, Version::Two, SECOND)?;
-    check_inside(&rt, alloc, Version::One, CAUSES)?;
-    check_outside(&rt, alloc, KINDS)
+fn lines(rt: HostRuntime) {
+    let first = said_inside(rt.alloc(), Version::One, FIRST);
+    let second = said_inside(rt.alloc(), Version::Two, SECOND);
+    let causes = said_inside(rt.alloc(), Version::One, CAUSES);
+    let kinds = said_outside(rt.alloc(), KINDS);
+    let wanted = [FIRST.len(), SECOND.len(), CAUSES.len(), KINDS.len()];
+    equal(&rt, &"lines", &[first, second, causes, kinds], &wanted);
 }
 
-/// A statement of a function with the registers `n` and `t`, printed. If it names a function, it is this one.
-fn printed_of(alloc: Global, function: &str, statement: &Statement) -> Result<String, Fail> {
+/// Whether a statement of a function with the registers `n` and `t` is printed so. If it names a function, it is this one.
+fn prints(alloc: Global, function: &str, statement: &Statement, wanted: &str) -> bool {
     let registers = [Name::new("n"), Name::new("t")];
     let mut out = String::new(alloc);
-    put_statement(&mut out, &[], &[], &registers, function, statement)?;
-    Ok(out)
-}
-
-/// Checks that a statement is printed so.
-fn prints(
-    rt: &impl Abort,
-    alloc: Global,
-    function: &str,
-    statement: &Statement,
-    wanted: &str,
-) -> Result<(), Fail> {
-    let text = printed_of(alloc, function, statement)?;
-    equal(rt, &function, &text.as_str(), &wanted);
-    Ok(())
+    match put_statement(&mut out, &[], &[], &registers, function, statement) {
+        Ok(()) => out.as_str() == wanted,
+        Err(_) => false,
+    }
 }
 
 #[test]
-fn printed(rt: HostRuntime) -> Result<(), Fail> {
+fn printed(rt: HostRuntime) {
     let difference = Statement::Let {
         line: 2,
         register: at(2),
         value: Expression::Difference(Operand::Held(at(1)), Operand::Number(1)),
     };
-    prints(&rt, rt.alloc(), "", &difference, "let t = n - 1")?;
+    assert!(rt; prints(rt.alloc(), "", &difference, "let t = n - 1"));
     let call = Statement::Call {
         line: 3,
         function: 1,
         argument: Operand::Held(at(0)),
     };
-    prints(&rt, rt.alloc(), "fib", &call, "call fib ok")
+    assert!(rt; prints(rt.alloc(), "fib", &call, "call fib ok"));
 }
 
 #[test]

@@ -4,7 +4,6 @@ use super::checks::{Form, Given, read};
 use crate::checks::equal;
 use std::alloc::Global;
 use std::process::Abort;
-use std::test::Fail;
 use text_words::Cause;
 
 /// A text with much of one thing.
@@ -22,67 +21,57 @@ pub struct Much {
     pub tail: &'static str,
 }
 
-/// Appends a line as often as that.
-fn append(text: &mut String, line: &str, count: u32) -> Result<(), Fail> {
+/// Appends a line as often as that. Whether there is memory for it.
+fn append(text: &mut String, line: &str, count: u32) -> bool {
     for _ in 0..count {
-        text.push_str(line)?;
+        if text.push_str(line).is_err() {
+            return false;
+        }
     }
-    Ok(())
+    true
 }
 
-/// Appends as many lines, each with its number between two parts.
-fn append_numbered(text: &mut String, start: &str, end: &str, count: u32) -> Result<(), Fail> {
+/// Appends as many lines, each with its number between two parts. Whether there is memory for it.
+fn append_numbered(text: &mut String, start: &str, end: &str, count: u32) -> bool {
     for number in 0..count {
-        write!(text, "{start}{number}{end}")?;
+        if write!(text, "{start}{number}{end}").is_err() {
+            return false;
+        }
     }
-    Ok(())
+    true
 }
 
-/// Appends what is repeated.
-fn repeat(text: &mut String, much: &Much, count: u32) -> Result<(), Fail> {
-    match much.line {
-        (start, Some(end)) => append_numbered(text, start, end, count)?,
-        (line, None) => append(text, line, count)?,
+/// Appends the text with so much. Whether there is memory for it.
+fn append_much(text: &mut String, much: &Much, count: u32) -> bool {
+    let (line, end) = much.line;
+    append(text, much.head, 1)
+        && match end {
+            Some(end) => append_numbered(text, line, end, count),
+            None => append(text, line, count),
+        }
+        && append(text, much.closing, count)
+        && append(text, much.tail, 1)
+}
+
+/// What so much is read as, or its fault.
+fn found(alloc: Global, much: &Much, count: u32) -> Option<Given<()>> {
+    let mut text = String::new(alloc);
+    if append_much(&mut text, much, count) {
+        read(alloc, much.form, text.as_bytes())
+    } else {
+        None
     }
-    append(text, much.closing, count)
-}
-
-/// The text with so much.
-fn text_of(alloc: Global, much: &Much, count: u32) -> Result<String, Fail> {
-    let mut text = String::from_str(alloc, much.head)?;
-    repeat(&mut text, much, count)?;
-    text.push_str(much.tail)?;
-    Ok(text)
-}
-
-/// So much has the fault beside it, or none.
-fn check(
-    rt: &impl Abort,
-    alloc: Global,
-    much: &Much,
-    count: u32,
-    wanted: Given<()>,
-) -> Result<(), Fail> {
-    let text = text_of(alloc, much, count)?;
-    let found = read(alloc, much.form, text.as_bytes());
-    equal(rt, &(much.head, count), &found, &Some(wanted));
-    Ok(())
 }
 
 /// What there is much of, the most of it, and the line on which one more stands.
 pub type Limit = (Much, u32, u32);
 
 /// So much means a trace or a program, and one more is too much, by what stands on that line.
-pub fn check_limits(rt: &impl Abort, alloc: Global, limits: &[Limit]) -> Result<(), Fail> {
+pub fn check_limits(rt: &impl Abort, alloc: Global, limits: &[Limit]) {
     for (much, most, line) in limits {
-        check(rt, alloc, much, *most, Ok(()))?;
-        check(
-            rt,
-            alloc,
-            much,
-            most.wrapping_add(1),
-            Err((*line, Cause::TooMany)),
-        )?;
+        let whole = found(alloc, much, *most);
+        let more = found(alloc, much, most.wrapping_add(1));
+        let wanted = (Some(Ok(())), Some(Err((*line, Cause::TooMany))));
+        equal(rt, &(much.head, *most), &(whole, more), &wanted);
     }
-    Ok(())
 }

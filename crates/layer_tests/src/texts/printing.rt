@@ -2,12 +2,10 @@
 
 use crate::checks::equal;
 use program_text::Program;
-use std::alloc::Global;
-use std::process::Abort;
-use std::test::Fail;
+use std::alloc::{AllocError, Global};
 
 /// All that is read of a program, as it is shown: no two programs are shown alike.
-fn shown(alloc: Global, program: &Program<Global>) -> Result<String, Fail> {
+fn shown(alloc: Global, program: &Program<Global>) -> Result<String, AllocError> {
     let (mems, reducers) = (program.mems.as_slice(), program.reducers.as_slice());
     let head = (program.version, program.main(), mems, reducers);
     let mut text = format!(in alloc; "{head:?}")?;
@@ -20,31 +18,36 @@ fn shown(alloc: Global, program: &Program<Global>) -> Result<String, Fail> {
     Ok(text)
 }
 
-/// The program that a text means, as it is shown.
-fn shown_of(alloc: Global, text: &[u8]) -> Result<String, Fail> {
-    let program = Program::parse(alloc, text)?;
-    shown(alloc, &program)
+/// Whether a program is printed so.
+fn is_printed(alloc: Global, program: &Program<Global>, plain: &[u8]) -> bool {
+    match program.print(alloc) {
+        Ok(printed) => printed.as_slice() == plain,
+        Err(_) => false,
+    }
 }
 
-/// The program that a text means, printed.
-fn printed_of(alloc: Global, text: &[u8]) -> Result<Vec<u8>, Fail> {
-    let program = Program::parse(alloc, text)?;
-    Ok(program.print(alloc)?)
+/// Whether two programs are one.
+fn are_one(alloc: Global, program: &Program<Global>, other: &Program<Global>) -> bool {
+    match (shown(alloc, program), shown(alloc, other)) {
+        (Ok(found), Ok(wanted)) => found.as_str() == wanted.as_str(),
+        _ => false,
+    }
 }
 
-/// Checks that the text is printed so.
-fn prints(rt: &impl Abort, alloc: Global, text: &[u8], plain: &[u8]) -> Result<(), Fail> {
-    let printed = printed_of(alloc, text)?;
-    equal(rt, &text, &printed.as_slice(), &plain);
-    Ok(())
+/// Whether a program is printed so, which means the same program.
+fn means_alike(alloc: Global, program: &Program<Global>, plain: &[u8]) -> bool {
+    match Program::parse(alloc, plain) {
+        Ok(other) => is_printed(alloc, program, plain) && are_one(alloc, program, &other),
+        Err(_) => false,
+    }
 }
 
-/// Checks that two texts mean the same program.
-fn mean_alike(rt: &impl Abort, alloc: Global, text: &[u8], other: &[u8]) -> Result<(), Fail> {
-    let found = shown_of(alloc, text)?;
-    let wanted = shown_of(alloc, other)?;
-    equal(rt, &text, &found.as_str(), &wanted.as_str());
-    Ok(())
+/// Whether the program of a text is printed so.
+fn prints(alloc: Global, text: &[u8], plain: &[u8]) -> bool {
+    match Program::parse(alloc, text) {
+        Ok(program) => means_alike(alloc, &program, plain),
+        Err(_) => false,
+    }
 }
 
 /// Programs, and how they are printed.
@@ -63,10 +66,8 @@ const PROGRAMS: &[(&[u8], &[u8])] = &[
 
 /// What is printed means the same program.
 #[test]
-fn printed(rt: HostRuntime) -> Result<(), Fail> {
+fn printed(rt: HostRuntime) {
     for (text, plain) in PROGRAMS {
-        prints(&rt, rt.alloc(), text, plain)?;
-        mean_alike(&rt, rt.alloc(), plain, text)?;
+        equal(&rt, text, &prints(rt.alloc(), text, plain), &true);
     }
-    Ok(())
 }

@@ -1,12 +1,11 @@
 //! Programs as text: each cause, each limit, each kind of line.
 
-use super::checks::{Form, Text, check_texts, has_cells, is_shaped, read};
+use super::checks::{Form, Text, check_texts, has_cells, read};
 use super::many::{Limit, Much, check_limits};
 use super::registers::at;
 use crate::checks::equal;
 use program_text::{Cause, Expression, Operand, Program, Statement};
 use std::alloc::Global;
-use std::process::Abort;
 use std::test::Fail;
 
 /// Each cause.
@@ -206,41 +205,47 @@ struct Contents {
     registers: &'static [(usize, usize, Option<&'static str>)],
 }
 
-/// The program has these functions.
-fn are_functions(rt: &impl Abort, program: &Program<Global>, wanted: &Contents) {
+/// Whether the program has these functions.
+fn are_functions(program: &Program<Global>, wanted: &Contents) -> bool {
     for (function, outline) in wanted.functions {
-        equal(rt, function, &outline_of(program, *function), outline);
+        if outline_of(program, *function) != *outline {
+            return false;
+        }
     }
+    true
 }
 
-/// These registers stand at their places.
-fn are_registers(rt: &impl Abort, program: &Program<Global>, wanted: &Contents) {
+/// Whether these registers stand at their places.
+fn are_registers(program: &Program<Global>, wanted: &Contents) -> bool {
     for (function, place, name) in wanted.registers {
-        equal(rt, place, &register_of(program, *function, *place), name);
+        if register_of(program, *function, *place) != *name {
+            return false;
+        }
     }
+    true
 }
 
-/// These statements stand at their places.
-fn are_statements(rt: &impl Abort, program: &Program<Global>, wanted: &[Placed]) {
+/// Whether these statements stand at their places.
+fn are_statements(program: &Program<Global>, wanted: &[Placed]) -> bool {
     for (function, place, statement) in wanted {
-        let found = statement_of(program, *function, *place);
-        equal(rt, place, &found, &Some(*statement));
+        if statement_of(program, *function, *place) != Some(*statement) {
+            return false;
+        }
     }
+    true
 }
 
-/// The text means a program that has this, and in which these statements stand.
-fn check(
-    rt: &impl Abort,
-    alloc: Global,
-    wanted: &Contents,
-    statements: &[Placed],
-) -> Result<(), Fail> {
-    let program = Program::parse(alloc, wanted.text)?;
-    equal(rt, &"main", &program.main(), &wanted.main);
-    are_functions(rt, &program, wanted);
-    are_registers(rt, &program, wanted);
-    are_statements(rt, &program, statements);
-    Ok(())
+/// Whether the text means a program that has this, and in which these statements stand.
+fn has(alloc: Global, wanted: &Contents, statements: &[Placed]) -> bool {
+    match Program::parse(alloc, wanted.text) {
+        Ok(program) => {
+            program.main() == wanted.main
+                && are_functions(&program, wanted)
+                && are_registers(&program, wanted)
+                && are_statements(&program, statements)
+        }
+        Err(_) => false,
+    }
 }
 
 const FIBONACCI: &Contents = &Contents {
@@ -274,58 +279,54 @@ const CALLS: &Contents = &Contents {
 };
 
 #[test]
-fn fibonacci(rt: HostRuntime) -> Result<(), Fail> {
+fn fibonacci(rt: HostRuntime) {
     let register = at(2);
     let value = Expression::Less(Operand::Held(at(1)), Operand::Number(2));
     let argument = Operand::Held(at(3));
     let (line, function) = (11, 1);
-    check(
-        &rt,
-        rt.alloc(),
-        FIBONACCI,
-        &[
-            (
-                1,
-                0,
-                Statement::Let {
-                    line,
-                    register,
-                    value,
-                },
-            ),
-            (
-                1,
-                1,
-                Statement::If {
-                    line: 12,
-                    register,
-                    otherwise: 4,
-                },
-            ),
-            (
-                1,
-                3,
-                Statement::Else {
-                    line: 14,
-                    after: 10,
-                },
-            ),
-            (
-                1,
-                6,
-                Statement::Spawn {
-                    line: 17,
-                    function,
-                    argument,
-                },
-            ),
-            (1, 9, Statement::End { line: 20 }),
-        ],
-    )
+    let statements = [
+        (
+            1,
+            0,
+            Statement::Let {
+                line,
+                register,
+                value,
+            },
+        ),
+        (
+            1,
+            1,
+            Statement::If {
+                line: 12,
+                register,
+                otherwise: 4,
+            },
+        ),
+        (
+            1,
+            3,
+            Statement::Else {
+                line: 14,
+                after: 10,
+            },
+        ),
+        (
+            1,
+            6,
+            Statement::Spawn {
+                line: 17,
+                function,
+                argument,
+            },
+        ),
+        (1, 9, Statement::End { line: 20 }),
+    ];
+    assert!(rt; has(rt.alloc(), FIBONACCI, &statements));
 }
 
 #[test]
-fn names_of_the_whole_text(rt: HostRuntime) -> Result<(), Fail> {
+fn names_of_the_whole_text(rt: HostRuntime) {
     let to_last = Statement::Call {
         line: 3,
         function: 2,
@@ -336,7 +337,8 @@ fn names_of_the_whole_text(rt: HostRuntime) -> Result<(), Fail> {
         function: 0,
         argument: Operand::Held(at(2)),
     };
-    check(&rt, rt.alloc(), CALLS, &[(0, 0, to_last), (1, 1, to_first)])
+    let statements = [(0, 0, to_last), (1, 1, to_first)];
+    assert!(rt; has(rt.alloc(), CALLS, &statements));
 }
 
 /// The most of each.
@@ -404,8 +406,8 @@ const LIMITS: &[Limit] = &[
 ];
 
 #[test]
-fn limits(rt: HostRuntime) -> Result<(), Fail> {
-    check_limits(&rt, rt.alloc(), LIMITS)
+fn limits(rt: HostRuntime) {
+    check_limits(&rt, rt.alloc(), LIMITS);
 }
 
 /// The most lines, behind three.
@@ -422,14 +424,23 @@ const LINES: &[Limit] = &[(
 )];
 
 #[test]
-fn many_lines(rt: HostRuntime) -> Result<(), Fail> {
-    check_limits(&rt, rt.alloc(), LINES)
+fn many_lines(rt: HostRuntime) {
+    check_limits(&rt, rt.alloc(), LINES);
 }
+
+/// Whether the program has the cells of NAMED.
+fn has_names(alloc: Global, program: &Program<Global>) -> bool {
+    match program.shape(alloc) {
+        Ok(shape) => has_cells(alloc, &shape, program.mems.as_slice(), &[]),
+        Err(_) => false,
+    }
+}
+
+const NAMED: &[u8] = b"cilk 1\nmem x\nmem a 2\nfunc main z\nend\n";
 
 #[test]
 fn names_of_cells(rt: HostRuntime) -> Result<(), Fail> {
-    let program = Program::parse(rt.alloc(), b"cilk 1\nmem x\nmem a 2\nfunc main z\nend\n")?;
-    let shape = program.shape(rt.alloc())?;
-    is_shaped(&rt, &shape, &[]);
-    has_cells(&rt, rt.alloc(), program.mems.as_slice())
+    let program = Program::parse(rt.alloc(), NAMED)?;
+    assert!(rt; has_names(rt.alloc(), &program));
+    Ok(())
 }

@@ -1,11 +1,10 @@
 //! Traces as text: each cause, each limit, each kind of line.
 
-use super::checks::{Form, Text, check_texts, has_cells, is_shaped};
+use super::checks::{Form, Text, check_texts, has_cells};
 use super::kept::are_lines;
 use super::many::{Limit, Much, check_limits};
 use crate::checks::equal;
 use std::alloc::Global;
-use std::process::Abort;
 use std::test::Fail;
 use text_words::{Act, Cause, Monoid, Request, TraceLine};
 use trace_text::Trace;
@@ -250,26 +249,34 @@ const ASKED: &[Asked] = &[
     ),
 ];
 
-/// Checks that a text means these requests.
-fn asks(rt: &impl Abort, alloc: Global, text: &[u8], wanted: &[TraceLine]) -> Result<(), Fail> {
-    let trace = Trace::parse(alloc, text)?;
-    are_lines(rt, &trace.lines, wanted);
-    Ok(())
-}
-
-/// A text's trace, printed.
-fn printed_of(alloc: Global, text: &[u8]) -> Result<Vec<u8>, Fail> {
-    let trace = Trace::parse(alloc, text)?;
-    Ok(trace.print(alloc)?)
-}
-
-/// Checks that all these texts are printed so.
-fn print_alike(rt: &impl Abort, alloc: Global, plain: &[u8], texts: &[&[u8]]) -> Result<(), Fail> {
-    for text in texts {
-        let printed = printed_of(alloc, text)?;
-        equal(rt, text, &printed.as_slice(), &plain);
+/// Whether a text means these requests.
+fn asks(alloc: Global, text: &[u8], wanted: &[TraceLine]) -> bool {
+    match Trace::parse(alloc, text) {
+        Ok(trace) => are_lines(&trace.lines, wanted),
+        Err(_) => false,
     }
-    Ok(())
+}
+
+/// Whether a trace is printed so.
+fn is_printed(alloc: Global, trace: &Trace<Global>, plain: &[u8]) -> bool {
+    match trace.print(alloc) {
+        Ok(printed) => printed.as_slice() == plain,
+        Err(_) => false,
+    }
+}
+
+/// Whether all these texts are printed so.
+fn print_alike(alloc: Global, plain: &[u8], texts: &[&[u8]]) -> bool {
+    for text in texts {
+        let is_plain = match Trace::parse(alloc, text) {
+            Ok(trace) => is_printed(alloc, &trace, plain),
+            Err(_) => false,
+        };
+        if !is_plain {
+            return false;
+        }
+    }
+    true
 }
 
 /// How a trace is printed, which is printed alike, and other texts that mean it.
@@ -305,14 +312,13 @@ const PRINTED: &[Printed] = &[
 ];
 
 #[test]
-fn meanings(rt: HostRuntime) -> Result<(), Fail> {
+fn meanings(rt: HostRuntime) {
     for (text, wanted) in ASKED {
-        asks(&rt, rt.alloc(), text, wanted)?;
+        equal(&rt, text, &asks(rt.alloc(), text, wanted), &true);
     }
     for (plain, texts) in PRINTED {
-        print_alike(&rt, rt.alloc(), plain, texts)?;
+        equal(&rt, plain, &print_alike(rt.alloc(), plain, texts), &true);
     }
-    Ok(())
 }
 
 const LIMITS: &[Limit] = &[(
@@ -328,17 +334,26 @@ const LIMITS: &[Limit] = &[(
 )];
 
 #[test]
-fn limits(rt: HostRuntime) -> Result<(), Fail> {
-    check_limits(&rt, rt.alloc(), LIMITS)
+fn limits(rt: HostRuntime) {
+    check_limits(&rt, rt.alloc(), LIMITS);
 }
+
+/// Whether the trace has the cells of NAMED, and a reducer of digits and one of the least.
+fn has_names(alloc: Global, trace: &Trace<Global>) -> bool {
+    match trace.shape(alloc) {
+        Ok(shape) => {
+            let monoids = [Monoid::Digits, Monoid::Min];
+            has_cells(alloc, &shape, trace.mems.as_slice(), &monoids)
+        }
+        Err(_) => false,
+    }
+}
+
+const NAMED: &[u8] = b"cilk 2\nmem x\nmem a 2\nreducer h digits\nreducer g min\n";
 
 #[test]
 fn shapes_and_names(rt: HostRuntime) -> Result<(), Fail> {
-    let trace = Trace::parse(
-        rt.alloc(),
-        b"cilk 2\nmem x\nmem a 2\nreducer h digits\nreducer g min\n",
-    )?;
-    let shape = trace.shape(rt.alloc())?;
-    is_shaped(&rt, &shape, &[Monoid::Digits, Monoid::Min]);
-    has_cells(&rt, rt.alloc(), trace.mems.as_slice())
+    let trace = Trace::parse(rt.alloc(), NAMED)?;
+    assert!(rt; has_names(rt.alloc(), &trace));
+    Ok(())
 }
