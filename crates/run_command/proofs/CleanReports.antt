@@ -51,7 +51,7 @@ schedules_told known entries memory =
     )
 
 -- a finished run of a program is told by its line
-pub tells_run : {A : Type 0} (program : Program A) (limit : ℕ) (entries : List Entry) (memory line : List ℕ) (status : ℕ) →
+unfoldable pub tells_run : {A : Type 0} (program : Program A) (limit : ℕ) (entries : List Entry) (memory line : List ℕ) (status : ℕ) →
     IsFinishedRun program.functions (shape_in program) (reverse entries) → length entries ≤ limit →
     IsMemory (shape_in program).cells (reverse entries) memory → line ≡ run_line (contents program) entries memory → status ≡ refusal_status entries →
     TellsRun (contents program) limit line status
