@@ -43,7 +43,7 @@ clean_tells true entries memory refusals is = refl
 clean_tells false entries memory refusals is = absurd cc
 
 -- the report has it exactly where nothing was refused
-schedules_told : (known : Known) (entries : List Entry) (memory : List ℕ) → TellsSchedules known entries memory ↔ IsClean (reverse entries)
+pub schedules_told : (known : Known) (entries : List Entry) (memory : List ℕ) → TellsSchedules known entries memory ↔ IsClean (reverse entries)
 schedules_told known entries memory =
     let refusals = refusals_told known entries in (
       (λ tells. (clean_told known entries).0 (tells_clean (is_clean refusals) (length entries) (memory_told known.mems memory) refusals tells)),
