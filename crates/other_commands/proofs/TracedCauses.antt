@@ -1,12 +1,11 @@
 -- What each step of recording a run says of the whole.
-use Rattle.std.proofs.Common.{◌≡◌, ◌≢◌, ℕ, List, [], Option, None, Result, Ok, Err, IfOk, IfErr, OnOk, refl, sym, subst}
+use Rattle.std.proofs.Common.{◌≡◌, ◌≢◌, ◌≤◌, ℕ, List, [], length, reverse, Option, None, Result, Ok, Err, IfOk, IfErr, OnOk, refl, sym, subst}
 use Rattle.std.specs.Io.KnownBytes.{Appends}
 use Rattle.command_streams.specs.declared.fault.CliFault.{CliFault}
 use Rattle.command_streams.specs.declared.fault.CliFault.TheVariants.{Write, Unwritten}
 use Rattle.command_streams.specs.Readings.{Reading, reading}
-use Rattle.run_command.specs.Runs.{IsRan}
-use Rattle.other_commands.specs.Traced.{IsReadTraced, IsTraced, IsReportCut, StopsRun, StopsTelling, HasTracedCause}
-use Rattle.std.specs.Prelude.{length, reverse}
+use Rattle.run_command.specs.Runs.{run_line, IsRan}
+use Rattle.other_commands.specs.Traced.{TellsTraced, IsReadTraced, IsTraced, IsReportCut, StopsRun, StopsTelling, HasTracedCause}
 use Rattle.model_histories.specs.declared.answer.Entry.{Entry}
 use Rattle.model_histories.specs.Shapes.{most_entries}
 use Rattle.model_races.specs.Memory.{IsMemory}
@@ -19,7 +18,6 @@ use Rattle.trace_text.specs.Printing.{plain_text}
 use Rattle.run_traces.specs.Traces.{trace_contents}
 use Rattle.run_traces.specs.Laws.{IsRunOf}
 use Rattle.command_streams.specs.Outcomes.{refusal_status}
-use Rattle.run_command.specs.Runs.{run_line}
 use Rattle.run_command.proofs.CleanReports.{tells_run}
 
 -- there is no run to be told
