@@ -156,7 +156,9 @@ impl<A: Allocator> LineBuffer<A> {
         self.filled = 0;
     }
 
-    /// Writes the lines, where no write has failed, and lets them go.
+    /// Writes the lines, where no write has failed, and lets them go. Out of line, since it is called once in a thousand lines.
+    #[cold]
+    #[inline(never)]
     pub fn give<W: Write>(&mut self, output: &mut Watched<W>)
         ensures told { TellsMore (W.contents (held output.old)) (has_failed output.old) self.old.text
             (W.contents (held output.new)) (has_failed output.new) self.new.text [] }

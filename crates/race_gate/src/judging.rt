@@ -108,6 +108,8 @@ fn is_end(answer: Answer) -> bool
 
 impl<A: Allocator + Clone> Core<A> {
     /// A core before any request, over these cells and reducers, that answers so many; 0 is a limit too. Each cell holds 0.
+    /// Out of line, so that a loop that judges has what a core keeps in memory and not, by halves, in registers.
+    #[inline(never)]
     pub fn new<B: Allocator>(alloc: A, shape: &Shape<B>, limit: u32) -> Result<Core<A>, AllocError>
         requires cells { shape.now.cells ≤ most_cells }
         requires entries { limit ≤ most_entries }
