@@ -1,22 +1,6 @@
--- In these files H and K are histories, R is the clean one, e is an entry and l that a history is legal; T are the targets of frames; h is a control
--- history, s the strand that makes an event; a split has the child c, the next n and the join j; x, y and z are deeds, zs and ws what a frame spoke.
+-- In these files H is a history, R the clean one, e an entry and l that a history is legal; T are the targets of frames; x, y and z are deeds or
+-- what was said, zs and ws what a frame spoke.
 pub mod Agreements
-pub mod Fronts
-pub mod Waiting
-pub mod Swaps
-pub mod Beginnings
-pub mod Traces
-pub mod Walks
 pub mod Heard
-pub mod Parts
-pub mod Comparisons
-pub mod Races
-pub mod Cells
-pub mod Meetings
-pub mod AtPlaces
-pub mod SameAnswers
-pub mod ReadDeeds
-pub mod ReducerDeeds
-pub mod GetItems
-pub mod ReadAnswers
+pub mod Wanted
 pub mod Schedules

@@ -1,3 +1,1 @@
 pub mod Agreement
-pub mod Fronts
-pub mod Traces

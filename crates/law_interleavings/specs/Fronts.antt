@@ -1,5 +1,5 @@
 -- How far a spawned function is, by its acts alone: the address of the strand that goes on for it, and the functions and open blocks round
--- that strand. No number of a strand stands in it, so it is the same in every schedule.
+-- that strand. No number of a strand stands in it, so it is the same in every interleaving.
 use Rattle.std.specs.Prelude.{◌≡◌, ◌⊎◌, ℕ, suc, [], ◌∷◌, length}
 use Rattle.model_strands.specs.Address.{Address, child, next, join, extended}
 use Rattle.model_accesses.specs.declared.request.Act.{Act}

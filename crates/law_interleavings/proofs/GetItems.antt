@@ -1,6 +1,6 @@
 -- The value of a get, by deeds.
 -- H: a history; T: its targets; r: a reducer; y, z: items; u: an update with its number; w: a number that is put
-use Rattle.std.proofs.Common.{◌≡◌, ◌≢◌, ◌⊎◌, ◌↔◌, inl, inr, ℕ, suc, ◌<◌, true, cond, eqb, List, [], ◌∷◌, length, map, None, AllPairs, refl, sym, ap, ◌∙◌, subst, subst₂, arith}
+use Rattle.std.proofs.Common.{◌≡◌, ◌≢◌, ◌⊎◌, ◌↔◌, inl, inr, ℕ, suc, ◌<◌, true, cond, eqb, List, [], ◌∷◌, length, map, AllPairs, refl, sym, ap, ◌∙◌, subst, subst₂, arith}
 use Rattle.std.proofs.lemmas.Bool.Decides.{eqb_tells}
 use Rattle.model_strands.specs.Address.{Address}
 use Rattle.law_addresses.specs.Address.{english, reaches, english_before}
@@ -20,28 +20,28 @@ use Rattle.model_reducers.specs.Entries.{Entry as NumberedEntry, number_of, stra
 use Rattle.model_reducers.specs.Views.{Reducer, product}
 use Rattle.model_reducers.specs.GetValues.{Counts, IsValue}
 use Rattle.law_values.proofs.Accesses.{projection_law}
+use Rattle.model_histories.specs.declared.answer.Answer.{Answer}
+use Rattle.model_histories.specs.declared.answer.Entry.{Entry}
 use Rattle.model_histories.specs.Entries.{Entries, control_part}
 use Rattle.model_histories.specs.Shapes.{Shape}
 use Rattle.model_histories.specs.Legal.{IsLegal}
 use Rattle.model_races.specs.Reducers.{steps_of}
-use Rattle.race_gate.proofs.Races.{legal-part}
-use Rattle.race_gate.proofs.Entering.{steps-control}
-use Rattle.model_runs.specs.Frames.{Targets}
-use Rattle.law_schedules.specs.Traces.{Item, place, item_of, trace, Precedes}
-use Rattle.law_schedules.proofs.Swaps.{Member}
-use Rattle.law_schedules.proofs.Traces.{ordered, distinct}
-use Rattle.law_schedules.proofs.Heard.{NoneRefused}
-use Rattle.law_schedules.proofs.Comparisons.{less_more, begins_same, same_item, precedes_leads, order_of}
-use Rattle.law_schedules.proofs.ReducerDeeds.{HasNumber, number_member, one_item, by_number, precedes_number, updating, putting, Deed, deed_of_change, change_of_deed}
+use Rattle.law_interleavings.proofs.Control.{legal_part, steps_control}
+use Rattle.law_interleavings.specs.Traces.{Notes, Item, place, item_of, trace, Precedes}
+use Rattle.law_interleavings.proofs.Swaps.{Member}
+use Rattle.law_interleavings.proofs.Traces.{ordered, distinct}
+use Rattle.law_interleavings.proofs.Spoken.{NoneRefused}
+use Rattle.law_interleavings.proofs.Comparisons.{less_more, begins_same, same_item, precedes_leads, order_of}
+use Rattle.law_interleavings.proofs.ReducerDeeds.{HasNumber, number_member, one_item, by_number, precedes_number, updating, putting, Deed, deed_of_change, change_of_deed}
 
 -- the serial order of deeds
-abbrev pub Serially : Item → Item → Type 0
+abbrev pub Serially : {Note : Type 0} → Item Note → Item Note → Type 0
 Serially one other = (english_before (place one) (place other) ≡ true) ⊎ ((place one ≡ place other) × (length one.earlier < length other.earlier))
 
 not_itself : (a : Address) → english_before a a ≡ true → ⊥
 not_itself a e = let f = before-irreflexive english a in cc
 
-pub serially_strict : (x y : Item) → Serially x y → Serially y x → ⊥
+pub serially_strict : {Note : Type 0} → (x y : Item Note) → Serially x y → Serially y x → ⊥
 serially_strict x y (inl a) (inl b) = not_itself (place x) (before-transitive english (place x) (place y) (place x) a b)
 serially_strict x y (inl a) (inr b) = not_itself (place x) (subst (λ z. english_before (place x) z ≡ true) b.0 a)
 serially_strict x y (inr a) (inl b) = not_itself (place y) (subst (λ z. english_before (place y) z ≡ true) a.0 b)
@@ -53,8 +53,8 @@ amount (Update reducer value) = value
 amount (Put reducer value) = value
 amount act = 0
 
-abbrev no_item : Item
-no_item = record { begin = []; newest = record { act = Act.Sync; line = 0; target = None; value = None }; earlier = [] }
+abbrev no_entry : Entry
+no_entry = record { request = record { strand = 0; act = Act.Sync; line = 0 }; answer = Answer.Same }
 
 map_alike : {X Y Z : Type 0} (f : X → Y) (g : Y → Z) (h : X → Z) (xs : List X) → ((x : X) → Present x xs → h x ≡ g (f x)) → map h xs ≡ map g (map f xs)
 map_alike f g h [] e = refl
@@ -63,12 +63,12 @@ map_alike {Z = Z} f g h (x ∷ xs) e =
     let rest = map_alike f g h xs (λ y p. e y (inr p)) in
     cc
 
-module _ (shape : Shape) (T : Targets) where
-  abbrev item_no : Entries → ℕ → Item
-  item_no [] number = no_item
+module _ {Note : Type 0} (shape : Shape) (T : Notes Note) where
+  abbrev item_no : Entries → ℕ → Item Note
+  item_no [] number = item_of T [] no_entry
   item_no (e ∷ H) number = cond (eqb number (suc (length H))) (item_of T H e) (item_no H number)
 
-  item_no_is : (H : Entries) (n : ℕ) (y : Item) → HasNumber shape T H n y → item_no H n ≡ y
+  item_no_is : (H : Entries) (n : ℕ) (y : Item Note) → HasNumber shape T H n y → item_no H n ≡ y
   item_no_is [] n y h = absurd h
   item_no_is (e ∷ H) n y h = elim (eqb_tells n (suc (length H))) [
     | inl t ↦ rw t.0 (one_item shape T (e ∷ H) n (item_of T H e) y (inl (t.1, refl)) h)
@@ -76,23 +76,23 @@ module _ (shape : Shape) (T : Targets) where
   ]
 
   -- an update that counts at a get behind the put
-  abbrev pub IsCounted : ℕ → Entries → Item → Address → Item → Type 0
+  abbrev pub IsCounted : ℕ → Entries → Item Note → Address → Item Note → Type 0
   IsCounted reducer H put own y =
       Member (trace T H) y × ((value : ℕ) × (y.newest.act ≡ Update reducer value)) × Precedes put y × (reaches (place y) own ≡ true)
 
   pub record GetDeeds {View : Type 0} (reducer : Reducer View) (number : ℕ) (H : Entries) (own : Address) (view : View) : Type 0 where
-    pub put : Item
+    pub put : Item Note
     pub put_done : Member (trace T H) put
     pub put_value : ℕ
     pub put_act : put.newest.act ≡ Put number put_value
-    pub last : (z : Item) → Member (trace T H) z → (w : ℕ) → z.newest.act ≡ Put number w → (z ≡ put) ⊎ ((z ≢ put) × (Precedes put z → ⊥))
-    pub counted : List Item
+    pub last : (z : Item Note) → Member (trace T H) z → (w : ℕ) → z.newest.act ≡ Put number w → (z ≡ put) ⊎ ((z ≢ put) × (Precedes put z → ⊥))
+    pub counted : List (Item Note)
     pub sorted : AllPairs Serially counted
-    pub members : (y : Item) → Present y counted ↔ IsCounted number H put own y
+    pub members : (y : Item Note) → Present y counted ↔ IsCounted number H put own y
     pub view_is : view ≡ reducer.combine (reducer.of_put put_value) (product reducer (map (λ y. reducer.of_update (amount y.newest.act)) counted))
 
   -- of deeds at one place the earlier has done less
-  earlier_less : (H : Entries) → IsLegal shape H → (n m : ℕ) (y z : Item) → HasNumber shape T H n y → HasNumber shape T H m z → n < m → place y ≡ place z →
+  earlier_less : (H : Entries) → IsLegal shape H → (n m : ℕ) (y z : Item Note) → HasNumber shape T H n y → HasNumber shape T H m z → n < m → place y ≡ place z →
       length y.earlier < length z.earlier
   earlier_less H l n m y z h k lt q =
       let my = number_member shape T H n y h in
@@ -109,7 +109,7 @@ module _ (shape : Shape) (T : Targets) where
   module _ {View : Type 0} (reducer : Reducer View) (r : ℕ) (H : Entries) (l : IsLegal shape H) (c : NoneRefused H) (s : ℕ) (runs : Running (control_part H) s)
       (view : View) (is : IsValue reducer (items_of r (steps_of H)) s view) where
     same_control : items_control (items_of r (steps_of H)) ≡ control_part H
-    same_control = (projection_law r (steps_of H)).0 ∙ steps-control H
+    same_control = (projection_law r (steps_of H)).0 ∙ steps_control H
 
     p : Deed shape T putting r H is.put
     p = deed_of_change shape T putting r H l c is.put is.last.0
@@ -117,7 +117,7 @@ module _ (shape : Shape) (T : Targets) where
     p_done : Member (trace T H) p.deed
     p_done = number_member shape T H (number_of is.put) p.deed p.numbered
 
-    abbrev the_item : NumberedEntry → Item
+    abbrev the_item : NumberedEntry → Item Note
     the_item u = item_no H (number_of u)
 
     counts_of : (u : NumberedEntry) → Present u is.counted → Counts (items_of r (steps_of H)) is.put s u
@@ -141,14 +141,14 @@ module _ (shape : Shape) (T : Targets) where
 
         go : AreInSerialOrder (items_control (items_of r (steps_of H))) u v → Serially d.deed e.deed
         go (inl k) =
-            let t = (serial_law (control_part H) (legal-part shape H l) (strand_of u) (strand_of v) d.begun e.begun).0
+            let t = (serial_law (control_part H) (legal_part shape H l) (strand_of u) (strand_of v) d.begun e.begun).0
             (subst (λ h. IsSeriallyBefore h (strand_of u) (strand_of v)) same_control k) in
             inl (subst₂ (λ a b. english_before a b ≡ true) (sym d.at) (sym e.at) t)
         go (inr k) =
             let q = d.at ∙ ap (address (control_part H)) k.0 ∙ sym e.at in
             inr (q, earlier_less H l (number_of u) (number_of v) d.deed e.deed d.numbered e.numbered k.1 q)
 
-    put_not_update : (y : Item) (v : ℕ) → y.newest.act ≡ Update r v → p.deed ≢ y
+    put_not_update : (y : Item Note) (v : ℕ) → y.newest.act ≡ Update r v → p.deed ≢ y
     put_not_update y v q e = let k : Put r (value_of is.put) ≡ Update r v = sym p.act ∙ ap (λ z. z.newest.act) e ∙ q in cc
 
     counted_to : (u : NumberedEntry) → (m : Present u is.counted) → IsCounted r H p.deed (address (control_part H) s) (deed_is u m).deed
@@ -156,7 +156,7 @@ module _ (shape : Shape) (T : Targets) where
         let d = deed_is u m in
         let k = counts_of u m in
         let h = control_part H in
-        let lh = legal-part shape H l in
+        let lh = legal_part shape H l in
         let done = number_member shape T H (number_of u) d.deed d.numbered in
         let from_put = reach_precedes h lh (strand_of is.put) (strand_of u) (subst (λ z. Reaches z (strand_of is.put) (strand_of u)) same_control k.2) in
         let to_own = reach_precedes h lh (strand_of u) s (subst (λ z. Reaches z (strand_of u) s) same_control k.3) in
@@ -168,16 +168,16 @@ module _ (shape : Shape) (T : Targets) where
         ] in
         (done, (value_of u, d.act), first, subst (λ a. reaches a (address h s) ≡ true) (sym d.at) to_own)
 
-    members_to : (y : Item) → Present y (map the_item is.counted) → IsCounted r H p.deed (address (control_part H) s) y
+    members_to : (y : Item Note) → Present y (map the_item is.counted) → IsCounted r H p.deed (address (control_part H) s) y
     members_to y m =
         let t = present_map the_item y is.counted m in
         subst (IsCounted r H p.deed (address (control_part H) s)) (sym (deed_at t.0 t.1) ∙ t.2) (counted_to t.0 t.1)
 
-    members_from : (y : Item) → IsCounted r H p.deed (address (control_part H) s) y → Present y (map the_item is.counted)
+    members_from : (y : Item Note) → IsCounted r H p.deed (address (control_part H) s) y → Present y (map the_item is.counted)
     members_from y m =
         let d = change_of_deed shape T updating r m.1.0 H l c y m.0 m.1.1 in
         let h = control_part H in
-        let lh = legal-part shape H l in
+        let lh = legal_part shape H l in
         let lt = precedes_number shape T H l (number_of is.put) (number_of d.entry) p.deed y p.numbered d.numbered m.2 in
         let leads = precedes_leads shape T H l p.deed y p_done m.0 m.2 in
         let from_put = precedes_reach h lh (strand_of is.put) (strand_of d.entry) p.begun d.begun
@@ -192,7 +192,7 @@ module _ (shape : Shape) (T : Targets) where
         let listed = (contains_present d.entry is.counted).0 ((is.counts.1 d.entry).1 counts) in
         subst (λ z. Present z (map the_item is.counted)) (item_no_is H (number_of d.entry) y d.numbered) (map_present the_item d.entry is.counted listed)
 
-    last_of : (z : Item) → Member (trace T H) z → (w : ℕ) → z.newest.act ≡ Put r w → (z ≡ p.deed) ⊎ ((z ≢ p.deed) × (Precedes p.deed z → ⊥))
+    last_of : (z : Item Note) → Member (trace T H) z → (w : ℕ) → z.newest.act ≡ Put r w → (z ≡ p.deed) ⊎ ((z ≢ p.deed) × (Precedes p.deed z → ⊥))
     last_of z m w q =
         let d = change_of_deed shape T putting r w H l c z m q in
         let le = is.last.1 d.entry d.has in

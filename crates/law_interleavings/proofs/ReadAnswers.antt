@@ -19,18 +19,17 @@ use Rattle.model_races.specs.Verdicts.{IsRefused, IfValue}
 use Rattle.model_races.specs.ReducerVerdicts.{IsGetValue, IsRightFor, ReducersAreJudged}
 use Rattle.model_races.specs.Judged.{IsJudged}
 use Rattle.model_histories.specs.Extensions.{IsCleanAnswer}
-use Rattle.race_gate.proofs.Races.{legal-part}
-use Rattle.model_runs.specs.Frames.{Targets}
+use Rattle.law_interleavings.proofs.Control.{legal_part}
 use Rattle.model_runs.specs.Serial.{value_given}
-use Rattle.law_schedules.specs.Traces.{Item, place, item_of, trace, Precedes}
-use Rattle.law_schedules.proofs.Swaps.{Member}
-use Rattle.law_schedules.proofs.Traces.{placed}
-use Rattle.law_schedules.proofs.Heard.{NoneRefused}
-use Rattle.law_schedules.proofs.Comparisons.{order_of}
-use Rattle.law_schedules.proofs.Meetings.{Meeting, place_same, then_legal, member_later, mine_in_whole, theirs_in_whole, mine_before, theirs_before, mine_leads, theirs_leads}
-use Rattle.law_schedules.proofs.SameAnswers.{then_clean, clean_unless, IsLike, IsRead, no_value}
-use Rattle.law_schedules.proofs.ReadDeeds.{IsReadBy, branch_leads, read_deed, deed_read, read_verdict, completed, one_branch}
-use Rattle.law_schedules.proofs.GetItems.{Serially, serially_strict, amount, IsCounted, GetDeeds, get_deeds}
+use Rattle.law_interleavings.specs.Traces.{Notes, Item, place, item_of, trace, Precedes}
+use Rattle.law_interleavings.proofs.Swaps.{Member}
+use Rattle.law_interleavings.proofs.Traces.{placed}
+use Rattle.law_interleavings.proofs.Spoken.{NoneRefused}
+use Rattle.law_interleavings.proofs.Comparisons.{order_of}
+use Rattle.law_interleavings.proofs.Meetings.{Meeting, place_same, then_legal, member_later, mine_in_whole, theirs_in_whole, mine_before, theirs_before, mine_leads, theirs_leads}
+use Rattle.law_interleavings.proofs.SameAnswers.{then_clean, clean_unless, IsLike, IsRead, no_value}
+use Rattle.law_interleavings.proofs.ReadDeeds.{IsReadBy, branch_leads, read_deed, deed_read, read_verdict, completed, one_branch}
+use Rattle.law_interleavings.proofs.GetItems.{Serially, serially_strict, amount, IsCounted, GetDeeds, get_deeds}
 
 then_reducers : (shape : Shape) (later : Entries) (entry : Entry) (before : Entries) → ReducersAreJudged shape (later ++ entry ∷ before) →
     ReducersAreJudged shape (entry ∷ before)
@@ -68,16 +67,16 @@ get_value shape H e r v j q a =
     let right = subst (λ act. IsRightFor shape.monoids (control_part H) (steps_of H) (granted_reads H) e.request.strand act e.answer) q j.1 in
     subst (λ o. IfValue o (IsGetValue shape.monoids (steps_of H) e.request.strand r)) a right.1
 
-module _ (shape : Shape) (mine T : Targets) (meeting : Meeting shape mine T) (judged : IsJudged shape (meeting.next ∷ meeting.part))
+module _ {Note : Type 0} (shape : Shape) (mine T : Notes Note) (meeting : Meeting shape mine T) (judged : IsJudged shape (meeting.next ∷ meeting.part))
     (whole_judged : IsJudged shape (meeting.later ++ meeting.entry ∷ meeting.before)) (clean : NoneRefused meeting.part)
     (whole_clean : NoneRefused (meeting.later ++ meeting.entry ∷ meeting.before)) (same_act : meeting.next.request.act ≡ meeting.entry.request.act) where
   abbrev R : Entries
   R = meeting.later ++ meeting.entry ∷ meeting.before
 
-  abbrev own : Item
+  abbrev own : Item Note
   own = item_of mine meeting.part meeting.next
 
-  abbrev other : Item
+  abbrev other : Item Note
   other = item_of T meeting.before meeting.entry
 
   before_clean : NoneRefused (meeting.entry ∷ meeting.before)
@@ -96,15 +95,15 @@ module _ (shape : Shape) (mine T : Targets) (meeting : Meeting shape mine T) (ju
   same_place = place_same shape mine T meeting
 
   module _ (r : ℕ) (is : IsReadBy r meeting.entry.request.act) where
-    branch_same : (y : Item) → Member (trace T R) y → IsReadBy r y.newest.act → branch (place y) ≡ branch (place other)
+    branch_same : (y : Item Note) → Member (trace T R) y → IsReadBy r y.newest.act → branch (place y) ≡ branch (place other)
     branch_same y m q = one_branch shape T R meeting.whole_legal whole_judged.reducers whole_clean r y other m other_in_whole q is
 
-    mine_first : (y : Item) → Member (trace mine meeting.part) y → IsReadBy r y.newest.act → Member (trace T meeting.before) y
+    mine_first : (y : Item Note) → Member (trace mine meeting.part) y → IsReadBy r y.newest.act → Member (trace T meeting.before) y
     mine_first y m q =
         let b = branch_same y (mine_in_whole shape mine T meeting y m) q ∙ ap branch (sym same_place) in
         mine_before shape mine T meeting y m (mine_leads shape mine T meeting y m (branch_leads (place y) (place own) b))
 
-    theirs_first : (y : Item) → Member (trace T meeting.before) y → IsReadBy r y.newest.act → Member (trace mine meeting.part) y
+    theirs_first : (y : Item Note) → Member (trace T meeting.before) y → IsReadBy r y.newest.act → Member (trace mine meeting.part) y
     theirs_first y m q =
         let b = branch_same y (theirs_in_whole shape mine T meeting y m) q in
         theirs_before shape mine T meeting y m (theirs_leads shape mine T meeting y m (branch_leads (place y) (place other) b))
@@ -117,7 +116,7 @@ module _ (shape : Shape) (mine T : Targets) (meeting : Meeting shape mine T) (ju
         let H = meeting.part in
         let l = meeting.part_legal in
         let h = control_part H in
-        let lh = legal-part shape H l.0 in
+        let lh = legal_part shape H l.0 in
         let w = completed shape mine H l.0 in
         let v = read_verdict shape mine H meeting.next r judged.reducers own_reads in
         let race = (v.right.refused w.0 w.1).0 refused in
@@ -208,7 +207,7 @@ module _ (shape : Shape) (mine T : Targets) (meeting : Meeting shape mine T) (ju
                 | inr a ↦ elim (order_of shape T R meeting.whole_legal theirs.put ours.put nw mw u.0 a) [ inl p ↦ t.1 p | inr p ↦ u.1 p ]
               ]
 
-      counted_on : (y : Item) → IsCounted shape mine r meeting.part ours.put (address (control_part meeting.part) meeting.next.request.strand) y →
+      counted_on : (y : Item Note) → IsCounted shape mine r meeting.part ours.put (address (control_part meeting.part) meeting.next.request.strand) y →
           IsCounted shape T r meeting.before theirs.put (address (control_part meeting.before) meeting.entry.request.strand) y
       counted_on y k =
           let to_own : reaches (place y) (place own) ≡ true = subst (λ a. reaches (place y) a ≡ true) (sym at_own) k.3 in (
@@ -218,7 +217,7 @@ module _ (shape : Shape) (mine T : Targets) (meeting : Meeting shape mine T) (ju
             subst (λ a. reaches (place y) a ≡ true) (same_place ∙ at_other) to_own,
           )
 
-      counted_back : (y : Item) → IsCounted shape T r meeting.before theirs.put (address (control_part meeting.before) meeting.entry.request.strand) y →
+      counted_back : (y : Item Note) → IsCounted shape T r meeting.before theirs.put (address (control_part meeting.before) meeting.entry.request.strand) y →
           IsCounted shape mine r meeting.part ours.put (address (control_part meeting.part) meeting.next.request.strand) y
       counted_back y k =
           let to_other : reaches (place y) (place other) ≡ true = subst (λ a. reaches (place y) a ≡ true) (sym at_other) k.3 in (

@@ -19,12 +19,11 @@ use Rattle.model_histories.specs.Shapes.{Shape}
 use Rattle.model_histories.specs.Legal.{Belongs, IsLegal}
 use Rattle.model_races.specs.Reducers.{step_with, steps_of}
 use Rattle.model_histories.specs.Extensions.{IsCleanAnswer}
-use Rattle.model_runs.specs.Frames.{Targets}
-use Rattle.law_schedules.specs.Traces.{Item, place, item_of, trace, Precedes}
-use Rattle.law_schedules.proofs.Swaps.{Member, Paired}
-use Rattle.law_schedules.proofs.Traces.{placed, begun_on, ordered}
-use Rattle.law_schedules.proofs.Heard.{NoneRefused}
-use Rattle.law_schedules.proofs.Comparisons.{less_more, irreflexive}
+use Rattle.law_interleavings.specs.Traces.{Notes, Item, place, item_of, trace, Precedes}
+use Rattle.law_interleavings.proofs.Swaps.{Member, Paired}
+use Rattle.law_interleavings.proofs.Traces.{placed, begun_on, ordered}
+use Rattle.law_interleavings.proofs.Spoken.{NoneRefused}
+use Rattle.law_interleavings.proofs.Comparisons.{less_more, irreflexive}
 
 -- what changes the view of a reducer
 pub data Change : Type 0 where
@@ -144,23 +143,23 @@ items_length : (reducer : ℕ) (H : Entries) → length (items_of reducer (steps
 items_length r [] = refl
 items_length r (e ∷ H) = ap suc (items_length r H)
 
-module _ (shape : Shape) (T : Targets) where
+module _ {Note : Type 0} (shape : Shape) (T : Notes Note) where
   -- the deed with a number
-  abbrev pub HasNumber : Entries → ℕ → Item → Type 0
+  abbrev pub HasNumber : Entries → ℕ → Item Note → Type 0
   HasNumber [] number y = ⊥
   HasNumber (e ∷ H) number y = ((number ≡ suc (length H)) × (y ≡ item_of T H e)) ⊎ HasNumber H number y
 
-  pub number_member : (H : Entries) (n : ℕ) (y : Item) → HasNumber H n y → Member (trace T H) y
+  pub number_member : (H : Entries) (n : ℕ) (y : Item Note) → HasNumber H n y → Member (trace T H) y
   number_member [] n y h = absurd h
   number_member (e ∷ H) n y (inl t) = inl t.1
   number_member (e ∷ H) n y (inr h) = inr (number_member H n y h)
 
-  number_below : (H : Entries) (n : ℕ) (y : Item) → HasNumber H n y → n ≤ length H
+  number_below : (H : Entries) (n : ℕ) (y : Item Note) → HasNumber H n y → n ≤ length H
   number_below [] n y h = absurd h
   number_below (e ∷ H) n y (inl t) = let u = t.0 in omega arith
   number_below (e ∷ H) n y (inr h) = let u = number_below H n y h in omega arith
 
-  pub one_item : (H : Entries) (n : ℕ) (y z : Item) → HasNumber H n y → HasNumber H n z → y ≡ z
+  pub one_item : (H : Entries) (n : ℕ) (y z : Item Note) → HasNumber H n y → HasNumber H n z → y ≡ z
   one_item [] n y z h k = absurd h
   one_item (e ∷ H) n y z (inl h) (inl k) = h.1 ∙ sym k.1
   one_item (e ∷ H) n y z (inl h) (inr k) = let u = number_below H n z k in let t = h.0 in absurd (omega arith)
@@ -168,7 +167,7 @@ module _ (shape : Shape) (T : Targets) where
   one_item (e ∷ H) n y z (inr h) (inr k) = one_item H n y z h k
 
   -- what holds of each two deeds holds by their numbers
-  pub by_number : (R : Item → Item → Type 0) (H : Entries) → Paired R (trace T H) → (n m : ℕ) (y z : Item) → HasNumber H n y → HasNumber H m z → n < m → R z y
+  pub by_number : (R : Item Note → Item Note → Type 0) (H : Entries) → Paired R (trace T H) → (n m : ℕ) (y z : Item Note) → HasNumber H n y → HasNumber H m z → n < m → R z y
   by_number R [] p n m y z h k lt = absurd h
   by_number R (e ∷ H) p n m y z (inl h) (inl k) lt = let t = h.0 in let u = k.0 in absurd (omega arith)
   by_number R (e ∷ H) p n m y z (inl h) (inr k) lt = let t = h.0 in let u = number_below H m z k in absurd (omega arith)
@@ -176,7 +175,7 @@ module _ (shape : Shape) (T : Targets) where
   by_number R (e ∷ H) p n m y z (inr h) (inr k) lt = by_number R H p.1 n m y z h k lt
 
   -- what precedes has the lower number
-  pub precedes_number : (H : Entries) → IsLegal shape H → (n m : ℕ) (y z : Item) → HasNumber H n y → HasNumber H m z → Precedes y z → n < m
+  pub precedes_number : (H : Entries) → IsLegal shape H → (n m : ℕ) (y z : Item Note) → HasNumber H n y → HasNumber H m z → Precedes y z → n < m
   precedes_number H l n m y z h k p = elim (less_more n m) [
     | inl t ↦ t
     | inr t ↦ elim t [
@@ -187,7 +186,7 @@ module _ (shape : Shape) (T : Targets) where
 
   -- the deed of a change
   pub record Deed (change : Change) (reducer : ℕ) (H : Entries) (u : NumberedEntry) : Type 0 where
-    pub deed : Item
+    pub deed : Item Note
     pub numbered : HasNumber H (number_of u) deed
     pub act : deed.newest.act ≡ changing change reducer (value_of u)
     pub at : place deed ≡ address (control_part H) (strand_of u)
@@ -231,7 +230,7 @@ module _ (shape : Shape) (T : Targets) where
       go older (silent no_update no_put quiet) h = deed_on change r H e l u (older ((quiet change items u).0 h))
 
   -- the change of a deed
-  pub record DeedChange (change : Change) (reducer value : ℕ) (H : Entries) (y : Item) : Type 0 where
+  pub record DeedChange (change : Change) (reducer value : ℕ) (H : Entries) (y : Item Note) : Type 0 where
     pub entry : NumberedEntry
     pub has : HasChange change (items_of reducer (steps_of H)) entry
     pub numbered : HasNumber H (number_of entry) y
@@ -239,7 +238,7 @@ module _ (shape : Shape) (T : Targets) where
     pub at : address (control_part H) (strand_of entry) ≡ place y
     pub begun : Begun (control_part H) (strand_of entry)
 
-  pub change_of_deed : (change : Change) (r v : ℕ) (H : Entries) → IsLegal shape H → NoneRefused H → (y : Item) → Member (trace T H) y → y.newest.act ≡ changing change r v →
+  pub change_of_deed : (change : Change) (r v : ℕ) (H : Entries) → IsLegal shape H → NoneRefused H → (y : Item Note) → Member (trace T H) y → y.newest.act ≡ changing change r v →
       DeedChange change r v H y
   change_of_deed change r v [] l c y m q = absurd m
   change_of_deed change r v (e ∷ H) l c y m q = go (λ n. change_of_deed change r v H l.0 c.1 y n q) (head r e.request.strand e.request.act e.answer l.1.belongs c.0) m

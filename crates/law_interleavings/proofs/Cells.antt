@@ -1,6 +1,6 @@
 -- What a cell holds, by the deeds that touch it.
 use Rattle.std.proofs.Common.{◌≡◌, ◌≢◌, ◌⊎◌, inl, inr, ℕ, ◌+◌, ◌%◌, ◌^◌, Bool, true, false, cond, List, [], ◌∷◌, refl, sym, ap, ◌∙◌, subst, add-zero, arith}
-use Rattle.std.specs.Prelude.{◌==◌}
+use Rattle.std.specs.Prelude.{◌==◌, if◌then◌else◌}
 use Rattle.std.proofs.lemmas.Bool.{eqb-true, eq-eqb}
 use Rattle.std.proofs.Math.Nat.{mod-add-mod}
 use Rattle.model_accesses.specs.declared.kind.Kind.TheVariants as kind
@@ -12,24 +12,22 @@ use Rattle.model_histories.specs.Entries.{Entries}
 use Rattle.model_histories.specs.Shapes.{Shape}
 use Rattle.model_histories.specs.Legal.{Belongs, IsLegal}
 use Rattle.model_races.specs.Memory.{Effect, sets, adds, leaves, effect, effects, last_written, bumped_since, value_of}
-use Rattle.race_gate.specs.Steps.{after}
 use Rattle.model_races.specs.Verdicts.{MemoryIsJudged}
 use Rattle.model_histories.specs.Extensions.{IsCleanAnswer}
-use Rattle.model_runs.specs.Frames.{Targets}
-use Rattle.law_schedules.specs.Traces.{Item, trace, Precedes}
-use Rattle.law_schedules.proofs.Swaps.{Member, Paired, after_all, IsOrdered, IsSwappable, same_state}
-use Rattle.law_schedules.proofs.Traces.{ordered, distinct}
-use Rattle.law_schedules.proofs.Heard.{NoneRefused}
-use Rattle.law_schedules.proofs.Comparisons.{order_of}
-use Rattle.law_schedules.proofs.Races.{Conflict, compared}
+use Rattle.law_interleavings.specs.Traces.{Notes, Item, trace, Precedes}
+use Rattle.law_interleavings.proofs.Swaps.{Member, Paired, after_all, IsOrdered, IsSwappable, same_state}
+use Rattle.law_interleavings.proofs.Traces.{ordered, distinct}
+use Rattle.law_interleavings.proofs.Spoken.{NoneRefused}
+use Rattle.law_interleavings.proofs.Comparisons.{order_of}
+use Rattle.law_interleavings.proofs.Races.{Conflict, compared}
 
 -- ---- the items of a list that pass a test
 
-abbrev pub kept : (Item → Bool) → List Item → List Item
+abbrev pub kept : {Note : Type 0} → (Item Note → Bool) → List (Item Note) → List (Item Note)
 kept test [] = []
 kept test (x ∷ xs) = cond (test x) (x ∷ kept test xs) (kept test xs)
 
-pub kept_in : (test : Item → Bool) (xs : List Item) (y : Item) → Member (kept test xs) y → Member xs y × (test y ≡ true)
+pub kept_in : {Note : Type 0} → (test : Item Note → Bool) (xs : List (Item Note)) (y : Item Note) → Member (kept test xs) y → Member xs y × (test y ≡ true)
 kept_in test [] y m = absurd m
 kept_in test (x ∷ xs) y m = go (kept_in test xs y) (test x) refl m
   where
@@ -39,7 +37,7 @@ kept_in test (x ∷ xs) y m = go (kept_in test xs y) (test x) refl m
     go again true e (inr n) = let t = again n in (inr t.0, t.1)
     go again false e n = let t = again n in (inr t.0, t.1)
 
-pub in_kept : (test : Item → Bool) (xs : List Item) (y : Item) → Member xs y → test y ≡ true → Member (kept test xs) y
+pub in_kept : {Note : Type 0} → (test : Item Note → Bool) (xs : List (Item Note)) (y : Item Note) → Member xs y → test y ≡ true → Member (kept test xs) y
 in_kept test [] y m t = absurd m
 in_kept test (x ∷ xs) y m t = go (λ n. in_kept test xs y n t) (test x) refl m
   where
@@ -49,7 +47,7 @@ in_kept test (x ∷ xs) y m t = go (λ n. in_kept test xs y n t) (test x) refl m
     go again false e (inl q) = let u : test x ≡ true = ap test (sym q) ∙ t in absurd (cc)
     go again false e (inr n) = again n
 
-kept_paired : (test : Item → Bool) (R : Item → Item → Type 0) (xs : List Item) → Paired R xs → Paired R (kept test xs)
+kept_paired : {Note : Type 0} → (test : Item Note → Bool) (R : Item Note → Item Note → Type 0) (xs : List (Item Note)) → Paired R xs → Paired R (kept test xs)
 kept_paired test R [] p = p
 kept_paired test R (x ∷ xs) p = go (kept_paired test R xs p.1) (test x)
   where
@@ -59,13 +57,19 @@ kept_paired test R (x ∷ xs) p = go (kept_paired test R xs p.1) (test x)
 
 -- ---- effects on a cell
 
+-- what a cell holds after an effect, by what it held before
+abbrev after : Effect → ℕ → ℕ → ℕ
+after (sets location value) cell held = if location == cell then value % 2 ^ 64 else held
+after (adds location value) cell held = if location == cell then (held + value) % 2 ^ 64 else held
+after leaves cell held = held
+
 -- what an act does to memory where it is granted
 abbrev cell_effect : Act → Effect
 cell_effect (Write location value) = sets location value
 cell_effect (Bump location value) = adds location value
 cell_effect act = leaves
 
-abbrev acts_on : ℕ → Item → ℕ → ℕ
+abbrev acts_on : {Note : Type 0} → ℕ → Item Note → ℕ → ℕ
 acts_on cell x held = after (cell_effect x.newest.act) cell held
 
 -- the act is a write or a bump of the cell
@@ -74,7 +78,7 @@ touches cell (Write location value) = location == cell
 touches cell (Bump location value) = location == cell
 touches cell act = false
 
-abbrev pub touching : ℕ → Item → Bool
+abbrev pub touching : {Note : Type 0} → ℕ → Item Note → Bool
 touching cell x = touches cell x.newest.act
 
 clean_effect : (act : Act) (answer : Answer) → Belongs act answer → IsCleanAnswer answer → effect act answer ≡ cell_effect act
@@ -115,7 +119,7 @@ idle c (Write l v) s e = rw e refl
 idle c (Bump l v) s e = rw e refl
 idle c _ s e = refl
 
-kept_state : (cell : ℕ) (xs : List Item) → after_all (acts_on cell) 0 (kept (touching cell) xs) ≡ after_all (acts_on cell) 0 xs
+kept_state : {Note : Type 0} → (cell : ℕ) (xs : List (Item Note)) → after_all (acts_on cell) 0 (kept (touching cell) xs) ≡ after_all (acts_on cell) 0 xs
 kept_state c [] = refl
 kept_state c (x ∷ xs) = go (kept_state c xs) (touching c x) refl
   where
@@ -210,8 +214,8 @@ conflict_or_swap c one other e f = go (touch c one e) (touch c other f)
         subst (λ a. after (cell_effect a) c (after (cell_effect other) c s) ≡ after (cell_effect other) c (after (cell_effect a) c s)) (sym p)
         (subst (λ b. after (adds c v) c (after (cell_effect b) c s) ≡ after (cell_effect b) c (after (adds c v) c s)) (sym q) (bumps_commute c v w s)))
 
-module _ (shape : Shape) where
-  cell_state : (T : Targets) (H : Entries) → IsLegal shape H → NoneRefused H → (cell : ℕ) → value_of H cell ≡ after_all (acts_on cell) 0 (trace T H)
+module _ {Note : Type 0} (shape : Shape) where
+  cell_state : (T : Notes Note) (H : Entries) → IsLegal shape H → NoneRefused H → (cell : ℕ) → value_of H cell ≡ after_all (acts_on cell) 0 (trace T H)
   cell_state T [] l c cell = refl
   cell_state T (e ∷ H) l c cell =
       held_after (effect e.request.act e.answer) (effects H) cell
@@ -219,7 +223,7 @@ module _ (shape : Shape) where
       ∙ ap (after (cell_effect e.request.act) cell) (cell_state T H l.0 c.1 cell)
 
   -- the deeds that touch a cell may be swapped, or one precedes the other
-  swaps : (T : Targets) (R : Entries) → IsLegal shape R → MemoryIsJudged R → NoneRefused R → (cell : ℕ) (x y : Item) → Member (trace T R) x →
+  swaps : (T : Notes Note) (R : Entries) → IsLegal shape R → MemoryIsJudged R → NoneRefused R → (cell : ℕ) (x y : Item Note) → Member (trace T R) x →
       Member (trace T R) y → touching cell x ≡ true → touching cell y ≡ true → x ≢ y → IsSwappable (acts_on cell) Precedes x y
   swaps T R l j c cell x y m n t u ne = elim (conflict_or_swap cell x.newest.act y.newest.act t u) [
     | inr k ↦ inr (inr k)
@@ -229,7 +233,7 @@ module _ (shape : Shape) where
     ]
   ]
 
-  in_order : (T : Targets) (H : Entries) → IsLegal shape H → (cell : ℕ) → IsOrdered (acts_on cell) Precedes (kept (touching cell) (trace T H))
+  in_order : (T : Notes Note) (H : Entries) → IsLegal shape H → (cell : ℕ) → IsOrdered (acts_on cell) Precedes (kept (touching cell) (trace T H))
   in_order T H l cell =
       record {
         distinct = kept_paired (touching cell) (λ a b. a ≢ b) (trace T H) (distinct shape T H l);
@@ -237,10 +241,10 @@ module _ (shape : Shape) where
       }
 
   -- Two histories in which the same deeds touch a cell leave it with the same value, where these deeds are of one clean history.
-  pub same_cell : (T : Targets) (R : Entries) → IsLegal shape R → MemoryIsJudged R → NoneRefused R → (mine theirs : Targets) (H K : Entries) →
+  pub same_cell : (T : Notes Note) (R : Entries) → IsLegal shape R → MemoryIsJudged R → NoneRefused R → (mine theirs : Notes Note) (H K : Entries) →
       IsLegal shape H → NoneRefused H → IsLegal shape K → NoneRefused K → (cell : ℕ) →
-      ((x : Item) → Member (trace mine H) x → touching cell x ≡ true → Member (trace T R) x × Member (trace theirs K) x) →
-      ((x : Item) → Member (trace theirs K) x → touching cell x ≡ true → Member (trace mine H) x) →
+      ((x : Item Note) → Member (trace mine H) x → touching cell x ≡ true → Member (trace T R) x × Member (trace theirs K) x) →
+      ((x : Item Note) → Member (trace theirs K) x → touching cell x ≡ true → Member (trace mine H) x) →
       value_of H cell ≡ value_of K cell
   same_cell T R r j rc mine theirs H K l c k d cell to back =
       let mine_kept = kept (touching cell) (trace mine H) in

@@ -16,8 +16,7 @@ use Rattle.law_strands.proofs.Range.{ranges, child_seen, next_seen}
 use Rattle.law_strands.proofs.Holders.{holders, Splitting, splitting, running_open, join_reserved, reserved_before_end, reserved_before_join}
 use Rattle.law_strands.proofs.Kept.{address_stays, Rests, rests, join_law}
 use Rattle.model_runs.specs.Frames.{frame_of}
-use Rattle.law_runs.proofs.Strands.{frame_below}
-use Rattle.law_schedules.specs.Fronts.{Nest, inside, opened, gone, Front, opening, after_spawn, after_sync, after_return, moved, act_in, frame_at, moved_by, front, nest_of, stands_at, IsActive, IsBegun, AreFronts}
+use Rattle.law_interleavings.specs.Fronts.{Nest, inside, opened, gone, Front, opening, after_spawn, after_sync, after_return, moved, act_in, frame_at, moved_by, front, nest_of, stands_at, IsActive, IsBegun, AreFronts}
 
 -- who goes on after an event of a strand
 abbrev join_here : Stack → ℕ
@@ -287,6 +286,53 @@ begun_frame_below (ended s ∷ h) f b = let t = begun_frame_below h f b in omega
 begun_frame_below (ended_joined s j ∷ h) f b = let t = begun_frame_below h f b in omega arith
 begun_frame_below (finished s ∷ h) f b = let t = begun_frame_below h f b in omega arith
 
+pub runs_before : {h : History} {e : Event} → Allowed h e → Running h (strand_of e)
+runs_before (open_split run sy ce ne je) = run
+runs_before (next_split run st ce ne) = run
+runs_before (sync_same run sy) = run
+runs_before (sync_joined run st none) = run
+runs_before (sync_waits run st n o) = run
+runs_before (function_call run) = run
+runs_before (called_return run st) = run
+runs_before (child_return run st last) = run
+runs_before (last_return run st last) = run
+runs_before (root_return run st) = run
+
+-- the frame of who goes on has begun
+pub begun_more : (h : History) (e : Event) (frame : ℕ) → IsBegun h frame → IsBegun (e ∷ h) frame
+begun_more h (split s c n j first) f b = inr b
+begun_more h (same s) f b = b
+begun_more h (joined s j) f b = b
+begun_more h (waits s) f b = b
+begun_more h (call s) f b = b
+begun_more h (resumed s) f b = b
+begun_more h (ended s) f b = b
+begun_more h (ended_joined s j) f b = b
+begun_more h (finished s) f b = b
+
+child_begun : (h : History) (e : Event) (n : ℕ) → IsChild e n → IsBegun (e ∷ h) (suc (length h))
+child_begun h (split s c n j first) k w = inl refl
+child_begun h (same s) k w = absurd w
+child_begun h (joined s j) k w = absurd w
+child_begun h (waits s) k w = absurd w
+child_begun h (call s) k w = absurd w
+child_begun h (resumed s) k w = absurd w
+child_begun h (ended s) k w = absurd w
+child_begun h (ended_joined s j) k w = absurd w
+child_begun h (finished s) k w = absurd w
+
+pub active_begun : {h : History} → Legal h → (n : ℕ) → IsActive h n → IsBegun h (frame_at h n)
+active_begun start n act = refl
+active_begun (then {history = h} {event = e} l a) n act = go (active_begun l) (after h e l a n act)
+  where
+    go : ((m : ℕ) → IsActive h m → IsBegun h (frame_at h m)) → After h e n → IsBegun (e ∷ h) (frame_at (e ∷ h) n)
+    go older (still ne before sk) = subst (IsBegun (e ∷ h)) (sym (ap frame_of sk)) (begun_more h e (frame_at h n) (older n before))
+    go older (goes_on q fk st) = subst (IsBegun (e ∷ h)) (sym fk) (begun_more h e (frame_at h (strand_of e)) (older (strand_of e) (inl (runs_before a))))
+    go older (begins q fk st) = subst (IsBegun (e ∷ h)) (sym fk) (child_begun h e n q)
+
+pub frame_below : {h : History} → Legal h → (n : ℕ) → IsActive h n → frame_at h n ≤ length h
+frame_below {h = h} l n act = begun_frame_below h (frame_at h n) (active_begun l n act)
+
 -- the front of another frame stays, that of the strand moves, and that of a child opens
 pub front_off : (h : History) (e : Event) (frame : ℕ) → frame ≢ frame_at h (strand_of e) → frame ≤ length h → front (e ∷ h) frame ≡ front h frame
 front_off h (split s c n j first) f ne le =
@@ -300,18 +346,18 @@ front_off h (ended s) f ne le = updated_off (front h) (frame_at h s) _ f ne
 front_off h (ended_joined s j) f ne le = updated_off (front h) (frame_at h s) _ f ne
 front_off h (finished s) f ne le = updated_off (front h) (frame_at h s) _ f ne
 
-pub front_moves : (h : History) (e : Event) (frame : ℕ) → frame ≡ frame_at h (strand_of e) → front (e ∷ h) frame ≡ moved (front h (frame_at h (strand_of e))) (act_in e)
-front_moves h (split s c n j first) f q =
-    let t = frame_below h s in
+pub front_moves : (h : History) (e : Event) (frame : ℕ) → frame ≡ frame_at h (strand_of e) → frame_at h (strand_of e) ≤ length h →
+    front (e ∷ h) frame ≡ moved (front h (frame_at h (strand_of e))) (act_in e)
+front_moves h (split s c n j first) f q le =
     updated_off (moved_by h (split s c n j first) (front h)) (suc (length h)) _ f (omega arith) ∙ updated_at (front h) (frame_at h s) _ f q
-front_moves h (same s) f q = updated_at (front h) (frame_at h s) _ f q
-front_moves h (joined s j) f q = updated_at (front h) (frame_at h s) _ f q
-front_moves h (waits s) f q = updated_at (front h) (frame_at h s) _ f q
-front_moves h (call s) f q = updated_at (front h) (frame_at h s) _ f q
-front_moves h (resumed s) f q = updated_at (front h) (frame_at h s) _ f q
-front_moves h (ended s) f q = updated_at (front h) (frame_at h s) _ f q
-front_moves h (ended_joined s j) f q = updated_at (front h) (frame_at h s) _ f q
-front_moves h (finished s) f q = updated_at (front h) (frame_at h s) _ f q
+front_moves h (same s) f q le = updated_at (front h) (frame_at h s) _ f q
+front_moves h (joined s j) f q le = updated_at (front h) (frame_at h s) _ f q
+front_moves h (waits s) f q le = updated_at (front h) (frame_at h s) _ f q
+front_moves h (call s) f q le = updated_at (front h) (frame_at h s) _ f q
+front_moves h (resumed s) f q le = updated_at (front h) (frame_at h s) _ f q
+front_moves h (ended s) f q le = updated_at (front h) (frame_at h s) _ f q
+front_moves h (ended_joined s j) f q le = updated_at (front h) (frame_at h s) _ f q
+front_moves h (finished s) f q le = updated_at (front h) (frame_at h s) _ f q
 
 pub front_opens : (h : History) (e : Event) (n frame : ℕ) → IsChild e n → frame ≡ suc (length h) → front (e ∷ h) frame ≡ opening (extended (address h (strand_of e)) child)
 front_opens h (split s c n j first) k f w q = updated_at (moved_by h (split s c n j first) (front h)) (suc (length h)) _ f q
@@ -324,27 +370,15 @@ front_opens h (ended s) k f w q = absurd w
 front_opens h (ended_joined s j) k f w q = absurd w
 front_opens h (finished s) k f w q = absurd w
 
-pub runs_before : {h : History} {e : Event} → Allowed h e → Running h (strand_of e)
-runs_before (open_split run sy ce ne je) = run
-runs_before (next_split run st ce ne) = run
-runs_before (sync_same run sy) = run
-runs_before (sync_joined run st none) = run
-runs_before (sync_waits run st n o) = run
-runs_before (function_call run) = run
-runs_before (called_return run st) = run
-runs_before (child_return run st last) = run
-runs_before (last_return run st last) = run
-runs_before (root_return run st) = run
-
 at_after : (h : History) (e : Event) → Legal h → (a : Allowed h e) → AreFronts h → (k : ℕ) → After h e k → front (e ∷ h) (frame_at (e ∷ h) k) ≡ stands_at (e ∷ h) k
 at_after h e l a w k (still ne act sk) =
     let fk : frame_at (e ∷ h) k ≡ frame_at h k = ap frame_of sk in
     let off : frame_at h k ≢ frame_at h (strand_of e) = λ q. ne (w.alone k (strand_of e) act (inl (runs_before a)) q) in
-    ap (front (e ∷ h)) fk ∙ front_off h e (frame_at h k) off (frame_below h k) ∙ w.at k act
+    ap (front (e ∷ h)) fk ∙ front_off h e (frame_at h k) off (frame_below l k act) ∙ w.at k act
     ∙ sym (front_is _ _ _ _ (address_stays (then l a) k (active_below h (ranges l) k act))
     (ap (nest_of (e ∷ h)) sk ∙ nest_stays h e (then l a) (stack h k) (rests l k)))
 at_after h e l a w k (goes_on q fk st) =
-    front_moves h e (frame_at (e ∷ h) k) fk ∙ ap (λ z. moved z (act_in e)) (w.at (strand_of e) (inl (runs_before a))) ∙ sym st
+    front_moves h e (frame_at (e ∷ h) k) fk (frame_below l (strand_of e) (inl (runs_before a))) ∙ ap (λ z. moved z (act_in e)) (w.at (strand_of e) (inl (runs_before a))) ∙ sym st
 at_after h e l a w k (begins q fk st) = front_opens h e k (frame_at (e ∷ h) k) q fk ∙ sym st
 
 one_child : (e : Event) (k m : ℕ) → IsChild e k → IsChild e m → k ≡ m
@@ -358,20 +392,20 @@ one_child (ended s) k m p q = absurd p
 one_child (ended_joined s j) k m p q = absurd p
 one_child (finished s) k m p q = absurd p
 
-alone_after : (h : History) (e : Event) → (a : Allowed h e) → AreFronts h → (k m : ℕ) → After h e k → After h e m → frame_at (e ∷ h) k ≡ frame_at (e ∷ h) m → k ≡ m
-alone_after h e a w k m (still ne act sk) (still me bct sm) q = w.alone k m act bct (sym (ap frame_of sk) ∙ q ∙ ap frame_of sm)
-alone_after h e a w k m (still ne act sk) (goes_on x fm st) q = absurd (ne (w.alone k (strand_of e) act (inl (runs_before a)) (sym (ap frame_of sk) ∙ q ∙ fm)))
-alone_after h e a w k m (still ne act sk) (begins x fm st) q =
-    let t = frame_below h k in let u : frame_at h k ≡ suc (length h) = sym (ap frame_of sk) ∙ q ∙ fm in absurd (omega arith)
-alone_after h e a w k m (goes_on x fk st) (still me bct sm) q = absurd (me (w.alone m (strand_of e) bct (inl (runs_before a)) (sym (ap frame_of sm) ∙ sym q ∙ fk)))
-alone_after h e a w k m (goes_on x fk st) (goes_on y fm tm) q = x ∙ sym y
-alone_after h e a w k m (goes_on x fk st) (begins y fm tm) q =
-    let t = frame_below h (strand_of e) in let u : frame_at h (strand_of e) ≡ suc (length h) = sym fk ∙ q ∙ fm in absurd (omega arith)
-alone_after h e a w k m (begins x fk st) (still me bct sm) q =
-    let t = frame_below h m in let u : frame_at h m ≡ suc (length h) = sym (ap frame_of sm) ∙ sym q ∙ fk in absurd (omega arith)
-alone_after h e a w k m (begins x fk st) (goes_on y fm tm) q =
-    let t = frame_below h (strand_of e) in let u : frame_at h (strand_of e) ≡ suc (length h) = sym fm ∙ sym q ∙ fk in absurd (omega arith)
-alone_after h e a w k m (begins x fk st) (begins y fm tm) q = one_child e k m x y
+alone_after : (h : History) (e : Event) → Legal h → (a : Allowed h e) → AreFronts h → (k m : ℕ) → After h e k → After h e m → frame_at (e ∷ h) k ≡ frame_at (e ∷ h) m → k ≡ m
+alone_after h e l a w k m (still ne act sk) (still me bct sm) q = w.alone k m act bct (sym (ap frame_of sk) ∙ q ∙ ap frame_of sm)
+alone_after h e l a w k m (still ne act sk) (goes_on x fm st) q = absurd (ne (w.alone k (strand_of e) act (inl (runs_before a)) (sym (ap frame_of sk) ∙ q ∙ fm)))
+alone_after h e l a w k m (still ne act sk) (begins x fm st) q =
+    let t = frame_below l k act in let u : frame_at h k ≡ suc (length h) = sym (ap frame_of sk) ∙ q ∙ fm in absurd (omega arith)
+alone_after h e l a w k m (goes_on x fk st) (still me bct sm) q = absurd (me (w.alone m (strand_of e) bct (inl (runs_before a)) (sym (ap frame_of sm) ∙ sym q ∙ fk)))
+alone_after h e l a w k m (goes_on x fk st) (goes_on y fm tm) q = x ∙ sym y
+alone_after h e l a w k m (goes_on x fk st) (begins y fm tm) q =
+    let t = frame_below l (strand_of e) (inl (runs_before a)) in let u : frame_at h (strand_of e) ≡ suc (length h) = sym fk ∙ q ∙ fm in absurd (omega arith)
+alone_after h e l a w k m (begins x fk st) (still me bct sm) q =
+    let t = frame_below l m bct in let u : frame_at h m ≡ suc (length h) = sym (ap frame_of sm) ∙ sym q ∙ fk in absurd (omega arith)
+alone_after h e l a w k m (begins x fk st) (goes_on y fm tm) q =
+    let t = frame_below l (strand_of e) (inl (runs_before a)) in let u : frame_at h (strand_of e) ≡ suc (length h) = sym fm ∙ sym q ∙ fk in absurd (omega arith)
+alone_after h e l a w k m (begins x fk st) (begins y fm tm) q = one_child e k m x y
 
 -- who is active and does not move stays so
 running_stays : (h : History) (s k : ℕ) → k ≢ s → status h k ≡ running → updated (status h) s over k ≡ running
@@ -496,7 +530,7 @@ found_after h e l a w f b = elim (begun_cases h e l a f b) [ inl t ↦ inr t | i
     older : IsBegun h f → (f ≡ frame_at h (strand_of e)) ⊎ (f ≢ frame_at h (strand_of e)) →
         ((front (e ∷ h) f).nest ≡ gone) ⊎ ((number : ℕ) × IsActive (e ∷ h) number × (frame_at (e ∷ h) number ≡ f))
     older t (inl q) = elim (has_heir h e l a) [
-      | inl g ↦ inl (ap (λ z. z.nest) (front_moves h e f q ∙ ap (λ z. moved z (act_in e)) (w.at (strand_of e) (inl (runs_before a)))) ∙ g)
+      | inl g ↦ inl (ap (λ z. z.nest) (front_moves h e f q (frame_below l (strand_of e) (inl (runs_before a))) ∙ ap (λ z. moved z (act_in e)) (w.at (strand_of e) (inl (runs_before a)))) ∙ g)
       | inr g ↦ inr (g.0, g.1, g.2 ∙ sym q)
     ]
     older t (inr ne) = elim (w.found f t) [
@@ -521,38 +555,6 @@ fronts start = fronts_first
 fronts (then {history = h} {event = e} l a) =
     let w = fronts l in record {
       at = λ k act. at_after h e l a w k (after h e l a k act);
-      alone = λ k m p q f. alone_after h e a w k m (after h e l a k p) (after h e l a m q) f;
+      alone = λ k m p q f. alone_after h e l a w k m (after h e l a k p) (after h e l a m q) f;
       found = λ f b. found_after h e l a w f b;
     }
-
--- the frame of who goes on has begun
-pub begun_more : (h : History) (e : Event) (frame : ℕ) → IsBegun h frame → IsBegun (e ∷ h) frame
-begun_more h (split s c n j first) f b = inr b
-begun_more h (same s) f b = b
-begun_more h (joined s j) f b = b
-begun_more h (waits s) f b = b
-begun_more h (call s) f b = b
-begun_more h (resumed s) f b = b
-begun_more h (ended s) f b = b
-begun_more h (ended_joined s j) f b = b
-begun_more h (finished s) f b = b
-
-child_begun : (h : History) (e : Event) (n : ℕ) → IsChild e n → IsBegun (e ∷ h) (suc (length h))
-child_begun h (split s c n j first) k w = inl refl
-child_begun h (same s) k w = absurd w
-child_begun h (joined s j) k w = absurd w
-child_begun h (waits s) k w = absurd w
-child_begun h (call s) k w = absurd w
-child_begun h (resumed s) k w = absurd w
-child_begun h (ended s) k w = absurd w
-child_begun h (ended_joined s j) k w = absurd w
-child_begun h (finished s) k w = absurd w
-
-pub active_begun : {h : History} → Legal h → (n : ℕ) → IsActive h n → IsBegun h (frame_at h n)
-active_begun start n act = refl
-active_begun (then {history = h} {event = e} l a) n act = go (active_begun l) (after h e l a n act)
-  where
-    go : ((m : ℕ) → IsActive h m → IsBegun h (frame_at h m)) → After h e n → IsBegun (e ∷ h) (frame_at (e ∷ h) n)
-    go older (still ne before sk) = subst (IsBegun (e ∷ h)) (sym (ap frame_of sk)) (begun_more h e (frame_at h n) (older n before))
-    go older (goes_on q fk st) = subst (IsBegun (e ∷ h)) (sym fk) (begun_more h e (frame_at h (strand_of e)) (older (strand_of e) (inl (runs_before a))))
-    go older (begins q fk st) = subst (IsBegun (e ∷ h)) (sym fk) (child_begun h e n q)

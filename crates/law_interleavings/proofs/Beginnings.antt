@@ -10,9 +10,9 @@ use Rattle.law_strands.proofs.Range.{ranges, child_seen}
 use Rattle.law_strands.proofs.Holders.{holders, Splitting, splitting}
 use Rattle.law_strands.proofs.Addresses.{addresses}
 use Rattle.law_strands.proofs.Kept.{address_stays}
-use Rattle.law_schedules.specs.Fronts.{opening, moved_by, front, IsBegun}
-use Rattle.law_schedules.specs.Traces.{beginning}
-use Rattle.law_schedules.proofs.Fronts.{begun_frame_below}
+use Rattle.law_interleavings.specs.Fronts.{opening, moved_by, front, IsBegun}
+use Rattle.law_interleavings.specs.Traces.{beginning}
+use Rattle.law_interleavings.proofs.Fronts.{begun_frame_below}
 
 pub beginning_stays : (h : History) (e : Event) (frame : ℕ) → frame ≤ length h → beginning (e ∷ h) frame ≡ beginning h frame
 beginning_stays h (split s c n j first) f le = updated_off (beginning h) (suc (length h)) _ f (omega arith)

@@ -6,8 +6,8 @@ use Rattle.law_addresses.proofs.Relations.{reaches-self, reaches-transitive}
 use Rattle.law_addresses.proofs.Extensions.{reaches-extension}
 use Rattle.model_accesses.specs.declared.request.Act.{Act}
 use Rattle.law_strands.proofs.Words.{Diverges, diverges_extend, diverges_join, diverges_precedes}
-use Rattle.law_schedules.specs.Fronts.{Nest, in_spawned, inside, opened, gone, Front, after_spawn, after_sync, after_return, moved}
-use Rattle.law_schedules.specs.Traces.{Spoken, walk, IsLaterOf}
+use Rattle.law_interleavings.specs.Fronts.{Nest, in_spawned, inside, opened, gone, Front, after_spawn, after_sync, after_return, moved}
+use Rattle.law_interleavings.specs.Traces.{Spoken, walk, IsLaterOf}
 
 -- the address up to its last child: where its frame began
 abbrev up_to_child : Word → Address → Address
@@ -88,47 +88,47 @@ advances b f Act.Call w = record { within = record { of_frame = w.of_frame; ends
 advances b f Act.Return w = returned_on b f.here f.nest w.of_frame w.ends
 advances b f _ w = record { within = w; leads = reaches-self f.here }
 
-walks_within : (begin : Address) (zs : List Spoken) → IsWithin begin (walk begin zs)
+walks_within : {Note : Type 0} → (begin : Address) (zs : List (Spoken Note)) → IsWithin begin (walk begin zs)
 walks_within b [] = record { of_frame = refl; ends = tt }
 walks_within b (z ∷ zs) = (advances b (walk b zs) z.act (walks_within b zs)).within
 
 -- each place of a frame tells where the frame began
-pub walk_home : (begin : Address) (zs : List Spoken) → home (walk begin zs).here ≡ home begin
+pub walk_home : {Note : Type 0} → (begin : Address) (zs : List (Spoken Note)) → home (walk begin zs).here ≡ home begin
 walk_home b zs = (walks_within b zs).of_frame
 
-pub walk_leads : (begin : Address) (zs ws : List Spoken) → IsLaterOf zs ws → reaches (walk begin zs).here (walk begin ws).here ≡ true
-walk_leads b zs [] m = subst (λ z. reaches (walk b z).here (walk b []).here ≡ true) (sym m) (reaches-self (walk b []).here)
+pub walk_leads : {Note : Type 0} → (begin : Address) (zs ws : List (Spoken Note)) → IsLaterOf zs ws → reaches (walk begin zs).here (walk begin ws).here ≡ true
+walk_leads {Note = Note} b zs [] m = subst (λ z. reaches (walk b z).here (walk {Note = Note} b []).here ≡ true) (sym m) (reaches-self (walk {Note = Note} b []).here)
 walk_leads b zs (w ∷ ws) (inl e) = subst (λ z. reaches (walk b z).here (walk b (w ∷ ws)).here ≡ true) (sym e) (reaches-self (walk b (w ∷ ws)).here)
 walk_leads b zs (w ∷ ws) (inr m) =
     reaches-transitive (walk b zs).here (walk b ws).here (walk b (w ∷ ws)).here (walk_leads b zs ws m) (advances b (walk b ws) w.act (walks_within b ws)).leads
 
 -- lists that later ones begin with
 
-pub later_self : (zs : List Spoken) → IsLaterOf zs zs
+pub later_self : {Note : Type 0} → (zs : List (Spoken Note)) → IsLaterOf zs zs
 later_self [] = refl
 later_self (z ∷ zs) = inl refl
 
-pub later_none : (zs : List Spoken) → IsLaterOf [] zs
+pub later_none : {Note : Type 0} → (zs : List (Spoken Note)) → IsLaterOf [] zs
 later_none [] = refl
 later_none (z ∷ zs) = inr (later_none zs)
 
-pub later_less : (z : Spoken) (zs ws : List Spoken) → IsLaterOf (z ∷ zs) ws → IsLaterOf zs ws
+pub later_less : {Note : Type 0} → (z : Spoken Note) (zs ws : List (Spoken Note)) → IsLaterOf (z ∷ zs) ws → IsLaterOf zs ws
 later_less z zs [] m = cc
 later_less z zs (w ∷ ws) (inl e) = let f : zs ≡ ws = cc in inr (subst (λ l. IsLaterOf l ws) (sym f) (later_self ws))
 later_less z zs (w ∷ ws) (inr m) = inr (later_less z zs ws m)
 
-pub later_transitive : (zs ws vs : List Spoken) → IsLaterOf zs ws → IsLaterOf ws vs → IsLaterOf zs vs
+pub later_transitive : {Note : Type 0} → (zs ws vs : List (Spoken Note)) → IsLaterOf zs ws → IsLaterOf ws vs → IsLaterOf zs vs
 later_transitive zs ws [] m n = subst (IsLaterOf zs) n m
 later_transitive zs ws (v ∷ vs) m (inl e) = subst (IsLaterOf zs) e m
 later_transitive zs ws (v ∷ vs) m (inr n) = inr (later_transitive zs ws vs m n)
 
-pub later_shorter : (zs ws : List Spoken) → IsLaterOf zs ws → length zs ≤ length ws
+pub later_shorter : {Note : Type 0} → (zs ws : List (Spoken Note)) → IsLaterOf zs ws → length zs ≤ length ws
 later_shorter zs [] m = let e = ap length m in omega arith
 later_shorter zs (w ∷ ws) (inl e) = let f = ap length e in omega arith
 later_shorter zs (w ∷ ws) (inr m) = let t = later_shorter zs ws m in omega arith
 
 -- the same length makes them the same
-pub later_same : (zs ys ws : List Spoken) → IsLaterOf zs ws → IsLaterOf ys ws → length zs ≡ length ys → zs ≡ ys
+pub later_same : {Note : Type 0} → (zs ys ws : List (Spoken Note)) → IsLaterOf zs ws → IsLaterOf ys ws → length zs ≡ length ys → zs ≡ ys
 later_same zs ys [] m n e = m ∙ sym n
 later_same zs ys (w ∷ ws) (inl p) (inl q) e = p ∙ sym q
 later_same zs ys (w ∷ ws) (inl p) (inr n) e = let t = later_shorter ys ws n in let f = ap length p in absurd (omega arith)
@@ -136,14 +136,14 @@ later_same zs ys (w ∷ ws) (inr m) (inl q) e = let t = later_shorter zs ws m in
 later_same zs ys (w ∷ ws) (inr m) (inr n) e = later_same zs ys ws m n e
 
 -- one of the two begins with the other
-pub later_either : (zs ys ws : List Spoken) → IsLaterOf zs ws → IsLaterOf ys ws → length zs ≤ length ys → IsLaterOf zs ys
+pub later_either : {Note : Type 0} → (zs ys ws : List (Spoken Note)) → IsLaterOf zs ws → IsLaterOf ys ws → length zs ≤ length ys → IsLaterOf zs ys
 later_either zs ys [] m n le = subst (IsLaterOf zs) (sym n) m
 later_either zs ys (w ∷ ws) m (inl q) le = subst (IsLaterOf zs) (sym q) m
 later_either zs ys (w ∷ ws) (inl p) (inr n) le = let t = later_shorter ys ws n in let f = ap length p in absurd (omega arith)
 later_either zs ys (w ∷ ws) (inr m) (inr n) le = later_either zs ys ws m n le
 
 -- it is all of the other, or one more follows
-pub later_next : (zs ws : List Spoken) → IsLaterOf zs ws → (zs ≡ ws) ⊎ ((x : Spoken) × IsLaterOf (x ∷ zs) ws)
+pub later_next : {Note : Type 0} → (zs ws : List (Spoken Note)) → IsLaterOf zs ws → (zs ≡ ws) ⊎ ((x : Spoken Note) × IsLaterOf (x ∷ zs) ws)
 later_next zs [] m = inl m
 later_next zs (w ∷ ws) (inl e) = inl e
 later_next zs (w ∷ ws) (inr m) = elim (later_next zs ws m) [

@@ -1,7 +1,7 @@
--- A history that did a part of what another, clean and finished, did.
+-- A history that did a part of what another did.
 -- H, K, R: histories of entries; T: the targets of R; h: a control history; e: an entry or an event; x: an item; z: what was spoken; n: a
 -- strand
-use Rattle.std.proofs.Common.{◌≡◌, ◌≢◌, ◌⊎◌, inl, inr, ℕ, suc, ◌<◌, ◌≤◌, true, List, [], ◌∷◌, length, Some, refl, sym, ap, ◌∙◌, subst, subst₂, arith}
+use Rattle.std.proofs.Common.{◌≡◌, ◌≢◌, ◌⊎◌, inl, inr, ℕ, suc, ◌<◌, ◌≤◌, true, List, [], ◌∷◌, length, Some, refl, sym, ap, ◌∙◌, subst, arith}
 use Rattle.model_strands.specs.Address.{child, Address, extended}
 use Rattle.law_addresses.specs.Address.{reaches}
 use Rattle.law_addresses.proofs.Relations.{reaches-transitive, reaches-antisymmetric}
@@ -24,25 +24,17 @@ use Rattle.model_histories.specs.Entries.{Entries, event_between, with_event, co
 use Rattle.model_histories.specs.Shapes.{Shape}
 use Rattle.model_histories.specs.Legal.{Belongs, IsLegal}
 use Rattle.model_histories.specs.Extensions.{IsEnd, IsFinished}
-use Rattle.race_gate.proofs.Races.{legal-part}
-use Rattle.model_bodies.specs.Codes.{Code}
-use Rattle.model_programs.specs.Exchanges.{Exchange}
-use Rattle.model_programs.specs.Dialogue.{Part, DialogueOf}
-use Rattle.model_runs.specs.Frames.{Targets, HasFrame, frame_in, next_frame, target_of, exchange_of, said_by}
-use Rattle.model_runs.specs.Runs.{IsRunWith}
-use Rattle.law_runs.proofs.Histories.{spawn_splits, said_here}
-use Rattle.law_schedules.specs.Agreement.{Agree}
-use Rattle.law_schedules.specs.Fronts.{Nest, gone, opening, moved, act_in, front, nest_of, stands_at, IsActive, IsBegun, frame_at}
-use Rattle.law_schedules.specs.Traces.{Spoken, spoken_of, spoken_by, beginning, walk, Item, place, item_of, trace, IsLaterOf}
-use Rattle.law_schedules.proofs.Agreements.{agreement_law}
-use Rattle.law_schedules.proofs.Swaps.{Member}
-use Rattle.law_runs.proofs.Strands.{frame_below}
-use Rattle.law_schedules.proofs.Fronts.{fronts, active_begun}
-use Rattle.law_schedules.proofs.Beginnings.{beginning_alone}
-use Rattle.law_schedules.proofs.Waiting.{active_reaches}
-use Rattle.law_schedules.proofs.Walks.{walk_leads, later_self, later_none, later_transitive, later_either, later_next}
-use Rattle.law_schedules.proofs.Traces.{Grown, quiet, grows, grown, spoken_before, walked, placed, frame_on, DoneBy, done_by, deed_of}
-use Rattle.law_schedules.proofs.Heard.{spoken_here, spoken_elsewhere, NoneRefused, said_clean, spoken_heard, IsAsked, next_asked}
+use Rattle.law_interleavings.proofs.Control.{legal_part}
+use Rattle.model_runs.specs.Frames.{frame_in, next_frame}
+use Rattle.law_interleavings.specs.Fronts.{Nest, gone, opening, moved, act_in, front, nest_of, stands_at, IsActive, IsBegun, frame_at}
+use Rattle.law_interleavings.specs.Traces.{Notes, Spoken, spoken_of, spoken_by, beginning, walk, Item, place, item_of, trace, IsLaterOf}
+use Rattle.law_interleavings.proofs.Swaps.{Member}
+use Rattle.law_interleavings.proofs.Fronts.{fronts, frame_below, active_begun}
+use Rattle.law_interleavings.proofs.Beginnings.{beginning_alone}
+use Rattle.law_interleavings.proofs.Waiting.{active_reaches}
+use Rattle.law_interleavings.proofs.Walks.{walk_leads, later_self, later_none, later_transitive, later_either, later_next}
+use Rattle.law_interleavings.proofs.Traces.{Grown, quiet, grows, grown, spoken_before, walked, placed, frame_on, DoneBy, done_by, deed_of}
+use Rattle.law_interleavings.proofs.Spoken.{spoken_here, spoken_elsewhere}
 
 -- an event that begins a frame is a spawn, and each spawn begins one
 
@@ -98,12 +90,12 @@ module _ (shape : Shape) where
       subst HasFinished (sym (ap (λ o. with_event o (control_part R)) (ends_by e.request.strand e.request.act e.answer l.1.belongs f))) tt
 
   -- an entry that begins a frame is a spawn
-  record Fresh (H : Entries) (e : Entry) (frame : ℕ) : Type 0 where
-    is_next : frame ≡ next_frame H
-    act : e.request.act ≡ Act.Spawn
-    begins : beginning (control_part (e ∷ H)) frame ≡ extended (address (control_part H) e.request.strand) child
+  pub record Fresh (H : Entries) (e : Entry) (frame : ℕ) : Type 0 where
+    pub is_next : frame ≡ next_frame H
+    pub act : e.request.act ≡ Act.Spawn
+    pub begins : beginning (control_part (e ∷ H)) frame ≡ extended (address (control_part H) e.request.strand) child
 
-  fresh : (H : Entries) (e : Entry) → IsLegal shape (e ∷ H) → (frame : ℕ) → IsBegun (control_part (e ∷ H)) frame →
+  pub fresh : (H : Entries) (e : Entry) → IsLegal shape (e ∷ H) → (frame : ℕ) → IsBegun (control_part (e ∷ H)) frame →
       Fresh H e frame ⊎ IsBegun (control_part H) frame
   fresh H e l f b = go (grown shape H e l)
     where
@@ -118,15 +110,7 @@ module _ (shape : Shape) where
         | inr t ↦ inr t
       ]
 
-  pub has_frame : (H : Entries) → IsLegal shape H → (frame : ℕ) → IsBegun (control_part H) frame → HasFrame H frame
-  has_frame [] l f b = inl b
-  has_frame (e ∷ H) l f b = go (has_frame H l.0 f) (fresh H e l f b)
-    where
-      go : (IsBegun (control_part H) f → HasFrame H f) → Fresh H e f ⊎ IsBegun (control_part H) f → HasFrame (e ∷ H) f
-      go older (inl t) = inr (inl (t.is_next, spawn_splits e.answer (subst (λ a. Belongs a e.answer) t.act l.1.belongs)))
-      go older (inr b') = elim (older b') [ inl q ↦ inl q | inr s ↦ inr (inr s) ]
-
-  module _ (T : Targets) where
+  module _ {Note : Type 0} (T : Notes Note) where
     -- the whole has a root frame
     pub root_there : (H : Entries) → IsLegal shape H → IsBegun (control_part H) 0 × (beginning (control_part H) 0 ≡ [])
     root_there [] l = (refl, refl)
@@ -134,7 +118,7 @@ module _ (shape : Shape) where
 
     -- who spawned a frame
     pub record Spawner (K : Entries) (frame : ℕ) : Type 0 where
-      pub deed : Item
+      pub deed : Item Note
       pub done : Member (trace T K) deed
       pub spawns : deed.newest.act ≡ Act.Spawn
       pub begins : beginning (control_part K) frame ≡ extended (place deed) child
@@ -152,18 +136,20 @@ module _ (shape : Shape) where
         ]
 
     -- the frame that a spawn begins
-    record Spawned (H : Entries) (x : Item) : Type 0 where
-      frame : ℕ
-      begun : IsBegun (control_part H) frame
-      begins : beginning (control_part H) frame ≡ extended (place x) child
-      target : Some (T frame) ≡ x.newest.target
+    pub record Spawned (H : Entries) (x : Item Note) : Type 0 where
+      pub frame : ℕ
+      pub begun : IsBegun (control_part H) frame
+      pub begins : beginning (control_part H) frame ≡ extended (place x) child
+      pub spawn : Entry
+      pub spawns : spawn.request.act ≡ Act.Spawn
+      pub noted : x.newest.note ≡ T frame spawn
 
-    spawned_by : (H : Entries) → IsLegal shape H → (x : Item) → Member (trace T H) x → x.newest.act ≡ Act.Spawn → Spawned H x
+    pub spawned_by : (H : Entries) → IsLegal shape H → (x : Item Note) → Member (trace T H) x → x.newest.act ≡ Act.Spawn → Spawned H x
     spawned_by [] l x m q = absurd m
     spawned_by (e ∷ H) l x (inr m) q =
         let s = spawned_by H l.0 x m q in
         let t = frame_on shape T H e l s.frame s.begun in
-        record { frame = s.frame; begun = t.0; begins = t.1 ∙ s.begins; target = s.target }
+        record { frame = s.frame; begun = t.0; begins = t.1 ∙ s.begins; spawn = s.spawn; spawns = s.spawns; noted = s.noted }
     spawned_by (e ∷ H) l x (inl is) q = subst (Spawned (e ∷ H)) (sym is) (go (grown shape H e l))
       where
         spawns : e.request.act ≡ Act.Spawn
@@ -180,31 +166,32 @@ module _ (shape : Shape) where
               begun = subst (λ h. IsBegun h (next_frame H)) (sym n) t.0;
               begins = ap (λ h. beginning h (next_frame H)) n ∙ t.1
                   ∙ ap (λ s. extended (address (control_part H) s) child) sq ∙ ap (λ a. extended a child) (sym (placed shape T H e l));
-              target = sym (ap (λ a. target_of a (T (next_frame H))) spawns);
+              spawn = e;
+              spawns = spawns;
+              noted = refl;
             }
 
   -- ---- parts
 
-  module _ (mine : Targets) (T : Targets) (R : Entries) where
-    -- the frame of the whole history that began at the same address with the same target, and did this first
+  module _ {Note : Type 0} (mine : Notes Note) (T : Notes Note) (R : Entries) where
+    -- the frame of the whole history that began at the same address, and did this first
     pub record Matching (H : Entries) (own : ℕ) : Type 0 where
       pub frame : ℕ
       pub begun : IsBegun (control_part R) frame
       pub begins : beginning (control_part H) own ≡ beginning (control_part R) frame
-      pub target : mine own ≡ T frame
       pub did : IsLaterOf (spoken_by mine H own) (spoken_by T R frame)
 
     abbrev pub IsPart : Entries → Type 0
     IsPart H = (own : ℕ) → IsBegun (control_part H) own → Matching H own
 
-    abbrev begun_at : Address → Item → Item
+    abbrev begun_at : Address → Item Note → Item Note
     begun_at begin x = record { begin = begin; newest = x.newest; earlier = x.earlier }
 
-    item_at : (x : Item) (a : Address) → a ≡ x.begin → begun_at a x ≡ x
+    item_at : (x : Item Note) (a : Address) → a ≡ x.begin → begun_at a x ≡ x
     item_at x a e = λ i. record { begin = e i; newest = x.newest; earlier = x.earlier }
 
     -- what a part did the whole did
-    pub included : (H : Entries) → IsLegal shape H → IsLegal shape R → IsPart H → (x : Item) → Member (trace mine H) x → Member (trace T R) x
+    pub included : (H : Entries) → IsLegal shape H → IsLegal shape R → IsPart H → (x : Item Note) → Member (trace mine H) x → Member (trace T R) x
     included H l r part x m =
         let d = done_by shape mine H l x m in
         let q = part d.frame d.begun in
@@ -217,7 +204,7 @@ module _ (shape : Shape) where
         Member (trace T R) (item_of mine H e) → IsPart (e ∷ H)
     part_more H e l r part m own b = go (fresh H e l own b) (same_or_not (frame_in H e.request.strand) own)
       where
-        x : Item
+        x : Item Note
         x = item_of mine H e
 
         by_item : IsBegun (control_part H) own → frame_in H e.request.strand ≡ own → Matching (e ∷ H) own
@@ -227,14 +214,13 @@ module _ (shape : Shape) where
             let t = frame_on shape mine H e l own b' in
             let begins_there : beginning (control_part R) old.frame ≡ beginning (control_part R) d.frame =
             sym old.begins ∙ ap (beginning (control_part H)) (sym q) ∙ sym d.begins in
-            let one : old.frame ≡ d.frame = beginning_alone (legal-part shape R r) old.frame d.frame old.begun d.begun begins_there in
+            let one : old.frame ≡ d.frame = beginning_alone (legal_part shape R r) old.frame d.frame old.begun d.begun begins_there in
             let now : spoken_by mine (e ∷ H) own ≡ x.newest ∷ x.earlier =
             spoken_here mine e H own q ∙ ap (λ f. spoken_of mine (next_frame H) e ∷ spoken_by mine H f) (sym q) in
             record {
               frame = d.frame;
               begun = d.begun;
               begins = t.1 ∙ old.begins ∙ begins_there;
-              target = old.target ∙ ap T one;
               did = subst (λ l. IsLaterOf l (spoken_by T R d.frame)) (sym now) d.done;
             }
 
@@ -246,7 +232,6 @@ module _ (shape : Shape) where
               frame = old.frame;
               begun = old.begun;
               begins = t.1 ∙ old.begins;
-              target = old.target;
               did = subst (λ l. IsLaterOf l (spoken_by T R old.frame)) (sym (spoken_elsewhere mine e H own q)) old.did;
             }
 
@@ -254,47 +239,75 @@ module _ (shape : Shape) where
         newly t =
             let s = spawned_by T R r x m t.act in
             let here : beginning (control_part (e ∷ H)) own ≡ extended (place x) child = t.begins ∙ ap (λ a. extended a child) (sym (placed shape mine H e l)) in
-            let target_here : Some (mine own) ≡ x.newest.target = ap (λ f. Some (mine f)) t.is_next ∙ sym (ap (λ a. target_of a (mine (next_frame H))) t.act) in
-            let targets_same : Some (mine own) ≡ Some (T s.frame) = target_here ∙ sym s.target in
             let none : spoken_by mine (e ∷ H) own ≡ [] =
             spoken_elsewhere mine e H own (λ q. absurd (not_next q)) ∙ spoken_before shape mine H l.0 own (omega (arith, t.is_next)) in
             record {
               frame = s.frame;
               begun = s.begun;
               begins = here ∙ sym s.begins;
-              target = cc;
               did = subst (λ l. IsLaterOf l (spoken_by T R s.frame)) (sym none) (later_none (spoken_by T R s.frame));
             }
           where
             not_next : frame_in H e.request.strand ≡ own → ⊥
-            not_next q = let u = frame_below (control_part H) e.request.strand in omega (arith, u, q, t.is_next)
+            not_next q = let u = frame_below (legal_part shape H l.0) e.request.strand (inl l.1.runs) in omega (arith, u, q, t.is_next)
 
         go : Fresh H e own ⊎ IsBegun (control_part H) own → (frame_in H e.request.strand ≡ own) ⊎ (frame_in H e.request.strand ≢ own) → Matching (e ∷ H) own
         go (inl t) _ = newly t
         go (inr b') (inl q) = by_item b' q
         go (inr b') (inr q) = as_before b' q
 
-    pub part_first : IsLegal shape R → mine 0 ≡ T 0 → IsPart []
-    part_first r q own b =
+    pub part_first : IsLegal shape R → IsPart []
+    part_first r own b =
         let t = root_there T R r in
         record {
           frame = 0;
           begun = t.0;
           begins = sym t.1;
-          target = ap mine b ∙ q;
           did = later_none (spoken_by T R 0);
         }
 
+    -- the whole does at that place what the part asks next
+    pub record Wanted (H : Entries) (e : Entry) : Type 0 where
+      pub newest : Spoken Note
+      pub done : Member (trace T R) (record { begin = (item_of mine H e).begin; newest = newest; earlier = (item_of mine H e).earlier })
+      pub act : newest.act ≡ e.request.act
+      pub note : newest.note ≡ (item_of mine H e).newest.note
+
+    -- what a frame of the whole did next, as a deed
+    pub next_deed : (H : Entries) (e : Entry) → IsLegal shape R → (match : Matching H (frame_in H e.request.strand)) → (z : Spoken Note) →
+        IsLaterOf (z ∷ spoken_by mine H (frame_in H e.request.strand)) (spoken_by T R match.frame) →
+        Member (trace T R) (record { begin = (item_of mine H e).begin; newest = z; earlier = (item_of mine H e).earlier })
+    next_deed H e r match z m =
+        subst (Member (trace T R)) (λ i. record { begin = sym match.begins i; newest = z; earlier = (item_of mine H e).earlier })
+        (deed_of shape T R r match.frame match.begun z (spoken_by mine H (frame_in H e.request.strand)) m)
+
+    -- a finished whole did more in the frame of a strand of the part that runs
+    pub does_more : IsLegal shape R → IsFinished R → (H : Entries) (e : Entry) → IsLegal shape (e ∷ H) → (match : Matching H (frame_in H e.request.strand)) →
+        spoken_by mine H (frame_in H e.request.strand) ≡ spoken_by T R match.frame → ⊥
+    does_more r whole_finished H e l match q = who ((fronts (legal_part shape R r)).found match.frame match.begun)
+      where
+        own : ℕ
+        own = frame_in H e.request.strand
+
+        there : front (control_part R) match.frame ≡ stands_at (control_part H) e.request.strand
+        there =
+            walked shape T R r match.frame ∙ ap (λ a. walk a (spoken_by T R match.frame)) (sym match.begins) ∙ ap (walk (beginning (control_part H) own)) (sym q)
+            ∙ sym (walked shape mine H l.0 own) ∙ (fronts (legal_part shape H l.0)).at e.request.strand (inl l.1.runs)
+
+        who : ((front (control_part R) match.frame).nest ≡ gone) ⊎ ((n : ℕ) × IsActive (control_part R) n × (frame_at (control_part R) n ≡ match.frame)) → ⊥
+        who (inl g) = nest_not_gone (control_part H) (stack (control_part H) e.request.strand) (sym (ap (λ z. z.nest) there) ∙ g)
+        who (inr t) = no_active (control_part R) (legal_part shape R r) (finished_part R r whole_finished) t.0 t.1
+
     -- where something is left to do, the frame has not returned
-    abbrev front_nest : Item → Nest
+    abbrev front_nest : Item Note → Nest
     front_nest x = (walk x.begin x.earlier).nest
 
-    deed_not_gone : (H : Entries) → IsLegal shape H → (x : Item) → Member (trace T H) x → front_nest x ≡ gone → ⊥
+    deed_not_gone : (H : Entries) → IsLegal shape H → (x : Item Note) → Member (trace T H) x → front_nest x ≡ gone → ⊥
     deed_not_gone [] l x m g = absurd m
     deed_not_gone (e ∷ H) l x (inr m) g = deed_not_gone H l.0 x m g
     deed_not_gone (e ∷ H) l x (inl q) g =
         let s = e.request.strand in
-        let at = sym (walked shape T H l.0 (frame_in H s)) ∙ (fronts (legal-part shape H l.0)).at s (inl l.1.runs) in
+        let at = sym (walked shape T H l.0 (frame_in H s)) ∙ (fronts (legal_part shape H l.0)).at s (inl l.1.runs) in
         nest_not_gone (control_part H) (stack (control_part H) s) (sym (ap (λ z. z.nest) at) ∙ sym (ap front_nest q) ∙ g)
 
     -- what reaches a running strand of the part, and is not its own, is done in it
@@ -303,11 +316,11 @@ module _ (shape : Shape) where
       here = address (control_part H) strand
 
       -- a frame of the part that began there has done what reaches the strand
-      in_frame : (own : ℕ) → IsBegun (control_part H) own → (x : Item) → Member (trace T R) x → beginning (control_part H) own ≡ x.begin →
+      in_frame : (own : ℕ) → IsBegun (control_part H) own → (x : Item Note) → Member (trace T R) x → beginning (control_part H) own ≡ x.begin →
           reaches (place x) here ≡ true → place x ≢ here → Member (trace mine H) x
       in_frame own b x m q leads apart = by_length (long_or_short (length (x.newest ∷ x.earlier)) (length mine_said))
         where
-          mine_said : List Spoken
+          mine_said : List (Spoken Note)
           mine_said = spoken_by mine H own
 
           match : Matching H own
@@ -317,7 +330,7 @@ module _ (shape : Shape) where
           d = done_by shape T R r x m
 
           one : match.frame ≡ d.frame
-          one = beginning_alone (legal-part shape R r) match.frame d.frame match.begun d.begun (sym match.begins ∙ q ∙ sym d.begins)
+          one = beginning_alone (legal_part shape R r) match.frame d.frame match.begun d.begun (sym match.begins ∙ q ∙ sym d.begins)
 
           did : IsLaterOf mine_said (spoken_by T R d.frame)
           did = subst (λ f. IsLaterOf mine_said (spoken_by T R f)) one match.did
@@ -328,11 +341,11 @@ module _ (shape : Shape) where
           stuck : length mine_said ≤ length x.earlier → ⊥
           stuck le = at_front (later_next mine_said (x.newest ∷ x.earlier) (later_either mine_said (x.newest ∷ x.earlier) (spoken_by T R d.frame) did d.done (omega arith)))
             where
-              at_front : (mine_said ≡ x.newest ∷ x.earlier) ⊎ ((z : Spoken) × IsLaterOf (z ∷ mine_said) (x.newest ∷ x.earlier)) → ⊥
+              at_front : (mine_said ≡ x.newest ∷ x.earlier) ⊎ ((z : Spoken Note) × IsLaterOf (z ∷ mine_said) (x.newest ∷ x.earlier)) → ⊥
               at_front (inl e) = let u = ap length e in omega (arith, u, le)
-              at_front (inr t) = who ((fronts (legal-part shape H l)).found own b)
+              at_front (inr t) = who ((fronts (legal_part shape H l)).found own b)
                 where
-                  y : Item
+                  y : Item Note
                   y = record { begin = x.begin; newest = t.0; earlier = mine_said }
 
                   y_done : Member (trace T R) y
@@ -350,9 +363,9 @@ module _ (shape : Shape) where
                   who (inl g) = deed_not_gone R r y y_done (sym (ap (λ z. z.nest) at) ∙ g)
                   who (inr (n, act, of_frame)) =
                       let there : address (control_part H) n ≡ place y =
-                      sym (ap (λ z. z.here) ((fronts (legal-part shape H l)).at n act)) ∙ ap (λ f. (front (control_part H) f).here) of_frame ∙ ap (λ z. z.here) at in
+                      sym (ap (λ z. z.here) ((fronts (legal_part shape H l)).at n act)) ∙ ap (λ f. (front (control_part H) f).here) of_frame ∙ ap (λ z. z.here) at in
                       let to_here : reaches (place y) here ≡ true = reaches-transitive (place y) (place x) here to_x leads in
-                      let same_strand = active_reaches (control_part H) (legal-part shape H l) n strand act (inl runs)
+                      let same_strand = active_reaches (control_part H) (legal_part shape H l) n strand act (inl runs)
                       (subst (λ a. reaches a here ≡ true) (sym there) to_here) in
                       let y_here : place y ≡ here = sym there ∙ ap (address (control_part H)) same_strand in
                       apart (reaches-antisymmetric (place x) here leads (subst (λ a. reaches a (place x) ≡ true) y_here to_x))
@@ -363,12 +376,12 @@ module _ (shape : Shape) where
               (deed_of shape mine H l own b x.newest x.earlier (later_either (x.newest ∷ x.earlier) mine_said (spoken_by T R d.frame) d.done did le))
           by_length (inr lt) = absurd (stuck (omega arith))
 
-      pub reached : (K : Entries) → IsLegal shape K → ((x : Item) → Member (trace T K) x → Member (trace T R) x) → (x : Item) → Member (trace T K) x →
+      pub reached : (K : Entries) → IsLegal shape K → ((x : Item Note) → Member (trace T K) x → Member (trace T R) x) → (x : Item Note) → Member (trace T K) x →
           reaches (place x) here ≡ true → place x ≢ here → Member (trace mine H) x
       reached [] k within x m leads apart = absurd m
       reached (e ∷ K) k within x (inr m) leads apart = reached K k.0 (λ y n. within y (inr n)) x m leads apart
       reached (e ∷ K) k within x (inl q) leads apart =
-          go (spawner T K k.0 (frame_in K e.request.strand) (active_begun (legal-part shape K k.0) e.request.strand (inl k.1.runs)))
+          go (spawner T K k.0 (frame_in K e.request.strand) (active_begun (legal_part shape K k.0) e.request.strand (inl k.1.runs)))
           (reached K k.0 (λ y n. within y (inr n)))
         where
           f : ℕ
@@ -380,7 +393,7 @@ module _ (shape : Shape) where
           from_begin : reaches x.begin (place x) ≡ true
           from_begin = walk_leads x.begin [] x.earlier (later_none x.earlier)
 
-          go : (f ≡ 0) ⊎ Spawner T K f → ((y : Item) → Member (trace T K) y → reaches (place y) here ≡ true → place y ≢ here → Member (trace mine H) y) →
+          go : (f ≡ 0) ⊎ Spawner T K f → ((y : Item Note) → Member (trace T K) y → reaches (place y) here ≡ true → place y ≢ here → Member (trace mine H) y) →
               Member (trace mine H) x
           go (inl z) older =
               let t = root_there mine H l in
@@ -395,79 +408,3 @@ module _ (shape : Shape) where
               let y_done = older y s.done (reaches-transitive (place y) (place x) here y_to_x leads) y_apart in
               let w = spawned_by mine H l y y_done s.spawns in
               in_frame w.frame w.begun x (within x (inl q)) (w.begins ∙ sym x_begins) leads apart
-
-  -- ---- what comes next
-
-  module _ (functions : List Code) (main : ℕ) (mine : Targets) (T : Targets) (R : Entries) where
-    -- the whole does at that place what the part asks next
-    pub record Wanted (H : Entries) (e : Entry) : Type 0 where
-      pub newest : Spoken
-      pub done : Member (trace T R) (record { begin = (item_of mine H e).begin; newest = newest; earlier = (item_of mine H e).earlier })
-      pub act : newest.act ≡ e.request.act
-      pub line : newest.line ≡ e.request.line
-      pub target : newest.target ≡ (item_of mine H e).newest.target
-
-    pub wanted : IsRunWith functions shape main T R → NoneRefused R → IsFinished R → (H : Entries) (e : Entry) →
-        IsRunWith functions shape main mine (e ∷ H) → NoneRefused H → IsPart mine T R H → Wanted H e
-    wanted whole whole_clean finished_run H e run clean part = go (later_next said (spoken_by T R match.frame) match.did)
-      where
-        l : IsLegal shape (e ∷ H)
-        l = run.judged.legal
-
-        r : IsLegal shape R
-        r = whole.judged.legal
-
-        own : ℕ
-        own = frame_in H e.request.strand
-
-        begun : IsBegun (control_part H) own
-        begun = active_begun (legal-part shape H l.0) e.request.strand (inl l.1.runs)
-
-        match : Matching mine T R H own
-        match = part own begun
-
-        said : List Spoken
-        said = spoken_by mine H own
-
-        agree : Agree (said_by mine (e ∷ H) own) (said_by T R match.frame)
-        agree =
-            let there = whole.says match.frame (has_frame R r match.frame match.begun) in
-            let here = run.says own (has_frame (e ∷ H) l own (frame_on shape mine H e l own begun).0) in
-            agreement_law functions (T match.frame).function (T match.frame).argument Part Part (said_by mine (e ∷ H) own) (said_by T R match.frame)
-            (subst (λ t. DialogueOf functions t.function t.argument Part (said_by mine (e ∷ H) own)) match.target here) there
-
-        x : Exchange
-        x = exchange_of mine (next_frame H) e
-
-        asked : (z : Spoken) → IsLaterOf (z ∷ said) (spoken_by T R match.frame) → IsAsked z x
-        asked z m =
-            next_asked (said_by mine H own) (said_by T R match.frame) [] x z
-            (subst (λ xs. Agree xs (said_by T R match.frame)) (said_here mine e H own refl) agree)
-            (said_clean mine H own clean) (said_clean T R match.frame whole_clean)
-            (subst₂ (λ a b. IsLaterOf (z ∷ a) b) (sym (spoken_heard mine H own)) (sym (spoken_heard T R match.frame)) m)
-
-        all_done : said ≡ spoken_by T R match.frame → ⊥
-        all_done q =
-            let s = e.request.strand in
-            let there : front (control_part R) match.frame ≡ stands_at (control_part H) s =
-            walked shape T R r match.frame ∙ ap (λ a. walk a (spoken_by T R match.frame)) (sym match.begins) ∙ ap (walk (beginning (control_part H) own)) (sym q)
-            ∙ sym (walked shape mine H l.0 own) ∙ (fronts (legal-part shape H l.0)).at s (inl l.1.runs) in
-            who there ((fronts (legal-part shape R r)).found match.frame match.begun)
-          where
-            who : front (control_part R) match.frame ≡ stands_at (control_part H) e.request.strand →
-                ((front (control_part R) match.frame).nest ≡ gone) ⊎ ((n : ℕ) × IsActive (control_part R) n × (frame_at (control_part R) n ≡ match.frame)) → ⊥
-            who there (inl g) = nest_not_gone (control_part H) (stack (control_part H) e.request.strand) (sym (ap (λ z. z.nest) there) ∙ g)
-            who there (inr t) = no_active (control_part R) (legal-part shape R r) (finished_part R r finished_run) t.0 t.1
-
-        go : (said ≡ spoken_by T R match.frame) ⊎ ((z : Spoken) × IsLaterOf (z ∷ said) (spoken_by T R match.frame)) → Wanted H e
-        go (inl q) = absurd (all_done q)
-        go (inr (z, m)) =
-            let a = asked z m in
-            record {
-              newest = z;
-              done = subst (Member (trace T R)) (λ i. record { begin = sym match.begins i; newest = z; earlier = said })
-                  (deed_of shape T R r match.frame match.begun z said m);
-              act = a.act;
-              line = a.line;
-              target = a.target;
-            }

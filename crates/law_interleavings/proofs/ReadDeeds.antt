@@ -29,12 +29,11 @@ use Rattle.model_races.specs.Reducers.{steps_of, read_at, granted_reads}
 use Rattle.model_races.specs.ViewReads.{Completes, IsRightRead}
 use Rattle.model_races.specs.ReducerVerdicts.{IsRightFor, ReducersAreJudged}
 use Rattle.model_histories.specs.Extensions.{IsCleanAnswer}
-use Rattle.race_gate.proofs.Races.{legal-part, none-listed}
-use Rattle.model_runs.specs.Frames.{Targets}
-use Rattle.law_schedules.specs.Traces.{Item, place, item_of, trace}
-use Rattle.law_schedules.proofs.Swaps.{Member}
-use Rattle.law_schedules.proofs.Traces.{placed, begun_on}
-use Rattle.law_schedules.proofs.Heard.{NoneRefused}
+use Rattle.law_interleavings.proofs.Control.{legal_part, none_listed}
+use Rattle.law_interleavings.specs.Traces.{Notes, Item, place, item_of, trace}
+use Rattle.law_interleavings.proofs.Swaps.{Member}
+use Rattle.law_interleavings.proofs.Traces.{placed, begun_on}
+use Rattle.law_interleavings.proofs.Spoken.{NoneRefused}
 
 -- the act is a put or a get of the reducer
 abbrev pub IsReadBy : ℕ → Act → Type 0
@@ -78,13 +77,13 @@ listed_read : (number strand : ℕ) (act : Act) (answer : Answer) (read : Reduce
     (read.strand ≡ strand) × IsReadBy read.reducer act
 listed_read n s (Put r v) Granted read h = elim (contains-cases (record { reducer = r; kind = kind.Put; strand = s; entry = n }) read [] h) [
   | inl e ↦ (ap (λ z. z.strand) e, sym (ap (λ z. z.reducer) e))
-  | inr none ↦ absurd (none-listed read none)
+  | inr none ↦ absurd (none_listed read none)
 ]
 listed_read n s (Get r) (Value v) read h = elim (contains-cases (record { reducer = r; kind = kind.Get; strand = s; entry = n }) read [] h) [
   | inl e ↦ (ap (λ z. z.strand) e, sym (ap (λ z. z.reducer) e))
-  | inr none ↦ absurd (none-listed read none)
+  | inr none ↦ absurd (none_listed read none)
 ]
-listed_read n s act answer read h = absurd (none-listed read h)
+listed_read n s act answer read h = absurd (none_listed read h)
 
 -- the read that an entry is
 record ReadThere (number strand reducer : ℕ) (act : Act) (answer : Answer) : Type 0 where
@@ -108,16 +107,16 @@ read_there n s r (Get p) Unset b c q = absurd c
 read_there n s r (Get p) _ b c q = absurd b
 read_there n s r _ answer b c q = absurd q
 
-module _ (shape : Shape) (T : Targets) where
+module _ {Note : Type 0} (shape : Shape) (T : Notes Note) where
   pub record ReadDeed (H : Entries) (read : ReducerRead) : Type 0 where
-    pub deed : Item
+    pub deed : Item Note
     pub done : Member (trace T H) deed
     pub at : place deed ≡ address (control_part H) read.strand
     pub begun : Begun (control_part H) read.strand
     pub is : IsReadBy read.reducer deed.newest.act
 
   pub read_deed : (H : Entries) → IsLegal shape H → (read : ReducerRead) → Contains (granted_reads H) read → ReadDeed H read
-  read_deed [] l a h = absurd (none-listed a h)
+  read_deed [] l a h = absurd (none_listed a h)
   read_deed (e ∷ H) l a h =
       go (read_deed H l.0 a) (Contains-append_cases (granted_reads H) (option_to_list (read_at (suc (length H)) e.request.strand e.request.act e.answer)) a h)
     where
@@ -138,14 +137,14 @@ module _ (shape : Shape) (T : Targets) where
             is = p.1;
           }
 
-  pub record DeedRead (H : Entries) (deed : Item) (reducer : ℕ) : Type 0 where
+  pub record DeedRead (H : Entries) (deed : Item Note) (reducer : ℕ) : Type 0 where
     pub read : ReducerRead
     pub listed : Contains (granted_reads H) read
     pub reducer_is : read.reducer ≡ reducer
     pub at : address (control_part H) read.strand ≡ place deed
     pub begun : Begun (control_part H) read.strand
 
-  pub deed_read : (H : Entries) → IsLegal shape H → NoneRefused H → (y : Item) → Member (trace T H) y → (reducer : ℕ) → IsReadBy reducer y.newest.act → DeedRead H y reducer
+  pub deed_read : (H : Entries) → IsLegal shape H → NoneRefused H → (y : Item Note) → Member (trace T H) y → (reducer : ℕ) → IsReadBy reducer y.newest.act → DeedRead H y reducer
   deed_read [] l c y m r q = absurd m
   deed_read (e ∷ H) l c y (inr m) r q =
       let d = deed_read H l.0 c.1 y m r q in
@@ -185,24 +184,24 @@ module _ (shape : Shape) (T : Targets) where
   -- some finished extension
   pub completed : (H : Entries) → IsLegal shape H → (whole : History) × Completes whole (control_part H)
   completed H l =
-      let f = finish_law (control_part H) (legal-part shape H l) in
+      let f = finish_law (control_part H) (legal_part shape H l) in
       (f.0, record { extends = f.1; legal = f.2; finished = f.3 })
 
-  earlier_branch : (H : Entries) (e : Entry) → IsLegal shape (e ∷ H) → ReducersAreJudged shape (e ∷ H) → NoneRefused (e ∷ H) → (reducer : ℕ) (y : Item) →
+  earlier_branch : (H : Entries) (e : Entry) → IsLegal shape (e ∷ H) → ReducersAreJudged shape (e ∷ H) → NoneRefused (e ∷ H) → (reducer : ℕ) (y : Item Note) →
       Member (trace T H) y → IsReadBy reducer y.newest.act → IsReadBy reducer e.request.act → branch (place y) ≡ branch (place (item_of T H e))
   earlier_branch H e l j c r y m p q =
       let d = deed_read H l.0 c.1 y m r p in
       let v = read_verdict H e r j q in
       let w = completed H l.0 in
       let h = control_part H in
-      let lh = legal-part shape H l.0 in
+      let lh = legal_part shape H l.0 in
       let peers = v.right.granted (read_granted e.request.act e.answer r l.1.belongs c.0 q) d.read (d.listed, d.reducer_is) w.0 w.1 in
       let one = (branch_law h lh d.read.strand e.request.strand d.begun (inl l.1.runs) w.0 w.1.extends w.1.legal).1 peers in
       let same_address = (branch_address_law h lh d.read.strand e.request.strand d.begun (inl l.1.runs)).0 one in
       ap branch (sym d.at) ∙ same_address ∙ ap branch (sym (placed shape T H e l))
 
   -- all puts and gets of a reducer are of one branch
-  pub one_branch : (H : Entries) → IsLegal shape H → ReducersAreJudged shape H → NoneRefused H → (reducer : ℕ) (x y : Item) → Member (trace T H) x → Member (trace T H) y →
+  pub one_branch : (H : Entries) → IsLegal shape H → ReducersAreJudged shape H → NoneRefused H → (reducer : ℕ) (x y : Item Note) → Member (trace T H) x → Member (trace T H) y →
       IsReadBy reducer x.newest.act → IsReadBy reducer y.newest.act → branch (place x) ≡ branch (place y)
   one_branch [] l j c r x y m n p q = absurd m
   one_branch (e ∷ H) l j c r x y (inl m) (inl n) p q = ap (λ z. branch (place z)) (m ∙ sym n)

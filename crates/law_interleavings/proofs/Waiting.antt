@@ -14,7 +14,7 @@ use Rattle.law_strands.proofs.Addresses.{addresses}
 use Rattle.law_strands.proofs.Busy.{Held, busy}
 use Rattle.law_strands.proofs.Law.{begun_below}
 use Rattle.law_strands.proofs.Sinks.{running_address_law}
-use Rattle.law_schedules.specs.Fronts.{IsActive}
+use Rattle.law_interleavings.specs.Fronts.{IsActive}
 
 -- a running strand that reaches the number
 record Runner (history : History) (wanted : ℕ) : Type 0 where

@@ -1,11 +1,11 @@
 -- In a clean history deeds that conflict are ordered.
-use Rattle.std.proofs.Common.{◌≡◌, ◌⊎◌, inl, inr, ℕ, suc, Bool, true, false, [], ◌∷◌, length, Option, Some, None, Contains, refl, sym, ap, ◌∙◌, subst, subst₂}
+use Rattle.std.proofs.Common.{rules, ◌≡◌, ◌⊎◌, inl, inr, ℕ, suc, Bool, true, false, [], ◌∷◌, length, Option, Some, None, Contains, refl, sym, ap, ◌∙◌, subst, subst₂}
 use Rattle.std.proofs.lemmas.List.Elements.{Contains-append_left, Contains-append_right, Contains-append_cases}
 use Rattle.std.specs.Prelude.{if◌then◌else◌, MatchOption}
 use Rattle.std.specs.Option.{option_map, option_to_list}
+use Rattle.model_accesses.specs.declared.kind.Kind.{Kind}
 use Rattle.model_accesses.specs.declared.kind.Rule.TheVariants.{Race}
 use Rattle.model_accesses.specs.Table.{rule_between}
-use Rattle.access_table.proofs.Conflicts.{rule_symmetric}
 use Rattle.law_addresses.specs.Address.{reaches}
 use Rattle.law_addresses.proofs.Extremes.{contains-head, contains-cases}
 use Rattle.law_addresses.proofs.Relations.{reaches-self}
@@ -27,12 +27,11 @@ use Rattle.model_histories.specs.Legal.{Belongs, IsLegal}
 use Rattle.model_races.specs.Accesses.{cell_access, is_granted, access_at, granted}
 use Rattle.model_races.specs.Verdicts.{IsRefused, IsRightVerdict, MemoryIsJudged}
 use Rattle.model_histories.specs.Extensions.{IsCleanAnswer}
-use Rattle.race_gate.proofs.Races.{legal-part, none-listed}
-use Rattle.model_runs.specs.Frames.{Targets}
-use Rattle.law_schedules.specs.Traces.{Item, place, item_of, trace}
-use Rattle.law_schedules.proofs.Swaps.{Member}
-use Rattle.law_schedules.proofs.Traces.{placed, begun_on}
-use Rattle.law_schedules.proofs.Heard.{NoneRefused}
+use Rattle.law_interleavings.proofs.Control.{legal_part, none_listed}
+use Rattle.law_interleavings.specs.Traces.{Notes, Item, place, item_of, trace}
+use Rattle.law_interleavings.proofs.Swaps.{Member}
+use Rattle.law_interleavings.proofs.Traces.{placed, begun_on}
+use Rattle.law_interleavings.proofs.Spoken.{NoneRefused}
 
 -- the two acts are accesses of one cell, and conflict
 pub record Conflict (one other : Act) : Type 0 where
@@ -42,6 +41,9 @@ pub record Conflict (one other : Act) : Type 0 where
   pub is_second : cell_access other ≡ Some second
   pub location : first.location ≡ second.location
   pub rule : rule_between first.kind second.kind ≡ Race
+
+rule_symmetric : (old new : Kind) → rule_between old new ≡ rule_between new old
+rule_symmetric old new = search rules
 
 pub conflict_back : (one other : Act) → Conflict one other → Conflict other one
 conflict_back a b c =
@@ -78,10 +80,10 @@ listed_access : (is_done : Bool) (found : Option CellAccess) (number strand : �
     (access.strand ≡ strand) × (found ≡ Some (cell_of_access access))
 listed_access true (Some cell) n s a h = elim (contains-cases (made n s cell) a [] h) [
   | inl e ↦ (ap (λ z. z.strand) e, ap (λ z. Some (cell_of_access z)) (sym e))
-  | inr none ↦ absurd (none-listed a none)
+  | inr none ↦ absurd (none_listed a none)
 ]
-listed_access true None n s a h = absurd (none-listed a h)
-listed_access false found n s a h = absurd (none-listed a h)
+listed_access true None n s a h = absurd (none_listed a h)
+listed_access false found n s a h = absurd (none_listed a h)
 
 access_there : (is_done : Bool) (found : Option CellAccess) (number strand : ℕ) (cell : CellAccess) → is_done ≡ true → found ≡ Some cell →
     Contains (option_to_list (if is_done then option_map (made number strand) found else None)) (made number strand cell)
@@ -89,17 +91,17 @@ access_there is_done found n s cell d f =
     subst (λ b. Contains (option_to_list (if b then option_map (made n s) found else None)) (made n s cell)) (sym d)
     (subst (λ o. Contains (option_to_list (option_map (made n s) o)) (made n s cell)) (sym f) (contains-head (made n s cell) []))
 
-module _ (shape : Shape) (T : Targets) where
+module _ {Note : Type 0} (shape : Shape) (T : Notes Note) where
   -- the deed of a granted access
   pub record AccessDeed (H : Entries) (access : Access) : Type 0 where
-    pub deed : Item
+    pub deed : Item Note
     pub done : Member (trace T H) deed
     pub at : place deed ≡ address (control_part H) access.strand
     pub begun : Begun (control_part H) access.strand
     pub is : cell_access deed.newest.act ≡ Some (cell_of_access access)
 
   pub access_deed : (H : Entries) → IsLegal shape H → (access : Access) → Contains (granted H) access → AccessDeed H access
-  access_deed [] l a h = absurd (none-listed a h)
+  access_deed [] l a h = absurd (none_listed a h)
   access_deed (e ∷ H) l a h = go (access_deed H l.0 a) (Contains-append_cases (granted H) (option_to_list (access_at (suc (length H)) e)) a h)
     where
       go : (Contains (granted H) a → AccessDeed H a) → Contains (granted H) a ⊎ Contains (option_to_list (access_at (suc (length H)) e)) a → AccessDeed (e ∷ H) a
@@ -119,7 +121,7 @@ module _ (shape : Shape) (T : Targets) where
           }
 
   -- the granted access of a deed
-  pub record DeedAccess (H : Entries) (deed : Item) (cell : CellAccess) : Type 0 where
+  pub record DeedAccess (H : Entries) (deed : Item Note) (cell : CellAccess) : Type 0 where
     pub access : Access
     pub listed : Contains (granted H) access
     pub kind : access.kind ≡ cell.kind
@@ -127,7 +129,7 @@ module _ (shape : Shape) (T : Targets) where
     pub at : address (control_part H) access.strand ≡ place deed
     pub begun : Begun (control_part H) access.strand
 
-  pub deed_access : (H : Entries) → IsLegal shape H → NoneRefused H → (y : Item) → Member (trace T H) y → (cell : CellAccess) →
+  pub deed_access : (H : Entries) → IsLegal shape H → NoneRefused H → (y : Item Note) → Member (trace T H) y → (cell : CellAccess) →
       cell_access y.newest.act ≡ Some cell → DeedAccess H y cell
   deed_access [] l c y m cell q = absurd m
   deed_access (e ∷ H) l c y (inr m) cell q =
@@ -160,19 +162,19 @@ module _ (shape : Shape) (T : Targets) where
   apart_parallel : (H : Entries) → IsLegal shape H → (s u : ℕ) → (reaches (address (control_part H) s) (address (control_part H) u) ≡ true → ⊥) →
       (reaches (address (control_part H) u) (address (control_part H) s) ≡ true → ⊥) → IsParallel (control_part H) s u
   apart_parallel H l s u p q = (
-    (λ r. p (reach_precedes (control_part H) (legal-part shape H l) s u r)),
-    (λ r. q (reach_precedes (control_part H) (legal-part shape H l) u s r)),
+    (λ r. p (reach_precedes (control_part H) (legal_part shape H l) s u r)),
+    (λ r. q (reach_precedes (control_part H) (legal_part shape H l) u s r)),
   )
 
   not_refused : (answer : Answer) → IsCleanAnswer answer → IsRefused answer → ⊥
   not_refused (Refused rule w) c r = c
   not_refused _ c r = absurd r
 
-  abbrev AreComparable : Item → Item → Type 0
+  abbrev AreComparable : Item Note → Item Note → Type 0
   AreComparable x y = (reaches (place x) (place y) ≡ true) ⊎ (reaches (place y) (place x) ≡ true)
 
   -- a deed and an earlier one with which it conflicts
-  earlier_compared : (H : Entries) (e : Entry) → IsLegal shape (e ∷ H) → MemoryIsJudged (e ∷ H) → NoneRefused (e ∷ H) → (y : Item) →
+  earlier_compared : (H : Entries) (e : Entry) → IsLegal shape (e ∷ H) → MemoryIsJudged (e ∷ H) → NoneRefused (e ∷ H) → (y : Item Note) →
       Member (trace T H) y → Conflict y.newest.act e.request.act → AreComparable y (item_of T H e)
   earlier_compared H e l j c y m k =
       let a = deed_access H l.0 c.1 y m k.first k.is_first in
@@ -190,7 +192,7 @@ module _ (shape : Shape) (T : Targets) where
       ]
 
   -- two deeds that conflict
-  pub compared : (H : Entries) → IsLegal shape H → MemoryIsJudged H → NoneRefused H → (x y : Item) → Member (trace T H) x → Member (trace T H) y →
+  pub compared : (H : Entries) → IsLegal shape H → MemoryIsJudged H → NoneRefused H → (x y : Item Note) → Member (trace T H) x → Member (trace T H) y →
       Conflict x.newest.act y.newest.act → AreComparable x y
   compared [] l j c x y m n k = absurd m
   compared (e ∷ H) l j c x y (inl p) (inl q) k = inl (subst (λ z. reaches z (place y) ≡ true) (ap place (q ∙ sym p)) (reaches-self (place y)))
@@ -203,7 +205,7 @@ module _ (shape : Shape) (T : Targets) where
 
   -- so a deed that conflicts with none but comparable ones is not refused
   pub no_race : (H : Entries) (e : Entry) → IsLegal shape (e ∷ H) → MemoryIsJudged (e ∷ H) → (cell : CellAccess) → cell_access e.request.act ≡ Some cell →
-      ((y : Item) → Member (trace T H) y → Conflict y.newest.act e.request.act → AreComparable y (item_of T H e)) → IsRefused e.answer → ⊥
+      ((y : Item Note) → Member (trace T H) y → Conflict y.newest.act e.request.act → AreComparable y (item_of T H e)) → IsRefused e.answer → ⊥
   no_race H e l j cell is all refused =
       let right : IsRightVerdict H e.request.strand cell e.answer =
       subst (λ o. MatchOption o (Unit {0}) (λ one. IsRightVerdict H e.request.strand one e.answer)) is j.1 in
@@ -214,8 +216,8 @@ module _ (shape : Shape) (T : Targets) where
       let k : Conflict d.deed.newest.act e.request.act =
       record { first = cell_of_access a; second = cell; is_first = d.is; is_second = is; location = race.1.1; rule = race.1.2 } in
       elim (all d.deed d.done k) [
-        | inl r ↦ race.1.3.0 (precedes_reach (control_part H) (legal-part shape H l.0) a.strand e.request.strand d.begun (inl l.1.runs)
+        | inl r ↦ race.1.3.0 (precedes_reach (control_part H) (legal_part shape H l.0) a.strand e.request.strand d.begun (inl l.1.runs)
             (subst₂ (λ u v. reaches u v ≡ true) d.at at_new r))
-        | inr r ↦ race.1.3.1 (precedes_reach (control_part H) (legal-part shape H l.0) e.request.strand a.strand (inl l.1.runs) d.begun
+        | inr r ↦ race.1.3.1 (precedes_reach (control_part H) (legal_part shape H l.0) e.request.strand a.strand (inl l.1.runs) d.begun
             (subst₂ (λ u v. reaches u v ≡ true) at_new d.at r))
       ]

@@ -17,14 +17,13 @@ use Rattle.model_races.specs.Memory.{value_of}
 use Rattle.model_races.specs.Verdicts.{IsRefused, IfValue, IsRightVerdict, MemoryIsJudged}
 use Rattle.model_races.specs.Judged.{IsJudged}
 use Rattle.model_histories.specs.Extensions.{IsCleanAnswer}
-use Rattle.model_runs.specs.Frames.{Targets}
 use Rattle.model_runs.specs.Serial.{value_given}
-use Rattle.law_schedules.specs.Traces.{Item, place, item_of, trace}
-use Rattle.law_schedules.proofs.Swaps.{Member}
-use Rattle.law_schedules.proofs.Heard.{NoneRefused}
-use Rattle.law_schedules.proofs.Races.{Conflict, compared, no_race}
-use Rattle.law_schedules.proofs.Cells.{conflict_of, touching, read_conflict, same_cell}
-use Rattle.law_schedules.proofs.Meetings.{Meeting, place_same, then_legal, member_later, mine_in_whole, theirs_in_whole, mine_before, theirs_before, mine_leads, theirs_leads}
+use Rattle.law_interleavings.specs.Traces.{Notes, Item, place, item_of, trace}
+use Rattle.law_interleavings.proofs.Swaps.{Member}
+use Rattle.law_interleavings.proofs.Spoken.{NoneRefused}
+use Rattle.law_interleavings.proofs.Races.{Conflict, compared, no_race}
+use Rattle.law_interleavings.proofs.Cells.{conflict_of, touching, read_conflict, same_cell}
+use Rattle.law_interleavings.proofs.Meetings.{Meeting, place_same, then_legal, member_later, mine_in_whole, theirs_in_whole, mine_before, theirs_before, mine_leads, theirs_leads}
 
 -- the first entries of a judged history are judged
 pub then_memory : (later : Entries) (entry : Entry) (before : Entries) → MemoryIsJudged (later ++ entry ∷ before) → MemoryIsJudged (entry ∷ before)
@@ -118,7 +117,7 @@ IsRead (Put reducer value) = Unit {0}
 IsRead (Get reducer) = Unit {0}
 IsRead act = ⊥
 
-module _ (shape : Shape) (mine T : Targets) (meeting : Meeting shape mine T) (judged : IsJudged shape (meeting.next ∷ meeting.part))
+module _ {Note : Type 0} (shape : Shape) (mine T : Notes Note) (meeting : Meeting shape mine T) (judged : IsJudged shape (meeting.next ∷ meeting.part))
     (whole_judged : IsJudged shape (meeting.later ++ meeting.entry ∷ meeting.before)) (clean : NoneRefused meeting.part)
     (whole_clean : NoneRefused (meeting.later ++ meeting.entry ∷ meeting.before)) where
   then_clean_here : NoneRefused (meeting.entry ∷ meeting.before)
@@ -131,12 +130,12 @@ module _ (shape : Shape) (mine T : Targets) (meeting : Meeting shape mine T) (ju
   other_in_whole = member_later shape mine T meeting meeting.later meeting.entry meeting.before (item_of T meeting.before meeting.entry) (inl refl)
 
   -- what conflicts with the deed is comparable to it
-  with_other : (y : Item) → Member (trace T (meeting.later ++ meeting.entry ∷ meeting.before)) y → Conflict y.newest.act meeting.entry.request.act →
+  with_other : (y : Item Note) → Member (trace T (meeting.later ++ meeting.entry ∷ meeting.before)) y → Conflict y.newest.act meeting.entry.request.act →
       (reaches (place y) (place (item_of T meeting.before meeting.entry)) ≡ true) ⊎ (reaches (place (item_of T meeting.before meeting.entry)) (place y) ≡ true)
   with_other y m k = compared shape T (meeting.later ++ meeting.entry ∷ meeting.before) meeting.whole_legal whole_judged.memory whole_clean y
       (item_of T meeting.before meeting.entry) m other_in_whole k
 
-  with_own : (y : Item) → Member (trace T (meeting.later ++ meeting.entry ∷ meeting.before)) y → Conflict y.newest.act meeting.entry.request.act →
+  with_own : (y : Item Note) → Member (trace T (meeting.later ++ meeting.entry ∷ meeting.before)) y → Conflict y.newest.act meeting.entry.request.act →
       (reaches (place y) (place (item_of mine meeting.part meeting.next)) ≡ true) ⊎ (reaches (place (item_of mine meeting.part meeting.next)) (place y) ≡ true)
   with_own y m k =
       let q = place_same shape mine T meeting in
@@ -167,7 +166,7 @@ module _ (shape : Shape) (mine T : Targets) (meeting : Meeting shape mine T) (ju
       (w, mine_before shape mine T meeting y m (mine_leads shape mine T meeting y m (with_own y w (reads y t)))))
       (λ y m t. theirs_before shape mine T meeting y m (theirs_leads shape mine T meeting y m (with_other y (theirs_in_whole shape mine T meeting y m) (reads y t))))
     where
-      reads : (y : Item) → touching cell y ≡ true → Conflict y.newest.act meeting.entry.request.act
+      reads : (y : Item Note) → touching cell y ≡ true → Conflict y.newest.act meeting.entry.request.act
       reads y t = conflict_of y.newest.act meeting.entry.request.act y.newest.act (Read cell) refl is (read_conflict cell y.newest.act t)
 
   value_then : (entries : Entries) (entry : Entry) (cell value : ℕ) → MemoryIsJudged (entry ∷ entries) → entry.request.act ≡ Read cell → entry.answer ≡ Value value →

@@ -1,0 +1,5 @@
+pub mod Fronts
+pub mod Traces
+pub mod Asked
+pub mod Laws
+pub mod Examples
