@@ -79,6 +79,13 @@ kept_memory notes name = text_in notes.memories name
 abbrev pub kept_runs : {A : Type 0} → Notes A → List (List ℕ)
 kept_runs notes = map string_bytes notes.runs.items
 
+-- The place of a mark by what is kept, and the text of a cell.
+abbrev pub noted_place : {A : Type 0} → Notes A → ℕ → Option PlaceParts
+noted_place notes mark = option_and_then split_place (kept_place notes mark)
+
+abbrev pub noted_text : {A : Type 0} → Notes A → List ℕ → Option (List ℕ)
+noted_text notes cell = option_or (kept_cell notes cell) (kept_memory notes (memory_of cell))
+
 -- They are the notes of these lines.
 pub record AreNotes {A : Type 0} (lines : List (List ℕ)) (notes : Notes A) : Type 0 where
   pub places : (mark : ℕ) → kept_place notes mark ≡ first (mark_on mark) lines

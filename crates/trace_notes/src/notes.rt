@@ -5,7 +5,7 @@ ghost use Rattle.std.specs.Option.{option_map, option_or};
 ghost use Rattle.std.specs.Str.{bytes_eq};
 ghost use Rattle.text_words.specs.Text.{lines};
 ghost use Rattle.trace_notes.specs.Places.{place_parts};
-ghost use Rattle.trace_notes.specs.Notes.{place_told, text_told, runs_told, place_in, text_in, memory_of, AreNotes, Adds};
+ghost use Rattle.trace_notes.specs.Notes.{place_told, text_told, runs_told, place_in, text_in, memory_of, noted_place, noted_text, kept_runs, AreNotes, Adds};
 
 use crate::line::{Note, is_comment, note_on};
 use crate::place::{Place, split_place};
@@ -159,7 +159,8 @@ impl<A: Allocator + Copy> Notes<A> {
 
     /// The place that a mark stands for, by the first note that speaks of it.
     pub fn place_of(&self, mark: u32) -> Option<Place<'_>>
-        ensures { (lines : List (List ℕ)) → AreNotes lines self.now → option_map place_parts result ≡ place_told lines mark }
+        ensures noted { option_map place_parts result ≡ noted_place self.now mark }
+        ensures told { (lines : List (List ℕ)) → AreNotes lines self.now → option_map place_parts result ≡ place_told lines mark }
     {
         match self.places.get(&mark) {
             Some(place) => split_place(place.as_str()),
@@ -169,7 +170,8 @@ impl<A: Allocator + Copy> Notes<A> {
 
     /// What a cell stands for, by its name: what the first note of that very cell says, or else the first of each cell of its memory.
     pub fn text_of(&self, cell: &str) -> Option<&str>
-        ensures { (lines : List (List ℕ)) → AreNotes lines self.now → option_map (λ text. text.now) result ≡ text_told lines cell.now }
+        ensures noted { option_map (λ text. text.now) result ≡ noted_text self.now cell.now }
+        ensures told { (lines : List (List ℕ)) → AreNotes lines self.now → option_map (λ text. text.now) result ≡ text_told lines cell.now }
     {
         match found(&self.cells, cell) {
             Some(text) => Some(text),
@@ -179,7 +181,8 @@ impl<A: Allocator + Copy> Notes<A> {
 
     /// What was recorded, in the order of the notes that say it.
     pub fn runs(&self) -> &[String<A>]
-        ensures { (lines : List (List ℕ)) → AreNotes lines self.now → map string_bytes result.now ≡ runs_told lines }
+        ensures noted { map string_bytes result.now ≡ kept_runs self.now }
+        ensures told { (lines : List (List ℕ)) → AreNotes lines self.now → map string_bytes result.now ≡ runs_told lines }
     {
         self.runs.as_slice()
     }
