@@ -27,6 +27,8 @@ mod lines;
 #[cfg(test)]
 mod many;
 #[cfg(test)]
+mod notes;
+#[cfg(test)]
 mod pieces;
 #[cfg(test)]
 mod printing;

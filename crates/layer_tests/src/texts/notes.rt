@@ -1,0 +1,134 @@
+//! Notes of a trace.
+
+use crate::checks::equal;
+use std::alloc::{AllocError, Global};
+use std::process::Abort;
+use trace_notes::{Notes, Place, split_place};
+
+/// A place taken apart: location, function, code.
+type Parts = (&'static str, Option<&'static str>, Option<&'static str>);
+
+fn parts<'a>(place: Option<Place<'a>>) -> Option<(&'a str, Option<&'a str>, Option<&'a str>)> {
+    match place {
+        Some(place) => Some((place.location, place.function, place.code)),
+        None => None,
+    }
+}
+
+/// A text, and its place if it is one.
+const PLACES: &[(&str, Option<Parts>)] = &[
+    ("sort.c:18", Some(("sort.c:18", None, None))),
+    ("sort.c:18:5", Some(("sort.c:18:5", None, None))),
+    ("a.c:1, main", Some(("a.c:1", Some("main"), None))),
+    (
+        "a.c:1:2, f | x = 1;",
+        Some(("a.c:1:2", Some("f"), Some("x = 1;"))),
+    ),
+    ("a.c:1 | x | y, z", Some(("a.c:1", None, Some("x | y, z")))),
+    // Only a number before it ends the location, and only a bar with spaces ends the function.
+    (
+        "my, file | of: C.cc:12, N::operator|(int, long) | a, b",
+        Some((
+            "my, file | of: C.cc:12",
+            Some("N::operator|(int, long)"),
+            Some("a, b"),
+        )),
+    ),
+    ("a:1, b:2, f", Some(("a:1", Some("b:2, f"), None))),
+    ("C:\\x.c:3:4, f", Some(("C:\\x.c:3:4", Some("f"), None))),
+    ("a:1, ", Some(("a:1", Some(""), None))),
+    ("a:1 | ", Some(("a:1", None, Some("")))),
+    ("::1", Some(("::1", None, None))),
+    ("a::1", Some(("a::1", None, None))),
+    (":1", None),
+    ("a.c", None),
+    ("a.c:", None),
+    ("a.c:x, f", None),
+    ("a.c:1x", None),
+    ("a.c:1,f", None),
+    ("a.c:1|f", None),
+    ("a.c:1 ", None),
+    ("a.c:1;", None),
+    ("", None),
+];
+
+fn check_places(rt: &impl Abort, cases: &[(&str, Option<Parts>)]) {
+    for (text, wanted) in cases {
+        equal(rt, text, &parts(split_place(text)), wanted);
+    }
+}
+
+const FIRST: &[u8] = b"cilk 1\n# a trace\n#run sort 100\n#at 7 a.c:1, main | x = 1;\n\
+    #at 7 b.c:2\nmem x # x\nmem c 4\n#of c[3] the fourth\n#of x a counter, \"x\"\r\n\
+    write 0 x 1 @7 #at 8 c.c:3\n #at 9 d.c:4\n#atx 10 e.c:5\n#at  11 f.c:6\n#at 12\tg.c:7\n#at 0 h.c:8\n\
+    #at 4294967296 i.c:9\n#at 4294967295 j.c:10\n#at 0013 k.c:11\n#at +14 l.c:12\n#at 15 l.c\n\
+    #of c[*] an array\n#of c[3] another\n#of x\n#run\n#run \n";
+
+const SECOND: &[u8] =
+    b"#at 7 z.c:1\n#at 16 z.c:2\n#at 17 z\xc3\xbc.c:3\n#run the second\n#of y[*] all";
+
+fn read(alloc: Global) -> Result<Notes<Global>, AllocError> {
+    let mut notes = Notes::new(alloc);
+    notes.read(FIRST)?;
+    notes.read(SECOND)?;
+    Ok(notes)
+}
+
+const MARKS: &[(u32, Option<Parts>)] = &[
+    (7, Some(("a.c:1", Some("main"), Some("x = 1;")))),
+    (8, None),
+    (9, None),
+    (10, None),
+    (11, None),
+    (12, None),
+    (0, None),
+    (4_294_967_295, Some(("j.c:10", None, None))),
+    (13, Some(("k.c:11", None, None))),
+    (14, None),
+    (15, None),
+    (16, Some(("z.c:2", None, None))),
+    (17, None),
+];
+
+fn check_marks(rt: &impl Abort, notes: &Notes<Global>, cases: &[(u32, Option<Parts>)]) {
+    for (mark, wanted) in cases {
+        equal(rt, mark, &parts(notes.place_of(*mark)), wanted);
+    }
+}
+
+const CELLS: &[(&str, Option<&str>)] = &[
+    ("c[3]", Some("the fourth")),
+    ("c[0]", Some("an array")),
+    ("x", Some("a counter, \"x\"")),
+    ("y[12]", Some("all")),
+    ("z", None),
+    ("cc[3]", None),
+    ("", None),
+];
+
+fn check_cells(rt: &impl Abort, notes: &Notes<Global>, cases: &[(&str, Option<&str>)]) {
+    for (cell, wanted) in cases {
+        equal(rt, cell, &notes.text_of(cell), wanted);
+    }
+}
+
+fn check_runs(rt: &impl Abort, notes: &Notes<Global>, wanted: &[&str]) {
+    equal(rt, &"runs", &notes.runs().len(), &wanted.len());
+    for (found, wanted) in notes.runs().iter().zip(wanted) {
+        equal(rt, wanted, &found.as_str(), wanted);
+    }
+}
+
+#[test]
+fn places_are_taken_apart(rt: HostRuntime) {
+    check_places(&rt, PLACES);
+}
+
+#[test]
+fn the_first_note_counts(rt: HostRuntime) -> Result<(), AllocError> {
+    let notes = read(rt.alloc())?;
+    check_marks(&rt, &notes, MARKS);
+    check_cells(&rt, &notes, CELLS);
+    check_runs(&rt, &notes, &["sort 100", "the second"]);
+    Ok(())
+}
