@@ -1,0 +1,4 @@
+pub mod Scans
+pub mod Marks
+pub mod Kept
+pub mod Formed
