@@ -11,9 +11,9 @@ use crate::fault::CliFault;
 use locked_replay::Whole;
 use program_text::Program;
 use race_gate::{Answer, Entry};
-use race_report::{push_number, push_words};
 use run_replay::{ReplayFault, replay};
 use std::alloc::{AllocError, Allocator};
+use text_buffers::{push_number, push_words};
 
 /// The most entries that a history may have, and the limit where none is given.
 pub const MOST_ENTRIES: u32 = 1_000_000;

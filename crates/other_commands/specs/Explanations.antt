@@ -1,9 +1,15 @@
 -- What is told to a person of a program's text: of a run of the program, or of the text's fault.
-use Rattle.std.specs.Prelude.{ℕ, ◌≡◌, ◌≤◌, ◌⊎◌, Bool, Option, List, ◌++◌, length, reverse, codes, decimal}
+use Rattle.std.specs.Prelude.{ℕ, ◌≡◌, ◌≤◌, ◌⊎◌, Bool, true, false, Option, List, ◌++◌, length, flat_map, reverse, codes, decimal}
+use Rattle.std.specs.Global.{Global}
 use Rattle.std.specs.Io.KnownBytes.{Appends}
 use Rattle.text_words.specs.declared.fault.Cause.{Cause}
 use Rattle.text_words.specs.Declarations.{cells_of}
 use Rattle.text_words.specs.Text.{lines}
+use Rattle.text_words.specs.Values.{Contents as TraceContents}
+use Rattle.trace_text.specs.Grammar.{TextMeans as TraceMeans}
+use Rattle.trace_text.specs.Faults.{TextFaults as TraceFaults}
+use Rattle.trace_notes.specs.declared.notes.Notes.{Notes}
+use Rattle.trace_notes.specs.Notes.{AreNotes, kept_runs}
 use Rattle.program_text.specs.Drafts.{Contents}
 use Rattle.program_text.specs.Grammar.{TextMeans}
 use Rattle.program_text.specs.Faults.{TextFaults}
@@ -13,7 +19,8 @@ use Rattle.model_histories.specs.Extensions.{IsFinished, IsClean}
 use Rattle.model_runs.specs.Runs.{IsRun, IsFinishedRun}
 use Rattle.locked_replay.specs.Laws.{SpeaksForAll}
 use Rattle.source_quotes.specs.FaultTexts.{TellsFault}
-use Rattle.race_explanations.specs.Explained.{IsExplanation}
+use Rattle.source_quotes.specs.Quotes.{counted}
+use Rattle.race_explanations.specs.Explained.{IsExplanation, IsTraceExplanation}
 use Rattle.command_streams.specs.declared.fault.CliFault.{CliFault}
 use Rattle.command_streams.specs.declared.fault.CliFault.TheVariants.{Read, Write, TooLong, Memory}
 use Rattle.other_commands.specs.declared.explain.End.{End}
@@ -22,6 +29,10 @@ use Rattle.command_streams.specs.ElisionText.{memory_text}
 use Rattle.command_streams.specs.Readings.{Reading, StopsReader, shape_of_program}
 use Rattle.run_command.specs.Runs.{IsRunFault}
 use Rattle.command_streams.specs.Streams.{IsRead}
+use Rattle.command_streams.specs.Outcomes.{refusal_status}
+use Rattle.model_histories.specs.States.{State}
+use Rattle.other_commands.specs.Replays.{AnswersAll, StopsGate}
+use Rattle.other_commands.specs.Sorts.{is_program_text}
 
 -- how it is told: whether words are painted, and by which name the text's file is called
 pub record Manner : Type 0 where
@@ -105,9 +116,55 @@ pub record IsFaultTold (manner : Manner) (text : List ℕ) (told : List ℕ) (st
   pub tells : TellsFault manner.is_painted manner.file (lines text) number why told
   pub status_is : status ≡ 2
 
--- What a text means is told, or why it means nothing.
+-- ---- a trace
+
+abbrev pub clean_trace_words : List ℕ
+clean_trace_words = codes "clean: no two of the accesses of this trace race, in whatever order its strands run\n"
+
+-- what was recorded, by the notes
+abbrev pub recorded_text : Notes Global → List ℕ
+recorded_text notes = flat_map (λ run. codes "recorded: " ++ run ++ codes "\n") (kept_runs notes)
+
+-- how many requests were judged
+abbrev pub judged_text : ℕ → List ℕ
+judged_text count = codes "judged: " ++ counted count (codes "request") ++ codes "\n"
+
+-- Nothing was refused, or it is told what was.
+abbrev pub TellsEntries : Manner → Notes Global → TraceContents → List Entry → (told : List ℕ) → Type 0
+TellsEntries manner notes trace entries told =
+    (IsClean (reverse entries) × (told ≡ clean_trace_words ++ judged_text (length entries))) ⊎
+    ((IsClean (reverse entries) → ⊥) × IsTraceExplanation manner.is_painted notes trace.known entries told)
+
+-- A gate answered each request of the trace that the text means, and its entries are told by the notes of that very text.
+pub record IsTraceTold (manner : Manner) (text : List ℕ) (told : List ℕ) (status : ℕ) : Type 0 where
+  pub trace : TraceContents
+  pub means : TraceMeans text trace
+  pub gate : State
+  pub answers : AnswersAll trace gate
+  pub entries : List Entry
+  pub history : reverse entries ≡ gate.history
+  pub notes : Notes Global
+  pub are_notes : AreNotes (lines text) notes
+  pub verdict : List ℕ
+  pub tells : TellsEntries manner notes trace entries verdict
+  pub told_is : told ≡ verdict ++ recorded_text notes
+  pub status_is : status ≡ refusal_status entries
+
+-- The first fault of the text as a trace is told.
+pub record IsTraceFaultTold (manner : Manner) (text : List ℕ) (told : List ℕ) (status : ℕ) : Type 0 where
+  pub number : ℕ
+  pub why : Cause
+  pub faults : TraceFaults text number why
+  pub tells : TellsFault manner.is_painted manner.file (lines text) number why told
+  pub status_is : status ≡ 2
+
+-- What a text means is told, or why it means nothing: as a program, or as a trace.
+abbrev pub ExplainsAs : Bool → Manner → (text : List ℕ) → (limit : ℕ) → (told : List ℕ) → (status : ℕ) → Type 0
+ExplainsAs true manner text limit told status = IsRunTold manner text limit told status ⊎ IsFaultTold manner text told status
+ExplainsAs false manner text limit told status = IsTraceTold manner text told status ⊎ IsTraceFaultTold manner text told status
+
 abbrev pub Explains : Manner → (text : List ℕ) → (limit : ℕ) → (told : List ℕ) → (status : ℕ) → Type 0
-Explains manner text limit told status = IsRunTold manner text limit told status ⊎ IsFaultTold manner text told status
+Explains manner text limit told status = ExplainsAs (is_program_text text) manner text limit told status
 
 -- Why nothing is told of the program that a text means.
 pub record IsUntold (text : List ℕ) (limit : ℕ) (fault : CliFault) : Type 0 where
@@ -115,10 +172,20 @@ pub record IsUntold (text : List ℕ) (limit : ℕ) (fault : CliFault) : Type 0 
   pub means : TextMeans text program
   pub stops : IsRunFault program limit fault
 
+-- Why nothing is told of the trace that a text means: a gate does not answer a request of it.
+pub record IsUntoldTrace (text : List ℕ) (fault : CliFault) : Type 0 where
+  pub trace : TraceContents
+  pub means : TraceMeans text trace
+  pub stops : StopsGate trace fault
+
+abbrev pub StopsTellingAs : Bool → (text : List ℕ) → (limit : ℕ) → CliFault → Type 0
+StopsTellingAs true text limit fault = IsUntold text limit fault
+StopsTellingAs false text limit fault = IsUntoldTrace text fault
+
 -- Why nothing is told of a text: each fault has its cause.
 abbrev pub StopsTelling : (text : List ℕ) → (limit : ℕ) → CliFault → Type 0
 StopsTelling text limit Memory = Unit {0}
-StopsTelling text limit fault = IsUntold text limit fault
+StopsTelling text limit fault = StopsTellingAs (is_program_text text) text limit fault
 
 -- ---- reading and writing
 

@@ -4,3 +4,4 @@ pub mod Replays
 pub mod Drawings
 pub mod Traced
 pub mod Explanations
+pub mod Sorts

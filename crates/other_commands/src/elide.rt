@@ -18,10 +18,10 @@ ghost use Rattle.command_streams.specs.Readings.{IsProgramFault};
 
 use command_streams::{CliFault, LineBuffer, Watched, deliver, parse_program, read_text};
 use program_text::Program;
-use race_report::{push_number, push_words};
 use serial_elision::{ElideFault, Elided, elide};
 use std::alloc::{AllocError, Allocator};
 use std::io::{Read, Write};
+use text_buffers::{push_number, push_words};
 use text_words::{Mem, TextFault};
 
 /// Adds the name of a memory's cell with this index.

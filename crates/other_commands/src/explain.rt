@@ -1,6 +1,6 @@
 //! Explaining a run of the program that a reader gives.
 
-ghost use Rattle.std.specs.Prelude.{◌≡◌, ◌↔◌, ◌<◌, ◌≤◌, ◌≢◌, ◌++◌, true, false, length};
+ghost use Rattle.std.specs.Prelude.{◌≡◌, ◌↔◌, ◌<◌, ◌≤◌, ◌≢◌, ◌⊎◌, ◌++◌, true, false, length};
 ghost use Rattle.std.specs.Prelude.{reverse, decimal, IfOk, IfErr, OnOk, IsErrOf, IsTrue};
 ghost use Rattle.program_text.specs.Grammar.{TextMeans};
 ghost use Rattle.program_text.specs.Faults.{TextFaults};
@@ -16,23 +16,25 @@ ghost use Rattle.command_streams.specs.Streams.{most_reads};
 ghost use Rattle.command_streams.specs.Readings.{reading};
 ghost use Rattle.run_command.specs.Runs.{IsRunFault, WantsMore};
 ghost use Rattle.other_commands.specs.Explanations.{Manner as SpecManner, clean_words, clean_text, cut_words, cut_behind, cut_text};
-ghost use Rattle.other_commands.specs.Explanations.{TellsEnd, status_of_end, Explains, StopsTelling, IsExplained, HasExplanationCause};
+ghost use Rattle.other_commands.specs.Explanations.{TellsEnd, status_of_end, ExplainsAs, Explains, IsUntold, StopsTelling, IsExplained, HasExplanationCause};
 
 use crate::elide::push_memory;
+use crate::explain_trace::trace_text_told;
+use crate::sort::is_program;
 use command_streams::{CliFault, Outcome, Watched, outcome_of, read_text, write_text};
 use locked_replay::{RunFault, Whole};
 use program_text::Program;
 use race_explanations::explanation;
 use race_gate::{Entry, ShortGate};
-use race_report::{push_number, push_words};
 use run_command::{Door, PARTS, fault_of, some_run};
-use source_quotes::fault_message;
+use source_quotes::{Meant, fault_message};
 use std::alloc::{AllocError, Global};
 use std::io::{Read, Write};
 use std::marker::{Brand, Model};
 use std::sync::Wait;
 use std::sync::ledger::Blank;
 use std::thread::Threads;
+use text_buffers::{push_number, push_words};
 use text_words::TextFault;
 
 /// How something is told to a person.
@@ -233,7 +235,42 @@ fn run_told<D: Door + Sync, R: Threads + Wait + Sync>(
     }
 }
 
-/// What is told of a program's text, and the exit status.
+/// What is told of a text that is to mean a program, and the exit status.
+fn program_text_told<D: Door + Sync, R: Threads + Wait + Sync>(
+    rt: &R,
+    alloc: Global,
+    manner: &Manner<'_>,
+    text: &[u8],
+    workers: usize,
+    door: &D,
+    limit: u32,
+) -> Result<(Vec<u8>, u8), CliFault>
+    requires workers { (0 < workers) × (workers ≤ 64) }
+    requires limit { limit ≤ most_entries }
+    ensures ok { IfOk result (λ told. ExplainsAs true manner.now text.now limit told.0.items told.1) }
+    ensures fault { IfErr result (λ fault. (fault ≡ CliFault.Memory) ⊎ IsUntold text.now limit fault) }
+{
+    let program = match Program::parse(alloc, text) {
+        Ok(program) => program,
+        Err(TextFault::Memory) => return Err(CliFault::Memory),
+        Err(TextFault::At { line, why }) => {
+            let told = fault_message(
+                alloc,
+                manner.is_painted,
+                manner.file,
+                text,
+                line,
+                why,
+                Meant::Program,
+            )?;
+            return Ok((told, 2));
+        }
+    };
+    let (told, end) = run_told(rt, alloc, manner, text, &program, workers, door, limit)?;
+    Ok((told, end.status()))
+}
+
+/// What is told of a text, and the exit status.
 fn told_of<D: Door + Sync, R: Threads + Wait + Sync>(
     rt: &R,
     alloc: Global,
@@ -248,23 +285,19 @@ fn told_of<D: Door + Sync, R: Threads + Wait + Sync>(
     ensures ok { IfOk result (λ told. Explains manner.now text.now limit told.0.items told.1) }
     ensures fault { IfErr result (StopsTelling text.now limit) }
 {
-    let program = match Program::parse(alloc, text) {
-        Ok(program) => program,
-        Err(TextFault::Memory) => return Err(CliFault::Memory),
-        Err(TextFault::At { line, why }) => {
-            let told = fault_message(alloc, manner.is_painted, manner.file, text, line, why)?;
-            return Ok((told, 2));
-        }
-    };
-    let (told, end) = run_told(rt, alloc, manner, text, &program, workers, door, limit)?;
-    Ok((told, end.status()))
+    if is_program(text) {
+        program_text_told(rt, alloc, manner, text, workers, door, limit)
+    } else {
+        trace_text_told(alloc, manner, text)
+    }
 }
 
 /// Reads a program to its end, runs it by so many workers as [`run_text`](run_command::run_text) does, and tells a person of the run, in lines of
 /// text: each pair of lines that raced, with both lines, the spawns and calls that led there, the spawn where the two part, and what would
 /// order them. Where nothing was refused it tells that this is so for every schedule, and the memory. Where the limit ended the run it
-/// tells the races until then, and that it is no whole run. Of a text that means no program it tells the fault. The exit status is 0 where
-/// nothing was refused, 1 where something was, 2 for a fault of the text, and 4 where the limit ended the run.
+/// tells the races until then, and that it is no whole run. A text whose first word behind its declarations is not `func` is a trace: its
+/// requests are judged in their order, and the pairs that raced are told by its notes. Of a text that means neither it tells the fault. The
+/// exit status is 0 where nothing was refused, 1 where something was, 2 for a fault of the text, and 4 where the limit ended the run.
 ///
 /// It answers [`CliFault::Read`] or [`CliFault::Write`] exactly where the reader or the writer has failed, [`CliFault::TooLong`] for more
 /// than 67,108,864 bytes, [`CliFault::Stopped`], [`CliFault::Torn`] or [`CliFault::Strange`] where the workers brought no finished run, and

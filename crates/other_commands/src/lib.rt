@@ -17,11 +17,14 @@ mod declarations;
 mod draw;
 mod elide;
 mod explain;
+mod explain_trace;
 mod replay;
+mod sort;
 mod traced;
 
 pub use draw::draw_text;
 pub use elide::elide_text;
 pub use explain::{End, Manner, explain_text};
 pub use replay::replay_text;
+pub use sort::is_program;
 pub use traced::{Traced, run_traced_text, traced_run, traced_text, write_traced};

@@ -1,7 +1,6 @@
 -- What is told of pairs, one by one.
 use Rattle.std.proofs.Common.{◌≡◌, ℕ, ◌+◌, ◌<◌, min, List, [], ◌∷◌, ◌++◌, Option, Some, None, length, take, get_or, refl, sym, subst, ap, append_assoc, ◌∙◌, arith}
 use Rattle.std.proofs.lemmas.List.{take_more, take_min}
-use Rattle.source_quotes.specs.declared.look.Look.{Look}
 use Rattle.race_pairs.specs.declared.tally.Pair.{Pair}
 use Rattle.race_explanations.specs.Settings.{Setting}
 use Rattle.race_explanations.specs.Accounts.{Adds}
@@ -53,14 +52,7 @@ first_of_all pairs most =
     let on : min (length pairs) most ≡ min most (length pairs) = omega arith in
     ap (λ k. take k pairs) on ∙ take_min most pairs
 
--- the first so many pairs, in a setting that is written out
-pub first_told : (setting : Setting) (look : Look) (source : List (List ℕ)) (pairs front : List Pair) (most : ℕ) (text : List ℕ) →
-    front ≡ take (min (length pairs) most) pairs → setting.look ≡ look → setting.source ≡ source → AllTold setting front text →
-    AllTold (record { look = look; file = setting.file; source = source; program = setting.program; entries = setting.entries }) (take most pairs) text
-first_told setting look source pairs front most text is look_is source_is told =
-    subst
-    (λ (l : Look). AllTold (record { look = l; file = setting.file; source = source; program = setting.program; entries = setting.entries }) (take most pairs) text)
-    look_is
-    (subst
-    (λ (s : List (List ℕ)). AllTold (record { look = setting.look; file = setting.file; source = s; program = setting.program; entries = setting.entries }) (take most pairs) text)
-    source_is (subst (λ (some : List Pair). AllTold setting some text) (is ∙ first_of_all pairs most) told))
+-- the first so many pairs
+pub first_told : (setting : Setting) (pairs front : List Pair) (most : ℕ) (text : List ℕ) →
+    front ≡ take (min (length pairs) most) pairs → AllTold setting front text → AllTold setting (take most pairs) text
+first_told setting pairs front most text is told = subst (λ (some : List Pair). AllTold setting some text) (is ∙ first_of_all pairs most) told

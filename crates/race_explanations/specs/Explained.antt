@@ -2,16 +2,18 @@
 use Rattle.std.specs.Prelude.{ℕ, ◌≡◌, ◌-◌, nat_lt, Bool, List, [], ◌∷◌, ◌++◌, codes}
 use Rattle.std.specs.Prelude.{length, take, filter, is_some, Option, Some, IfSome, if◌then◌else◌}
 use Rattle.std.specs.Global.{Global}
+use Rattle.text_words.specs.Values.{Known}
 use Rattle.program_text.specs.Drafts.{Contents}
 use Rattle.model_histories.specs.declared.answer.Entry.{Entry}
 use Rattle.source_quotes.specs.Quotes.{look_of, counted}
+use Rattle.trace_notes.specs.declared.notes.Notes.{Notes}
 use Rattle.race_pairs.specs.Refusals.{refusal_told}
 use Rattle.race_pairs.specs.Pairs.{ArePairs}
 use Rattle.race_pairs.specs.Places.{ArePlaces}
 use Rattle.race_pairs.specs.Encounters.{chain_at, PartAt, GoesOn, IsOpenAt}
 use Rattle.race_pairs.specs.declared.tally.Pair.{Pair}
 use Rattle.race_pairs.specs.declared.encounter.Encounter.{Encounter}
-use Rattle.race_explanations.specs.Settings.{Setting}
+use Rattle.race_explanations.specs.Settings.{Origin, in_program, in_trace, Setting}
 use Rattle.race_explanations.specs.Accounts.{added}
 use Rattle.race_explanations.specs.Messages.{message}
 
@@ -53,26 +55,57 @@ is_refusal entry = is_some (refusal_told entry)
 abbrev pub refusals_among : List Entry → ℕ
 refusals_among entries = length (filter is_refusal entries)
 
--- how many pairs are left out, behind the first twenty
-abbrev pub pairs_left_out : ℕ → List ℕ
-pairs_left_out count = if nat_lt 20 count then codes "and " ++ counted (count - 20) (codes "more pair") ++ codes " of lines\n" else []
+-- what there are pairs of
+abbrev pub pairs_words : Origin → List ℕ
+pairs_words (in_program file source functions) = codes " of lines"
+pairs_words (in_trace notes) = codes " of places"
 
--- at how many pairs of lines, and among how many requests
-abbrev pub among : ℕ → ℕ → List ℕ
-among count requests =
-    codes " at " ++ counted count (codes "pair") ++ codes " of lines, among " ++ counted requests (codes "request") ++ codes "\n"
+-- how many pairs are left out, behind the first twenty
+abbrev pub pairs_left_out : Origin → ℕ → List ℕ
+pairs_left_out origin count =
+    if nat_lt 20 count then codes "and " ++ counted (count - 20) (codes "more pair") ++ pairs_words origin ++ codes "\n" else []
+
+-- at how many pairs, and among how many requests
+abbrev pub among : Origin → ℕ → ℕ → List ℕ
+among origin count requests =
+    codes " at " ++ counted count (codes "pair") ++ (pairs_words origin ++ codes ", among ") ++ counted requests (codes "request") ++ codes "\n"
 
 -- what is told at the end: how many refusals there were
-abbrev pub summary : List Entry → ℕ → List ℕ
-summary entries count = counted (refusals_among entries) (codes "refusal") ++ among count (length entries)
+abbrev pub summary : Setting → ℕ → List ℕ
+summary setting count =
+    counted (refusals_among setting.entries) (codes "refusal") ++ among setting.origin count (length setting.entries)
 
--- The text tells of the entries of a run, the oldest first: of each of the first twenty pairs of lines that raced, how many more there are,
--- and how many refusals there were.
-pub record IsExplanation (is_painted : Bool) (file : List ℕ) (source : List (List ℕ))
-    (program : Contents) (entries : List Entry) (text : List ℕ) : Type 0 where
+-- The text tells of the entries, the oldest first: of each of the first twenty pairs of lines that raced, how many more there are, and how
+-- many refusals there were.
+pub record TellsEntries (setting : Setting) (text : List ℕ) : Type 0 where
   pub pairs : List Pair
-  pub are_pairs : ArePairs entries pairs
+  pub are_pairs : ArePairs setting.entries pairs
   pub told : List ℕ
-  pub all_told : AllTold (record { look = look_of is_painted source; file = file; source = source; program = program; entries = entries })
-      (take 20 pairs) told
-  pub text_is : text ≡ told ++ pairs_left_out (length pairs) ++ summary entries (length pairs)
+  pub all_told : AllTold setting (take 20 pairs) told
+  pub text_is : text ≡ told ++ pairs_left_out setting.origin (length pairs) ++ summary setting (length pairs)
+
+-- the entries are those of a run of a program, which a file with these lines holds
+abbrev pub program_setting : (is_painted : Bool) → (file : List ℕ) → (source : List (List ℕ)) → Contents → List Entry → Setting
+program_setting is_painted file source program entries = record {
+  look = look_of is_painted source;
+  origin = in_program file source program.functions;
+  mems = program.known.mems;
+  reducers = program.known.reducers;
+  entries = entries;
+}
+
+abbrev pub IsExplanation : (is_painted : Bool) → (file : List ℕ) → (source : List (List ℕ)) → Contents → List Entry → (text : List ℕ) → Type 0
+IsExplanation is_painted file source program entries text = TellsEntries (program_setting is_painted file source program entries) text
+
+-- the entries are those of a trace with these declarations and notes
+abbrev pub trace_setting : (is_painted : Bool) → Notes Global → Known → List Entry → Setting
+trace_setting is_painted notes known entries = record {
+  look = record { is_painted = is_painted; width = 2 };
+  origin = in_trace notes;
+  mems = known.mems;
+  reducers = known.reducers;
+  entries = entries;
+}
+
+abbrev pub IsTraceExplanation : (is_painted : Bool) → Notes Global → Known → List Entry → (text : List ℕ) → Type 0
+IsTraceExplanation is_painted notes known entries text = TellsEntries (trace_setting is_painted notes known entries) text

@@ -1,4 +1,5 @@
 pub mod Settings
+pub mod Scenes
 pub mod Accounts
 pub mod Names
 pub mod Titles

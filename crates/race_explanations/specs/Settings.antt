@@ -1,13 +1,23 @@
 -- What races are told from.
 use Rattle.std.specs.Prelude.{ℕ, List}
-use Rattle.program_text.specs.Drafts.{Contents}
+use Rattle.text_words.specs.declared.value.Mem.{Mem}
+use Rattle.text_words.specs.declared.value.Reducer.{Reducer}
+use Rattle.model_bodies.specs.Codes.{Code}
 use Rattle.model_histories.specs.declared.answer.Entry.{Entry}
 use Rattle.source_quotes.specs.declared.look.Look.{Look}
+use Rattle.std.specs.Global.{Global}
+use Rattle.trace_notes.specs.declared.notes.Notes.{Notes}
 
--- how quotes look, the name of the file, the lines of its text, the program that it means, and the entries of the run, oldest first
+-- Where the lines of requests stand: in the text of a program, with the name of its file, its lines and its functions; or where the notes
+-- of a trace say.
+pub data Origin : Type 0 where
+  in_program : (file : List ℕ) → (source : List (List ℕ)) → (functions : List Code) → Origin
+  in_trace : (notes : Notes Global) → Origin
+
+-- how quotes look, where lines stand, the memories and reducers that are named, and the entries of the run, oldest first
 pub record Setting : Type 0 where
   pub look : Look
-  pub file : List ℕ
-  pub source : List (List ℕ)
-  pub program : Contents
+  pub origin : Origin
+  pub mems : List Mem
+  pub reducers : List Reducer
   pub entries : List Entry

@@ -1,15 +1,18 @@
 -- The first lines of what is told of a race: the kind, on what, how often, and where.
-use Rattle.std.specs.Prelude.{ℕ, ◌-◌, nat_lt, List, [], ◌∷◌, ◌++◌, codes, flat_map, length, take, decimal, if◌then◌else◌}
+use Rattle.std.specs.Prelude.{ℕ, ◌-◌, nat_lt, List, [], ◌∷◌, ◌++◌, codes, flat_map, length, take, decimal, Option, Some, None, if◌then◌else◌}
 use Rattle.model_accesses.specs.Table.{spelling}
 use Rattle.trace_text.specs.Shapes.{name_of_cell}
-use Rattle.race_report.specs.Refusals.{name_of_reducer}
-use Rattle.text_words.specs.Values.{Known}
+use Rattle.trace_text.specs.Printing.{name_of_reducer}
+use Rattle.text_words.specs.declared.value.Mem.{Mem}
+use Rattle.text_words.specs.declared.value.Reducer.{Reducer}
+use Rattle.source_quotes.specs.declared.look.Look.{Look}
 use Rattle.source_quotes.specs.declared.look.Paint.TheVariants.{Red}
 use Rattle.source_quotes.specs.Quotes.{painted, counted, place}
+use Rattle.trace_notes.specs.Notes.{noted_text}
 use Rattle.race_pairs.specs.declared.refusal.Reason.{Reason}
 use Rattle.race_pairs.specs.declared.refusal.Reason.TheVariants.{Race, ViewRead, Unset}
 use Rattle.race_pairs.specs.declared.tally.Pair.{Pair}
-use Rattle.race_explanations.specs.Settings.{Setting}
+use Rattle.race_explanations.specs.Settings.{Origin, in_program, in_trace, Setting}
 
 abbrev pub sort_word : Reason → List ℕ
 sort_word (Race earlier refused) = codes "race"
@@ -23,37 +26,59 @@ reason_words ViewRead = codes "reads with other peers of"
 reason_words Unset = codes "nothing was put before into"
 
 -- the name of what a refusal was about: of a cell or a reducer
-abbrev pub name_of_place : Known → Reason → ℕ → List ℕ
-name_of_place known (Race earlier refused) location = name_of_cell known.mems location
-name_of_place known ViewRead reducer = name_of_reducer known.reducers reducer
-name_of_place known Unset reducer = name_of_reducer known.reducers reducer
+abbrev pub name_of_place : List Mem → List Reducer → Reason → ℕ → List ℕ
+name_of_place mems reducers (Race earlier refused) location = name_of_cell mems location
+name_of_place mems reducers ViewRead reducer = name_of_reducer reducers reducer
+name_of_place mems reducers Unset reducer = name_of_reducer reducers reducer
 
-abbrev pub spaced_name : Known → Reason → ℕ → List ℕ
-spaced_name known reason location = 32 ∷ name_of_place known reason location
+-- what the notes say that a name stands for, or the name where they say nothing
+abbrev pub noted_name : Option (List ℕ) → List ℕ → List ℕ
+noted_name (Some text) name = text
+noted_name None name = name
+
+-- what a name of a cell or a reducer is told as
+abbrev pub told_name : Origin → List ℕ → List ℕ
+told_name (in_program file source functions) name = name
+told_name (in_trace notes) name = noted_name (noted_text notes name) name
+
+abbrev pub spaced_name : Setting → Reason → ℕ → List ℕ
+spaced_name setting reason location = 32 ∷ told_name setting.origin (name_of_place setting.mems setting.reducers reason location)
 
 -- names behind the first
-abbrev pub other_names : Known → Reason → List ℕ → List ℕ
-other_names known reason places = flat_map (λ location. codes "," ++ spaced_name known reason location) places
+abbrev pub other_names : Setting → Reason → List ℕ → List ℕ
+other_names setting reason places = flat_map (λ location. codes "," ++ spaced_name setting reason location) places
 
 -- names in their order
-abbrev pub listed_names : Known → Reason → List ℕ → List ℕ
-listed_names known reason [] = []
-listed_names known reason (location ∷ places) = spaced_name known reason location ++ other_names known reason places
+abbrev pub listed_names : Setting → Reason → List ℕ → List ℕ
+listed_names setting reason [] = []
+listed_names setting reason (location ∷ places) = spaced_name setting reason location ++ other_names setting reason places
+
+-- the most names that are told: what a name stands for in a trace is long
+abbrev pub most_names : Origin → ℕ
+most_names (in_program file source functions) = 8
+most_names (in_trace notes) = 1
 
 -- how many names are left out
-abbrev pub left_out : ℕ → List ℕ
-left_out count = if nat_lt 8 count then codes " and " ++ decimal (count - 8) ++ codes " more" else []
+abbrev pub left_out : ℕ → ℕ → List ℕ
+left_out most count = if nat_lt most count then codes " and " ++ decimal (count - most) ++ codes " more" else []
 
--- the names of at most eight, and how many more there are
-abbrev pub names_text : Known → Reason → List ℕ → List ℕ
-names_text known reason places = listed_names known reason (take 8 places) ++ left_out (length places)
+-- the names of at most so many, and how many more there are
+abbrev pub names_text : Setting → Reason → List ℕ → List ℕ
+names_text setting reason places =
+    listed_names setting reason (take (most_names setting.origin) places) ++ left_out (most_names setting.origin) (length places)
 
 -- The kind of the race, what it was on, and how often it came.
 abbrev pub headline : Setting → Pair → List ℕ → List ℕ
 headline setting pair places =
     painted setting.look Red (sort_word pair.lines.reason) ++ codes ": " ++ reason_words pair.lines.reason ++
-    names_text setting.program.known pair.lines.reason places ++ codes ", " ++ counted pair.times (codes "time")
+    names_text setting pair.lines.reason places ++ codes ", " ++ counted pair.times (codes "time")
+
+-- where a program's line is; a place of a trace is told with the access
+abbrev pub heading : Look → Origin → ℕ → List ℕ
+heading look (in_program file source functions) line = place look file line
+heading look (in_trace notes) line = []
 
 -- and where
 abbrev pub title_text : Setting → Pair → List ℕ → List ℕ
-title_text setting pair places = headline setting pair places ++ codes "\n" ++ place setting.look setting.file pair.lines.line
+title_text setting pair places =
+    headline setting pair places ++ codes "\n" ++ heading setting.look setting.origin pair.lines.line

@@ -1,18 +1,19 @@
 //! A text that is told in parts. That there was no memory for a part is noted, and asked for once, at the end.
 
-ghost use Rattle.std.specs.Prelude.{◌≡◌, ◌++◌, [], Some, None, IfOk, decimal};
-ghost use Rattle.source_quotes.specs.Quotes.{painted, counted, noted, gutter, place};
-ghost use Rattle.source_quotes.specs.declared.look.Paint.TheVariants.{Red};
+ghost use Rattle.std.specs.Prelude.{◌≡◌, ◌++◌, [], Some, None, IfOk, decimal, replicate};
+ghost use Rattle.source_quotes.specs.Quotes.{painted, counted, noted, gutter, marked, place};
+ghost use Rattle.source_quotes.specs.declared.look.Paint.TheVariants.{Red, Blue};
 ghost use Rattle.race_explanations.specs.Accounts.{Adds};
-ghost use Rattle.race_explanations.specs.Paths.{marked_line};
+ghost use Rattle.race_explanations.specs.Scenes.{setting_of};
 
 use crate::scene::Scene;
-use race_report::push_number;
 use source_quotes::{
-    Paint, push_count, push_gutter, push_marked, push_noted, push_painted, push_place,
+    Look, Paint, Source, push_count, push_gutter, push_left, push_marked, push_noted, push_painted,
+    push_place,
 };
 use std::alloc::{AllocError, Global};
 use std::marker::Model;
+use text_buffers::push_number;
 
 /// A text that is told in parts. Contracts see what was told so far, and None once there was no memory for a part.
 pub(crate) struct Account {
@@ -78,13 +79,6 @@ impl Account {
         self.is_short |= push_number(&mut self.bytes, words, number).is_err();
     }
 
-    /// Tells words and the number of a line.
-    pub(crate) fn line(&mut self, words: &str, line: u32)
-        ensures { Adds self.old (words.now ++ decimal line) self.new }
-    {
-        self.number(words, u64::from(line));
-    }
-
     /// Tells how many there are, and of what.
     pub(crate) fn count(&mut self, count: usize, word: &str)
         ensures { Adds self.old (counted count word.now) self.new }
@@ -93,44 +87,45 @@ impl Account {
     }
 
     /// Tells words in red.
-    pub(crate) fn red(&mut self, scene: &Scene<'_, '_, Global>, words: &str)
+    pub(crate) fn red(&mut self, scene: &Scene<'_, '_>, words: &str)
         ensures { Adds self.old (painted scene.now.look Red words.now) self.new }
     {
         self.is_short |= push_painted(&mut self.bytes, scene.look, Paint::Red, words).is_err();
     }
 
     /// Begins a note beside the source.
-    pub(crate) fn noted(&mut self, scene: &Scene<'_, '_, Global>)
+    pub(crate) fn noted(&mut self, scene: &Scene<'_, '_>)
         ensures { Adds self.old (noted scene.now.look) self.new }
     {
         self.is_short |= push_noted(&mut self.bytes, scene.look).is_err();
     }
 
     /// Begins a line that is none of the source.
-    pub(crate) fn gutter(&mut self, scene: &Scene<'_, '_, Global>)
+    pub(crate) fn gutter(&mut self, scene: &Scene<'_, '_>)
         ensures { Adds self.old (gutter scene.now.look) self.new }
     {
         self.is_short |= push_gutter(&mut self.bytes, scene.look).is_err();
     }
 
     /// Quotes a line of a source, with this sign below it.
-    pub(crate) fn marked(&mut self, scene: &Scene<'_, '_, Global>, line: u32, mark: u8)
-        ensures { Adds self.old (marked_line scene.now line mark) self.new }
+    pub(crate) fn marked(&mut self, look: Look, source: &Source<'_, Global>, line: u32, mark: u8)
+        ensures { Adds self.old (marked look source.now line mark) self.new }
     {
-        self.is_short |= push_marked(
-            &mut self.bytes,
-            scene.look,
-            scene.source,
-            line,
-            mark,
-        ).is_err();
+        self.is_short |= push_marked(&mut self.bytes, look, source, line, mark).is_err();
     }
 
     /// Tells where in a file it is.
-    pub(crate) fn place(&mut self, scene: &Scene<'_, '_, Global>, line: u32)
-        ensures { Adds self.old (place scene.now.look scene.now.file line) self.new }
+    pub(crate) fn place(&mut self, look: Look, file: &str, line: u32)
+        ensures { Adds self.old (place look file.now line) self.new }
     {
-        self.is_short |= push_place(&mut self.bytes, scene.look, scene.file, line).is_err();
+        self.is_short |= push_place(&mut self.bytes, look, file, line).is_err();
+    }
+
+    /// Tells this sign at the left of what is no line of a source.
+    pub(crate) fn left(&mut self, look: Look, sign: &str)
+        ensures { Adds self.old (replicate look.width 32 ++ painted look Blue sign.now) self.new }
+    {
+        self.is_short |= push_left(&mut self.bytes, look, sign).is_err();
     }
 
     /// The whole text. Errors where there was no memory for a part.

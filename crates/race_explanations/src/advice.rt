@@ -1,28 +1,39 @@
 //! Where two strands part, and what would order them.
 
-ghost use Rattle.std.specs.Prelude.{◌≡◌};
+ghost use Rattle.std.specs.Prelude.{◌≡◌, Some};
+ghost use Rattle.std.specs.Option.{option_map};
+ghost use Rattle.trace_notes.specs.Places.{place_parts};
 ghost use Rattle.race_explanations.specs.Accounts.{Adds};
+ghost use Rattle.race_explanations.specs.Scenes.{setting_of};
 ghost use Rattle.race_explanations.specs.Advice.{between, line_on, spawn_line, function_word, parts_text, missing_text};
+ghost use Rattle.race_explanations.specs.Advice.{spawner_word, place_word, rounds_words};
 ghost use Rattle.race_explanations.specs.Advice.{sync_text, parting_text, open_text, move_text, outstanding_text, put_text};
 
 use crate::account::Account;
-use crate::scene::Scene;
-use crate::words::{function_at, line_of};
+use crate::paths::{push_line, push_shown};
+use crate::scene::{Origin, Scene};
+use crate::words::{function_in, line_of};
 use race_pairs::{Pair, strand_at};
 use spawn_chains::{OpenSpawn, Parting};
 use std::alloc::Global;
+use trace_notes::Place;
 
 /// Adds what stands between two quotes.
-pub(crate) fn push_between(account: &mut Account, scene: &Scene<'_, '_, Global>)
-    ensures { Adds account.old (between scene.now) account.new }
+pub(crate) fn push_between(account: &mut Account, scene: &Scene<'_, '_>)
+    ensures { Adds account.old (between (setting_of scene.now)) account.new }
 {
-    account.gutter(scene);
-    account.words("\n");
+    match &scene.origin {
+        Origin::Program { .. } => {
+            account.gutter(scene);
+            account.words("\n");
+        }
+        Origin::Trace { .. } => {}
+    }
 }
 
 /// The line of the one of a pair's two entries which is on this strand: the refused one, or else its witness.
-fn line_on(scene: &Scene<'_, '_, Global>, pair: &Pair, strand: u32) -> u32
-    ensures { result ≡ line_on scene.now pair.now strand }
+fn line_on(scene: &Scene<'_, '_>, pair: &Pair, strand: u32) -> u32
+    ensures { result ≡ line_on (setting_of scene.now) pair.now strand }
 {
     match strand_at(scene.entries, pair.first) {
         Some(refused) if refused == strand => pair.lines.line,
@@ -31,65 +42,102 @@ fn line_on(scene: &Scene<'_, '_, Global>, pair: &Pair, strand: u32) -> u32
 }
 
 /// Adds the line of a spawn and a sign below it.
-fn push_spawn(account: &mut Account, scene: &Scene<'_, '_, Global>, number: usize)
-    ensures { Adds account.old (spawn_line scene.now number) account.new }
+fn push_spawn(account: &mut Account, scene: &Scene<'_, '_>, number: usize)
+    ensures { Adds account.old (spawn_line (setting_of scene.now) number) account.new }
 {
     push_between(account, scene);
     let line = line_of(scene, number);
-    account.marked(scene, line, b'-');
+    push_shown(account, scene, line, b'-');
+}
+
+/// Adds the name of a function.
+fn push_name(account: &mut Account, name: &str)
+    ensures { Adds account.old (spawner_word (Some name.now)) account.new }
+{
+    account.words("`");
+    account.words(name);
+    account.words("`");
+}
+
+/// Adds in which function a place is, or that it is the one that spawns.
+fn push_place_name(account: &mut Account, place: Option<Place<'_>>)
+    ensures { Adds account.old (place_word (option_map place_parts place.entry)) account.new }
+{
+    match place {
+        Some(
+            Place {
+                function: Some(name),
+                ..
+            },
+        ) => push_name(account, name),
+        _ => account.words("the spawner"),
+    }
 }
 
 /// Adds the name of the function in which a line stands.
-fn push_function(account: &mut Account, scene: &Scene<'_, '_, Global>, line: u32)
-    ensures { Adds account.old (function_word scene.now line) account.new }
+fn push_function(account: &mut Account, scene: &Scene<'_, '_>, line: u32)
+    ensures { Adds account.old (function_word (setting_of scene.now) line) account.new }
 {
-    account.words("`");
-    account.words(function_at(scene, line));
-    account.words("`");
+    match &scene.origin {
+        Origin::Program { program, .. } => push_name(account, function_in(program, line)),
+        Origin::Trace { notes } => push_place_name(account, notes.place_of(line)),
+    }
 }
 
 /// Adds that two strands part at a spawn: whither the child comes, and how its spawner goes on.
 fn push_parts(
     account: &mut Account,
-    scene: &Scene<'_, '_, Global>,
+    scene: &Scene<'_, '_>,
     pair: &Pair,
     parting: &Parting,
     onward: u32,
 )
-    ensures { Adds account.old (parts_text scene.now pair.now parting.now onward) account.new }
+    ensures { Adds account.old (parts_text (setting_of scene.now) pair.now parting.now onward) account.new }
 {
     push_spawn(account, scene, parting.entry);
     let child_line = line_on(scene, pair, parting.by_child);
-    account.line(
-        " here they part: what is spawned comes to line ",
-        child_line,
-    );
+    account.words(" here they part: what is spawned comes to ");
+    push_line(account, scene, child_line);
     account.words(", while ");
     push_function(account, scene, line_of(scene, parting.entry));
-    account.line(" goes on to line ", onward);
+    account.words(" goes on to ");
+    push_line(account, scene, onward);
     account.words("\n");
 }
 
 /// Adds that a sync would order two strands.
-fn push_missing(account: &mut Account, scene: &Scene<'_, '_, Global>, line: u32, onward: u32)
-    ensures { Adds account.old (missing_text scene.now line onward) account.new }
+fn push_missing(account: &mut Account, scene: &Scene<'_, '_>, line: u32, onward: u32)
+    ensures { Adds account.old (missing_text (setting_of scene.now) line onward) account.new }
 {
     account.noted(scene);
     account.words("help: a `sync` in ");
     push_function(account, scene, line);
-    account.line(" before line ", onward);
+    account.words(" before ");
+    push_line(account, scene, onward);
     account.words(" would order them\n");
 }
 
+/// What would order the rounds of a loop.
+fn rounds_words(scene: &Scene<'_, '_>) -> &'static str
+    ensures { result.now ≡ rounds_words (setting_of scene.now).origin }
+{
+    match &scene.origin {
+        Origin::Program { .. } => {
+            "help: rounds of one `pfor` are never ordered: give each a cell of its own, or use a reducer\n"
+        }
+        Origin::Trace { .. } => {
+            "help: what is spawned here again and again is never ordered: give each a place of its own, or use a reducer\n"
+        }
+    }
+}
+
 /// Adds what would order two strands that part at a spawn on one line, behind which the spawner goes on to another.
-fn push_sync(account: &mut Account, scene: &Scene<'_, '_, Global>, line: u32, onward: u32)
-    ensures { Adds account.old (sync_text scene.now line onward) account.new }
+fn push_sync(account: &mut Account, scene: &Scene<'_, '_>, line: u32, onward: u32)
+    ensures { Adds account.old (sync_text (setting_of scene.now) line onward) account.new }
 {
     if line == onward {
         account.noted(scene);
-        account.words(
-            "help: rounds of one `pfor` are never ordered: give each a cell of its own, or use a reducer\n",
-        );
+        account.words(rounds_words(scene));
     } else {
         push_missing(account, scene, line, onward);
     }
@@ -98,12 +146,12 @@ fn push_sync(account: &mut Account, scene: &Scene<'_, '_, Global>, line: u32, on
 /// Adds where two strands part and what would order them.
 pub(crate) fn push_parting(
     account: &mut Account,
-    scene: &Scene<'_, '_, Global>,
+    scene: &Scene<'_, '_>,
     pair: &Pair,
     parting: Option<Parting>,
     onward: u32,
 )
-    ensures { Adds account.old (parting_text scene.now pair.now parting onward) account.new }
+    ensures { Adds account.old (parting_text (setting_of scene.now) pair.now parting onward) account.new }
 {
     match parting {
         Some(parting) => {
@@ -115,24 +163,27 @@ pub(crate) fn push_parting(
 }
 
 /// Adds that a spawn is outstanding at one of two reads and not at the other.
-fn push_open(account: &mut Account, scene: &Scene<'_, '_, Global>, pair: &Pair, spawn: &OpenSpawn)
-    ensures { Adds account.old (open_text scene.now pair.now spawn.now) account.new }
+fn push_open(account: &mut Account, scene: &Scene<'_, '_>, pair: &Pair, spawn: &OpenSpawn)
+    ensures { Adds account.old (open_text (setting_of scene.now) pair.now spawn.now) account.new }
 {
     push_spawn(account, scene, spawn.entry);
     let at = line_on(scene, pair, spawn.parallel);
-    account.line(" this spawn is outstanding at line ", at);
+    account.words(" this spawn is outstanding at ");
+    push_line(account, scene, at);
     let not_at = line_on(scene, pair, spawn.ordered);
-    account.line(", and not at line ", not_at);
+    account.words(", and not at ");
+    push_line(account, scene, not_at);
     account.words("\n");
 }
 
 /// Adds what makes a read the same in every run.
-fn push_move(account: &mut Account, scene: &Scene<'_, '_, Global>, pair: &Pair, spawn: &OpenSpawn)
-    ensures { Adds account.old (move_text scene.now pair.now spawn.now) account.new }
+fn push_move(account: &mut Account, scene: &Scene<'_, '_>, pair: &Pair, spawn: &OpenSpawn)
+    ensures { Adds account.old (move_text (setting_of scene.now) pair.now spawn.now) account.new }
 {
     account.noted(scene);
     let at = line_on(scene, pair, spawn.parallel);
-    account.line("help: move what stands on line ", at);
+    account.words("help: move what stands on ");
+    push_line(account, scene, at);
     account.words(" behind the `sync` of ");
     push_function(account, scene, line_of(scene, spawn.entry));
     account.words(", where this spawn has ended\n");
@@ -141,11 +192,11 @@ fn push_move(account: &mut Account, scene: &Scene<'_, '_, Global>, pair: &Pair, 
 /// Adds which spawn makes the peers of two reads differ, and what makes the reads the same in every run.
 pub(crate) fn push_outstanding(
     account: &mut Account,
-    scene: &Scene<'_, '_, Global>,
+    scene: &Scene<'_, '_>,
     pair: &Pair,
     spawn: Option<OpenSpawn>,
 )
-    ensures { Adds account.old (outstanding_text scene.now pair.now spawn) account.new }
+    ensures { Adds account.old (outstanding_text (setting_of scene.now) pair.now spawn) account.new }
 {
     match spawn {
         Some(spawn) => {
@@ -157,8 +208,8 @@ pub(crate) fn push_outstanding(
 }
 
 /// Adds what makes a get find something.
-pub(crate) fn push_put(account: &mut Account, scene: &Scene<'_, '_, Global>)
-    ensures { Adds account.old (put_text scene.now) account.new }
+pub(crate) fn push_put(account: &mut Account, scene: &Scene<'_, '_>)
+    ensures { Adds account.old (put_text (setting_of scene.now)) account.new }
 {
     account.noted(scene);
     account.words("help: a `put` into it has to come first in the serial order\n");

@@ -15,5 +15,5 @@ mod title;
 mod told;
 mod words;
 
-pub use scene::Scene;
-pub use told::explanation;
+pub use scene::{Origin, Scene};
+pub use told::{explanation, trace_explanation};

@@ -2,6 +2,7 @@
 
 ghost use Rattle.std.specs.Prelude.{◌≡◌};
 ghost use Rattle.race_explanations.specs.Accounts.{Adds};
+ghost use Rattle.race_explanations.specs.Scenes.{setting_of};
 ghost use Rattle.race_explanations.specs.Messages.{witness_text, earlier_text};
 ghost use Rattle.race_explanations.specs.Messages.{verdict_words, refused_text, advice_text, message};
 
@@ -28,11 +29,11 @@ fn verdict_words(reason: Reason) -> &'static str
 /// Adds the earlier access, and what led there.
 fn push_witness(
     account: &mut Account,
-    scene: &Scene<'_, '_, Global>,
+    scene: &Scene<'_, '_>,
     pair: &Pair,
     encounter: &Encounter<Global>,
 )
-    ensures { Adds account.old (witness_text scene.now pair.now encounter.now) account.new }
+    ensures { Adds account.old (witness_text (setting_of scene.now) pair.now encounter.now) account.new }
 {
     push_access(account, scene, pair.witness, b'-');
     account.words("\n");
@@ -43,11 +44,11 @@ fn push_witness(
 /// Adds what is told of the earlier access, where there is one.
 fn push_earlier(
     account: &mut Account,
-    scene: &Scene<'_, '_, Global>,
+    scene: &Scene<'_, '_>,
     pair: &Pair,
     encounter: &Encounter<Global>,
 )
-    ensures { Adds account.old (earlier_text pair.now.lines.reason scene.now pair.now encounter.now) account.new }
+    ensures { Adds account.old (earlier_text pair.now.lines.reason (setting_of scene.now) pair.now encounter.now) account.new }
 {
     match pair.lines.reason {
         Reason::Race { .. } | Reason::ViewRead => push_witness(account, scene, pair, encounter),
@@ -58,11 +59,11 @@ fn push_earlier(
 /// Adds the refused access, and what led there.
 fn push_refused(
     account: &mut Account,
-    scene: &Scene<'_, '_, Global>,
+    scene: &Scene<'_, '_>,
     pair: &Pair,
     encounter: &Encounter<Global>,
 )
-    ensures { Adds account.old (refused_text scene.now pair.now encounter.now) account.new }
+    ensures { Adds account.old (refused_text (setting_of scene.now) pair.now encounter.now) account.new }
 {
     push_access(account, scene, pair.first, b'^');
     account.words(verdict_words(pair.lines.reason));
@@ -72,11 +73,11 @@ fn push_refused(
 /// Adds what would order the two.
 fn push_advice(
     account: &mut Account,
-    scene: &Scene<'_, '_, Global>,
+    scene: &Scene<'_, '_>,
     pair: &Pair,
     encounter: &Encounter<Global>,
 )
-    ensures { Adds account.old (advice_text pair.now.lines.reason scene.now pair.now encounter.now) account.new }
+    ensures { Adds account.old (advice_text pair.now.lines.reason (setting_of scene.now) pair.now encounter.now) account.new }
 {
     match pair.lines.reason {
         Reason::Race { .. } => {
@@ -92,12 +93,12 @@ fn push_advice(
 pub(crate) fn push_message(
     alloc: Global,
     account: &mut Account,
-    scene: &Scene<'_, '_, Global>,
+    scene: &Scene<'_, '_>,
     pair: &Pair,
     places: &[u32],
     encounter: &Encounter<Global>,
 )
-    ensures { Adds account.old (message scene.now pair.now places.now encounter.now) account.new }
+    ensures { Adds account.old (message (setting_of scene.now) pair.now places.now encounter.now) account.new }
 {
     push_title(alloc, account, scene, pair, places);
     push_earlier(account, scene, pair, encounter);

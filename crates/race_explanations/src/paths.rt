@@ -1,69 +1,169 @@
-//! An access shown in the program's text, and the spawns and calls that led there.
+//! An access shown where it stands, and the spawns and calls that led there.
 
 ghost use Rattle.std.specs.Prelude.{◌++◌, codes};
-ghost use Rattle.source_quotes.specs.Lines.{line_in};
-ghost use Rattle.race_explanations.specs.Names.{statement};
+ghost use Rattle.std.specs.Option.{option_map};
+ghost use Rattle.trace_notes.specs.Places.{place_parts};
 ghost use Rattle.race_explanations.specs.Accounts.{Adds};
-ghost use Rattle.race_explanations.specs.Paths.{within, access_text, link_text, links_text, links_left_out, chain_text};
+ghost use Rattle.race_explanations.specs.Scenes.{setting_of};
+ghost use Rattle.race_explanations.specs.Names.{statement, function_at};
+ghost use Rattle.race_explanations.specs.Paths.{site_words, line_words, function_within, place_within, within, shown_within};
+ghost use Rattle.race_explanations.specs.Paths.{code_line, code_at, placed, shown_line, statement_text};
+ghost use Rattle.race_explanations.specs.Paths.{access_text, link_text, links_text, links_left_out, chain_text};
 
 use crate::account::Account;
-use crate::scene::Scene;
-use crate::words::{function_at, line_of, way_at, word_at};
+use crate::scene::{Origin, Scene};
+use crate::words::{function_in, line_of, way_at, word_at};
 use source_quotes::statement_of;
 use std::alloc::Global;
+use trace_notes::{Notes, Place};
 
 /// How many spawns and calls are told at most.
 const LINKS: usize = 8;
 
-/// Adds in which function a line stands.
-fn push_within(account: &mut Account, scene: &Scene<'_, '_, Global>, line: u32)
-    ensures { Adds account.old (within scene.now line) account.new }
+/// Adds the place that a mark stands for, or its number where no note says it.
+fn push_site(account: &mut Account, place: Option<Place<'_>>, line: u32)
+    ensures { Adds account.old (site_words (option_map place_parts place.entry) line) account.new }
 {
-    account.words(", in `");
-    account.words(function_at(scene, line));
-    account.words("`");
+    match place {
+        Some(place) => account.words(place.location),
+        None => account.number("line ", u64::from(line)),
+    }
+}
+
+/// Adds where a line is, in a sentence.
+pub(crate) fn push_line(account: &mut Account, scene: &Scene<'_, '_>, line: u32)
+    ensures { Adds account.old (line_words (setting_of scene.now).origin line) account.new }
+{
+    match &scene.origin {
+        Origin::Program { .. } => account.number("line ", u64::from(line)),
+        Origin::Trace { notes } => push_site(account, notes.place_of(line), line),
+    }
+}
+
+/// Adds in which function a place is, where its note says so.
+fn push_place_within(account: &mut Account, place: Option<Place<'_>>)
+    ensures { Adds account.old (place_within (option_map place_parts place.entry)) account.new }
+{
+    let Some(
+        Place {
+            function: Some(name),
+            ..
+        },
+    ) = place
+    else {
+        return;
+    };
+    account.words(", in ");
+    account.words(name);
+}
+
+/// Adds in which function a line stands.
+fn push_within(account: &mut Account, scene: &Scene<'_, '_>, line: u32)
+    ensures { Adds account.old (within (setting_of scene.now).origin line) account.new }
+{
+    match &scene.origin {
+        Origin::Program { program, .. } => {
+            account.words(", in `");
+            account.words(function_in(program, line));
+            account.words("`");
+        }
+        Origin::Trace { notes } => push_place_within(account, notes.place_of(line)),
+    }
+}
+
+/// Adds in which function an access stands that is shown, where it is not told yet.
+fn push_shown_within(account: &mut Account, scene: &Scene<'_, '_>, line: u32)
+    ensures { Adds account.old (shown_within (setting_of scene.now).origin line) account.new }
+{
+    match &scene.origin {
+        Origin::Program { .. } => push_within(account, scene, line),
+        Origin::Trace { .. } => {}
+    }
+}
+
+/// Adds the code at a place, where its note has it.
+fn push_code(account: &mut Account, scene: &Scene<'_, '_>, place: Option<Place<'_>>)
+    ensures { Adds account.old (code_at scene.now.look (option_map place_parts place.entry)) account.new }
+{
+    let Some(
+        Place {
+            code: Some(code),
+            ..
+        },
+    ) = place
+    else {
+        return;
+    };
+    account.gutter(scene);
+    account.words("  ");
+    account.words(code);
+    account.words("\n");
+}
+
+/// Adds a place of a trace, the code there, and the left of what is told of it.
+fn push_placed(account: &mut Account, scene: &Scene<'_, '_>, place: Option<Place<'_>>, line: u32)
+    ensures { Adds account.old (placed scene.now.look (option_map place_parts place.entry) line) account.new }
+{
+    account.left(scene.look, "-->");
+    account.words(" ");
+    push_site(account, place, line);
+    push_place_within(account, place);
+    account.words("\n");
+    push_code(account, scene, place);
+    account.left(scene.look, " =");
+}
+
+/// Adds a line where it stands, and below it this sign.
+pub(crate) fn push_shown(account: &mut Account, scene: &Scene<'_, '_>, line: u32, mark: u8)
+    ensures { Adds account.old (shown_line (setting_of scene.now) line mark) account.new }
+{
+    match &scene.origin {
+        Origin::Program { source, .. } => account.marked(scene.look, source, line, mark),
+        Origin::Trace { notes } => push_placed(account, scene, notes.place_of(line), line),
+    }
 }
 
 /// Adds the line of the entry with this number, and below it what it did and in which function.
-pub(crate) fn push_access(
-    account: &mut Account,
-    scene: &Scene<'_, '_, Global>,
-    number: usize,
-    mark: u8,
-)
-    ensures { Adds account.old (access_text scene.now number mark) account.new }
+pub(crate) fn push_access(account: &mut Account, scene: &Scene<'_, '_>, number: usize, mark: u8)
+    ensures { Adds account.old (access_text (setting_of scene.now) number mark) account.new }
 {
     let line = line_of(scene, number);
-    account.marked(scene, line, mark);
+    push_shown(account, scene, line, mark);
     account.words(" this ");
     account.words(word_at(scene, number));
-    push_within(account, scene, line);
+    push_shown_within(account, scene, line);
 }
 
-/// Adds the statement of a line.
-fn push_statement(account: &mut Account, scene: &Scene<'_, '_, Global>, line: u32)
-    ensures { Adds account.old (codes ": " ++ statement (line_in scene.now.source line) ++ codes "\n") account.new }
+/// Adds the statement of a line, behind what is told of it.
+fn push_statement(account: &mut Account, scene: &Scene<'_, '_>, line: u32)
+    ensures { Adds account.old (statement_text (setting_of scene.now).origin line) account.new }
 {
-    account.words(": ");
-    account.bytes(statement_of(scene.source.line(line)));
+    match &scene.origin {
+        Origin::Program { source, .. } => {
+            account.words(": ");
+            account.bytes(statement_of(source.line(line)));
+        }
+        Origin::Trace { .. } => {}
+    }
     account.words("\n");
 }
 
 /// Adds a spawn or a call on the way to an access.
-fn push_link(account: &mut Account, scene: &Scene<'_, '_, Global>, number: usize)
-    ensures { Adds account.old (link_text scene.now number) account.new }
+fn push_link(account: &mut Account, scene: &Scene<'_, '_>, number: usize)
+    ensures { Adds account.old (link_text (setting_of scene.now) number) account.new }
 {
     let line = line_of(scene, number);
     account.noted(scene);
     account.words(way_at(scene, number));
-    account.line(" at line ", line);
+    account.words(" at ");
+    push_line(account, scene, line);
     push_within(account, scene, line);
     push_statement(account, scene, line);
 }
 
 /// Adds spawns and calls on the way to an access.
-fn push_links(account: &mut Account, scene: &Scene<'_, '_, Global>, chain: &[usize])
-    ensures { Adds account.old (links_text scene.now chain.now) account.new }
+fn push_links(account: &mut Account, scene: &Scene<'_, '_>, chain: &[usize])
+    ensures { Adds account.old (links_text (setting_of scene.now) chain.now) account.new }
 {
     for number in chain {
         push_link(account, scene, *number);
@@ -71,8 +171,8 @@ fn push_links(account: &mut Account, scene: &Scene<'_, '_, Global>, chain: &[usi
 }
 
 /// Adds how many spawns and calls are left out.
-fn push_links_left_out(account: &mut Account, scene: &Scene<'_, '_, Global>, count: usize)
-    ensures { Adds account.old (links_left_out scene.now count) account.new }
+fn push_links_left_out(account: &mut Account, scene: &Scene<'_, '_>, count: usize)
+    ensures { Adds account.old (links_left_out (setting_of scene.now) count) account.new }
 {
     if count <= LINKS {
         return;
@@ -83,8 +183,8 @@ fn push_links_left_out(account: &mut Account, scene: &Scene<'_, '_, Global>, cou
 }
 
 /// Adds the innermost eight of the spawns and calls that led to an access, and how many more there are.
-pub(crate) fn push_chain(account: &mut Account, scene: &Scene<'_, '_, Global>, chain: &[usize])
-    ensures { Adds account.old (chain_text scene.now chain.now) account.new }
+pub(crate) fn push_chain(account: &mut Account, scene: &Scene<'_, '_>, chain: &[usize])
+    ensures { Adds account.old (chain_text (setting_of scene.now) chain.now) account.new }
 {
     let (told, _) = chain.split_at(chain.len().min(LINKS));
     push_links(account, scene, told);

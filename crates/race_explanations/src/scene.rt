@@ -1,37 +1,46 @@
 //! What races are told from.
 
+ghost use Rattle.std.specs.Prelude.{IsTrue};
+ghost use Rattle.trace_text.specs.Shapes.{is_numbered};
+
 use program_text::Program;
 use race_gate::Entry;
 use source_quotes::{Look, Source};
-use std::alloc::Allocator;
-use std::marker::Model;
+use std::alloc::Global;
+use text_words::{Mem, Reducer};
+use trace_notes::Notes;
 
-/// What races are told from: a program, the file and the lines that it was read from, and the entries of a run of it, the oldest first.
+/// Where the lines of requests stand.
 #[derive(Drop)]
-pub struct Scene<'s, 'a, A: Allocator> {
-    /// How quotes look.
-    pub look: Look,
-    /// The name of the program's file.
-    pub file: &'s str,
-    /// The lines of its text.
-    pub source: &'s Source<'a, A>,
-    /// The program.
-    pub program: &'s Program<A>,
-    /// The entries of a run of it.
-    pub entries: &'s [Entry],
+pub enum Origin<'s, 'a> {
+    /// In the text of a program.
+    Program {
+        /// The name of the program's file.
+        file: &'s str,
+        /// The lines of its text.
+        source: &'s Source<'a, Global>,
+        /// The program.
+        program: &'s Program<Global>,
+    },
+    /// Where the notes of a trace say.
+    Trace {
+        /// The notes of its texts.
+        notes: &'s Notes<Global>,
+    },
 }
 
-impl<'s, 'a, A: Allocator> Model for Scene<'s, 'a, A> {
-    ghost use Rattle.program_text.specs.Programs.{contents};
-    ghost use Rattle.race_explanations.specs.Settings.{Setting};
-
-    ghost Value = { Setting };
-
-    ghost view = { λ scene. record {
-      look = scene.look;
-      file = scene.file.now;
-      source = scene.source.now;
-      program = contents scene.program.now;
-      entries = scene.entries.now;
-    } };
+/// What races are told from: where lines stand, the memories and reducers that are named, and the entries of a run, the oldest first.
+#[derive(Drop)]
+pub struct Scene<'s, 'a> {
+    /// How quotes look.
+    pub look: Look,
+    /// Where the lines of requests stand.
+    pub origin: Origin<'s, 'a>,
+    /// The memories that are declared.
+    pub mems: &'s [Mem],
+    /// The reducers that are declared.
+    pub reducers: &'s [Reducer],
+    /// The entries of the run.
+    pub entries: &'s [Entry],
+    ghost numbered: { IsTrue (is_numbered 0 mems.now) },
 }

@@ -1,23 +1,21 @@
 //! The first lines of what is told of a race.
 
-ghost use Rattle.std.specs.Prelude.{◌≡◌, IfOk, string_bytes};
-ghost use Rattle.program_text.specs.Programs.{contents};
+ghost use Rattle.std.specs.Prelude.{◌≡◌, ◌≤◌, ◌∷◌, ℕ, List, IfOk, string_bytes};
+ghost use Rattle.trace_notes.specs.Notes.{noted_text};
 ghost use Rattle.race_explanations.specs.Accounts.{Adds};
-ghost use Rattle.race_explanations.specs.Titles.{sort_word, reason_words, spaced_name, other_names};
-ghost use Rattle.race_explanations.specs.Titles.{listed_names, left_out, names_text, headline, title_text};
-ghost use Rattle.race_report.specs.Refusals.{name_of_reducer};
+ghost use Rattle.race_explanations.specs.Scenes.{setting_of};
+ghost use Rattle.race_explanations.specs.Titles.{sort_word, reason_words, name_of_place, noted_name, told_name, spaced_name, other_names};
+ghost use Rattle.race_explanations.specs.Titles.{listed_names, most_names, left_out, names_text, headline, heading, title_text};
+ghost use Rattle.trace_text.specs.Printing.{name_of_reducer};
 
 use crate::account::Account;
-use crate::scene::Scene;
+use crate::scene::{Origin, Scene};
 use access_table::word;
-use program_text::Program;
 use race_pairs::{Pair, Reason};
 use std::alloc::{AllocError, Global};
 use text_words::Reducer;
+use trace_notes::Notes;
 use trace_text::{put_cell, put_word};
-
-/// How many names are told at most.
-const NAMES: usize = 8;
 
 /// The sort of a refusal.
 fn sort_word(reason: Reason) -> &'static str
@@ -59,34 +57,58 @@ fn reducer_name(reducers: &[Reducer], number: u32) -> &str
 /// A space and the name of what a refusal was about.
 fn spaced_name(
     alloc: Global,
-    program: &Program<Global>,
+    scene: &Scene<'_, '_>,
     reason: Reason,
     place: u32,
 ) -> Result<String, AllocError>
-    ensures { IfOk result (λ name. string_bytes name ≡ spaced_name (contents program.now).known reason place) }
+    ensures { IfOk result (λ name. string_bytes name ≡ 32 ∷ name_of_place scene.now.mems.now scene.now.reducers.now reason place) }
 {
     let mut name = String::new(alloc);
     match reason {
-        Reason::Race { .. } => put_cell(&mut name, program.mems.as_slice(), place)?,
-        Reason::ViewRead | Reason::Unset => {
-            put_word(&mut name, reducer_name(program.reducers.as_slice(), place))?
-        }
+        Reason::Race { .. } => put_cell(&mut name, scene.mems, place)?,
+        Reason::ViewRead | Reason::Unset => put_word(
+            &mut name,
+            reducer_name(scene.reducers, place),
+        )?,
     }
     Ok(name)
 }
 
-/// Adds a space and the name of what a refusal was about.
+/// Adds what the notes of a trace say of a name, or the name.
+fn push_noted(account: &mut Account, notes: &Notes<Global>, name: &str)
+    ensures { Adds account.old (noted_name (noted_text notes.now name.now) name.now) account.new }
+{
+    match notes.text_of(name) {
+        Some(text) => account.words(text),
+        None => account.words(name),
+    }
+}
+
+/// Adds what a name behind a space is told as.
+fn push_told(account: &mut Account, scene: &Scene<'_, '_>, spaced: &str)
+    ensures { (name : List ℕ) → spaced.now ≡ 32 ∷ name → Adds account.old (32 ∷ told_name (setting_of scene.now).origin name) account.new }
+{
+    match (&scene.origin, spaced.split_once(' ')) {
+        (Origin::Trace { notes }, Some((_, name))) => {
+            account.words(" ");
+            push_noted(account, notes, name);
+        }
+        _ => account.words(spaced),
+    }
+}
+
+/// Adds a space and what the name of what a refusal was about is told as.
 fn push_name(
     alloc: Global,
     account: &mut Account,
-    program: &Program<Global>,
+    scene: &Scene<'_, '_>,
     reason: Reason,
     place: u32,
 )
-    ensures { Adds account.old (spaced_name (contents program.now).known reason place) account.new }
+    ensures { Adds account.old (spaced_name (setting_of scene.now) reason place) account.new }
 {
-    match spaced_name(alloc, program, reason, place) {
-        Ok(name) => account.words(name.as_str()),
+    match spaced_name(alloc, scene, reason, place) {
+        Ok(name) => push_told(account, scene, name.as_str()),
         Err(_) => account.fail(),
     }
 }
@@ -95,15 +117,15 @@ fn push_name(
 fn push_others(
     alloc: Global,
     account: &mut Account,
-    program: &Program<Global>,
+    scene: &Scene<'_, '_>,
     reason: Reason,
     places: &[u32],
 )
-    ensures { Adds account.old (other_names (contents program.now).known reason places.now) account.new }
+    ensures { Adds account.old (other_names (setting_of scene.now) reason places.now) account.new }
 {
     for place in places {
         account.words(",");
-        push_name(alloc, account, program, reason, *place);
+        push_name(alloc, account, scene, reason, *place);
     }
 }
 
@@ -111,75 +133,97 @@ fn push_others(
 fn push_list(
     alloc: Global,
     account: &mut Account,
-    program: &Program<Global>,
+    scene: &Scene<'_, '_>,
     reason: Reason,
     places: &[u32],
 )
-    ensures { Adds account.old (listed_names (contents program.now).known reason places.now) account.new }
+    ensures { Adds account.old (listed_names (setting_of scene.now) reason places.now) account.new }
 {
     let Some((first, others)) = places.split_first() else {
         return;
     };
-    push_name(alloc, account, program, reason, *first);
-    push_others(alloc, account, program, reason, others);
+    push_name(alloc, account, scene, reason, *first);
+    push_others(alloc, account, scene, reason, others);
+}
+
+/// How many names are told at most: what a name stands for in a trace is long.
+fn most_names(scene: &Scene<'_, '_>) -> usize
+    ensures value { result ≡ most_names (setting_of scene.now).origin }
+    ensures range { result ≤ 8 }
+{
+    match &scene.origin {
+        Origin::Program { .. } => 8,
+        Origin::Trace { .. } => 1,
+    }
 }
 
 /// Adds how many names are left out.
-fn push_left_out(account: &mut Account, count: usize)
-    ensures { Adds account.old (left_out count) account.new }
+fn push_left_out(account: &mut Account, most: usize, count: usize)
+    ensures { Adds account.old (left_out most count) account.new }
 {
-    if count <= NAMES {
+    if count <= most {
         return;
     }
-    account.number(" and ", (count - NAMES) as u64);
+    account.number(" and ", (count - most) as u64);
     account.words(" more");
 }
 
-/// Adds the names of at most eight, and how many more there are.
+/// Adds the names of some, and how many more there are.
 fn push_names(
     alloc: Global,
     account: &mut Account,
-    program: &Program<Global>,
+    scene: &Scene<'_, '_>,
     reason: Reason,
     places: &[u32],
 )
-    ensures { Adds account.old (names_text (contents program.now).known reason places.now) account.new }
+    ensures { Adds account.old (names_text (setting_of scene.now) reason places.now) account.new }
 {
-    let (told, _) = places.split_at(places.len().min(NAMES));
-    push_list(alloc, account, program, reason, told);
-    push_left_out(account, places.len());
+    let most = most_names(scene);
+    let (told, _) = places.split_at(places.len().min(most));
+    push_list(alloc, account, scene, reason, told);
+    push_left_out(account, most, places.len());
 }
 
 /// Adds the kind of the race, what it was on, and how often it came.
 fn push_headline(
     alloc: Global,
     account: &mut Account,
-    scene: &Scene<'_, '_, Global>,
+    scene: &Scene<'_, '_>,
     pair: &Pair,
     places: &[u32],
 )
-    ensures { Adds account.old (headline scene.now pair.now places.now) account.new }
+    ensures { Adds account.old (headline (setting_of scene.now) pair.now places.now) account.new }
 {
     let reason = pair.lines.reason;
     account.red(scene, sort_word(reason));
     account.words(": ");
     push_reason(account, reason);
-    push_names(alloc, account, scene.program, reason, places);
+    push_names(alloc, account, scene, reason, places);
     account.words(", ");
     account.count(pair.times, "time");
+}
+
+/// Adds where a program's line is; a place of a trace is told with the access.
+fn push_heading(account: &mut Account, scene: &Scene<'_, '_>, line: u32)
+    ensures { Adds account.old (heading scene.now.look (setting_of scene.now).origin line) account.new }
+{
+    match &scene.origin {
+        Origin::Program { file, .. } => account.place(scene.look, file, line),
+        Origin::Trace { .. } => {}
+    }
 }
 
 /// Adds the kind of the race, what it was on, how often it came, and where.
 pub(crate) fn push_title(
     alloc: Global,
     account: &mut Account,
-    scene: &Scene<'_, '_, Global>,
+    scene: &Scene<'_, '_>,
     pair: &Pair,
     places: &[u32],
 )
-    ensures { Adds account.old (title_text scene.now pair.now places.now) account.new }
+    ensures { Adds account.old (title_text (setting_of scene.now) pair.now places.now) account.new }
 {
     push_headline(alloc, account, scene, pair, places);
     account.words("\n");
-    account.place(scene, pair.lines.line);
+    push_heading(account, scene, pair.lines.line);
 }

@@ -7,17 +7,22 @@ ghost use Rattle.program_text.specs.Programs.{contents};
 ghost use Rattle.model_histories.specs.Legal.{IsLegal};
 ghost use Rattle.spawn_chains.specs.Makers.{IsLineage};
 ghost use Rattle.race_explanations.specs.Accounts.{Adds};
-ghost use Rattle.race_explanations.specs.Explained.{TellsMore, AreTold, pairs_left_out, among, summary, refusals_among, IsExplanation};
+ghost use Rattle.race_explanations.specs.Scenes.{setting_of};
+ghost use Rattle.trace_text.specs.Traces.{contents as trace_contents};
+ghost use Rattle.race_explanations.specs.Explained.{TellsMore, AreTold, pairs_words, pairs_left_out, among, summary, refusals_among};
+ghost use Rattle.race_explanations.specs.Explained.{TellsEntries, IsExplanation, IsTraceExplanation};
 
 use crate::account::Account;
 use crate::message::push_message;
-use crate::scene::Scene;
+use crate::scene::{Origin, Scene};
 use program_text::Program;
 use race_gate::Entry;
 use race_pairs::{Encounter, Pair, pairs, places, refusal_of};
 use source_quotes::{Look, Source};
 use spawn_chains::Lineage;
 use std::alloc::{AllocError, Global};
+use trace_notes::Notes;
+use trace_text::Trace;
 
 /// How many pairs of lines are told of at most.
 const PAIRS: usize = 20;
@@ -26,13 +31,13 @@ const PAIRS: usize = 20;
 fn push_pair(
     alloc: Global,
     account: &mut Account,
-    scene: &Scene<'_, '_, Global>,
+    scene: &Scene<'_, '_>,
     lineage: &Lineage<Global>,
     pair: &Pair,
 )
-    requires lineage { IsLineage lineage.now (reverse scene.now.entries) }
-    requires legal { (shape : Shape) × IsLegal shape (reverse scene.now.entries) }
-    ensures { TellsMore scene.now pair.now account.old account.new }
+    requires lineage { IsLineage lineage.now (reverse scene.now.entries.now) }
+    requires legal { (shape : Shape) × IsLegal shape (reverse scene.now.entries.now) }
+    ensures { TellsMore (setting_of scene.now) pair.now account.old account.new }
 {
     let Ok(found) = places(alloc, scene.entries, pair) else {
         return account.fail();
@@ -47,30 +52,41 @@ fn push_pair(
 fn push_pairs(
     alloc: Global,
     account: &mut Account,
-    scene: &Scene<'_, '_, Global>,
+    scene: &Scene<'_, '_>,
     lineage: &Lineage<Global>,
     pairs: &[Pair],
 )
     requires new { account.old ≡ Some [] }
-    requires lineage { IsLineage lineage.now (reverse scene.now.entries) }
-    requires legal { (shape : Shape) × IsLegal shape (reverse scene.now.entries) }
-    ensures { AreTold scene.now pairs.now account.new }
+    requires lineage { IsLineage lineage.now (reverse scene.now.entries.now) }
+    requires legal { (shape : Shape) × IsLegal shape (reverse scene.now.entries.now) }
+    ensures { AreTold (setting_of scene.now) pairs.now account.new }
 {
     for pair in pairs {
         push_pair(alloc, account, scene, lineage, pair);
     }
 }
 
+/// What there are pairs of.
+fn pairs_words(scene: &Scene<'_, '_>) -> &'static str
+    ensures { result.now ≡ pairs_words (setting_of scene.now).origin }
+{
+    match &scene.origin {
+        Origin::Program { .. } => " of lines",
+        Origin::Trace { .. } => " of places",
+    }
+}
+
 /// Adds how many pairs are left out.
-fn push_left_out(account: &mut Account, count: usize)
-    ensures { Adds account.old (pairs_left_out count) account.new }
+fn push_left_out(account: &mut Account, scene: &Scene<'_, '_>, count: usize)
+    ensures { Adds account.old (pairs_left_out (setting_of scene.now).origin count) account.new }
 {
     if count <= PAIRS {
         return;
     }
     account.words("and ");
     account.count(count - PAIRS, "more pair");
-    account.words(" of lines\n");
+    account.words(pairs_words(scene));
+    account.words("\n");
 }
 
 /// How many entries are refusals.
@@ -83,36 +99,52 @@ fn refusal_count(entries: &[Entry]) -> usize
         .count()
 }
 
-/// Adds at how many pairs of lines, and among how many requests.
-fn push_among(account: &mut Account, count: usize, requests: usize)
-    ensures { Adds account.old (among count requests) account.new }
+/// Adds at how many pairs, and among how many requests.
+fn push_among(account: &mut Account, scene: &Scene<'_, '_>, count: usize, requests: usize)
+    ensures { Adds account.old (among (setting_of scene.now).origin count requests) account.new }
 {
     account.words(" at ");
     account.count(count, "pair");
-    account.words(" of lines, among ");
+    account.words(pairs_words(scene));
+    account.words(", among ");
     account.count(requests, "request");
     account.words("\n");
 }
 
 /// Adds how many refusals there were.
-fn push_summary(account: &mut Account, entries: &[Entry], count: usize)
-    ensures { Adds account.old (summary entries.now count) account.new }
+fn push_summary(account: &mut Account, scene: &Scene<'_, '_>, count: usize)
+    ensures { Adds account.old (summary (setting_of scene.now) count) account.new }
 {
-    account.count(refusal_count(entries), "refusal");
-    push_among(account, count, entries.len());
+    account.count(refusal_count(scene.entries), "refusal");
+    push_among(account, scene, count, scene.entries.len());
+}
+
+/// Tells of the entries of a scene.
+fn entries_told(alloc: Global, scene: &Scene<'_, '_>) -> Result<Vec<u8>, AllocError>
+    requires legal { (shape : Shape) × IsLegal shape (reverse scene.now.entries.now) }
+    ensures { IfOk result (λ told. TellsEntries (setting_of scene.now) told.items) }
+{
+    let lineage = Lineage::new(alloc, scene.entries)?;
+    let found = pairs(alloc, scene.entries)?;
+    let (first, _) = found.as_slice().split_at(found.len().min(PAIRS));
+    let mut account = Account::new(alloc);
+    push_pairs(alloc, &mut account, scene, &lineage, first);
+    push_left_out(&mut account, scene, found.len());
+    push_summary(&mut account, scene, found.len());
+    account.end()
 }
 
 /// Explains the entries of a run of a program to a person, the oldest first. The text tells each pair of lines that raced, in the order
 /// of their first refusals: the kind of the race, on what and how often, both lines of the program's text with the spawns and calls that
 /// led there, the spawn where the two part, and what would order them; of more than twenty pairs, how many more there are; and at the
 /// end how many refusals there were. Errors where there is no memory.
-pub fn explanation(
+pub fn explanation<'s>(
     alloc: Global,
     is_painted: bool,
-    file: &str,
+    file: &'s str,
     text: &[u8],
-    program: &Program<Global>,
-    entries: &[Entry],
+    program: &'s Program<Global>,
+    entries: &'s [Entry],
 ) -> Result<Vec<u8>, AllocError>
     requires legal { (shape : Shape) × IsLegal shape (reverse entries.now) }
     ensures { IfOk result (λ told. IsExplanation is_painted file.now (lines text.now) (contents program.now) entries.now told.items) }
@@ -121,17 +153,44 @@ pub fn explanation(
     let look = Look::of(is_painted, &source);
     let scene = Scene {
         look,
-        file,
-        source: &source,
-        program,
+        origin: Origin::Program {
+            file,
+            source: &source,
+            program,
+        },
+        mems: program.mems.as_slice(),
+        reducers: program.reducers.as_slice(),
         entries,
     };
-    let lineage = Lineage::new(alloc, entries)?;
-    let found = pairs(alloc, entries)?;
-    let (first, _) = found.as_slice().split_at(found.len().min(PAIRS));
-    let mut account = Account::new(alloc);
-    push_pairs(alloc, &mut account, &scene, &lineage, first);
-    push_left_out(&mut account, found.len());
-    push_summary(&mut account, entries, found.len());
-    account.end()
+    entries_told(alloc, &scene)
+}
+
+/// How wide the column at the left is where no line of a program is quoted.
+const WIDTH: usize = 2;
+
+/// Explains the entries of a trace with these notes to a person, the oldest first, as [`explanation`] does those of a run: each place is
+/// told as its note says, with the function and the code there, or by its number where no note says it, and each cell and reducer as its
+/// note says, or by its name. Errors where there is no memory.
+pub fn trace_explanation<'s>(
+    alloc: Global,
+    is_painted: bool,
+    notes: &'s Notes<Global>,
+    trace: &'s Trace<Global>,
+    entries: &'s [Entry],
+) -> Result<Vec<u8>, AllocError>
+    requires legal { (shape : Shape) × IsLegal shape (reverse entries.now) }
+    ensures { IfOk result (λ told. IsTraceExplanation is_painted notes.now (trace_contents trace.now).known entries.now told.items) }
+{
+    let look = Look {
+        is_painted,
+        width: WIDTH,
+    };
+    let scene = Scene {
+        look,
+        origin: Origin::Trace { notes },
+        mems: trace.mems.as_slice(),
+        reducers: trace.reducers.as_slice(),
+        entries,
+    };
+    entries_told(alloc, &scene)
 }

@@ -3,6 +3,7 @@
 ghost use Rattle.std.specs.Prelude.{◌≡◌};
 ghost use Rattle.program_text.specs.Programs.{contents};
 ghost use Rattle.race_pairs.specs.Refusals.{line_at};
+ghost use Rattle.race_explanations.specs.Scenes.{setting_of};
 ghost use Rattle.race_explanations.specs.Names.{function_at, word_at, way_at};
 
 use crate::scene::Scene;
@@ -13,7 +14,7 @@ use std::alloc::{Allocator, Global};
 use text_words::{Act, access_asked};
 
 /// The name of the function of a program in which a line stands.
-fn function_in<A: Allocator>(program: &Program<A>, line: u32) -> &str
+pub(crate) fn function_in<A: Allocator>(program: &Program<A>, line: u32) -> &str
     ensures { result.now ≡ function_at (contents program.now).functions line }
 {
     let mut name = "";
@@ -26,23 +27,16 @@ fn function_in<A: Allocator>(program: &Program<A>, line: u32) -> &str
     name
 }
 
-/// The name of the function in which a line stands.
-pub(crate) fn function_at<'s>(scene: &Scene<'s, '_, Global>, line: u32) -> &'s str
-    ensures { result.now ≡ function_at scene.now.program.functions line }
-{
-    function_in(scene.program, line)
-}
-
 /// The line of the entry with this number.
-pub(crate) fn line_of(scene: &Scene<'_, '_, Global>, number: usize) -> u32
-    ensures { result ≡ line_at scene.now.entries number }
+pub(crate) fn line_of(scene: &Scene<'_, '_>, number: usize) -> u32
+    ensures { result ≡ line_at scene.now.entries.now number }
 {
     race_pairs::line_at(scene.entries, number)
 }
 
 /// What the access did that is the entry with this number.
-pub(crate) fn word_at(scene: &Scene<'_, '_, Global>, number: usize) -> &'static str
-    ensures { result.now ≡ word_at scene.now.entries number }
+pub(crate) fn word_at(scene: &Scene<'_, '_>, number: usize) -> &'static str
+    ensures { result.now ≡ word_at scene.now.entries.now number }
 {
     match entry_at(scene.entries, number) {
         Some(entry) => match access_asked(entry.request.act) {
@@ -54,8 +48,8 @@ pub(crate) fn word_at(scene: &Scene<'_, '_, Global>, number: usize) -> &'static 
 }
 
 /// How the entry with this number came to a function.
-pub(crate) fn way_at(scene: &Scene<'_, '_, Global>, number: usize) -> &'static str
-    ensures { result.now ≡ way_at scene.now.entries number }
+pub(crate) fn way_at(scene: &Scene<'_, '_>, number: usize) -> &'static str
+    ensures { result.now ≡ way_at scene.now.entries.now number }
 {
     match entry_at(scene.entries, number) {
         Some(entry) => match entry.request.act {

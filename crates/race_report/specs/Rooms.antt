@@ -1,14 +1,6 @@
--- Room in a text for the bytes that are added to it.
-use Rattle.std.specs.Prelude.{ℕ, ◌+◌, ◌≤◌, Vec, vec_len, vec_capacity}
+-- Room in a text for a verdict line.
+use Rattle.std.specs.Prelude.{ℕ}
 
--- there is room for so many bytes more
-abbrev pub HasRoom : {A : Type 0} → ℕ → Vec ℕ A → Type 0
-HasRoom bytes text = vec_len text + bytes ≤ vec_capacity text
-
--- with this much room a number of 64 bits can be added
-abbrev pub number_room : ℕ
-number_room = 20
-
--- and with this much a verdict line: four numbers of at most 20 digits each, and the words between them
+-- with this much room a verdict line can be added: four numbers of at most 20 digits each, and the words between them
 abbrev pub line_room : ℕ
 line_room = 96

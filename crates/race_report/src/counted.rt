@@ -20,7 +20,7 @@ pub struct Counted {
 impl Model for Counted {
     ghost use Rattle.std.specs.Prelude.{◌≡◌, ◌≤◌, take};
     ghost use Rattle.std.specs.Prelude.{ℕ};
-    ghost use Rattle.race_report.specs.Rooms.{number_room};
+    ghost use Rattle.text_buffers.specs.Rooms.{number_room};
     ghost use Rattle.race_report.specs.Counted.{leading};
 
     ghost Value = { ℕ };

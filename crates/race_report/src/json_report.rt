@@ -14,13 +14,14 @@ ghost use Rattle.race_report.specs.Refusals.{name_asked, line_of_entry, answer_t
 ghost use Rattle.race_report.specs.ReportText.{cells_told, memory_told, first_words, last_words, refusal_head, witness_tail, report_text};
 ghost use Rattle.race_report.specs.Conditions.{shape_known, IsTellable, AreTellable};
 
-use crate::verdict::{push_number, push_words, rule_of_refusal};
+use crate::verdict::rule_of_refusal;
 use locked_replay::{Entries, Whole};
 use model_accesses::Witness;
 use program_text::Program;
 use race_gate::{Answer, Entry};
 use serde_json::{Map, Value, put};
 use std::alloc::{AllocError, Allocator, Global};
+use text_buffers::{push_number, push_words};
 use text_words::{Act, Mem, Request};
 use trace_text::cell_name;
 

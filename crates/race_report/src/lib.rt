@@ -16,4 +16,4 @@ mod verdict;
 pub use counted::Counted;
 pub use json_report::report;
 pub use placed::put_word;
-pub use verdict::{LINE_ROOM, push_number, push_words, put_told, put_verdict, verdict_lines};
+pub use verdict::{LINE_ROOM, put_told, put_verdict, verdict_lines};

@@ -6,12 +6,11 @@ ghost use Rattle.std.specs.List.{All};
 ghost use Rattle.race_report.specs.VerdictText.{refusal_word, HasWord, HasWords, answer_text};
 ghost use Rattle.race_report.specs.VerdictText.{fault_word, numbers_text, line_of_reply, verdict_text};
 ghost use Rattle.race_report.specs.RefusedText.{earlier_told, new_told};
-ghost use Rattle.race_report.specs.Rooms.{HasRoom, number_room, line_room};
+ghost use Rattle.race_report.specs.Rooms.{line_room};
 
 use crate::counted::Counted;
 use crate::placed::{put_bytes, put_mostly_small, put_number, put_word};
 use access_table::{Kind, rule_word};
-use itoa::Buffer;
 use model_accesses::Witness;
 use model_strands::Spawned;
 use race_gate::{Answer, GateFault, Reply};
@@ -34,29 +33,6 @@ pub(crate) fn rule_of_refusal(act: Act, witness: Kind) -> &'static str
         Some(word) => word,
         None => unreachable!(),
     }
-}
-
-/// Adds words to a text. It fails only where the text has no room for them.
-pub fn push_words<A: Allocator>(text: &mut Vec<u8, A>, words: &str) -> Result<(), AllocError>
-    ensures added { OnOk result (text.new.items ≡ text.old.items ++ words.now) }
-    ensures capacity { vec_capacity text.old ≤ vec_capacity text.new }
-    ensures room { (more : ℕ) → HasRoom (length words.now + more) text.old → IsOk result × HasRoom more text.new }
-{
-    text.extend_from_slice(words.as_bytes())
-}
-
-/// Adds a number to a text, behind what stands before it. It fails only where the text has no room for that and 20 digits.
-pub fn push_number<A: Allocator>(
-    text: &mut Vec<u8, A>,
-    before: &str,
-    number: u64,
-) -> Result<(), AllocError>
-    ensures added { OnOk result (text.new.items ≡ text.old.items ++ before.now ++ decimal number) }
-    ensures capacity { vec_capacity text.old ≤ vec_capacity text.new }
-    ensures room { (more : ℕ) → HasRoom (length before.now + number_room + more) text.old → IsOk result × HasRoom more text.new }
-{
-    push_words(text, before)?;
-    push_words(text, Buffer::new().format(number))
 }
 
 /// Puts a word, a number and a line feed at a place of a slice, and answers the place behind them. What stands before the place stays.

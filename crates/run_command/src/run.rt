@@ -21,7 +21,7 @@ use locked_replay::{
 };
 use program_text::Program;
 use race_gate::{GateFault, Receipt, ShortGate};
-use race_report::{push_words, report};
+use race_report::report;
 use std::alloc::{AllocError, Global};
 use std::io::{Read, Write};
 use std::marker::Brand;
@@ -29,6 +29,7 @@ use std::sync::Wait;
 use std::sync::ledger::{Blank, Ledger};
 use std::thread::Threads;
 use steal_workers::run;
+use text_buffers::push_words;
 use text_words::Request;
 
 /// The parts of a seat, one for each worker that there may be.

@@ -4,11 +4,11 @@ ghost use Rattle.std.specs.Prelude.{◌≡◌, ◌++◌, IfOk, OnOk};
 ghost use Rattle.text_words.specs.Text.{lines};
 ghost use Rattle.source_quotes.specs.FaultTexts.{meaning, fault_text, TellsFault};
 
-use crate::hint::hint;
+use crate::hint::{Meant, hint};
 use crate::look::{Look, Paint, push_marked, push_painted, push_place, push_three};
 use crate::source::Source;
-use race_report::push_words;
 use std::alloc::{AllocError, Allocator};
+use text_buffers::push_words;
 use text_words::Cause;
 
 /// What a cause means.
@@ -52,7 +52,7 @@ fn push_fault<A: Allocator, B: Allocator>(
     text.extend_from_slice(help)
 }
 
-/// What is told of a program's text that has a fault at this line: the meaning of the cause, the line with a sign below it, and what may
+/// What is told of the text of a program or a trace that has a fault at this line: the meaning of the cause, the line with a sign below it, and what may
 /// help, such as the form that the line wants, the name that is not known, or the `if` that is open.
 pub fn fault_message<A: Allocator + Copy>(
     alloc: A,
@@ -61,12 +61,13 @@ pub fn fault_message<A: Allocator + Copy>(
     text: &[u8],
     number: u32,
     why: Cause,
+    meant: Meant,
 ) -> Result<Vec<u8, A>, AllocError>
     ensures { IfOk result (λ told. TellsFault is_painted file.now (lines text.now) number why told.items) }
 {
     let source = Source::new(alloc, text)?;
     let look = Look::of(is_painted, &source);
-    let help = hint(alloc, look, &source, number, why)?;
+    let help = hint(alloc, look, &source, number, why, meant)?;
     let mut told = Vec::new(alloc);
     push_fault(&mut told, look, file, &source, number, why, help.as_slice())?;
     Ok(told)

@@ -5,12 +5,12 @@ ghost use Rattle.text_words.specs.Text.{IsTextLine};
 
 use crate::look::{Look, push_noted, push_three};
 use crate::source::Source;
-use race_report::{push_number, push_words};
 use std::alloc::{AllocError, Allocator};
+use text_buffers::{push_number, push_words};
 use text_words::{Cause, Words, as_text, is_name};
 
-/// The first words of lines of a program, and the form of the lines that begin with each.
-const FORMS: &[(&str, &str)] = &[
+/// The first words of lines at the head of a program or a trace, and the form of the lines that begin with each.
+const DECLARATION_FORMS: &[(&str, &str)] = &[
     ("cilk", "cilk 1, or cilk 2, as the first line"),
     (
         "mem",
@@ -20,6 +20,10 @@ const FORMS: &[(&str, &str)] = &[
         "reducer",
         "reducer NAME MONOID, with sum, min, max, last, or in version 2 digits",
     ),
+];
+
+/// The first words of other lines of a program, and the form of the lines that begin with each.
+const FORMS: &[(&str, &str)] = &[
     ("func", "func NAME PARAMETER"),
     (
         "let",
@@ -40,14 +44,51 @@ const FORMS: &[(&str, &str)] = &[
     ("pfor", "pfor r COUNT FUNCTION, in version 2"),
 ];
 
-/// The form of the lines of a program that begin with a word.
-fn form_of(word: &str) -> Option<&'static str> {
-    for (first, form) in FORMS {
+/// The first words of lines of a trace behind its declarations, and the form of the lines that begin with each.
+const REQUEST_FORMS: &[(&str, &str)] = &[
+    ("spawn", "spawn STRAND"),
+    ("sync", "sync STRAND"),
+    ("call", "call STRAND"),
+    ("return", "return STRAND"),
+    ("read", "read STRAND CELL"),
+    ("write", "write STRAND CELL VALUE"),
+    ("bump", "bump STRAND CELL VALUE, in version 2"),
+    ("update", "update STRAND REDUCER VALUE"),
+    ("put", "put STRAND REDUCER VALUE"),
+    ("get", "get STRAND REDUCER"),
+];
+
+/// What a text is to mean.
+#[derive(Clone, Copy, Debug, PartialEq, Eq)]
+pub enum Meant {
+    /// A program.
+    Program,
+    /// A trace.
+    Trace,
+}
+
+/// The form, among these, of the lines that begin with a word.
+fn form_among(forms: &[(&'static str, &'static str)], word: &str) -> Option<&'static str> {
+    for (first, form) in forms {
         if *first == word {
             return Some(form);
         }
     }
     None
+}
+
+/// The form of the lines that begin with a word.
+fn form_of(meant: Meant, word: &str) -> Option<&'static str> {
+    match meant {
+        Meant::Trace => match form_among(REQUEST_FORMS, word) {
+            Some(form) => Some(form),
+            None => form_among(DECLARATION_FORMS, word),
+        },
+        Meant::Program => match form_among(FORMS, word) {
+            Some(form) => Some(form),
+            None => form_among(DECLARATION_FORMS, word),
+        },
+    }
 }
 
 /// The limit that a line with this first word may pass.
@@ -148,8 +189,8 @@ impl<A: Allocator> Notes<A> {
 }
 
 /// Notes the form of the lines with this first word.
-fn note_form<A: Allocator>(notes: &mut Notes<A>, first: &str) {
-    match form_of(first) {
+fn note_form<A: Allocator>(notes: &mut Notes<A>, meant: Meant, first: &str) {
+    match form_of(meant, first) {
         Some(form) => {
             notes.begin("the form of this line is ");
             notes.quoted(form, "\n");
@@ -245,12 +286,21 @@ fn is_known<B: Allocator>(source: &Source<'_, B>, function: &[&[u8]], name: &str
         || declared_at(source.as_slice(), name).is_some()
 }
 
+/// What is noted of a name that nothing makes known.
+fn unknown_words(meant: Meant) -> &'static str {
+    match meant {
+        Meant::Program => " is declared nowhere, and no line above assigns it\n",
+        Meant::Trace => " is declared nowhere\n",
+    }
+}
+
 /// Notes each name that a line uses and that nothing makes known, once.
 fn note_unknown<A: Allocator + Copy, B: Allocator>(
     alloc: A,
     notes: &mut Notes<A>,
     source: &Source<'_, B>,
     number: u32,
+    meant: Meant,
 ) {
     let Some(line) = as_text(source.line(number)) else {
         return;
@@ -262,7 +312,7 @@ fn note_unknown<A: Allocator + Copy, B: Allocator>(
     for name in used.as_slice() {
         if !is_known(source, function, name) {
             notes.begin("");
-            notes.quoted(name, " is declared nowhere, and no line above assigns it\n");
+            notes.quoted(name, unknown_words(meant));
         }
     }
 }
@@ -274,6 +324,7 @@ pub(crate) fn hint<A: Allocator + Copy, B: Allocator>(
     source: &Source<'_, B>,
     number: u32,
     why: Cause,
+    meant: Meant,
 ) -> Result<Vec<u8, A>, AllocError> {
     let (first, second, _) = first_words(source.line(number));
     let before = source.before(number);
@@ -283,10 +334,10 @@ pub(crate) fn hint<A: Allocator + Copy, B: Allocator>(
         is_short: false,
     };
     match why {
-        Cause::BadWord | Cause::BadNumber => note_form(&mut notes, first),
+        Cause::BadWord | Cause::BadNumber => note_form(&mut notes, meant, first),
         Cause::UnknownName => {
-            note_form(&mut notes, first);
-            note_unknown(alloc, &mut notes, source, number);
+            note_form(&mut notes, meant, first);
+            note_unknown(alloc, &mut notes, source, number, meant);
         }
         Cause::TwiceNamed => note_earlier(&mut notes, before, second),
         Cause::BadNesting => note_open(&mut notes, before),

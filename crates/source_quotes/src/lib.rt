@@ -12,8 +12,9 @@ mod look;
 mod source;
 
 pub use fault::fault_message;
+pub use hint::Meant;
 pub use look::{
-    Look, Paint, push_count, push_gutter, push_marked, push_noted, push_painted, push_place,
-    push_quote, push_sign, statement_of,
+    Look, Paint, push_count, push_gutter, push_left, push_marked, push_noted, push_painted,
+    push_place, push_quote, push_sign, statement_of,
 };
 pub use source::Source;

@@ -8,8 +8,8 @@ ghost use Rattle.source_quotes.specs.Quotes.{gutter, quote, sign, marked, place,
 
 use crate::source::Source;
 use itoa::Buffer;
-use race_report::{push_number, push_words};
 use std::alloc::{AllocError, Allocator};
+use text_buffers::{push_number, push_words};
 
 /// What words are painted in, on a terminal.
 #[derive(Clone, Copy)]
@@ -105,7 +105,11 @@ fn push_repeated<A: Allocator>(
 }
 
 /// Adds this sign at the left of what is no line of the source.
-fn push_left<A: Allocator>(text: &mut Vec<u8, A>, look: Look, sign: &str) -> Result<(), AllocError>
+pub fn push_left<A: Allocator>(
+    text: &mut Vec<u8, A>,
+    look: Look,
+    sign: &str,
+) -> Result<(), AllocError>
     ensures { OnOk result (text.new.items ≡ text.old.items ++ replicate look.width 32 ++ painted look Blue sign.now) }
 {
     push_repeated(text, look.width, b' ')?;

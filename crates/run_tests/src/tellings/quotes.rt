@@ -1,7 +1,7 @@
 //! Whole messages.
 
 use super::texts::is_text;
-use source_quotes::fault_message;
+use source_quotes::{Meant, fault_message};
 use std::alloc::{AllocError, Global};
 use std::process::Abort;
 use text_words::Cause;
@@ -17,7 +17,8 @@ fn is_told(
     case: &Case<'_>,
 ) -> Result<(), AllocError> {
     let (text, line, why, wanted) = case;
-    let told = fault_message(alloc, is_painted, "p.cilk", text.as_bytes(), *line, *why)?;
+    let bytes = text.as_bytes();
+    let told = fault_message(alloc, is_painted, "p.cilk", bytes, *line, *why, Meant::Program)?;
     is_text(rt, told.as_slice(), wanted);
     Ok(())
 }

@@ -1,5 +1,7 @@
-use Rattle.race_explanations.proofs.Accounts.{five_adds}
+use Rattle.race_explanations.proofs.Accounts.{two_adds, five_adds}
 use Rattle.race_explanations.proofs.advice.push_missing.Goals as goal
 
 pub returns : goal.returns
-returns c = five_adds _ _ _ _ _ _ _ _ _ _ _ c.noted.ensures c.words.ensures c.push_function.ensures c.line.ensures c.words-2.ensures
+returns c =
+    five_adds _ _ _ _ _ _ _ _ _ _ _ c.noted.ensures c.words.ensures c.push_function.ensures
+    (two_adds _ _ _ _ _ c.words-2.ensures c.push_line.ensures) c.words-3.ensures

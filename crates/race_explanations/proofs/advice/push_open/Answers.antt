@@ -1,4 +1,6 @@
-use Rattle.std.proofs.Common.{ap, ◌++◌, codes, decimal}
+use Rattle.std.proofs.Common.{ap}
+use Rattle.race_explanations.specs.Scenes.{setting_of}
+use Rattle.race_explanations.specs.Paths.{line_words}
 use Rattle.race_explanations.proofs.Accounts.{these, two_adds, three_adds}
 use Rattle.race_explanations.proofs.advice.push_open.Goals as goal
 
@@ -6,5 +8,7 @@ pub returns : goal.returns
 returns c =
     two_adds _ _ _ _ _ c.push_spawn.ensures
     (three_adds _ _ _ _ _ _ _
-    (these _ _ _ _ c.line.ensures (ap (λ line. codes " this spawn is outstanding at line " ++ decimal line) c.line_on-at.ensures))
-    (these _ _ _ _ c.line-2.ensures (ap (λ line. codes ", and not at line " ++ decimal line) c.line_on-not_at.ensures)) c.words.ensures)
+    (two_adds _ _ _ _ _ c.words.ensures
+    (these _ _ _ _ c.push_line.ensures (ap (line_words (setting_of c.args.scene.now).origin) c.line_on-at.ensures)))
+    (two_adds _ _ _ _ _ c.words-2.ensures
+    (these _ _ _ _ c.push_line-2.ensures (ap (line_words (setting_of c.args.scene.now).origin) c.line_on-not_at.ensures))) c.words-3.ensures)

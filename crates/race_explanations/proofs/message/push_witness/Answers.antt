@@ -1,4 +1,5 @@
 use Rattle.std.proofs.Common.{ap}
+use Rattle.race_explanations.specs.Scenes.{setting_of}
 use Rattle.race_explanations.specs.Paths.{chain_text}
 use Rattle.race_explanations.proofs.Accounts.{these, four_adds}
 use Rattle.race_explanations.proofs.message.push_witness.Goals as goal
@@ -6,4 +7,4 @@ use Rattle.race_explanations.proofs.message.push_witness.Goals as goal
 pub returns : goal.returns
 returns c =
     four_adds _ _ _ _ _ _ _ _ _ c.push_access.ensures c.words.ensures
-    (these _ _ _ _ c.push_chain.ensures (ap (chain_text c.args.scene.now) c.as_slice.ensures.value)) c.push_between.ensures
+    (these _ _ _ _ c.push_chain.ensures (ap (chain_text (setting_of c.args.scene.now)) c.as_slice.ensures.value)) c.push_between.ensures

@@ -1,14 +1,14 @@
-use Rattle.std.proofs.Common.{ap, ◌++◌, codes, decimal}
-use Rattle.source_quotes.specs.Lines.{line_in}
-use Rattle.race_explanations.specs.Names.{statement}
-use Rattle.race_explanations.specs.Paths.{within}
-use Rattle.race_explanations.proofs.Accounts.{these, five_adds}
+use Rattle.std.proofs.Common.{ap}
+use Rattle.race_explanations.specs.Scenes.{setting_of}
+use Rattle.race_explanations.specs.Paths.{line_words, within, statement_text}
+use Rattle.race_explanations.proofs.Accounts.{these, two_adds, five_adds}
 use Rattle.race_explanations.proofs.paths.push_link.Goals as goal
 
 pub returns : goal.returns
 returns c =
     let is = c.line_of-line.ensures in
-    five_adds _ _ _ _ _ _ _ _ _ _ _ c.noted.ensures (these _ _ _ _ c.words.ensures c.way_at.ensures)
-    (these _ _ _ _ c.line.ensures (ap (λ line. codes " at line " ++ decimal line) is))
-    (these _ _ _ _ c.push_within.ensures (ap (within c.args.scene.now) is))
-    (these _ _ _ _ c.push_statement.ensures (ap (λ line. codes ": " ++ statement (line_in c.args.scene.now.source line) ++ codes "\n") is))
+    two_adds _ _ _ _ _
+    (five_adds _ _ _ _ _ _ _ _ _ _ _ c.noted.ensures (these _ _ _ _ c.words.ensures c.way_at.ensures) c.words-2.ensures
+    (these _ _ _ _ c.push_line.ensures (ap (line_words (setting_of c.args.scene.now).origin) is))
+    (these _ _ _ _ c.push_within.ensures (ap (within (setting_of c.args.scene.now).origin) is)))
+    (these _ _ _ _ c.push_statement.ensures (ap (statement_text (setting_of c.args.scene.now).origin) is))

@@ -1,6 +1,7 @@
 use Rattle.std.proofs.Common.{ap, rules}
 use Rattle.source_quotes.specs.declared.look.Paint.TheVariants.{Red}
 use Rattle.source_quotes.specs.Quotes.{painted}
+use Rattle.race_explanations.specs.Scenes.{setting_of}
 use Rattle.race_explanations.specs.Titles.{names_text}
 use Rattle.race_explanations.proofs.Accounts.{these, two_adds, five_adds}
 use Rattle.race_explanations.proofs.title.push_headline.Goals as goal
@@ -9,5 +10,5 @@ pub returns : goal.returns
 returns c =
     two_adds _ _ _ _ _
     (five_adds _ _ _ _ _ _ _ _ _ _ _ (these _ _ _ _ c.red.ensures (ap (painted c.args.scene.now.look Red) c.sort_word.ensures)) c.words.ensures
-    c.push_reason.ensures (these _ _ _ (names_text c.args.scene.now.program.known c.args.pair.now.lines.reason c.args.places.now) c.push_names.ensures (search rules))
+    c.push_reason.ensures (these _ _ _ (names_text (setting_of c.args.scene.now) c.args.pair.now.lines.reason c.args.places.now) c.push_names.ensures (search rules))
     c.words-2.ensures) c.count.ensures

@@ -1,6 +1,6 @@
 use Rattle.std.proofs.Common.{rules, arith, ◌++◌, codes}
 use Rattle.std.proofs.lemmas.Grind.{common_steps}
-use Rattle.program_text.specs.Programs.{contents}
+use Rattle.race_explanations.specs.Scenes.{setting_of}
 use Rattle.race_explanations.specs.Titles.{spaced_name}
 use Rattle.race_explanations.proofs.Accounts.{none_adds, one_more, two_adds}
 use Rattle.race_explanations.proofs.title.push_others.Goals as goal
@@ -10,6 +10,6 @@ loop-place-init c = none_adds c.args.account.now
 
 pub loop-place-preserved : goal.loop-place-preserved
 loop-place-preserved c =
-    one_more (λ location. codes "," ++ spaced_name (contents c.args.program.now).known c.args.reason location) c.args.places.now
+    one_more (λ location. codes "," ++ spaced_name (setting_of c.args.scene.now) c.args.reason location) c.args.places.now
     c.loop-place.place-index _ _ _ _ (first_of (search rules, grind (arith, common_steps))) c.loop-place.invariant
     (two_adds _ _ _ _ _ c.words.ensures c.push_name.ensures)

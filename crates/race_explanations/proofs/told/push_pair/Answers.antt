@@ -1,10 +1,11 @@
 use Rattle.std.proofs.Common.{rules}
+use Rattle.race_explanations.specs.Scenes.{setting_of}
 use Rattle.race_explanations.proofs.Telling.{pair_told}
 use Rattle.race_explanations.proofs.told.push_pair.Goals as goal
 
 pub returns : goal.returns
 returns c =
-    pair_told c.args.scene.now c.args.pair.now c.as_slice.result.now c.in-Ok-new.encounter _ _ c.push_message.ensures (search rules)
+    pair_told (setting_of c.args.scene.now) c.args.pair.now c.as_slice.result.now c.in-Ok-new.encounter _ _ c.push_message.ensures (search rules)
     (record {
       chain = search rules;
       witness_chain = search rules;

@@ -1,0 +1,128 @@
+//! Explaining a trace.
+
+ghost use Rattle.std.specs.Prelude.{◌≡◌, ◌++◌, ◌⊎◌, [], ℕ, List, IfOk, IfErr, OnOk, length, reverse, codes, flat_map, map, string_bytes};
+ghost use Rattle.text_words.specs.Text.{lines};
+ghost use Rattle.trace_text.specs.Traces.{contents as trace_contents};
+ghost use Rattle.trace_text.specs.Grammar.{TextMeans as TraceMeans};
+ghost use Rattle.trace_notes.specs.Notes.{AreNotes, kept_runs};
+ghost use Rattle.model_histories.specs.Legal.{IsLegal};
+ghost use Rattle.model_histories.specs.Shapes.{Shape};
+ghost use Rattle.command_streams.specs.Outcomes.{refusal_status};
+ghost use Rattle.other_commands.specs.Replays.{AnswersAll, StopsGate};
+ghost use Rattle.other_commands.specs.Explanations.{clean_trace_words, recorded_text, judged_text, TellsEntries, IsTraceTold, IsTraceFaultTold};
+ghost use Rattle.other_commands.specs.Explanations.{IsUntoldTrace};
+
+use crate::explain::Manner;
+use crate::replay::answered;
+use command_streams::{CliFault, refusal_status};
+use race_explanations::trace_explanation;
+use race_gate::Entry;
+use source_quotes::{Meant, fault_message, push_count};
+use std::alloc::{AllocError, Global};
+use text_buffers::push_words;
+use text_words::TextFault;
+use trace_notes::Notes;
+use trace_text::Trace;
+
+/// What is told where nothing was refused.
+fn clean_words() -> &'static str
+    ensures { result.now ≡ clean_trace_words }
+{
+    "clean: no two of the accesses of this trace race, in whatever order its strands run\n"
+}
+
+/// What is told where nothing was refused among so many requests.
+fn clean_told(alloc: Global, count: usize) -> Result<Vec<u8>, AllocError>
+    ensures { IfOk result (λ told. told.items ≡ clean_trace_words ++ judged_text count) }
+{
+    let mut told = Vec::new(alloc);
+    push_words(&mut told, clean_words())?;
+    push_words(&mut told, "judged: ")?;
+    push_count(&mut told, count, "request")?;
+    push_words(&mut told, "\n")?;
+    Ok(told)
+}
+
+/// What is told of the entries of a trace.
+fn entries_told(
+    alloc: Global,
+    manner: &Manner<'_>,
+    notes: &Notes<Global>,
+    trace: &Trace<Global>,
+    entries: &[Entry],
+) -> Result<Vec<u8>, AllocError>
+    requires legal { (shape : Shape) × IsLegal shape (reverse entries.now) }
+    ensures { IfOk result (λ told. TellsEntries manner.now notes.now (trace_contents trace.now) entries.now told.items) }
+{
+    if refusal_status(entries) == 0 {
+        return clean_told(alloc, entries.len());
+    }
+    trace_explanation(alloc, manner.is_painted, notes, trace, entries)
+}
+
+/// Adds what was recorded.
+fn push_recorded(told: &mut Vec<u8>, notes: &Notes<Global>) -> Result<(), AllocError>
+    ensures { OnOk result (told.new.items ≡ told.old.items ++ recorded_text notes.now) }
+{
+    for run in notes.runs() {
+        push_words(told, "recorded: ")?;
+        push_words(told, run.as_str())?;
+        push_words(told, "\n")?;
+    }
+    Ok(())
+}
+
+/// The notes of a text.
+fn notes_of(alloc: Global, text: &[u8]) -> Result<Notes<Global>, AllocError>
+    ensures { IfOk result (AreNotes (lines text.now)) }
+{
+    let mut notes = Notes::new(alloc);
+    notes.read(text)?;
+    Ok(notes)
+}
+
+/// What is told of a trace that a text means, and the exit status.
+fn trace_told(
+    alloc: Global,
+    manner: &Manner<'_>,
+    text: &[u8],
+    trace: &Trace<Global>,
+) -> Result<(Vec<u8>, u8), CliFault>
+    requires { TraceMeans text.now (trace_contents trace.now) }
+    ensures ok { IfOk result (λ told. IsTraceTold manner.now text.now told.0.items told.1) }
+    ensures fault { IfErr result (λ fault. (fault ≡ CliFault.Memory) ⊎ StopsGate (trace_contents trace.now) fault) }
+{
+    let gate = answered(alloc, trace)?;
+    let notes = notes_of(alloc, text)?;
+    let entries = gate.history();
+    let mut told = entries_told(alloc, manner, &notes, trace, entries)?;
+    push_recorded(&mut told, &notes)?;
+    Ok((told, refusal_status(entries)))
+}
+
+/// What is told of a text that is to mean a trace, and the exit status: the races of the trace, or its first fault.
+pub(crate) fn trace_text_told(
+    alloc: Global,
+    manner: &Manner<'_>,
+    text: &[u8],
+) -> Result<(Vec<u8>, u8), CliFault>
+    ensures ok { IfOk result (λ told. IsTraceTold manner.now text.now told.0.items told.1 ⊎ IsTraceFaultTold manner.now text.now told.0.items told.1) }
+    ensures fault { IfErr result (λ fault. (fault ≡ CliFault.Memory) ⊎ IsUntoldTrace text.now fault) }
+{
+    match Trace::parse(alloc, text) {
+        Ok(trace) => trace_told(alloc, manner, text, &trace),
+        Err(TextFault::Memory) => Err(CliFault::Memory),
+        Err(TextFault::At { line, why }) => {
+            let told = fault_message(
+                alloc,
+                manner.is_painted,
+                manner.file,
+                text,
+                line,
+                why,
+                Meant::Trace,
+            )?;
+            Ok((told, 2))
+        }
+    }
+}

@@ -1,0 +1,41 @@
+//! Whether a text is to mean a program or a trace.
+
+ghost use Rattle.std.specs.Prelude.{◌≡◌, Some, None};
+ghost use Rattle.std.specs.Option.{option_map};
+ghost use Rattle.other_commands.specs.Sorts.{first_word, is_declaring, is_program_text};
+
+use text_words::{Words, as_text, split_line, without_return};
+
+/// The first word of a line, where it has one.
+fn first_word(line: &[u8]) -> Option<&str>
+    ensures { option_map (λ word. word.now) result ≡ first_word line.now }
+{
+    let text = as_text(line)?;
+    let mut words = Words::of_line(text);
+    words.take()
+}
+
+/// Whether a line that begins with this word declares a name.
+fn is_declaring(word: &str) -> bool
+    ensures { result ≡ is_declaring word.now }
+{
+    word == "mem" || word == "reducer"
+}
+
+/// Whether a text is to mean a program: the first word behind its header and its declarations is `func`. Else it is to mean a trace.
+pub fn is_program(text: &[u8]) -> bool
+    ensures { result ≡ is_program_text text.now }
+{
+    if text.is_empty() {
+        return false;
+    }
+    let (_, mut rest) = split_line(text);
+    while !rest.is_empty() {
+        let (line, behind) = split_line(rest);
+        if let Some(word) = first_word(without_return(line)) && !is_declaring(word) {
+            return word == "func";
+        }
+        rest = behind;
+    }
+    false
+}
