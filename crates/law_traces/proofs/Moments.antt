@@ -1,24 +1,26 @@
 -- Where no block is open, one strand runs at most, and all that have begun reach whatever will run.
-use Rattle.std.proofs.Common.{◌≡◌, ◌⊎◌, inl, inr, ℕ, suc, ◌<◌, Bool, true, [], ◌∷◌, ◌++◌, length, List, refl, sym, ◌∙◌, subst, arith}
+use Rattle.std.proofs.Common.{◌≡◌, ◌⊎◌, inl, inr, ℕ, suc, ◌<◌, Bool, true, [], ◌∷◌, ◌++◌, length, List, refl, sym, ◌∙◌, subst, arith, zero, ap, Some, None}
 use Rattle.model_strands.specs.Address.{Address, child, next, join}
 use Rattle.model_strands.specs.Addresses.{address}
 use Rattle.model_strands.specs.History.{Event, split, same, joined, waits, call, resumed, ended, ended_joined, finished, History}
 use Rattle.model_strands.specs.Strands.{Status, absent, reserved, running, over, status, Running, Begun, unused}
+use Rattle.model_strands.specs.Blocks.{stack}
 use Rattle.model_strands.specs.Legal.{Allowed, Legal, start, then}
 use Rattle.model_strands.specs.Dag.{Reaches}
 use Rattle.law_addresses.specs.Address.{reaches}
 use Rattle.law_addresses.proofs.Relations.{reaches-self, reaches-transitive}
 use Rattle.law_addresses.proofs.Extensions.{reaches-extension, reaches-nil}
 use Rattle.law_strands.proofs.Words.{◌▹◌}
-use Rattle.law_strands.proofs.Places.{Place, outermost, continuation, child_of, place, place_called, place_resumed, Ranges, Seen, at_child, at_next, at_join, at_spawner, elsewhere}
+use Rattle.law_strands.proofs.Places.{Place, outermost, continuation, child_of, place, place_called, place_resumed, Ranges, Seen, at_child, at_next, at_join, at_spawner, elsewhere, join_of, enclosing_is, running_not_reserved}
 use Rattle.law_strands.proofs.Range.{ranges}
-use Rattle.law_strands.proofs.Holders.{IsOpen, Open, IsLive, holders, Splitting, splitting, running_open, not_open}
+use Rattle.law_strands.proofs.Holders.{IsOpen, Open, IsLive, holders, Splitting, splitting, running_open, not_open, reserved_open, join_reserved}
+use Rattle.law_strands.proofs.Busy.{busy}
 use Rattle.law_strands.proofs.Calm.{calm_open}
 use Rattle.law_strands.proofs.Law.{begun_below, precedes_reach}
 use Rattle.law_strands.proofs.Kept.{address_stays, legal_before, begun_stays}
 use Rattle.law_strands.proofs.Sinks.{running_law}
 use Rattle.law_traces.specs.Epochs.{HasNoOpenBlock}
-use Rattle.law_traces.specs.Laws.{MomentLaw}
+use Rattle.law_traces.specs.Laws.{OpenBlockLaw, MomentLaw}
 
 -- the address has no other word than join
 abbrev OnlyJoins : Address → Type 0
@@ -165,3 +167,38 @@ module _ (history : History) (closed : HasNoOpenBlock history) where
 
 pub moment_law : MomentLaw
 moment_law history later legal closed strand other begun runs = reaches_later history closed later legal other runs strand begun
+
+-- ---- no block is open where a running strand stands in none
+
+not_some : {join : ℕ} → Some join ≡ None → ⊥
+not_some e = cc
+
+stands_outermost : (held : Place) → join_of held ≡ None → held ≡ outermost
+stands_outermost outermost e = refl
+stands_outermost (continuation j) e = absurd (not_some e)
+stands_outermost (child_of j n) e = absurd (not_some e)
+
+-- each open block is within an older one or in the root function, where the running strand is alone
+module _ (history : History) (legal : Legal history) (strand : ℕ) (runs : Running history strand) (at : place history strand ≡ outermost) where
+  none_kept_back : (fuel join : ℕ) → join < fuel → status history join ≡ reserved → ⊥
+  none_kept_back zero j below is = absurd (omega arith)
+  none_kept_back (suc fuel) j below is = go (λ k less. none_kept_back fuel k (omega arith)) (place history j) refl
+    where
+      held : Open history j
+      held = reserved_open history j is
+
+      outer : (k : ℕ) → join_of (place history j) ≡ Some k → (k < j) × (status history k ≡ reserved)
+      outer k e = ((busy legal).younger j k is e, join_reserved history (place history j) k ((holders legal).live j held) e)
+
+      go : ((k : ℕ) → k < j → status history k ≡ reserved → ⊥) → (its_place : Place) → place history j ≡ its_place → ⊥
+      go older outermost e =
+          let same : j ≡ strand = (holders legal).alone j strand held (running_open history strand runs) (e ∙ sym at) in
+          running_not_reserved runs (subst (λ z. status history z ≡ reserved) same is)
+      go older (continuation k) e = let t = outer k (ap join_of e) in older k t.0 t.1
+      go older (child_of k n) e = let t = outer k (ap join_of e) in older k t.0 t.1
+
+pub open_block_law : OpenBlockLaw
+open_block_law h l s run = (
+  (λ closed. enclosing_is (stack h s) ∙ ap join_of (runs_outermost h l closed s run)),
+  (λ e j is. none_kept_back h l s run (stands_outermost (place h s) (sym (enclosing_is (stack h s)) ∙ e)) (suc j) j (omega arith) is),
+)

@@ -1,8 +1,9 @@
 -- What holds of what a judged history asks of one location, and of two judged histories where one leaves out what the other asks.
-use Rattle.std.specs.Prelude.{◌≡◌, ◌≢◌, ◌⊎◌, ◌↔◌, ℕ, List, ◌++◌}
+use Rattle.std.specs.Prelude.{◌≡◌, ◌≢◌, ◌⊎◌, ◌↔◌, ℕ, None, List, ◌++◌}
 use Rattle.model_accesses.specs.declared.kind.Kind.{Kind}
 use Rattle.model_strands.specs.History.{Event, History}
 use Rattle.model_strands.specs.Strands.{Running, Begun}
+use Rattle.model_strands.specs.Blocks.{stack, enclosing}
 use Rattle.model_strands.specs.Legal.{Legal}
 use Rattle.model_strands.specs.Dag.{Reaches, IsParallel}
 use Rattle.model_strands.specs.Extensions.{Extends}
@@ -71,6 +72,12 @@ LeftOutLocationLaw =
     (shape kept_shape : Shape) (whole kept : Entries) → IsJudged shape whole → IsJudged kept_shape kept → (cell left_out : ℕ) → cell ≢ left_out →
     HaveSameAccesses whole cell left_out → LeavesOut (IsOfCell left_out) whole kept →
     (HasRefusal whole left_out ↔ HasRefusal kept cell) × ((other : ℕ) → other ≢ left_out → HasRefusal whole other ↔ HasRefusal kept other)
+
+-- no block is open exactly where a strand that runs stands in none: in the root function, or in functions called from there
+abbrev pub OpenBlockLaw : Type 0
+OpenBlockLaw =
+    (history : History) → Legal history → (strand : ℕ) → Running history strand →
+    HasNoOpenBlock history ↔ (enclosing (stack history strand) ≡ None)
 
 -- where no block is open, all that have begun reach each strand that runs then or later
 abbrev pub MomentLaw : Type 0

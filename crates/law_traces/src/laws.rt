@@ -3,7 +3,8 @@
 ghost use Rattle.law_traces.specs.Examples.{WorkedHistories};
 ghost use Rattle.law_traces.specs.Laws.{LocationLaw, ReducerLaw, SetLaw, CoveringLaw};
 ghost use Rattle.law_traces.specs.Laws.{RepeatedAccessLaw, ReadBesideWriteLaw, OtherLocationsLaw};
-ghost use Rattle.law_traces.specs.Laws.{EqualLocationsLaw, LeftOutLocationLaw, MomentLaw, EpochLaw, RemainingLaw, EmptySpawnLaw};
+ghost use Rattle.law_traces.specs.Laws.{EqualLocationsLaw, LeftOutLocationLaw};
+ghost use Rattle.law_traces.specs.Laws.{OpenBlockLaw, MomentLaw, EpochLaw, RemainingLaw, EmptySpawnLaw};
 
 /// Some access of a cell is refused exactly where two accesses of it, granted or not, conflict and are of parallel strands,
 /// in the dag at hand and in each longer one.
@@ -44,9 +45,10 @@ pub fn equal_locations()
     ensures left_out { LeftOutLocationLaw }
 {}
 
-/// Where no block is open, all that was done is ordered before all that will be, so what is done to a location before and after
-/// that moment may be taken as done to two locations.
+/// No block is open where a running strand stands in none. All that was done then is ordered before all that will be, so what is
+/// done to a location before and after that moment may be taken as done to two locations.
 pub fn an_epoch()
+    ensures moments { OpenBlockLaw }
     ensures ordered { MomentLaw }
     ensures verdicts { EpochLaw }
 {}
