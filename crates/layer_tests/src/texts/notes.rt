@@ -114,8 +114,8 @@ fn check_cells(rt: &impl Abort, notes: &Notes<Global>, cases: &[(&str, Option<&s
 
 fn check_runs(rt: &impl Abort, notes: &Notes<Global>, wanted: &[&str]) {
     equal(rt, &"runs", &notes.runs().len(), &wanted.len());
-    for (found, wanted) in notes.runs().iter().zip(wanted) {
-        equal(rt, wanted, &found.as_str(), wanted);
+    for (at, found) in notes.runs().iter().enumerate() {
+        equal(rt, &at, &Some(found.as_str()), &wanted.get(at).copied());
     }
 }
 
