@@ -1,0 +1,45 @@
+# Completion of cilkcheck's commands, options and files, for bash.
+
+_cilkcheck() {
+    local current=${COMP_WORDS[COMP_CWORD]} before=${COMP_WORDS[COMP_CWORD - 1]} command= place=0 options= kinds= i
+    COMPREPLY=()
+    for ((i = 1; i < COMP_CWORD; i++)); do
+        case ${COMP_WORDS[i]} in
+            --workers | --limit | --trace | --color) ((i++)) ;;
+            -*) ;;
+            *) if [ -z "$command" ]; then command=${COMP_WORDS[i]}; else ((place++)); fi ;;
+        esac
+    done
+    case $command in
+        '') options='-h --help -V --version' ;;
+        judge) options='--limit -h --help' kinds=trace ;;
+        run) options='--workers --limit --trace -h --help' kinds=cilk ;;
+        explain) options='--workers --limit --color -h --help' kinds=cilk ;;
+        elide) options='--limit -h --help' kinds=cilk ;;
+        replay) options='-h --help' kinds='cilk trace' ;;
+        draw) options='-h --help' kinds=trace ;;
+        help) options= ;;
+    esac
+    case $before in
+        --color) COMPREPLY=($(compgen -W 'auto always never' -- "$current")); return ;;
+        --trace)
+            compopt -o filenames 2> /dev/null
+            mapfile -t COMPREPLY < <(compgen -f -- "$current")
+            return
+            ;;
+        --workers | --limit) return ;;
+    esac
+    if [[ $current = -* ]]; then
+        COMPREPLY=($(compgen -W "$options" -- "$current"))
+    elif [ -z "$command" ] || [ "$command" = help ]; then
+        COMPREPLY=($(compgen -W 'judge elide run explain replay draw help' -- "$current"))
+    else
+        # the files of the kind that this place takes, and folders
+        kinds=($kinds)
+        [ "$place" -lt ${#kinds[@]} ] || return
+        compopt -o filenames 2> /dev/null
+        mapfile -t COMPREPLY < <(compgen -f -X "!*.${kinds[place]}" -- "$current"; compgen -d -- "$current")
+    fi
+}
+
+complete -F _cilkcheck cilkcheck ./cilkcheck

@@ -1,0 +1,20 @@
+# Completion of cilkcheck's commands, options and files, for fish.
+
+complete -c cilkcheck -f
+complete -c cilkcheck -n __fish_use_subcommand -a judge -d 'Judge the requests of a trace'
+complete -c cilkcheck -n __fish_use_subcommand -a elide -d 'Run a program serially and print its memory'
+complete -c cilkcheck -n __fish_use_subcommand -a run -d 'Run a program and print a report'
+complete -c cilkcheck -n __fish_use_subcommand -a explain -d 'Run a program and explain its races'
+complete -c cilkcheck -n __fish_use_subcommand -a replay -d 'Check whether a trace is a run of a program'
+complete -c cilkcheck -n __fish_use_subcommand -a draw -d 'Draw the dag of a trace for Graphviz'
+complete -c cilkcheck -n __fish_use_subcommand -a help -d 'Print the help of a command'
+complete -c cilkcheck -n __fish_use_subcommand -s h -l help -d 'Print help'
+complete -c cilkcheck -n __fish_use_subcommand -s V -l version -d 'Print the version'
+complete -c cilkcheck -n '__fish_seen_subcommand_from judge elide run explain replay draw' -s h -l help -d 'Print help'
+complete -c cilkcheck -n '__fish_seen_subcommand_from judge elide run explain' -l limit -x -d 'Stop after N requests'
+complete -c cilkcheck -n '__fish_seen_subcommand_from run explain' -l workers -x -d 'Run by N workers'
+complete -c cilkcheck -n '__fish_seen_subcommand_from run' -l trace -r -F -d 'Write the trace of the run to a file'
+complete -c cilkcheck -n '__fish_seen_subcommand_from explain' -l color -x -a 'auto always never' -d 'When to color'
+complete -c cilkcheck -n '__fish_seen_subcommand_from help' -a 'judge elide run explain replay draw'
+complete -c cilkcheck -n '__fish_seen_subcommand_from elide run explain replay' -k -a '(__fish_complete_suffix .cilk)'
+complete -c cilkcheck -n '__fish_seen_subcommand_from judge replay draw' -k -a '(__fish_complete_suffix .trace)'
