@@ -22,7 +22,11 @@ _cilkcheck() {
     esac
     case $before in
         --color) COMPREPLY=($(compgen -W 'auto always never' -- "$current")); return ;;
-        --trace) compopt -o filenames 2> /dev/null; COMPREPLY=($(compgen -f -- "$current")); return ;;
+        --trace)
+            compopt -o filenames 2> /dev/null
+            mapfile -t COMPREPLY < <(compgen -f -- "$current")
+            return
+            ;;
         --workers | --limit) return ;;
     esac
     if [[ $current = -* ]]; then
@@ -33,9 +37,8 @@ _cilkcheck() {
         # the files of the kind that this place takes, and folders
         kinds=($kinds)
         [ "$place" -lt ${#kinds[@]} ] || return
-        local IFS=$'\n'
         compopt -o filenames 2> /dev/null
-        COMPREPLY=($(compgen -f -X "!*.${kinds[place]}" -- "$current") $(compgen -d -- "$current"))
+        mapfile -t COMPREPLY < <(compgen -f -X "!*.${kinds[place]}" -- "$current"; compgen -d -- "$current")
     fi
 }
 
