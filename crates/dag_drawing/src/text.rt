@@ -9,8 +9,8 @@ ghost use Rattle.dag_drawing.specs.Texts.{nodes_text, rule_text, red_text, ends_
 use crate::drawing::{Access, Drawing, Edge, EdgeKind, Race};
 use access_table::{Kind, rule_word, word};
 use race_gate::Answer;
-use text_buffers::{push_number, push_words};
 use std::alloc::{AllocError, Global};
+use text_buffers::{push_number, push_words};
 use text_words::{Act, Mem, Reducer, access_asked};
 use trace_text::memory_at;
 

@@ -32,7 +32,9 @@ pub fn is_program(text: &[u8]) -> bool
     let (_, mut rest) = split_line(text);
     while !rest.is_empty() {
         let (line, behind) = split_line(rest);
-        if let Some(word) = first_word(without_return(line)) && !is_declaring(word) {
+        if let Some(word) = first_word(without_return(line))
+            && !is_declaring(word)
+        {
             return word == "func";
         }
         rest = behind;

@@ -18,7 +18,15 @@ fn is_told(
 ) -> Result<(), AllocError> {
     let (text, line, why, wanted) = case;
     let bytes = text.as_bytes();
-    let told = fault_message(alloc, is_painted, "p.cilk", bytes, *line, *why, Meant::Program)?;
+    let told = fault_message(
+        alloc,
+        is_painted,
+        "p.cilk",
+        bytes,
+        *line,
+        *why,
+        Meant::Program,
+    )?;
     is_text(rt, told.as_slice(), wanted);
     Ok(())
 }
