@@ -14,7 +14,7 @@ use Rattle.trace_notes.proofs.Marks.{plain_line}
 
 abbrev IsFormed : Option Said → Type 0
 IsFormed (Some (OfMark mark place)) = is_some (split_place place) ≡ true
-IsFormed note = Unit {0}
+IsFormed _ = Unit {0}
 
 abbrev IsPlace : Option (List ℕ) → Type 0
 IsPlace None = Unit {0}

@@ -16,19 +16,19 @@ first told (line ∷ lines) = option_or (told line) (first told lines)
 
 abbrev pub if_of_mark : ℕ → Option Said → Option (List ℕ)
 if_of_mark mark (Some (OfMark other place)) = cond (other == mark) (Some place) None
-if_of_mark mark note = None
+if_of_mark mark _ = None
 
 abbrev pub if_of_cell : List ℕ → Option Said → Option (List ℕ)
 if_of_cell cell (Some (OfCell other text)) = cond (bytes_eq other cell) (Some text) None
-if_of_cell cell note = None
+if_of_cell cell _ = None
 
 abbrev pub if_of_memory : List ℕ → Option Said → Option (List ℕ)
 if_of_memory name (Some (OfMemory other text)) = cond (bytes_eq other name) (Some text) None
-if_of_memory name note = None
+if_of_memory name _ = None
 
 abbrev pub if_of_run : Option Said → Option (List ℕ)
 if_of_run (Some (OfRun text)) = Some text
-if_of_run note = None
+if_of_run _ = None
 
 -- What a line says of a mark, of a cell, of each cell of a memory, of the run.
 abbrev pub mark_on : ℕ → List ℕ → Option (List ℕ)
