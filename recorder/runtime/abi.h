@@ -1,0 +1,60 @@
+/* What compiled and rewritten code calls, beside the compilers' own hooks (`__tsan_*`, `__sanitizer_cov_*`).
+   The rewriter writes these calls; no header of the user's needs to be included before them. */
+#ifndef CILKCHECK_ABI_H
+#define CILKCHECK_ABI_H
+#include <stddef.h>
+
+#ifdef __cplusplus
+extern "C" {
+#endif
+
+/* What follows, up to child_end, is a child of the running function. The arguments are not looked at: they are addresses of locals
+   that the child or the spawner's other strands may touch, handed over so that the compiler takes them to be shared. */
+void __cilkcheck_child_begin(const void *shared, ...);
+/* The child ends, after its implied sync, and the spawner goes on. */
+void __cilkcheck_child_end(void);
+/* The same for C++, where the spawner's frame is two calls below: a constructor and a destructor that are inlined into a template
+   that a template calls. Where an exception passes, the end of the child is also a sync of the spawner. */
+void __cilkcheck_child_begin_above(void);
+void __cilkcheck_child_end_above(void);
+/* A sync of the running function or scope. */
+void __cilkcheck_sync(void);
+/* A cilk_for or cilk_scope: a block of children of its own, with a sync at its end. */
+void __cilkcheck_scope_begin(void);
+void __cilkcheck_scope_end(void);
+/* Nothing: the compiler sees the addresses escape. */
+void __cilkcheck_share(int nothing, ...);
+/* The next child's call puts so many bytes of arguments on the stack. */
+void __cilkcheck_argument_bytes(size_t bytes);
+/* The child that just ended wrote its result there. To be called directly behind child_end, by the spawner. */
+void __cilkcheck_child_wrote(void *at, size_t bytes);
+/* An access of the running strand that the compiler does not tell. */
+void __cilkcheck_wrote(void *at, size_t bytes);
+void __cilkcheck_read(const void *at, size_t bytes);
+/* What lies there is another location from here on. */
+void __cilkcheck_end_life(const volatile void *at, size_t bytes);
+/* The next OpenMP task stands for a round of a cilk_for or for a spawned block. */
+void __cilkcheck_outlined(void);
+/* A reducer, named by KEY, was made (0), updated (1), put (2), got (3) or unmade (4). Its view is no memory. */
+void __cilkcheck_reducer(void *key, int operation, void *view, size_t bytes);
+/* From a call with 1 to the call with 0 (nested) accesses are not looked at. */
+void __cilkcheck_hide(int on);
+
+#ifdef __cplusplus
+}
+#endif
+
+/* The table of places, by which the notes name lines. The wrapper puts it into the linked program as a section `.cilkcheck` that is
+   not loaded (objcopy --add-section .cilkcheck=FILE); the runtime reads it from /proc/self/exe at the end of the run, and tells code
+   offsets where there is none. It is text, one item a line, fields parted by a tab, in ascending order of the offsets within a kind:
+
+       at OFFSET SITE FILE LINE FUNCTION CODE    a call of a hook returns to OFFSET; SITE: the number of its line
+       in OFFSET SIZE FUNCTION FILE LINE         a function of the program, to name whose local a location is
+       of OFFSET SIZE NAME                       a data symbol of the program: a global or static object
+
+   OFFSET and SIZE are lower-case hexadecimal without 0x. An OFFSET is an address of the linked file (as nm and objdump print it); the
+   runtime subtracts where the program was loaded. SITE is a decimal number, 1 or more: two offsets have one SITE if and only if they
+   are told as the same place. CODE is the line of the source as it stands there, without its indentation, and is the rest of the line;
+   it may be empty. No field holds a tab or a line feed. The section's first line is `cilkcheck 1`. */
+
+#endif
