@@ -30,7 +30,7 @@ void record_access(uintptr_t address, size_t bytes, enum access kind, uintptr_t 
   char *end = told + strlen(told);
   size_t room = sizeof told - strlen(told);
   const char *at = (const char *)address;
-  for (int i = 0; i < region_count; i++)
+  for (int i = region_count - 1; i >= 0; i--)    /* the newest first: a stream is a block that was made, too */
     if (at >= regions[i].base && at < regions[i].base + regions[i].bytes) {
       snprintf(end, room, "%s%c %s %zu %zu", told[0] ? ", " : "", "rlbw"[kind], regions[i].name, (size_t)(at - regions[i].base), bytes);
       return;
