@@ -1,0 +1,106 @@
+/* Children of C++. The rewriter makes of `y = cilk_spawn f(x);` the statement
+
+       __cilkcheck_child("f", 1) % [&]() -> void { auto &&place = (y); place = f(x); };
+
+   so that the spawner makes the arguments, by the language's own rules, in the lambda's frame. The child begins where f is entered, and
+   ends with the statement. Of the functions that the lambda calls, f is known by its name (RULE 0); the rewriter refuses a spawn whose
+   arguments may call another of that name. Where the arguments contain no call (RULE 1) the callee may be what a pointer or an object
+   stands for: what else is called then is a constructor, a destructor, a conversion or an operator, and the callee is none of these.
+   A spawn whose function is not met is refused: nothing is taken for a child that is none.
+
+   Invariants: the awaited children are a list through the spawners' frames, the innermost first. `spawn_awaited` holds exactly where the
+   innermost one has not begun. */
+#include "abi.h"
+#include "places.h"
+#include "recorder.h"
+#include <string.h>
+
+struct child { struct child *above; const char *callee; const void *closure; size_t bytes; uint32_t depth; unsigned exceptions; bool begun, by_name; };
+_Static_assert(sizeof(struct child) <= 6 * sizeof(void *), "a child's state has six pointers' room");
+
+bool spawn_awaited;
+static struct child *innermost;
+
+/* ---- which function it is ---- */
+
+static struct entry { uintptr_t place; struct line name; } *entries;
+static size_t entry_count;
+static bool entries_read;
+
+static void count_entry(uintptr_t offset, struct line rest) { (void)offset; (void)rest; entry_count++; }
+static void take_entry(uintptr_t offset, struct line rest) { entries[entry_count++] = (struct entry){offset + places_moved(), rest}; }
+static void read_entries(void) {
+  entries_read = true;
+  places_each_line("enter", count_entry);
+  entries = reserve((entry_count + 1) * sizeof *entries);
+  entry_count = 0;
+  places_each_line("enter", take_entry);
+}
+/* The name of the function whose entry hook returns to `function`; an empty one where it is not in the table. */
+static struct line entered_name(uintptr_t function) {
+  if (!entries_read) read_entries();
+  size_t low = 0, high = entry_count;
+  while (low < high) {
+    size_t middle = low + (high - low) / 2;
+    if (entries[middle].place < function) low = middle + 1; else high = middle;
+  }
+  return low < entry_count && entries[low].place == function ? entries[low].name : (struct line){"", ""};
+}
+static bool is_callee(const struct child *child, uintptr_t function) {
+  if (!child->callee) return true;
+  struct line name = entered_name(function);
+  size_t length = (size_t)(name.end - name.text);
+  if (length == strlen(child->callee) && !memcmp(name.text, child->callee, length)) return true;
+  return !child->by_name && length && !(length == 1 && *name.text == '-');
+}
+
+void spawn_entered(uintptr_t function, uintptr_t caller) {
+  struct child *child = innermost;
+  uint32_t depth = stack_depth();
+  if (depth != child->depth + (child->callee != NULL) || !is_callee(child, function)) return;
+  child->begun = true;
+  spawn_awaited = false;
+  scope_spawn(child->depth, child->callee ? stack_caller(0) : caller);
+}
+
+/* ---- what rewritten code calls ---- */
+
+struct exceptions { void *caught; unsigned uncaught; };
+extern struct exceptions *__cxa_get_globals(void) __attribute__((weak));
+static unsigned exceptions_now(void) { return __cxa_get_globals ? __cxa_get_globals()->uncaught : 0; }
+
+void __cilkcheck_child_awaited(void *state, const char *callee, int rule) {
+  struct child *child = state;
+  *child = (struct child){.above = innermost, .callee = callee, .depth = stack_depth(), .exceptions = exceptions_now(), .by_name = rule == 0};
+  innermost = child;
+  spawn_awaited = true;
+}
+void __cilkcheck_child_closure(void *state, const void *closure, size_t bytes) {
+  struct child *child = state;
+  child->closure = closure;
+  child->bytes = bytes;
+}
+void __cilkcheck_child_left(void *state) {
+  struct child *child = state;
+  bool passes = exceptions_now() > child->exceptions;
+  if (child->begun) {
+    scope_child_end(child->depth, PLACE);
+    if (passes) scope_sync_at(child->depth, PLACE);
+  } else if (!passes) {
+    refuse(PLACE, "the function of this cilk_spawn%s%s was not compiled by cilkcheck, or is called through an object or a pointer with arguments "
+           "that contain calls: spawn a block { .. } in its place", child->callee ? " " : "", child->callee ? child->callee : "");
+  }
+  uintptr_t closure = (uintptr_t)child->closure;
+  if (closure) end_lives(closure, closure + child->bytes, (struct origin){ORIGIN_STACK, PLACE, closure, 0});
+  innermost = child->above;
+  spawn_awaited = innermost && !innermost->begun;
+}
+
+void __cilkcheck_sync_left(void *nothing) {
+  (void)nothing;
+  scope_sync_at(stack_depth(), PLACE);
+}
+void __cilkcheck_scope_left(void *nothing) {
+  (void)nothing;
+  scope_leave(PLACE);
+}
