@@ -13,12 +13,19 @@ extern "C" {
 void __cilkcheck_child_begin(const void *shared, ...);
 /* The child ends, after its implied sync, and the spawner goes on. */
 void __cilkcheck_child_end(void);
-/* The same for C++, where the spawner's frame is two calls below: a constructor and a destructor that are inlined into a template
-   that a template calls. Where an exception passes, the end of the child is also a sync of the spawner. */
-void __cilkcheck_child_begin_above(void);
-void __cilkcheck_child_end_above(void);
+/* The same for C++ (spawns.c). STATE is an object of six pointers in the spawner's frame. The child begins where the function that is
+   meant by CALLEE and RULE is entered: with no CALLEE it is the next function that the spawner calls, else one that this function calls.
+   RULE 0: it has the name CALLEE; 1: it may also be a function object's operator(), or any function that a pointer leads to. `left` ends
+   the child; where an exception passes, it is also a sync of the spawner. */
+void __cilkcheck_child_awaited(void *state, const char *callee, int rule);
+/* Where that next function's captured variables lie: another location behind the child. */
+void __cilkcheck_child_closure(void *state, const void *closure, size_t bytes);
+void __cilkcheck_child_left(void *state);
 /* A sync of the running function or scope. */
 void __cilkcheck_sync(void);
+/* The same, and scope_end, as functions for the attribute `cleanup` of C. */
+void __cilkcheck_sync_left(void *nothing);
+void __cilkcheck_scope_left(void *nothing);
 /* A cilk_for or cilk_scope: a block of children of its own, with a sync at its end. */
 void __cilkcheck_scope_begin(void);
 void __cilkcheck_scope_end(void);
@@ -26,9 +33,7 @@ void __cilkcheck_scope_end(void);
 void __cilkcheck_share(int nothing, ...);
 /* The next child's call puts so many bytes of arguments on the stack. */
 void __cilkcheck_argument_bytes(size_t bytes);
-/* The child that just ended wrote its result there. To be called directly behind child_end, by the spawner. */
-void __cilkcheck_child_wrote(void *at, size_t bytes);
-/* An access of the running strand that the compiler does not tell. */
+/* An access of the running strand that the compiler does not tell; a child's result is one, told before its child_end. */
 void __cilkcheck_wrote(void *at, size_t bytes);
 void __cilkcheck_read(const void *at, size_t bytes);
 /* What lies there is another location from here on. */
@@ -45,12 +50,16 @@ void __cilkcheck_hide(int on);
 #endif
 
 /* The table of places, by which the notes name lines. The wrapper puts it into the linked program as a section `.cilkcheck` that is
-   not loaded (objcopy --add-section .cilkcheck=FILE); the runtime reads it from /proc/self/exe at the end of the run, and tells code
-   offsets where there is none. It is text, one item a line, fields parted by a tab, in ascending order of the offsets within a kind:
+   not loaded (objcopy --add-section .cilkcheck=FILE); the runtime reads the sites from /proc/self/exe at the begin of the run, the rest
+   at its end, and tells code offsets where there is none. It is text, one item a line, fields parted by a tab, in ascending order of the offsets within a kind:
 
        at OFFSET SITE FILE LINE FUNCTION CODE    a call of a hook returns to OFFSET; SITE: the number of its line
        in OFFSET SIZE FUNCTION FILE LINE         a function of the program, to name whose local a location is
        of OFFSET SIZE NAME                       a data symbol of the program: a global or static object
+       enter OFFSET NAME                         the entry hook of a function of this unqualified name returns to OFFSET; `-`: a constructor,
+                                                 a destructor, a conversion, or an operator other than () (only where C++ spawns)
+       no 0 NAME, NAME, ..                       functions that are called and were neither recorded nor are known
+       unseen 0 TEXT                             a note: what else of the program is not seen
 
    OFFSET and SIZE are lower-case hexadecimal without 0x. An OFFSET is an address of the linked file (as nm and objdump print it); the
    runtime subtracts where the program was loaded. SITE is a decimal number, 1 or more: two offsets have one SITE if and only if they

@@ -2,13 +2,15 @@
 
    Modules and their states, one owner each:
      start.c      options, start and end of the recording, messages
-     histories.c  the histories of locations
+     histories.c  the histories of locations; raw.c keeps each byte's accesses instead (CILKCHECK_RAW)
      stack.c      the frames of the running stack
      heap.c       the blocks of the heap, and those in quarantine
-     scopes.c     functions, children and blocks that are open; the running strand; the log of events
+     scopes.c     functions, children and blocks that are open; the running strand
+     log.c        the events of the run: spawns, ends, syncs, reducers, accesses of a raw recording
      accesses.c, atomics.c, abi.c   what the compilers and the rewriter call
-     classes.c    which histories are told, and which strands they need
-     traces.c     the traces' texts and files; text.c writes them
+     classes.c    which histories are told, as which cells
+     control.c    a trace's requests, in the order of the run
+     traces.c     the cells of each trace, and their files; text.c writes them
      places.c, notes.c   what a code address and a location are called */
 #ifndef CILKCHECK_RECORDER_H
 #define CILKCHECK_RECORDER_H
@@ -41,13 +43,11 @@ void unreserve(void *at, size_t bytes);
 enum access { ACCESS_READ, ACCESS_LOAD, ACCESS_BUMP, ACCESS_WRITE };
 /* The running strand accesses [address, address + bytes). */
 void record_access(uintptr_t address, size_t bytes, enum access kind, uintptr_t place);
-/* The strand does instead of the running one. */
-void record_access_of(uint32_t strand, uintptr_t address, size_t bytes, enum access kind, uintptr_t place);
 
 /* What a location is, for notes: a local of the function at `place` whose frame's top is `base`, a block of the heap that was given
    at `place` and begins at `base`, arguments on the stack of a call, a task's own data, or a global (found by its address). */
 enum origin_kind { ORIGIN_GLOBAL, ORIGIN_STACK, ORIGIN_HEAP, ORIGIN_ARGUMENTS, ORIGIN_TASK };
-struct origin { enum origin_kind kind; uintptr_t place, base; };
+struct origin { enum origin_kind kind; uintptr_t place, base; size_t bytes; };     /* bytes: of the whole block, or 0 */
 /* The lives of the locations in [from, to) end: what is there next is something else. */
 void end_lives(uintptr_t from, uintptr_t to, struct origin origin);
 /* [from, to) is no memory, as the view of a reducer: until its lives end its accesses are not looked at. */
@@ -74,7 +74,7 @@ uintptr_t stack_caller(uint32_t above);
 enum scope_kind { SCOPE_ROOT, SCOPE_FUNCTION, SCOPE_CHILD, SCOPE_BLOCK, SCOPE_TASKGROUP, SCOPE_PARALLEL };
 /* Something with a block of children of its own. `depth` is the number of running functions when it was entered, `open` says that
    children are outstanding. `marks` belongs to OpenMP: a new scope has those of the one around it that SCOPE_INHERITED covers. */
-struct scope { uint32_t depth, join, next, spawn_event; uint8_t kind, marks; bool open; uint32_t argument_bytes; uintptr_t arguments; };
+struct scope { uint32_t depth, spawned_at, steps_before; uint8_t kind, marks; bool open; uint32_t argument_bytes; uintptr_t arguments; };
 #define SCOPE_INHERITED 0x0F
 /* The innermost scope; the one around it lies before it. The outermost has kind SCOPE_ROOT. */
 struct scope *scope_top(void);
@@ -91,28 +91,35 @@ void scope_child_end(uint32_t depth, uintptr_t place);
 void scope_sync(uintptr_t place);
 /* The same, where it belongs to the function at `depth`. */
 void scope_sync_at(uint32_t depth, uintptr_t place);
-/* The running strand, and the last one of the child that ended last. Numbers are never used again in a run. */
+/* The running strand. Numbers are never used again in a run. */
 uint32_t scope_strand(void);
-uint32_t scope_last_child(void);
 /* The program is about to end, and this strand has not returned from its scopes (exit in a child): they are closed, and said. */
 void scope_close_all(uintptr_t place);
 
 enum reducer_operation { REDUCER_MADE, REDUCER_UPDATE, REDUCER_PUT, REDUCER_GET, REDUCER_UNMADE };
 /* The running strand puts into, gets or updates reducer number `reducer` (numbers from 0, dense). MADE is told as a put. */
-void log_reducer(enum reducer_operation operation, uint32_t reducer, uintptr_t place);
+void scope_reducer(enum reducer_operation operation, uint32_t reducer, uintptr_t place);
+
+/* ---- children of C++ (spawns.c) ---- */
+
+/* True while the innermost spawn of C++ waits for its function to be entered. Then __tsan_func_entry calls spawn_entered before the
+   new frame is there: `function` is its own place, `caller` where the function returns to. */
+extern bool spawn_awaited;
+void spawn_entered(uintptr_t function, uintptr_t caller);
 
 /* ---- the heap (heap.c) ---- */
 
 /* Memory of the runtime's own, and of libc's: no block of the program. */
 void *plain_malloc(size_t bytes);
 void plain_free(void *at);
-/* A block that a library function made for the program (getline, strdup, ..) and one that it frees. */
+/* A block that a library function made for the program (getline, strdup, ..) and one that it frees. A block that is not known is freed
+   by libc alone. */
 void heap_made(void *block, size_t bytes, uintptr_t place);
 void heap_freed(void *block, uintptr_t place);
 /* The bytes of the program's block that begins at `block`, or 0 where there is none. */
 size_t heap_bytes(const void *block);
 
-/* ---- OpenMP (openmp.c), asked by abi.c ---- */
+/* ---- OpenMP asks abi.c ---- */
 
 /* Whether __cilkcheck_outlined was called since the last time this was asked. */
 bool outlined_next(void);

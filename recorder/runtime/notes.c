@@ -1,0 +1,79 @@
+/* The notes of a trace. */
+#include "notes.h"
+#include "classes.h"
+#include "origins.h"
+#include "places.h"
+#include "start.h"
+#include <stdio.h>
+#include <string.h>
+
+static void put_line(struct text *text, const char *line) {
+  text_line(text, line);
+  text_end_line(text);
+}
+
+static void put_places(const struct trace *trace) {
+  uint32_t sites = place_sites();
+  for (uint32_t site = 1; site <= sites; site++) {
+    if (!(trace->sites[site / 64] >> site % 64 & 1)) continue;
+    char line[LONGEST_LINE / 2], name[LONGEST_LINE / 4];
+    site_name(site, name, sizeof name);
+    snprintf(line, sizeof line, "#at %u %s", site, name);
+    put_line(trace->text, line);
+  }
+}
+
+/* What a class's location is, and how many bytes beside it have that history. */
+static void class_name(const struct class *class, char *text, size_t room) {
+  origin_name(class->origin, class->offset, text, room);
+  uint32_t first = class->bytes % 4 ? 1 : 4;
+  size_t used = strlen(text);
+  if (class->bytes > first) snprintf(text + used, room - used, ", and %u more bytes", class->bytes - first);
+}
+
+/* Most cells of a trace are often told alike: `#of c[*]` says that of all that have no note of their own. */
+static const struct class *class_of_most(const struct trace *trace) {
+  const struct class *most = NULL;
+  uint32_t votes = 0, count = 0;
+  for (uint32_t cell = trace->first_cell; cell < trace->end_cell; cell++) {
+    const struct class *class = &histories.classes[cells.class[cell]];
+    bool alike = most && class->origin == most->origin && class->offset == most->offset && class->bytes == most->bytes;
+    if (alike) votes++; else if (votes) votes--; else { most = class; votes = 1; }
+  }
+  for (uint32_t cell = trace->first_cell; most && cell < trace->end_cell; cell++) {
+    const struct class *class = &histories.classes[cells.class[cell]];
+    count += class->origin == most->origin && class->offset == most->offset && class->bytes == most->bytes;
+  }
+  return count > 1 ? most : NULL;
+}
+
+static void put_cells(const struct trace *trace) {
+  const struct class *most = class_of_most(trace);
+  char line[LONGEST_LINE / 2], name[LONGEST_LINE / 4];
+  for (uint32_t cell = trace->first_cell; cell < trace->end_cell; cell++) {
+    const struct class *class = &histories.classes[cells.class[cell]];
+    if (most && class->origin == most->origin && class->offset == most->offset && class->bytes == most->bytes) continue;
+    if (text_length(trace->text) > trace->most_bytes + (8u << 20)) break;       /* the file's limit comes before a name */
+    class_name(class, name, sizeof name);
+    snprintf(line, sizeof line, "#of c[%u] %s", cell - trace->first_cell, name);
+    put_line(trace->text, line);
+  }
+  if (!most) return;
+  class_name(most, name, sizeof name);
+  snprintf(line, sizeof line, "#of c[*] %s", name);
+  put_line(trace->text, line);
+}
+
+void notes_write(const struct trace *trace, const char *title) {
+  char line[LONGEST_LINE / 2];
+  snprintf(line, sizeof line, "#run %s", title);
+  put_line(trace->text, line);
+  for (const char *note = unseen_notes(); *note;) {
+    const char *end = strchr(note, '\n');
+    snprintf(line, sizeof line, "#run %.*s", (int)(end - note), note);
+    put_line(trace->text, line);
+    note = end + 1;
+  }
+  put_places(trace);
+  if (!options.raw) put_cells(trace);
+}
