@@ -62,8 +62,19 @@ def statement_end(rewriter, begin):
         return statement_end(rewriter, source.solid(begin + 1))
     if token == "_Cilk_spawn" and source.tokens[source.solid(begin + 1)] == "{":
         return source.closing(source.solid(begin + 1)) + 1
-    if token in ("do", "try", "case", "default"):
-        source.refuse(begin, f"the body of a cilk_for begins with {token}: put it into a block")
+    if token == "do":
+        return source.semicolon(statement_end(rewriter, source.solid(begin + 1))) + 1
+    if token == "try":
+        end = source.closing(source.solid(begin + 1)) + 1
+        while source.tokens[source.solid(end)] == "catch":
+            end = source.closing(source.solid(source.closing(source.solid(source.solid(end) + 1)) + 1)) + 1
+        return end
+    colon = source.solid(begin + 1)
+    if source.kinds[begin] == "name" and source.tokens[colon] == ":" or token == "case":
+        while source.tokens[colon] != ":":
+            colon = source.solid(colon + 1)
+        following = source.solid(colon + 1)
+        return statement_end(rewriter, following) if source.tokens[following] != "}" else following
     return source.semicolon(begin) + 1
 
 

@@ -136,14 +136,34 @@ class Rewriter:
 
     # ---- functions and statements ----
 
-    def body(self, opening, before="", after=""):
+    def body(self, opening):
         """A function's body."""
         source, close = self.source, self.source.closing(opening)
         if not source.has(opening, close):
             return source.text(opening, close + 1)
         syncs = source.contains(opening, close, "_Cilk_spawn")
         inside = self.statements(opening + 1, close, Context(syncs=syncs))
-        return "{" + before + inside + ("__cilkcheck_sync(); " if syncs else "") + after + "}"
+        return "{" + inside + ("__cilkcheck_sync(); " if syncs and not self.leaves(opening + 1, close) else "") + "}"
+
+    def leaves(self, begin, end):
+        """Whether statements are sure to end with a return. (gcc warns of a missing return where a call follows.)"""
+        source, at, last = self.source, begin, None
+        while source.solid(at) < end:
+            last = source.solid(at)
+            at = loops.statement_end(self, last)
+        if last is None:
+            return False
+        if source.tokens[last] == "return":
+            return True
+        if source.tokens[last] == "{":
+            return self.leaves(last + 1, source.closing(last))
+        if source.tokens[last] == "if":
+            opening = source.solid(last + 1)
+            then = source.solid(source.closing(opening) + 1) if source.tokens[opening] == "(" else end
+            behind = loops.statement_end(self, then) if then < end else end
+            other = source.solid(behind)
+            return other < end and source.tokens[other] == "else" and self.leaves(then, behind) and self.leaves(source.solid(other + 1), end)
+        return False
 
     def statements(self, begin, end, context):
         source, out, at = self.source, [], begin
@@ -424,10 +444,12 @@ def rewrite(text, cxx, openmp_on=False):
     standard = re.search(r"__cilkcheck_cplusplus = (\d+)", text)
     rewriter.before_cxx14 = standard is not None and int(standard.group(1)) < 201402
     prelude = PRELUDE / ("calls.hpp" if cxx else "calls.h")
-    first = re.match(r'# \d+ "((?:[^"\\]|\\.)*)"', text)
-    begin = f'# 1 "{prelude}" 1 3\n{prelude.read_text()}\n# 1 "{first.group(1) if first else "?"}"\n'
+    main = MAIN.match(text)
+    file = main.group(1) if main else "<stdin>"
+    begin = f'# 0 "{file}"\n# 1 "{prelude}" 1 3\n{prelude.read_text()}\n# 0 "{file}" 2\n'
     return begin + rewriter.declarations(0, len(source.tokens) - 1)
 
 
+MAIN = re.compile(r'# [01] "((?:[^"\\]|\\.)*)"\n')
 # so that the functions of std::string are compiled with the program, and seen
 STRINGS = re.compile(r"^[ \t]*extern[ \t\n]+template[ \t\n]+(?:class[ \t\n]+)?basic_string\b[^;]*;", re.M)

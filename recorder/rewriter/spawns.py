@@ -131,16 +131,16 @@ def in_c(rewriter, call, target, declared, operator, semicolon, context):
     if declared:
         begin, equals = declared
         name = source.words(begin, equals)[-1]
-        text = " ".join(before) + f" {source.text(begin, equals)}= (__cilkcheck_child_begin((const void *)&{name}{shared}), {called});"
+        text = " ".join(before) + f" {source.text(begin, equals)}= (__cilkcheck_child_begin((void *)&{name}{shared}), {called});"
         return text + f" __cilkcheck_wrote((void *)&{name}, sizeof {name}), __cilkcheck_child_end();"
     if target:
         place = source.fresh()
         value = source.inner(*target)
-        return ("{ " + " ".join(before) + f" __typeof__({value}) *{place} = &({value}); __cilkcheck_child_begin((const void *){place}{shared});"
+        return ("{ " + " ".join(before) + f" __typeof__({value}) *{place} = &({value}); __cilkcheck_child_begin((void *){place}{shared});"
                 f" *{place} {operator} {called}; __cilkcheck_wrote((void *){place}, sizeof *{place}); __cilkcheck_child_end(); }}")
     result = source.fresh()
     void = f"__builtin_types_compatible_p(__typeof__({called}), void)"
-    return ("{ " + " ".join(before) + f" __cilkcheck_child_begin((const void *)0{shared});"
+    return ("{ " + " ".join(before) + f" __cilkcheck_child_begin((void *)0{shared});"
             f" __typeof__(__builtin_choose_expr({void}, (char)0, {called})) {result} = __builtin_choose_expr({void}, ({called}, (char)0), {called});"
             f" __cilkcheck_end_life(&{result}, sizeof {result}); __cilkcheck_child_end(); }}")
 

@@ -1,5 +1,5 @@
 /* What rewritten C calls (runtime/abi.h). The rewriter puts this text, which no preprocessor reads, before the program's. */
-extern void __cilkcheck_child_begin(const void *, ...);
+extern void __cilkcheck_child_begin(void *, ...);
 extern void __cilkcheck_child_end(void);
 extern void __cilkcheck_sync(void);
 extern void __cilkcheck_sync_left(void *);
