@@ -23,12 +23,12 @@ static void put_places(const struct trace *trace) {
   }
 }
 
-/* What a class's location is, and how many bytes beside it have that history. */
+/* What a class's location is, and how many bytes have that history. */
 static void class_name(const struct class *class, char *text, size_t room) {
   origin_name(class->origin, class->offset, text, room);
-  uint32_t first = class->bytes % 4 ? 1 : 4;
   size_t used = strlen(text);
-  if (class->bytes > first) snprintf(text + used, room - used, ", and %u more bytes", class->bytes - first);
+  if (class->bytes > 16) snprintf(text + used, room - used, ", and %u more bytes", class->bytes - 1);
+  else snprintf(text + used, room - used, class->bytes == 1 ? ", 1 byte" : ", %u bytes", class->bytes);
 }
 
 /* Most cells of a trace are often told alike: `#of c[*]` says that of all that have no note of their own. */
