@@ -12,12 +12,6 @@ void __cilkcheck_child_end(void) {
 }
 void __cilkcheck_sync(void) { scope_sync_at(stack_depth(), PLACE); }
 void __cilkcheck_scope_begin(void) { scope_enter(SCOPE_BLOCK, stack_depth(), PLACE); }
-void __cilkcheck_scope_end(void) {
-  const struct scope *scope = scope_top();
-  if (scope->kind == SCOPE_FUNCTION && scope->depth == stack_depth()) { scope_leave(PLACE); scope = scope_top(); }
-  if (scope->kind != SCOPE_BLOCK || scope->depth != stack_depth()) refuse(PLACE, "a cilk_for or cilk_scope was not left at its end");
-  scope_leave(PLACE);
-}
 void __cilkcheck_share(int nothing, ...) { (void)nothing; }
 void __cilkcheck_argument_bytes(size_t bytes) { stack_next_arguments(bytes); }
 void __cilkcheck_wrote(void *at, size_t bytes) { record_access((uintptr_t)at, bytes, ACCESS_WRITE, PLACE); }

@@ -13,22 +13,22 @@ extern "C" {
 void __cilkcheck_child_begin(const void *shared, ...);
 /* The child ends, after its implied sync, and the spawner goes on. */
 void __cilkcheck_child_end(void);
-/* The same for C++ (spawns.c). STATE is an object of six pointers in the spawner's frame. The child begins where the function that is
-   meant by CALLEE and RULE is entered: with no CALLEE it is the next function that the spawner calls, else one that this function calls.
-   RULE 0: it has the name CALLEE; 1: it may also be a function object's operator(), or any function that a pointer leads to. `left` ends
-   the child; where an exception passes, it is also a sync of the spawner. */
+/* The same for C++ (spawns.c): what the constructor and the destructor of `struct __cilkcheck_child` do (include/cilkcheck/calls.hpp).
+   STATE is an object of seven pointers in the spawner's frame. The child begins where the function that is meant by CALLEE and RULE is
+   entered: with no CALLEE it is the next function that the spawner calls, else one that this function calls. RULE 0: it has the name
+   CALLEE; 1: it may also be a function object's operator(), or any function that a pointer leads to. `left` ends the child; where an
+   exception passes, it is also a sync of the spawner. */
 void __cilkcheck_child_awaited(void *state, const char *callee, int rule);
 /* Where that next function's captured variables lie: another location behind the child. */
 void __cilkcheck_child_closure(void *state, const void *closure, size_t bytes);
 void __cilkcheck_child_left(void *state);
 /* A sync of the running function or scope. */
 void __cilkcheck_sync(void);
-/* The same, and scope_end, as functions for the attribute `cleanup` of C. */
+/* The same, for the attribute `cleanup` of C. */
 void __cilkcheck_sync_left(void *nothing);
-void __cilkcheck_scope_left(void *nothing);
 /* A cilk_for or cilk_scope: a block of children of its own, with a sync at its end. */
 void __cilkcheck_scope_begin(void);
-void __cilkcheck_scope_end(void);
+void __cilkcheck_scope_left(void *nothing);
 /* Nothing: the compiler sees the addresses escape. */
 void __cilkcheck_share(int nothing, ...);
 /* The next child's call puts so many bytes of arguments on the stack. */

@@ -103,9 +103,9 @@ void scope_reducer(enum reducer_operation operation, uint32_t reducer, uintptr_t
 /* ---- children of C++ (spawns.c) ---- */
 
 /* True while the innermost spawn of C++ waits for its function to be entered. Then __tsan_func_entry calls spawn_entered before the
-   new frame is there: `function` is its own place, `caller` where the function returns to. */
+   new frame is there: `function` is its own place. */
 extern bool spawn_awaited;
-void spawn_entered(uintptr_t function, uintptr_t caller);
+void spawn_entered(uintptr_t function);
 
 /* ---- the heap (heap.c) ---- */
 

@@ -15,8 +15,8 @@
 #include "recorder.h"
 #include <string.h>
 
-struct child { struct child *above; const char *callee; const void *closure; size_t bytes; uint32_t depth; unsigned exceptions; bool begun, by_name; };
-_Static_assert(sizeof(struct child) <= 6 * sizeof(void *), "a child's state has six pointers' room");
+struct child { struct child *above; const char *callee; const void *closure; size_t bytes; uintptr_t place; uint32_t depth; unsigned exceptions : 30, begun : 1, by_name : 1; };
+_Static_assert(sizeof(struct child) <= 7 * sizeof(void *), "a child's state has seven pointers' room");
 
 bool spawn_awaited;
 static struct child *innermost;
@@ -54,13 +54,13 @@ static bool is_callee(const struct child *child, uintptr_t function) {
   return !child->by_name && length && !(length == 1 && *name.text == '-');
 }
 
-void spawn_entered(uintptr_t function, uintptr_t caller) {
+void spawn_entered(uintptr_t function) {
   struct child *child = innermost;
   uint32_t depth = stack_depth();
   if (depth != child->depth + (child->callee != NULL) || !is_callee(child, function)) return;
-  child->begun = true;
+  child->begun = 1;
   spawn_awaited = false;
-  scope_spawn(child->depth, child->callee ? stack_caller(0) : caller);
+  scope_spawn(child->depth, child->place);
 }
 
 /* ---- what rewritten code calls ---- */
@@ -71,7 +71,7 @@ static unsigned exceptions_now(void) { return __cxa_get_globals ? __cxa_get_glob
 
 void __cilkcheck_child_awaited(void *state, const char *callee, int rule) {
   struct child *child = state;
-  *child = (struct child){.above = innermost, .callee = callee, .depth = stack_depth(), .exceptions = exceptions_now(), .by_name = rule == 0};
+  *child = (struct child){.above = innermost, .callee = callee, .place = PLACE, .depth = stack_depth(), .exceptions = exceptions_now() & 0x3FFFFFFF, .by_name = rule == 0};
   innermost = child;
   spawn_awaited = true;
 }
@@ -100,7 +100,29 @@ void __cilkcheck_sync_left(void *nothing) {
   (void)nothing;
   scope_sync_at(stack_depth(), PLACE);
 }
+void __cilkcheck_scope_made(void *nothing);
+void __cilkcheck_scope_made(void *nothing) {
+  (void)nothing;
+  scope_enter(SCOPE_BLOCK, stack_depth(), PLACE);
+}
 void __cilkcheck_scope_left(void *nothing) {
   (void)nothing;
+  const struct scope *scope = scope_top();
+  if (scope->kind == SCOPE_FUNCTION && scope->depth == stack_depth()) { scope_leave(PLACE); scope = scope_top(); }
+  if (scope->kind != SCOPE_BLOCK || scope->depth != stack_depth()) refuse(PLACE, "a cilk_for or cilk_scope was not left at its end");
   scope_leave(PLACE);
 }
+
+/* ---- the classes of include/cilkcheck/calls.hpp: their constructors and destructors, by the names that C++ gives them ---- */
+
+#define NAMED(symbol, function) __asm__(".globl " symbol "\n.set " symbol ", " function)
+NAMED("_ZN17__cilkcheck_childC1EPKci", "__cilkcheck_child_awaited");
+NAMED("_ZN17__cilkcheck_childC2EPKci", "__cilkcheck_child_awaited");
+NAMED("_ZN17__cilkcheck_childD1Ev", "__cilkcheck_child_left");
+NAMED("_ZN17__cilkcheck_childD2Ev", "__cilkcheck_child_left");
+NAMED("_ZN17__cilkcheck_syncsD1Ev", "__cilkcheck_sync_left");
+NAMED("_ZN17__cilkcheck_syncsD2Ev", "__cilkcheck_sync_left");
+NAMED("_ZN17__cilkcheck_scopeD1Ev", "__cilkcheck_scope_left");
+NAMED("_ZN17__cilkcheck_scopeD2Ev", "__cilkcheck_scope_left");
+NAMED("_ZN17__cilkcheck_scopeC1Ev", "__cilkcheck_scope_made");
+NAMED("_ZN17__cilkcheck_scopeC2Ev", "__cilkcheck_scope_made");

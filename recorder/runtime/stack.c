@@ -56,7 +56,7 @@ void __tsan_func_entry(void *caller) {
   uintptr_t top = ((uintptr_t *)__builtin_frame_address(0))[0] + 2 * sizeof(void *);
   struct frame *frame = &stack_now.frames[stack_now.depth];
   end_below(frame, top);
-  if (__builtin_expect(spawn_awaited, 0)) spawn_entered(PLACE, (uintptr_t)caller);
+  if (__builtin_expect(spawn_awaited, 0)) spawn_entered(PLACE);
   if (__builtin_expect(next_arguments != 0, 0)) arguments_begin(top);
   *frame = (struct frame){top, PLACE, (uintptr_t)caller};
   stack_now.depth++;
