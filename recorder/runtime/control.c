@@ -16,47 +16,56 @@ static uint32_t strand, next_strand;
 
 /* ---- lines ---- */
 
-static void mark(uint32_t site) {
-  if (site) {
-    text_word(text, " @");
-    text_number(text, site);
-    trace->sites[site / 64] |= (uint64_t)1 << site % 64;
-  }
-  text_end_line(text);
-  trace->requests++;
-}
-#define PUT(word, site) (text_word(text, word " "), text_number(text, strand), mark(site))
-
-/* The end of an access's line, for each site that has been written: ` @K` and a line feed. */
-static struct ending { uint8_t length; char bytes[15]; } *endings;
-
-static void put_access(char request, uint32_t cell, uint32_t site, const char *strand_text, size_t strand_length) {
-  char *line = text->buffer + text->used, *at = line;
-  if (request == 'r') { memcpy(at, "read ", 5); at += 5; }
-  else if (request == 'w') { memcpy(at, "write ", 6); at += 6; }
-  else { memcpy(at, "bump ", 5); at += 5; }
-  memcpy(at, strand_text, 16);
-  at += strand_length;
-  at += text_put_number(at, cell);
-  if (request == 'r') *at++ = ']'; else { memcpy(at, "] 0", 3); at += 3; }
-  struct ending *end = &endings[site];
-  if (__builtin_expect(!end->length, 0)) {
+/* What a line ends with, for each site that occurred: ` @K` and a line feed; and behind an access's cell, of a read and of the others. */
+static struct endings { struct text_piece line, read, write; } *endings;
+static struct endings *make_endings(uint32_t site) {
+  static const char *const before[] = {"", "]", "] 0"};
+  struct endings *made = &endings[site];
+  struct text_piece *pieces[] = {&made->line, &made->read, &made->write};
+  for (int i = 0; i < 3; i++) {
+    struct text_piece *piece = pieces[i];
+    uint32_t length = (uint32_t)strlen(before[i]);
+    memcpy(piece->bytes, before[i], length);
     if (site) {
-      memcpy(end->bytes, " @", 2);
-      end->length = (uint8_t)(2 + text_put_number(end->bytes + 2, site));
+      memcpy(piece->bytes + length, " @", 2);
+      length += 2 + (uint32_t)text_put_number(piece->bytes + length + 2, site);
     }
-    end->bytes[end->length++] = '\n';
+    piece->bytes[length++] = '\n';
+    piece->length = length;
   }
+  return made;
+}
+static inline const struct endings *ending(uint32_t site) {
   trace->sites[site / 64] |= (uint64_t)1 << site % 64;
-  memcpy(at, end->bytes, 15);
-  at += end->length;
-  text->used += (size_t)(at - line);
+  struct endings *found = &endings[site];
+  return __builtin_expect(found->line.length != 0, 1) ? found : make_endings(site);
+}
+static inline void end_request(const struct text_piece *piece) {
+  text_piece(text, piece);
+  trace->requests++;
   if (__builtin_expect(text->used > TEXT_BUFFER - LONGEST_LINE, 0)) text_flush(text);
 }
-static size_t strand_words(char *words) {                          /* `S c[`, as it stands in each access of the strand */
-  size_t length = text_put_number(words, strand);
-  memcpy(words + length, " c[", 3);
-  return length + 3;
+static void mark(uint32_t site) { end_request(&ending(site)->line); }
+#define PUT(word, site) (text_word(text, word " "), text_number(text, strand), mark(site))
+
+/* What the running strand's accesses begin with: the word, the strand's number, ` c[`. */
+static struct text_piece reads, writes, bumps;
+static void make_beginning(struct text_piece *piece, const char *word) {
+  uint32_t length = (uint32_t)strlen(word);
+  memcpy(piece->bytes, word, length);
+  length += (uint32_t)text_put_number(piece->bytes + length, strand);
+  memcpy(piece->bytes + length, " c[", 3);
+  piece->length = length + 3;
+}
+static void forget_beginnings(void) { reads.length = writes.length = bumps.length = 0; }
+
+static inline void put_access(char request, uint32_t cell, const struct endings *end) {
+  struct text_piece *beginning = request == 'r' ? &reads : request == 'w' ? &writes : &bumps;
+  if (!beginning->length) make_beginning(beginning, request == 'r' ? "read " : request == 'w' ? "write " : "bump ");
+  text_piece(text, beginning);
+  text_number(text, cell);
+  end_request(request == 'r' ? &end->read : &end->write);
+  trace->accesses++;
 }
 
 static void begin(struct trace *of) {
@@ -115,6 +124,12 @@ static void sync(uint32_t site) {
 
 static uint64_t *used; static uint32_t *used_before;               /* a bit for each step that the trace tells; and of each 64, how many before */
 
+static inline uint32_t count_bits(uint64_t bits) {                 /* (a library call where the processor may have no instruction for it) */
+  bits -= bits >> 1 & 0x5555555555555555u;
+  bits = (bits & 0x3333333333333333u) + (bits >> 2 & 0x3333333333333333u);
+  return (uint32_t)(((bits + (bits >> 4)) & 0x0F0F0F0F0F0F0F0Fu) * 0x0101010101010101u >> 56);
+}
+
 static void find_used(void) {
   uint32_t words = histories.step_count / 64 + 1, sum = 0, seen = 0;
   if (!used) {
@@ -138,36 +153,30 @@ static void find_used(void) {
     }
     used[word] = bits;
     used_before[word] = sum;
-    sum += (uint32_t)__builtin_popcountll(bits);
+    sum += count_bits(bits);
   }
 }
 static uint32_t count_used(uint32_t step) {                        /* of the steps before that one */
-  return used_before[step / 64] + (uint32_t)__builtin_popcountll(used[step / 64] & (((uint64_t)1 << step % 64) - 1));
+  return used_before[step / 64] + count_bits(used[step / 64] & (((uint64_t)1 << step % 64) - 1));
 }
 
-static void put_step(const struct step *step, const char *words, size_t length) {
+static void put_step(const struct step *step) {
   uint32_t cell = step->before > trace->first_cell ? step->before : trace->first_cell;
-  uint32_t end = step->class < trace->end_cell ? step->class : trace->end_cell;
-  uint32_t site = step->what >> STEP_SITE_SHIFT;
-  enum access kind = (enum access)(step->what & STEP_KIND);
-  for (; cell < end; cell++) {
-    char request = cell_request(kind, cell);
-    if (!request) continue;
-    put_access(request, cell - trace->first_cell, site, words, length);
-    trace->requests++;
-    trace->accesses++;
+  uint32_t last = step->class < trace->end_cell ? step->class : trace->end_cell;
+  const struct endings *end = ending(step->what >> STEP_SITE_SHIFT);
+  for (; cell < last; cell++) {
+    char request = cell_request((enum access)(step->what & STEP_KIND), cell);
+    if (request) put_access(request, cell - trace->first_cell, end);
   }
 }
 static void put_steps(uint32_t from, uint32_t to) {
-  char words[32];
-  size_t length = 0;
+  forget_beginnings();
   for (uint32_t word = from / 64; word <= to / 64; word++) {
     uint64_t bits = used[word];
     if (word == from / 64) bits &= ~(uint64_t)0 << from % 64;
     if (word == to / 64) bits &= ((uint64_t)1 << to % 64) - 1;
     for (; bits; bits &= bits - 1) {
-      if (!length) length = strand_words(words);
-      put_step(&histories.steps[word * 64 + (uint32_t)__builtin_ctzll(bits)], words, length);
+      put_step(&histories.steps[word * 64 + (uint32_t)__builtin_ctzll(bits)]);
       if (is_full()) return;
     }
   }
@@ -283,15 +292,10 @@ bool control_reducers(struct trace *of) {
 
 /* A location is two cells where atomic loads occur: number 2 n - 2 is its cell a, 2 n - 1 its cell b (classes.h). */
 static void put_raw(const struct log_item *item) {
-  char words[32];
-  size_t length = strand_words(words);
+  forget_beginnings();
   for (uint32_t second = 0; second < (raw_has_loads() ? 2 : 1); second++) {
-    char request = second ? (item->kind == ACCESS_LOAD ? 'r' : item->kind == ACCESS_WRITE ? 'w' : 0)
-                          : (item->kind == ACCESS_READ ? 'r' : item->kind == ACCESS_WRITE ? 'w' : item->kind == ACCESS_BUMP ? 'b' : 0);
-    if (!request) continue;
-    put_access(request, raw_has_loads() ? 2 * (item->of - 1) + second : item->of - 1, item->site, words, length);
-    trace->requests++;
-    trace->accesses++;
+    char request = cell_word((enum access)item->kind, second);
+    if (request) put_access(request, raw_has_loads() ? 2 * (item->of - 1) + second : item->of - 1, ending(item->site));
   }
 }
 

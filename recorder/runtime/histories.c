@@ -126,6 +126,7 @@ static history add_step(history from, uint32_t key) {
   uint32_t what = key >> 2 << STEP_SITE_SHIFT | kind | 1u << (STEP_KINDS_SHIFT + kind);
   what |= before & (STEP_STRANDS | 15u << STEP_KINDS_SHIFT);
   if (from && from < histories.steps_of_strand) what |= STEP_STRANDS;
+  if (from >= histories.steps_of_strand && kind == ACCESS_WRITE && (from & STEP_KIND) == ACCESS_READ) what |= STEP_BEHIND_READ;
   histories.steps[number] = (struct step){from, what, 0};
   return number << 2 | kind;
 }

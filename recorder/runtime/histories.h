@@ -25,8 +25,9 @@ struct step { history before; uint32_t what, class; };
 #define STEP_KIND 3u                         /* enum access */
 #define STEP_KINDS_SHIFT 2u                  /* four bits: which kinds occur in the history */
 #define STEP_STRANDS 0x40u                   /* two strands or more */
-#define STEP_SITE_SHIFT 7u
-#define MOST_SITES (1u << 25)
+#define STEP_BEHIND_READ 0x80u               /* a write; the step before is a read by the same strand */
+#define STEP_SITE_SHIFT 8u
+#define MOST_SITES (1u << 24)
 
 /* One class: a history with which at least one location's life ended. `origin` and `offset` say what the first of them was. */
 struct class { uint32_t origin, offset, bytes; };

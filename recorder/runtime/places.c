@@ -1,6 +1,7 @@
 /* The table of places: read from the program's own file. places.h states the invariants, abi.h the form. */
 #define _GNU_SOURCE
 #include "places.h"
+#include "histories.h"
 #include <elf.h>
 #include <fcntl.h>
 #include <stdio.h>
@@ -76,7 +77,7 @@ static unsigned long number(struct line text, int base) { return text.text < tex
 static void take_site(uintptr_t offset, struct line rest) {
   unsigned long site = number(field(&rest), 10);
   uintptr_t at = offset + moved - places.code_low;
-  if (!site || site >= UINT32_MAX / 256 || at >= places.code_bytes) return;
+  if (!site || site >= MOST_SITES || at >= places.code_bytes) return;
   places.sites[at] = (uint32_t)site;
   if (site > site_count) site_count = (uint32_t)site;
 }
@@ -86,7 +87,7 @@ void places_begin(void) {
   places.code_bytes = (uintptr_t)program_code_end - places.code_low;
   moved = program_head.e_type == ET_DYN ? places.code_low : 0;
   places.sites = reserve(sizeof *places.sites * places.code_bytes);
-  new_places = reserve(sizeof *new_places << 25);
+  new_places = reserve(sizeof *new_places * MOST_SITES);
   table = map_table(&table_bytes);
   if (table) {
     places_each_line("at", take_site);
@@ -100,13 +101,29 @@ uint32_t place_new_site(uintptr_t place) {
   uintptr_t offset = place - places.code_low;
   if (offset >= places.code_bytes)                                /* code of another library: few calls come from there */
     for (uint32_t site = first_new; site <= site_count; site++) if (new_places[site - first_new] == place) return site;
-  if (site_count == (1u << 25) - 1) refuse(0, "more than %u places in the program", site_count);
+  if (site_count == MOST_SITES - 1) refuse(0, "more than %u places in the program", site_count);
   new_places[++site_count - first_new] = place;
   if (offset < places.code_bytes) places.sites[offset] = site_count;
   return site_count;
 }
 uintptr_t places_moved(void) { return moved; }
 uint32_t place_sites(void) { return site_count; }
+
+/* ---- a read and the write behind it, as one site ---- */
+
+static struct pair { uint32_t write, read; } *pairs;               /* of the sites from first_pair on */
+static uint32_t first_pair;
+
+uint32_t site_behind(uint32_t write, uint32_t read) {
+  if (!pairs) {
+    pairs = reserve(sizeof *pairs * MOST_SITES);
+    first_pair = site_count + 1;
+  }
+  for (uint32_t i = site_count + 1; i-- > first_pair;) if (pairs[i - first_pair].write == write && pairs[i - first_pair].read == read) return i;
+  if (site_count == MOST_SITES - 1) refuse(0, "more than %u places in the program", site_count);
+  pairs[++site_count - first_pair] = (struct pair){write, read};
+  return site_count;
+}
 
 /* ---- names ---- */
 
@@ -152,6 +169,17 @@ static void unknown(uintptr_t place, char *text, size_t room) {
 void site_name(uint32_t site, char *text, size_t room) {
   text[0] = 0;
   if (!site) return;
+  if (pairs && site >= first_pair) {
+    struct pair pair = pairs[site - first_pair];
+    char read[400];
+    site_name(pair.write, text, room);
+    site_name(pair.read, read, sizeof read);
+    char *end = strstr(read, ", ");
+    if (end) *end = 0;
+    size_t used = add(text, room, strlen(text), word("   (behind a read at "));
+    add(text, room, add(text, room, used, word(read)), word(")"));
+    return;
+  }
   if (site >= first_new || !site_lines || !site_lines[site].text) {
     if (site >= first_new) unknown(new_places[site - first_new], text, room);
     return;

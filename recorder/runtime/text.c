@@ -6,9 +6,11 @@
 #include <string.h>
 #include <unistd.h>
 
-const char text_digits[201] =
-  "00010203040506070809101112131415161718192021222324252627282930313233343536373839404142434445464748495051525354555657585960616263646566676869"
-  "707172737475767778798081828384858687888990919293949596979899";
+char text_digits[40004];
+void text_begin(void) {
+  char *at = text_digits;
+  for (int i = 0; i < 10000; i++) { *at++ = (char)('0' + i / 1000); *at++ = (char)('0' + i / 100 % 10); *at++ = (char)('0' + i / 10 % 10); *at++ = (char)('0' + i % 10); }
+}
 
 void text_open(struct text *text, const char *path) {
   text->used = 0;
@@ -33,5 +35,7 @@ void text_close(struct text *text) {
   if (close(text->file)) refuse(0, "cannot write %s: %s", text->path, strerror(errno));
 }
 void text_line(struct text *text, const char *line) {
-  text_bytes(text, line, strnlen(line, LONGEST_LINE - 256));
+  size_t length = strnlen(line, LONGEST_LINE - 256);
+  memcpy(text->buffer + text->used, line, length);
+  text->used += length;
 }

@@ -1,5 +1,5 @@
 /* A trace's file, written fast: words and numbers go into a buffer that is written when it is nearly full.
-   Invariant: between two calls there is room for LONGEST_LINE bytes in the buffer. */
+   Invariant: text_digits is filled before the first number is put. Between two calls there is room for LONGEST_LINE bytes in the buffer. */
 #ifndef CILKCHECK_TEXT_H
 #define CILKCHECK_TEXT_H
 #include "recorder.h"
@@ -8,6 +8,8 @@
 #define LONGEST_LINE 2048u
 struct text { int file; size_t used; uint64_t written; const char *path; char buffer[TEXT_BUFFER]; };
 
+/* Fills text_digits. */
+void text_begin(void);
 /* Creates or empties the file, whose name has to stay as long. A file that cannot be written is refused. */
 void text_open(struct text *text, const char *path);
 void text_close(struct text *text);
@@ -15,25 +17,30 @@ void text_flush(struct text *text);
 /* Bytes so far. */
 static inline uint64_t text_length(const struct text *text) { return text->written + text->used; }
 
-static inline void text_bytes(struct text *text, const char *bytes, size_t count) {
-  char *at = text->buffer + text->used;
-  for (size_t i = 0; i < count; i++) at[i] = bytes[i];
-  text->used += count;
+/* A short text that is copied as a whole, whatever its length. */
+struct text_piece { uint32_t length; char bytes[28]; };
+static inline void text_piece(struct text *text, const struct text_piece *piece) {
+  __builtin_memcpy(text->buffer + text->used, piece->bytes, sizeof piece->bytes);
+  text->used += piece->length;
 }
 /* The words of a request have a fixed length, so that they are copied as one number. */
 #define text_word(text, word) (__builtin_memcpy((text)->buffer + (text)->used, word, sizeof word), (text)->used += sizeof word - 1)
 void text_line(struct text *text, const char *line);
 
-extern const char text_digits[201];
+/* The four digits of each number below 10,000. */
+extern char text_digits[40004];
+static inline size_t text_put_short(char *at, uint32_t number) {
+  size_t zeros = (size_t)((number < 1000) + (number < 100) + (number < 10));
+  __builtin_memcpy(at, text_digits + number * 4 + zeros, 4);       /* behind the last number's digits lies another's, or the next byte */
+  return 4 - zeros;
+}
+/* Puts a number's digits; up to 12 bytes are written. */
 static inline size_t text_put_number(char *at, uint32_t number) {
-  char digits[10];
-  size_t first = 10;
-  while (number >= 100) { first -= 2; __builtin_memcpy(digits + first, text_digits + number % 100 * 2, 2); number /= 100; }
-  if (number >= 10) { first -= 2; __builtin_memcpy(digits + first, text_digits + number * 2, 2); }
-  else digits[--first] = (char)('0' + number);
-  size_t count = 10 - first;
-  for (size_t i = 0; i < count; i++) at[i] = digits[first + i];
-  return count;
+  if (__builtin_expect(number < 10000, 0)) return text_put_short(at, number);
+  uint32_t high = number / 10000, low = number % 10000;
+  size_t length = high < 10000 ? text_put_short(at, high) : text_put_number(at, high);
+  __builtin_memcpy(at + length, text_digits + low * 4, 4);
+  return length + 4;
 }
 static inline void text_number(struct text *text, uint32_t number) { text->used += text_put_number(text->buffer + text->used, number); }
 static inline void text_end_line(struct text *text) {

@@ -213,6 +213,7 @@ static void write_memory(void) {
 void traces_write(void) {
   char first[300], last[300] = "";
   places_read();
+  text_begin();
   if (options.raw) {
     write_raw();
   } else {
