@@ -119,7 +119,13 @@ void heap_freed(void *block, uintptr_t place);
 /* The bytes of the program's block that begins at `block`, or 0 where there is none. */
 size_t heap_bytes(const void *block);
 
-/* ---- OpenMP asks abi.c ---- */
+/* ---- OpenMP (openmp.h) ---- */
+
+/* A mark of scopes whose children are OpenMP's tasks: functions inside may return while these are outstanding. */
+#define SCOPE_OF_TASKS 0x10
+/* A function returns so; its locals lie in [from, to). */
+void openmp_function_end(uintptr_t from, uintptr_t to, uintptr_t place);
+/* OpenMP asks abi.c. */
 
 /* Whether __cilkcheck_outlined was called since the last time this was asked. */
 bool outlined_next(void);

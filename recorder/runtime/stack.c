@@ -65,6 +65,7 @@ void __tsan_func_exit(void) {
   if (scope_innermost->depth == stack_now.depth) scope_function_end(stack_now.depth, PLACE);
   if (!stack_now.depth) return;
   struct frame *frame = &stack_now.frames[--stack_now.depth];
+  if (__builtin_expect(scope_innermost->open && scope_innermost->marks & SCOPE_OF_TASKS, 0)) openmp_function_end(stack_now.touched, frame->top, PLACE);
   end_below(frame, frame->top);
 }
 
