@@ -50,19 +50,24 @@ static void mark(uint32_t site) { end_request(&ending(site)->line); }
 
 /* What the running strand's accesses begin with: the word, the strand's number, ` c[`. */
 static struct text_piece reads, writes, bumps;
-static void make_beginning(struct text_piece *piece, const char *word) {
-  uint32_t length = (uint32_t)strlen(word);
-  memcpy(piece->bytes, word, length);
-  length += (uint32_t)text_put_number(piece->bytes + length, strand);
-  memcpy(piece->bytes + length, " c[", 3);
-  piece->length = length + 3;
+static void make_beginnings(void) {
+  char number[16];
+  size_t length = text_put_number(number, strand);
+  memcpy(number + length, " c[", 3);
+  length += 3;
+  memcpy(reads.bytes, "read ", 5);
+  memcpy(reads.bytes + 5, number, 16);
+  reads.length = 5 + (uint32_t)length;
+  memcpy(writes.bytes, "write ", 6);
+  memcpy(writes.bytes + 6, number, 16);
+  writes.length = 6 + (uint32_t)length;
+  memcpy(bumps.bytes, "bump ", 5);
+  memcpy(bumps.bytes + 5, number, 16);
+  bumps.length = 5 + (uint32_t)length;
 }
-static void forget_beginnings(void) { reads.length = writes.length = bumps.length = 0; }
 
 static inline void put_access(char request, uint32_t cell, const struct endings *end) {
-  struct text_piece *beginning = request == 'r' ? &reads : request == 'w' ? &writes : &bumps;
-  if (!beginning->length) make_beginning(beginning, request == 'r' ? "read " : request == 'w' ? "write " : "bump ");
-  text_piece(text, beginning);
+  text_piece(text, request == 'r' ? &reads : request == 'w' ? &writes : &bumps);
   text_number(text, cell);
   end_request(request == 'r' ? &end->read : &end->write);
   trace->accesses++;
@@ -170,12 +175,14 @@ static void put_step(const struct step *step) {
   }
 }
 static void put_steps(uint32_t from, uint32_t to) {
-  forget_beginnings();
+  bool begun = false;
   for (uint32_t word = from / 64; word <= to / 64; word++) {
     uint64_t bits = used[word];
     if (word == from / 64) bits &= ~(uint64_t)0 << from % 64;
     if (word == to / 64) bits &= ((uint64_t)1 << to % 64) - 1;
     for (; bits; bits &= bits - 1) {
+      if (!begun) make_beginnings();
+      begun = true;
       put_step(&histories.steps[word * 64 + (uint32_t)__builtin_ctzll(bits)]);
       if (is_full()) return;
     }
@@ -292,7 +299,7 @@ bool control_reducers(struct trace *of) {
 
 /* A location is two cells where atomic loads occur: number 2 n - 2 is its cell a, 2 n - 1 its cell b (classes.h). */
 static void put_raw(const struct log_item *item) {
-  forget_beginnings();
+  make_beginnings();
   for (uint32_t second = 0; second < (raw_has_loads() ? 2 : 1); second++) {
     char request = cell_word((enum access)item->kind, second);
     if (request) put_access(request, raw_has_loads() ? 2 * (item->of - 1) + second : item->of - 1, ending(item->site));

@@ -6,8 +6,9 @@
 #define LONGEST_EVENT 32u
 
 static uint8_t *bytes;
-static uint32_t length;
+static uint32_t length, spawns;
 
+uint32_t log_spawns(void) { return spawns; }
 void log_begin(void) { bytes = reserve(MOST_BYTES); }
 
 static void put_number(uint32_t number) {
@@ -35,6 +36,7 @@ uint32_t log_spawn(uint32_t steps, uint32_t site) {
   put_steps(LOG_SPAWN, steps);
   put_number(site);
   length += 8;
+  spawns++;
   return length - 8;
 }
 void log_fill_spawn(uint32_t words, uint32_t steps) {

@@ -21,6 +21,8 @@
 enum log_event { LOG_ENTER, LOG_LEAVE, LOG_SPAWN, LOG_CHILD_END, LOG_SYNC, LOG_REDUCER, LOG_ACCESS, LOG_END };
 
 void log_begin(void);
+/* How many spawns were told. */
+uint32_t log_spawns(void);
 void log_scope(enum log_event event, uint32_t site);
 /* A strand ends: LOG_CHILD_END, LOG_SYNC or LOG_END. */
 void log_strand_end(enum log_event event, uint32_t steps, uint32_t site);

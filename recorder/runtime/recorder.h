@@ -30,7 +30,9 @@ void warn(uintptr_t place, const char *format, ...) __attribute__((format(printf
 /* A note `#run ..` of each trace: what a clean verdict does not cover. The same text twice is one note. */
 void note_unseen(const char *format, ...) __attribute__((format(printf, 1, 2)));
 /* Begins the recording where it has not begun. Each call from outside that may be the first of a run comes through it. */
-void start_recording(void);
+void begin_recording(void);
+extern bool recording_began;
+static inline void start_recording(void) { if (__builtin_expect(!recording_began, 0)) begin_recording(); }
 /* False before the recording begins and once its end has come: then nothing is looked at. */
 extern bool recording;
 /* Address space that reads as zeros; memory is taken as it is touched. Never NULL. */

@@ -27,7 +27,7 @@ struct stack stack_new(uintptr_t low, size_t span) {
   return (struct stack){frames, stack_now.depth, low, span, UINTPTR_MAX};
 }
 void stack_free(struct stack stack) { unreserve(stack.frames, sizeof *stack.frames * THREAD_FRAMES); }
-uint32_t stack_depth(void) { start_recording(); return stack_now.depth; }
+uint32_t stack_depth(void) { return stack_now.depth; }
 uintptr_t stack_caller(uint32_t above) { return stack_now.depth > above ? stack_now.frames[stack_now.depth - 1 - above].caller : 0; }
 
 void stack_next_arguments(size_t bytes) { next_arguments = bytes; }
@@ -50,7 +50,7 @@ static inline void end_below(const struct frame *frame, uintptr_t top) {
 void __tsan_func_entry(void *caller);
 void __tsan_func_exit(void);
 void __tsan_func_entry(void *caller) {
-  if (__builtin_expect(!stack_now.frames, 0)) start_recording();
+  start_recording();
   if (__builtin_expect(stack_now.depth == MOST_FRAMES, 0)) refuse(0, "more than %u calls at once", MOST_FRAMES);
   /* Recorded code keeps frame pointers: the caller's saved one and the return address lie below what its own callers have. */
   uintptr_t top = ((uintptr_t *)__builtin_frame_address(0))[0] + 2 * sizeof(void *);

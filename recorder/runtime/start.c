@@ -16,9 +16,8 @@
 #include <sys/mman.h>
 #include <unistd.h>
 
-bool recording;
+bool recording, recording_began;
 struct options options;
-static bool started;
 static char notes[1 << 16]; static size_t notes_used;
 static char words[400];
 
@@ -96,9 +95,9 @@ static void read_command(void) {
   for (ssize_t i = 0; i < got; i++) if (words[i] < 0x20 || words[i] > 0x7E) words[i] = words[i] ? '?' : ' ';
 }
 
-void start_recording(void) {
-  if (started) return;
-  started = true;
+void begin_recording(void) {
+  if (recording_began) return;
+  recording_began = true;
   int kept = errno;
   options.raw = is_set("CILKCHECK_RAW", "1");
   options.epochs = !options.raw && !is_set("CILKCHECK_EPOCHS", "no");

@@ -3,6 +3,7 @@
 #include "traces.h"
 #include "classes.h"
 #include "histories.h"
+#include "log.h"
 #include "members.h"
 #include "notes.h"
 #include "places.h"
@@ -192,7 +193,8 @@ static void write_by_groups(uint32_t from, uint32_t to) {
 }
 
 static void write_memory(void) {
-  double per_access = 2;                                           /* requests for each access, as the trace before had */
+  /* Requests for each access: at first as if all spawns were told, then as the trace before had. */
+  double per_access = 1 + 5 * (double)log_spawns() / ((double)cells.accesses + 1);
   for (uint32_t from = 0; from < cells.count;) {
     uint64_t room = (uint64_t)(0.95 * (double)options.limit / per_access), sum = 0;
     uint32_t to = from;
