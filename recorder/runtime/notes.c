@@ -23,12 +23,22 @@ static void put_places(const struct trace *trace) {
   }
 }
 
-/* What a class's location is, and how many bytes have that history. */
-static void class_name(const struct class *class, char *text, size_t room) {
-  origin_name(class->origin, class->offset, text, room);
-  size_t used = strlen(text);
-  if (class->bytes > 16) snprintf(text + used, room - used, ", and %u more bytes", class->bytes - 1);
-  else snprintf(text + used, room - used, class->bytes == 1 ? ", 1 byte" : ", %u bytes", class->bytes);
+/* What a class's location is, and how many bytes have that history. Origins and their texts come again and again. */
+static void put_class(struct text *text, const struct class *class) {
+  static uint32_t last;
+  static char name[LONGEST_LINE / 4];
+  static bool byte_follows;
+  if (class->origin != last || !byte_follows) byte_follows = origin_name(class->origin, class->offset, name, sizeof name);
+  last = class->origin;
+  text_line(text, name);
+  if (byte_follows) {
+    text_line(text, ", byte ");
+    text_number(text, class->offset);
+  }
+  text_line(text, class->bytes > 16 ? ", and " : ", ");
+  text_number(text, class->bytes > 16 ? class->bytes - 1 : class->bytes);
+  text_line(text, class->bytes > 16 ? " more bytes" : class->bytes == 1 ? " byte" : " bytes");
+  text_end_line(text);
 }
 
 /* Most cells of a trace are often told alike: `#of c[*]` says that of all that have no note of their own. */
@@ -49,19 +59,18 @@ static const struct class *class_of_most(const struct trace *trace) {
 
 static void put_cells(const struct trace *trace) {
   const struct class *most = class_of_most(trace);
-  char line[LONGEST_LINE / 2], name[LONGEST_LINE / 4];
   for (uint32_t cell = trace->first_cell; cell < trace->end_cell; cell++) {
     const struct class *class = &histories.classes[cells.class[cell]];
     if (most && class->origin == most->origin && class->offset == most->offset && class->bytes == most->bytes) continue;
     if (text_length(trace->text) > trace->most_bytes + (8u << 20)) break;       /* the file's limit comes before a name */
-    class_name(class, name, sizeof name);
-    snprintf(line, sizeof line, "#of c[%u] %s", cell - trace->first_cell, name);
-    put_line(trace->text, line);
+    text_line(trace->text, "#of c[");
+    text_number(trace->text, cell - trace->first_cell);
+    text_line(trace->text, "] ");
+    put_class(trace->text, class);
   }
   if (!most) return;
-  class_name(most, name, sizeof name);
-  snprintf(line, sizeof line, "#of c[*] %s", name);
-  put_line(trace->text, line);
+  text_line(trace->text, "#of c[*] ");
+  put_class(trace->text, most);
 }
 
 void notes_write(const struct trace *trace, const char *title) {

@@ -50,7 +50,7 @@ uint32_t origin_number(const struct origin *origin) {
   return slots[at];
 }
 
-void origin_name(uint32_t number, uint32_t offset, char *text, size_t room) {
+bool origin_name(uint32_t number, uint32_t offset, char *text, size_t room) {
   const struct origin *origin = &origins[number];
   char name[400];
   size_t byte = 0;
@@ -61,19 +61,20 @@ void origin_name(uint32_t number, uint32_t offset, char *text, size_t room) {
     break;
   case ORIGIN_HEAP:
     place_name(origin->place, name, sizeof name);
-    snprintf(text, room, "heap block of %zu bytes from %s, byte %u", origin->bytes, name, offset);
-    break;
+    snprintf(text, room, "heap block of %zu bytes from %s", origin->bytes, name);
+    return true;
   case ORIGIN_ARGUMENTS:
     snprintf(text, room, "an argument on the stack of a spawned call");
     break;
   case ORIGIN_TASK:
     place_name(origin->place, name, sizeof name);
-    snprintf(text, room, "the data of a task from %s, byte %u", name, offset);
-    break;
+    snprintf(text, room, "the data of a task from %s", name);
+    return true;
   case ORIGIN_GLOBAL:
     if (!place_object(origin->base + offset, name, sizeof name, &byte)) snprintf(text, room, "memory at 0x%lx", origin->base + offset);
     else if (byte) snprintf(text, room, "%s, byte %zu", name, byte);
     else snprintf(text, room, "%s", name);
     break;
   }
+  return false;
 }
