@@ -28,8 +28,8 @@ class Context:
 
 
 class Rewriter:
-    def __init__(self, source, cxx):
-        self.source, self.cxx = source, cxx
+    def __init__(self, source, cxx, tells_all_locals):
+        self.source, self.cxx, self.tells_all_locals = source, cxx, tells_all_locals
         self.before_cxx14 = False                           # lambdas then have no decltype(auto)
 
     # ---- declarations ----
@@ -429,8 +429,9 @@ PLACES = {
 }
 
 
-def rewrite(text, cxx, openmp_on=False):
-    """The text with calls of the recorder in place of the keywords. Raises Refused."""
+def rewrite(text, cxx, openmp_on=False, tells_all_locals=False):
+    """The text with calls of the recorder in place of the keywords. Raises Refused. `openmp_on`: the user gave -fopenmp; `tells_all_locals`: the
+    compiler tells the accesses of locals that nobody can share, too."""
     has_keywords = re.search(r"\b_Cilk_(?:spawn|sync|for|scope|reducer)\b", text) is not None
     if cxx:
         text = STRINGS.sub(lambda found: "\n" * found.group().count("\n"), text)
@@ -440,7 +441,7 @@ def rewrite(text, cxx, openmp_on=False):
     openmp.check(source, openmp_on)
     if not has_keywords:
         return source.text(0, len(source.tokens))
-    rewriter = Rewriter(source, cxx)
+    rewriter = Rewriter(source, cxx, tells_all_locals)
     standard = re.search(r"__cilkcheck_cplusplus = (\d+)", text)
     rewriter.before_cxx14 = standard is not None and int(standard.group(1)) < 201402
     prelude = PRELUDE / ("calls.hpp" if cxx else "calls.h")

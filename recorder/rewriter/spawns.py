@@ -51,7 +51,7 @@ def statement(rewriter, begin, keyword, context):
         else:
             target = begin, equals
     make = in_cxx if rewriter.cxx else in_c
-    return make(rewriter, call, target, declared, operator, semicolon, context), semicolon + 1
+    return make(rewriter, call, target, declared, operator, keyword, context), semicolon + 1
 
 
 def outside_brackets(source, begin, end):
@@ -105,7 +105,7 @@ def read_call(source, keyword, begin, end):
 
 # ---- C ----
 
-def in_c(rewriter, call, target, declared, operator, semicolon, context):
+def in_c(rewriter, call, target, declared, operator, keyword, context):
     source = rewriter.source
     before, names, given = [], [], []
     words = source.words(*call.callee)
@@ -114,6 +114,7 @@ def in_c(rewriter, call, target, declared, operator, semicolon, context):
     else:
         function = source.fresh()
         before.append(f"__extension__ __auto_type {function} = ({source.inner(*call.callee)});")
+        given.append(function)
     for part in call.arguments:
         solids = source.solids(*part)
         if len(solids) == 1 and source.kinds[solids[0]] != "name":      # a literal
@@ -128,21 +129,32 @@ def in_c(rewriter, call, target, declared, operator, semicolon, context):
         bytes_ = " + ".join(f"(sizeof({name}) > 16 ? (sizeof({name}) + 7) / 8 * 8 : 0)" for name in given)
         before.append(f"if ({bytes_}) __cilkcheck_argument_bytes({bytes_});")
     shared = "".join(f", {name}" for name in given)
+    start = " ".join(before)
+    if "\n" in start:
+        start += source.mark(keyword)
     if declared:
         begin, equals = declared
         name = source.words(begin, equals)[-1]
-        text = " ".join(before) + f" {source.text(begin, equals)}= (__cilkcheck_child_begin((void *)&{name}{shared}), {called});"
-        return text + f" __cilkcheck_wrote((void *)&{name}, sizeof {name}), __cilkcheck_child_end();"
+        text = f"{start} {source.text(begin, equals)}= (__cilkcheck_child_begin((void *)&{name}{shared}), {called}); __cilkcheck_wrote((void *)&{name}, sizeof {name});"
+        return text + lives_end(rewriter, given) + " __cilkcheck_child_end();"
     if target:
         place = source.fresh()
         value = source.inner(*target)
-        return ("{ " + " ".join(before) + f" __typeof__({value}) *{place} = &({value}); __cilkcheck_child_begin((void *){place}{shared});"
-                f" *{place} {operator} {called}; __cilkcheck_wrote((void *){place}, sizeof *{place}); __cilkcheck_child_end(); }}")
+        text = (f"{{ {start} __typeof__({value}) *{place} = &({value}); __cilkcheck_child_begin((void *){place}{shared});"
+                f" *{place} {operator} {called}; __cilkcheck_wrote((void *){place}, sizeof *{place});")
+        return text + lives_end(rewriter, [*given, place]) + " __cilkcheck_child_end(); }"
     result = source.fresh()
     void = f"__builtin_types_compatible_p(__typeof__({called}), void)"
-    return ("{ " + " ".join(before) + f" __cilkcheck_child_begin((void *)0{shared});"
+    text = (f"{{ {start} __cilkcheck_child_begin((void *)0{shared});"
             f" __typeof__(__builtin_choose_expr({void}, (char)0, {called})) {result} = __builtin_choose_expr({void}, ({called}, (char)0), {called});"
-            f" __cilkcheck_end_life(&{result}, sizeof {result}); __cilkcheck_child_end(); }}")
+            f" __cilkcheck_end_life(&{result}, sizeof {result});")
+    return text + lives_end(rewriter, given) + " __cilkcheck_child_end(); }"
+
+
+def lives_end(rewriter, names):
+    """clang tells the child's reads of these variables, which the next child's spawner writes anew: another location each time. (gcc tells of no local
+    whose address nobody takes.)"""
+    return "".join(f" __cilkcheck_end_life(&{name}, sizeof {name});" for name in names) if rewriter.tells_all_locals else ""
 
 
 def argument(rewriter, part, context):
@@ -153,7 +165,7 @@ def argument(rewriter, part, context):
 
 # ---- C++ ----
 
-def in_cxx(rewriter, call, target, declared, operator, semicolon, context):
+def in_cxx(rewriter, call, target, declared, operator, keyword, context):
     source = rewriter.source
     hoisted, callee, name, rule = cxx_callee(rewriter, call, context)
     arguments = rewriter.expression(call.opening, call.closing + 1, context)

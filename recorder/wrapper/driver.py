@@ -28,6 +28,9 @@ QUIET = {"gcc": ["-fno-diagnostics-show-caret", "-fno-show-column", "-Wno-mislea
          "clang": ["-fno-caret-diagnostics", "-fno-show-column", "-Wno-misleading-indentation"]}
 
 
+REFUSED = 70                                                # the status of a program or a run that is refused
+
+
 class Failed(Exception):
     """A command failed, and has said why; its exit status."""
 
@@ -98,10 +101,10 @@ class Driver:
         is_cxx = COMPILED[language] == "c++"
         text = self.preprocess(source, language, target)
         try:
-            text = rewrite(text, is_cxx, self.commands.openmp)
+            text = rewrite(text, is_cxx, self.commands.openmp, self.kind == "clang")
         except Refused as fault:
             say(f"refused: {fault}")
-            raise Failed(1) from None
+            raise Failed(REFUSED) from None
         rewritten = self.folder / f"{self.count}.{'ii' if is_cxx else 'i'}"
         rewritten.write_text(text, encoding="utf-8", errors="surrogateescape")
         run([*self.compile_command(language, text), "-S" if self.commands.mode == "-S" else "-c", str(rewritten), "-o", target])
@@ -189,7 +192,7 @@ def main(arguments, cxx):
     commands = command_line.parse(arguments)
     if commands.refused:
         say(f"refused: {commands.refused}")
-        return 1
+        return REFUSED
     c_compiler, cxx_compiler, _ = compilers()
     compiler = cxx_compiler if cxx else c_compiler
     has_inputs = any(isinstance(it, Input) for it in commands.inputs)
