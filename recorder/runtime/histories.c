@@ -13,6 +13,7 @@
 #define MOST_STEPS 40000000u
 #define MOST_CLASSES 16000000u
 #define MOST_SPLITS 64000000u
+#define EXACT_STEPS (1u << 18)
 #define FEWEST_SLOTS 1024u
 #define MOST_SLOTS (1u << 28)
 #define PAGES (1u << (47 - PAGE_SHIFT))
@@ -23,8 +24,13 @@ static bool outstanding;
 static uint32_t *page_list, page_count;       /* the indices of the pages that are there */
 static uint32_t split_count = 1, split_free;  /* the first free one; each names the next in its first entry */
 
-/* What was found in this strand: from the history `from` an access `key` (site and kind) leads to `to`. A slot whose `to` is of an
-   earlier strand is free, so that a new strand begins with an empty table without a sweep. */
+/* Histories that differ in sites alone are kept apart, so that all lines are told, while there are few. In a run with more steps than
+   EXACT_STEPS they would multiply by each strand: from there on those with the same (strand, kind) are one (law `equal_locations`), with the
+   site of the first. `site_mask` is 0 then. */
+static uint32_t site_now, site_mask = UINT32_MAX;
+
+/* What was found in this strand: from the history `from` an access `key` (site, where it counts, and kind) leads to `to`. A slot whose
+   `to` is of an earlier strand is free, so that a new strand begins with an empty table without a sweep. */
 static struct slot { history from; uint32_t key; history to; } *slots;
 static uint32_t slot_mask = FEWEST_SLOTS - 1, slots_used;
 
@@ -59,6 +65,10 @@ uint32_t histories_next_strand(void) {
   if (slot_mask >= 1u << 16) madvise(slots, sizeof *slots * ((size_t)slot_mask + 1), MADV_DONTNEED);
   slot_mask = FEWEST_SLOTS - 1;
   slots_used = 0;
+  if (__builtin_expect(histories.step_count > EXACT_STEPS && site_mask, 0)) {
+    site_mask = 0;
+    note_unseen("a large run: of the lines at which a strand accesses locations that have one history, one is told");
+  }
   return made;
 }
 
@@ -115,7 +125,7 @@ static void more_slots(void) {
   for (uint32_t i = histories.steps_of_strand >> 2; i < histories.step_count; i++) {
     struct step *step = &histories.steps[i];
     uint32_t kind = step->what & STEP_KIND;
-    fill_slot(step->before, step->what >> STEP_SITE_SHIFT << 2 | kind, i << 2 | kind);
+    fill_slot(step->before, (step->what >> STEP_SITE_SHIFT & site_mask) << 2 | kind, i << 2 | kind);
     slots_used++;
   }
 }
@@ -123,7 +133,7 @@ static void more_slots(void) {
 static history add_step(history from, uint32_t key) {
   if (histories.step_count == MOST_STEPS) refuse(0, "more than %u steps in the histories of locations: take a smaller input", MOST_STEPS);
   uint32_t number = histories.step_count++, kind = key & 3, before = histories.steps[from >> 2].what;
-  uint32_t what = key >> 2 << STEP_SITE_SHIFT | kind | 1u << (STEP_KINDS_SHIFT + kind);
+  uint32_t what = site_now << STEP_SITE_SHIFT | kind | 1u << (STEP_KINDS_SHIFT + kind);
   what |= before & (STEP_STRANDS | 15u << STEP_KINDS_SHIFT);
   if (from && from < histories.steps_of_strand) what |= STEP_STRANDS;
   if (from >= histories.steps_of_strand && kind == ACCESS_WRITE && (from & STEP_KIND) == ACCESS_READ) what |= STEP_BEHIND_READ;
@@ -140,7 +150,7 @@ static __attribute__((noinline)) history find_step(history from, uint32_t key) {
   for (history own = from; own >= histories.steps_of_strand; own = histories.steps[own >> 2].before)
     if (history_covers(own, (enum access)kind)) to = from;         /* law a_repeated_access */
   if (!to && from >= histories.steps_of_strand && kind == ACCESS_WRITE && (from & STEP_KIND) == ACCESS_READ &&
-      histories.steps[from >> 2].what >> STEP_SITE_SHIFT == key >> 2)
+      histories.steps[from >> 2].what >> STEP_SITE_SHIFT == site_now)
     to = next_history(histories.steps[from >> 2].before, key);     /* law a_read_beside_a_write: its line is the write's */
   if (!to) to = add_step(from, key);
   fill_slot(from, key, to);
@@ -202,10 +212,11 @@ static void access_bytes(uint32_t *unit, uintptr_t address, uintptr_t end, uint3
 }
 
 void histories_access(uintptr_t address, size_t bytes, enum access kind, uintptr_t place) {
-  uint32_t key = place_site(place) << 2 | (uint32_t)kind;
+  site_now = place_site(place);
+  uint32_t key = (site_now & site_mask) << 2 | (uint32_t)kind;
   uintptr_t end = address + bytes;
   stack_touch(address);
-  if (options.raw) { raw_access(address, bytes, kind, key >> 2); return; }
+  if (options.raw) { raw_access(address, bytes, kind, site_now); return; }
   history from = 0, to = 0;                                        /* the last change: neighbours mostly change alike */
   while (address < end) {
     uint32_t *unit = unit_at(address);
