@@ -10,7 +10,7 @@
 struct options {
   bool raw;                /* CILKCHECK_RAW=1: each byte is a location, nothing is left out (small runs, for tests) */
   bool epochs;             /* CILKCHECK_EPOCHS=no: the judge alone decides that nothing is outstanding */
-  const char *members;     /* CILKCHECK_MEMBERS=FILE: lines `TRACE CELL ADDRESS BYTES`, for tests */
+  const char *members;     /* CILKCHECK_MEMBERS=FILE: members.h, for tests */
   uint64_t limit;          /* CILKCHECK_LIMIT=N: requests a trace, at most and by default 1,000,000 */
   const char *trace;       /* CILKCHECK_TRACE=PATH: the traces' name; by default the program's, in the folder it was started in */
 };

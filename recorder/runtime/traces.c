@@ -144,7 +144,7 @@ static void write_raw(void) {
   open_trace(declared, scope_reducers());
   if (!control_raw(&trace)) refuse(0, "CILKCHECK_RAW is for small runs: more than %lu requests", trace.most_requests);
   close_trace();
-  for (uint32_t i = 1; i <= raw_locations(); i++) members_byte(written, raw_has_loads() ? 2 * i - 2 : i - 1, raw_address(i));
+  for (uint32_t i = 0; i < declared; i++) members_byte(written, i, raw_has_loads() && i % 2, raw_address(raw_has_loads() ? i / 2 + 1 : i + 1));
 }
 
 static void write_reducers(void) {
@@ -168,7 +168,7 @@ static bool write_cells(uint32_t from, uint32_t to) {
   open_trace(to - from, 0);
   if (!control_memory(&trace)) { drop_trace(); return false; }
   close_trace();
-  for (uint32_t cell = from; cell < to; cell++) if (!cell_is_second(cell)) members_cell(written, cell - from, cells.class[cell]);
+  for (uint32_t cell = from; cell < to; cell++) members_cell(written, cell - from, cell_is_second(cell), cells.class[cell]);
   return true;
 }
 

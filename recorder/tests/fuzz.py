@@ -114,8 +114,8 @@ class Group:
                     refusals.setdefault((number, it.cell), []).append(it)
         said, bytes_of_globals, bytes_of_lives, used = [], set(), 0, set()
         for line in members.read_text().splitlines():
-            number, cell, address, size = line.split()
-            cell, address, size = (int(number), f"c[{cell}]"), int(address, 16), int(size)
+            number, cell, address, size, first = line.split()
+            cell, address, size, first = (int(number), f"c[{cell}]"), int(address, 16), int(size), (int(number), f"c[{first}]")
             if cell not in refusals:
                 continue
             used.add(cell)
@@ -124,7 +124,8 @@ class Group:
                 name = next((name for name, (first, bytes_) in at.items() if first <= address + k < first + bytes_), None)
                 places.append((name, address + k - at[name][0]) if name else None)
             bytes_of_globals |= {it for it in places if it}
-            bytes_of_lives += places.count(None)
+            if cell == first or first not in refusals:              # a location with atomic loads is two cells
+                bytes_of_lives += places.count(None)
             for place in dict.fromkeys(places):
                 known = found.racy.get(place, {}) if place else found.pairs_of_lives
                 for it in refusals[cell]:
