@@ -14,6 +14,7 @@
 #include <wchar.h>
 
 static char told[4096];
+bool recording = true;
 static int failed, tried;
 static struct { const char *name; const char *base; size_t bytes; } regions[40];
 static int region_count;
