@@ -117,10 +117,11 @@ def shown(file):
     return file[len(here):] if file.startswith(here) else file
 
 
-def table(path, runtime, include):
-    """The lines of the table of places."""
+def table(path, runtime, include, called, compiled):
+    """The lines of the table of places. `called`: what is called and was not compiled by the wrapper; `compiled`: what was, which may have a
+    name of the runtime's (a getline of the program's own)."""
     symbols, own, code = Symbols(path), str(include), Code()
-    hooks = runtime_names(runtime)
+    hooks = runtime_names(runtime) - compiled
     targets = {symbols.address[name]: name for name in hooks if name in symbols.address}
     entry = symbols.address.get("__tsan_func_entry")
     sites = {behind: (target, function) for behind, target in calls(path, targets).items()
@@ -146,6 +147,7 @@ def table(path, runtime, include):
         return lines[at][1] if at >= 0 else shorts[function]
 
     out, numbers = ["cilkcheck 1"], {}
+    system = system_folders()
     for behind in sorted(sites):
         _, function = sites[behind]
         file, line = places.get(behind - 1, ("??", 0))
@@ -153,6 +155,8 @@ def table(path, runtime, include):
             continue
         key = file, line
         site = numbers.setdefault(key, len(numbers) + 1)
+        if file.startswith(system):
+            out.append(f"inside\t{behind:x}\t-")
         out.append(f"at\t{behind:x}\t{site}\t{clean(shown(file))}\t{line}\t{clean(function_name(function, file, line))}\t{code.line(file, line)}")
     for function in functions:
         file, line = places.get(function[0], ("??", 0))
@@ -166,29 +170,37 @@ def table(path, runtime, include):
             target, function = sites[behind]
             if target == entry:
                 out.append(f"enter\t{behind:x}\t{names.called(plain[function[2]])}")
+        out += sorted({f"library\t0\t{names.called(name)}" for name in names.demangle(called).values()})
     return out
+
+
+def system_folders():
+    return "/usr/include/", "/usr/lib/", "/usr/bin/../lib/"
 
 
 STATE = "__cilkcheck_state_of_"
 
 
-def unseen(objects, runtime, lists):
-    """What the user's objects call that no wrapper compiled and no list knows."""
+def compiled_elsewhere(objects):
+    """What the user's objects call that no wrapper compiled."""
     called, defined = set(), set()
     for line in output_of(["nm", "-A", "-g", *objects]).splitlines():
         words = line.rpartition(":")[2].split()
         if len(words) == 2 and words[0] in "Uwv":
             called.add(words[1].partition("@")[0])
-    for file, symbols in instrumented(objects).items():
+    for symbols in instrumented(objects).values():
         defined |= symbols
+    return {name for name in called - defined if not re.match(r"_ZT[VTISH]|_ZGV|_GLOBAL_OFFSET_TABLE_|__start_|__stop_|__tsan_|__sanitizer_|__cilkcheck_(?!libc)|_ZN\d+__cilkcheck_", name)}
+
+
+def unseen(called, runtime, lists):
+    """What of it no list knows."""
     known = runtime_names(runtime)
     for name in ("redirected", "harmless"):
         path = lists / name
         if path.exists():
-            known |= {line.split()[0] for line in path.read_text(encoding="utf-8").splitlines() if line.strip() and not line.startswith("#")}
-            if name == "redirected":
-                known |= {line.split()[1] for line in path.read_text(encoding="utf-8").splitlines() if line.strip() and not line.startswith("#")}
-    return sorted(name for name in called - defined - known if not re.match(r"_ZT[VTISH]|_ZGV|_GLOBAL_OFFSET_TABLE_|__start_|__stop_", name))
+            known |= {word for line in path.read_text(encoding="utf-8").splitlines() if not line.startswith("#") for word in line.split()}
+    return sorted(called - known)
 
 
 def instrumented(objects):
@@ -208,8 +220,9 @@ def instrumented(objects):
 
 def finish(output, objects, runtime, lists, include, folder):
     """Puts the table into the program, and says what is not seen."""
-    lines = table(output, runtime, include)
-    missing = unseen(objects, runtime, lists)
+    called = compiled_elsewhere(objects)
+    lines = table(output, runtime, include, {name.removeprefix("__cilkcheck_libc_") for name in called}, set().union(*instrumented(objects).values()))
+    missing = unseen(called, runtime, lists)
     if missing:
         plain = names.demangle(missing)
         told = [names.short(plain[name]) for name in missing]
