@@ -177,13 +177,16 @@ def in_cxx(rewriter, call, target, declared, operator, keyword, context):
         reference = any(word in ("&", "&&") for word in outside_brackets(source, begin, equals))
         result = "" if rewriter.before_cxx14 else " -> decltype(auto)"
         share = "" if reference else f" __cilkcheck_share(0, __builtin_addressof({variable}));"
-        return f"{source.text(begin, equals)}= {child} % [&](){result} {{ {hoisted}return {called}; }};{share}"
+        guard = source.fresh()                              # it lives until the variable is written
+        return (f'__cilkcheck_child {guard}("{name}", {rule}); {source.text(begin, equals)}= static_cast<__cilkcheck_child &&>({guard}) % [&](){result} '
+                f"{{ {hoisted}return {called}; }}; {guard}.left();{share}")
     inside = called
     if target:
         place = source.fresh()
         value = rewriter.expression(*target, context).strip()
         hoisted = f"auto &&{place} = ({value}); " + hoisted
-        inside = f"{place} {operator} {called}"
+        result = source.fresh()
+        inside = f"auto &&{result} = {called}; __cilkcheck_child_called(); {place} {operator} static_cast<decltype({result})>({result})"
     return f"{child} % [&]() -> void {{ {hoisted}{inside}; }};"
 
 

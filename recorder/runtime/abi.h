@@ -21,6 +21,8 @@ void __cilkcheck_child_end(void);
 void __cilkcheck_child_awaited(void *state, const char *callee, int rule);
 /* Where that next function's captured variables lie: another location behind the child. */
 void __cilkcheck_child_closure(void *state, const void *closure, size_t bytes);
+/* The call has returned, and its result is not written yet: the child begins here where its function has no entry hook. */
+void __cilkcheck_child_called(void);
 void __cilkcheck_child_left(void *state);
 /* A sync of the running function or scope. */
 void __cilkcheck_sync(void);
@@ -58,6 +60,8 @@ void __cilkcheck_hide(int on);
        of OFFSET SIZE NAME                       a data symbol of the program: a global or static object
        enter OFFSET NAME                         the entry hook of a function of this unqualified name returns to OFFSET; `-`: a constructor,
                                                  a destructor, a conversion, or an operator other than () (only where C++ spawns)
+       library 0 NAME                            the unqualified name of a function that is called and was compiled elsewhere (as enter)
+       inside OFFSET -                           the call of a hook at OFFSET stands in a header of the system's
        no 0 NAME, NAME, ..                       functions that are called and were neither recorded nor are known
        unseen 0 TEXT                             a note: what else of the program is not seen
 

@@ -6,7 +6,8 @@
    ends with the statement. Of the functions that the lambda calls, f is known by its name (RULE 0); the rewriter refuses a spawn whose
    arguments may call another of that name. Where the arguments contain no call (RULE 1) the callee may be what a pointer or an object
    stands for: what else is called then is a constructor, a destructor, a conversion or an operator, and the callee is none of these.
-   A spawn whose function is not met is refused: nothing is taken for a child that is none.
+   A function without an access has no entry hook: where none was met, the child begins when the call has returned, and holds its result
+   alone. A library's function has no entry hook either, but accesses: as a callee it is refused.
 
    Invariants: the awaited children are a list through the spawners' frames, the innermost first. `spawn_awaited` holds exactly where the
    innermost one has not begun. */
@@ -15,7 +16,7 @@
 #include "recorder.h"
 #include <string.h>
 
-struct child { struct child *above; const char *callee; const void *closure; size_t bytes; uintptr_t place; uint32_t depth; unsigned exceptions : 30, begun : 1, by_name : 1; };
+struct child { struct child *above; const char *callee; const void *closure; size_t bytes; uintptr_t place; uint32_t depth; unsigned exceptions : 29, begun : 1, ended : 1, by_name : 1; };
 _Static_assert(sizeof(struct child) <= 7 * sizeof(void *), "a child's state has seven pointers' room");
 
 bool spawn_awaited;
@@ -54,13 +55,29 @@ static bool is_callee(const struct child *child, uintptr_t function) {
   return !child->by_name && length && !(length == 1 && *name.text == '-');
 }
 
+static bool is_library_name;
+static const char *asked;
+static void compare_library(uintptr_t offset, struct line rest) {
+  (void)offset;
+  if ((size_t)(rest.end - rest.text) == strlen(asked) && !memcmp(rest.text, asked, strlen(asked))) is_library_name = true;
+}
+static bool is_library(const char *callee) {
+  is_library_name = false;
+  asked = callee;
+  places_each_line("library", compare_library);
+  return is_library_name;
+}
+
+static void begin(struct child *child) {
+  child->begun = 1;
+  spawn_awaited = false;
+  scope_spawn(child->depth, child->place);
+}
 void spawn_entered(uintptr_t function) {
   struct child *child = innermost;
   uint32_t depth = stack_depth();
   if (depth != child->depth + (child->callee != NULL) || !is_callee(child, function)) return;
-  child->begun = 1;
-  spawn_awaited = false;
-  scope_spawn(child->depth, child->place);
+  begin(child);
 }
 
 /* ---- what rewritten code calls ---- */
@@ -71,7 +88,7 @@ static unsigned exceptions_now(void) { return __cxa_get_globals ? __cxa_get_glob
 
 void __cilkcheck_child_awaited(void *state, const char *callee, int rule) {
   struct child *child = state;
-  *child = (struct child){.above = innermost, .callee = callee, .place = PLACE, .depth = stack_depth(), .exceptions = exceptions_now() & 0x3FFFFFFF, .by_name = rule == 0};
+  *child = (struct child){.above = innermost, .callee = callee, .place = PLACE, .depth = stack_depth(), .exceptions = exceptions_now() & 0x1FFFFFFF, .by_name = rule == 0};
   innermost = child;
   spawn_awaited = true;
 }
@@ -80,15 +97,21 @@ void __cilkcheck_child_closure(void *state, const void *closure, size_t bytes) {
   child->closure = closure;
   child->bytes = bytes;
 }
+void __cilkcheck_child_called(void) {
+  struct child *child = innermost;
+  if (!spawn_awaited || exceptions_now() > child->exceptions) return;
+  if (child->callee && is_library(child->callee))
+    refuse(child->place, "cilk_spawn of %s, which cilkcheck did not compile: spawn a block { .. } in its place", child->callee);
+  begin(child);
+}
 void __cilkcheck_child_left(void *state) {
   struct child *child = state;
+  if (child->ended) return;
+  child->ended = 1;
   bool passes = exceptions_now() > child->exceptions;
   if (child->begun) {
     scope_child_end(child->depth, PLACE);
     if (passes) scope_sync_at(child->depth, PLACE);
-  } else if (!passes) {
-    refuse(PLACE, "the function of this cilk_spawn%s%s was not compiled by cilkcheck, or is called through an object or a pointer with arguments "
-           "that contain calls: spawn a block { .. } in its place", child->callee ? " " : "", child->callee ? child->callee : "");
   }
   uintptr_t closure = (uintptr_t)child->closure;
   if (closure) end_lives(closure, closure + child->bytes, (struct origin){ORIGIN_STACK, PLACE, closure, 0});
@@ -120,6 +143,7 @@ NAMED("_ZN17__cilkcheck_childC1EPKci", "__cilkcheck_child_awaited");
 NAMED("_ZN17__cilkcheck_childC2EPKci", "__cilkcheck_child_awaited");
 NAMED("_ZN17__cilkcheck_childD1Ev", "__cilkcheck_child_left");
 NAMED("_ZN17__cilkcheck_childD2Ev", "__cilkcheck_child_left");
+NAMED("_ZN17__cilkcheck_child4leftEv", "__cilkcheck_child_left");
 NAMED("_ZN17__cilkcheck_syncsD1Ev", "__cilkcheck_sync_left");
 NAMED("_ZN17__cilkcheck_syncsD2Ev", "__cilkcheck_sync_left");
 NAMED("_ZN17__cilkcheck_scopeD1Ev", "__cilkcheck_scope_left");
