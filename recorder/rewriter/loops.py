@@ -21,7 +21,7 @@ def statement(rewriter, at):
     check_increment(source, at, variable, *parts[2])
     begin = source.solid(close + 1)
     end = statement_end(rewriter, begin)
-    body = spawns.outlined(rewriter, begin, end, "a cilk_for", variable)
+    body = spawns.outlined(rewriter, at, begin, end, "a cilk_for", variable)
     head = source.text(opening, close + 1) + source.text(close + 1, begin)
     return block(rewriter, f"for {head}{{ {body} }}"), end
 

@@ -238,12 +238,13 @@ def has_call(source, begin, end):
 
 def block(rewriter, keyword, opening):
     source, close = rewriter.source, rewriter.source.closing(opening)
-    text = outlined(rewriter, opening, close + 1, "a spawned block", None)
+    text = outlined(rewriter, keyword, opening, close + 1, "a spawned block", None)
     return text, close + 1
 
 
-def outlined(rewriter, begin, end, what, variable):
-    """The statement as a child: in C an OpenMP task, in C++ a lambda. `variable` is the loop's: each round has its own."""
+def outlined(rewriter, keyword, begin, end, what, variable):
+    """The statement as a child: in C an OpenMP task, in C++ a lambda. `variable` is the loop's: each round has its own. The spawn's place is the
+    keyword's."""
     from .rewrite import Context
     source = rewriter.source
     labels = frozenset(source.tokens[at] for at in range(begin, end) if source.kinds[at] == "name" and source.tokens[source.solid(at + 1)] == ":")
@@ -258,6 +259,6 @@ def outlined(rewriter, begin, end, what, variable):
     if rewriter.cxx:
         captured = f"&, {variable}" if variable else "&"
         use = f"(void){variable}; " if variable else ""
-        return f"__cilkcheck_child(0, 0) % [{captured}]() mutable -> void {{ {use}{body} }};"
+        return f"{source.mark(keyword)}__cilkcheck_child(0, 0) % [{captured}]() mutable -> void {{{source.mark(begin)}{use}{body} }};"
     private = f" firstprivate({variable})" if variable else ""
-    return f"{{ __cilkcheck_outlined();\n#pragma omp task default(shared){private}{source.mark(begin)}{body} }}"
+    return f"{{ __cilkcheck_outlined();{source.mark(keyword)}#pragma omp task default(shared){private}{source.mark(begin)}{body}{source.mark(keyword)}}}"
