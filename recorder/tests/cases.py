@@ -1,7 +1,7 @@
 #!/usr/bin/env python3
 """Small programs with what is expected of them, by both compilers and three levels.
 
-    cases.py [--cilkcheck PATH] [--jobs N] [--expect N] [--levels LEVEL..] [NAME..]
+    cases.py [--cilkcheck PATH] [--jobs N] [--expect N] [--spread] [--levels LEVEL..] [NAME..]
 
 The first line of a case is a comment of parts between semicolons, the last one for the reader:
 
@@ -11,7 +11,8 @@ The first line of a case is a comment of parts between semicolons, the last one 
     expect: race or refused, race or unseen    one of the two
     unseen: NAME      "not seen inside" names it, when the program is linked and in the trace
     says: TEXT        is in the refusal
-    flags: ..         for the compiler; only: gcc | clang; from: -O1 (the least level); plain: no (the elision's output is not compared)
+    flags: ..         for the compiler; only: gcc | clang; plain: no (the elision's output is not compared)
+    library: yes      places in headers of the C++ library are as good as those that the comments tell
 
 A refusal must say `cilkcheck: refused: FILE:LINE: why`. Else the run's output and status must be those of the serial elision.
 """
@@ -50,11 +51,21 @@ def refusal(source, wanted, ran, traces):
 
 
 def check(job):
-    given, room, source, compiler, level = job
+    """What is wrong with a case by one compiler, for each level."""
+    given, room, source, compiler, levels = job
     wanted = header(source)
-    name = f"{source.name} {compiler} {level}"
-    folder = Path(room) / name.replace(" ", "")
+    folder = Path(room) / f"{source.name}-{compiler}"
     folder.mkdir()
+    plain = None
+    if wanted.get("plain") != "no":
+        plain = harness.compile_plain(given.wrappers, [source], "plain", compiler, "-O0", wanted.get("flags", "").split(), folder)
+        if not plain.status:
+            plain = harness.run([folder / "plain"], folder)
+    return [it for level in levels if (it := compare(given, folder, source, compiler, level, wanted, plain))]
+
+
+def compare(given, folder, source, compiler, level, wanted, plain):
+    name = f"{source.name} {compiler} {level}"
     kinds, flags = wanted["expect"].split(" or "), wanted.get("flags", "").split()
     ran, traces = harness.compile(given.wrappers, [source], "program", compiler, level, flags, folder), []
     compiled = ran
@@ -66,11 +77,8 @@ def check(job):
         return said and f"{name}: {said}"
     if compiled.status:
         return f"{name}: not compiled: {compiled.errors[-500:]}"
-    if wanted.get("plain") != "no":
-        plain = harness.compile_plain(given.wrappers, [source], "plain", compiler, level, flags, folder)
-        elision = harness.run([folder / "plain"], folder)
-        if plain.status or (ran.status, ran.output) != (elision.status, elision.output):
-            return f"{name}: status {ran.status}, {ran.output!r}; as plain C {elision.status}, {elision.output!r}: {plain.errors}{ran.errors[-300:]}"
+    if plain and (ran.status, ran.output) != (plain.status, plain.output):
+        return f"{name}: status {ran.status}, {ran.output!r}; as plain C {plain.status}, {plain.output!r}: {plain.errors[-300:]}{ran.errors[-300:]}"
     try:
         judged = verdicts.judged(traces, given.cilkcheck)
     except verdicts.Fault as fault:
@@ -83,21 +91,26 @@ def check(job):
         return f"{name}: {wanted['unseen']} is not named as not seen inside: {told[-300:]} {notes[-300:]}"
     if unseen and "unseen" not in wanted:
         return f"{name}: {notes[-300:]}"
-    said = Expected(source).differences(verdicts.races(judged))
+    said = Expected(source).differences(verdicts.races(judged), "library" in wanted)
     return f"{name}: {'; '.join(said)}" if said else None
 
 
 def main():
     parser = harness.parser(__doc__)
     parser.add_argument("--levels", nargs="*", default=harness.LEVELS)
+    parser.add_argument("--spread", action="store_true", help="-O0, and -O1 or -O2 in turns")
     parser.add_argument("--compilers", nargs="*", default=harness.COMPILERS)
     parser.add_argument("names", nargs="*", help="cases, by the beginning of their names")
     given = parser.parse_args()
     sources = [it for it in sorted(CASES.iterdir()) if not given.names or it.name.startswith(tuple(given.names))]
     with tempfile.TemporaryDirectory(prefix="cilkcheck-cases-") as room:
-        jobs = [(given, room, *it) for it in itertools.product(sources, given.compilers, given.levels) if header(it[0]).get("only", it[1]) == it[1] and it[2] >= header(it[0]).get("from", "-O0")]
-        failures = [it for it in harness.in_parallel(check, jobs, given.jobs) if it]
-    harness.finish("cases", len(jobs), failures, given.expect)
+        jobs = []
+        for k, (source, compiler) in enumerate(itertools.product(sources, given.compilers)):
+            levels = given.levels if not given.spread else ["-O0", "-O1" if (k + k // 2) % 2 else "-O2"]
+            if header(source).get("only", compiler) == compiler:
+                jobs.append((given, room, source, compiler, levels))
+        failures = [it for found in harness.in_parallel(check, jobs, given.jobs) for it in found]
+    harness.finish("cases", sum(len(it[-1]) for it in jobs), failures, given.expect)
 
 
 if __name__ == "__main__":

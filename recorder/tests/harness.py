@@ -51,7 +51,7 @@ def is_cxx(sources):
 def compile(wrappers, sources, output, compiler, level, flags=(), cwd="."):
     """Compiles and links for a recording."""
     tool = wrappers / ("cilkcheck-c++" if is_cxx(sources) else "cilkcheck-cc")
-    return run([tool, *sources, *flags, "-o", output], cwd, {"CILKCHECK_CC": compiler, "CILKCHECK_OPT": level})
+    return run([tool, *sources, *flags, "-o", output], cwd, {"CILKCHECK_CC": compiler, **({"CILKCHECK_OPT": level} if level else {})})
 
 
 def compile_plain(wrappers, sources, output, compiler, level, flags=(), cwd="."):

@@ -124,7 +124,7 @@ def refusals(requests, replies, places, locations):
         elif words[1] == "refused":
             cell = request[2]
             if words[2] == "unset":
-                yield Refusal("unset", cell, locations.get(cell, cell), NOWHERE, place(entry), NOWHERE, entry)
+                yield Refusal("unset", cell, locations.get(cell, locations.get("c[*]", cell)), NOWHERE, place(entry), NOWHERE, entry)
                 continue
             witness = int(words[3])
             first, second = chain(inside[int(requests[witness - 1][1])]), chain(inside[strand])
@@ -132,7 +132,7 @@ def refusals(requests, replies, places, locations):
             while common < min(len(first), len(second)) and first[common] == second[common]:
                 common += 1
             apart = [it[common] for it in (first, second) if len(it) > common]
-            yield Refusal(words[2], cell, locations.get(cell, cell), place(witness), place(entry), place(min(apart)) if apart else NOWHERE, entry)
+            yield Refusal(words[2], cell, locations.get(cell, locations.get("c[*]", cell)), place(witness), place(entry), place(min(apart)) if apart else NOWHERE, entry)
 
 
 def chain(inside):

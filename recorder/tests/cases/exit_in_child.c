@@ -1,4 +1,4 @@
-/* expect: race or refused; the program ends inside of a child: what was done until then is judged */
+/* expect: race or refused or unseen; the program ends inside of a child: what was done until then is judged */
 #include <cilk/cilk.h>
 #include <stdlib.h>
 int x;

@@ -1,4 +1,4 @@
-// expect: race or unseen; the race is on links and colours that only the library's own code writes while another strand walks
+// expect: race or unseen; library: yes; the race is on links and colours that only the library's own code writes while another strand walks
 #include <cilk/cilk.h>
 #include <set>
 static int walk(const std::set<int> &s) {

@@ -14,7 +14,8 @@ static struct tree *make(int low, int high) {
 }
 static long total(const struct tree *tree) {
   if (!tree) return 0;
-  long left = cilk_spawn total(tree->left), right = total(tree->right);
+  long left = cilk_spawn total(tree->left);
+  long right = total(tree->right);
   cilk_sync;
   return left + right + tree->value;
 }

@@ -1,4 +1,4 @@
-// expect: race or unseen; two strands append to one std::string; the places of the library's templates count as the lines in this file
+// expect: race or unseen; library: yes; two strands append to one std::string; the places of the library's templates count as the lines in this file
 #include <cilk/cilk.h>
 #include <string>
 static void add(std::string &s, const char *x) {

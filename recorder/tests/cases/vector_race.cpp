@@ -1,4 +1,4 @@
-// expect: race or unseen; push_back into a vector that a child reads
+// expect: race or unseen; library: yes; push_back into a vector that a child reads
 #include <cilk/cilk.h>
 #include <vector>
 static int total(const std::vector<int> &v) {
