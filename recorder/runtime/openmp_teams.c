@@ -17,6 +17,7 @@ struct team {
   uint32_t depth;                                /* of functions, where the region is */
   int threads, running, singles, level;
   bool asked, noted;
+  uintptr_t barrier;                             /* the one that a thread reached last */
   ucontext_t master;
   struct stack master_stack;
   struct thread thread[MOST_THREADS];
@@ -146,7 +147,7 @@ static void run_several(struct team *mine, uintptr_t place) {
       done += mine->thread[i].done;
     }
     scope_sync(place);
-    if (done && done < mine->threads) refuse(place, "a barrier that not all threads of this region reach");
+    if (done && done < mine->threads) refuse(mine->barrier, "a barrier that not all threads of its region reach");
   }
   for (int i = 0; i < mine->threads; i++) thread_free(&mine->thread[i]);
 }
@@ -180,6 +181,7 @@ void team_barrier(uintptr_t place) {
   if (!team) return;
   struct team *mine = team;
   if (!(scope_top()->marks & MARK_THREAD)) refuse(place, "a barrier inside of a task or a taskgroup");
+  mine->barrier = place;
   if (mine->threads > 1) {
     swapcontext(&mine->thread[mine->running].context, &mine->master);
     return;

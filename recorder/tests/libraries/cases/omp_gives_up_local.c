@@ -2,9 +2,9 @@
 static int out;
 static void start(void) {
   int local = 1;
-#pragma omp task shared(local)
+#pragma omp task shared(local) /* race: a; where gcc puts the function's end */
   out = ++local; /* race: a */
-} /* race: a; its place is the line of the return */
+} /* race: a */
 int main(void) {
 #pragma omp parallel
 #pragma omp single

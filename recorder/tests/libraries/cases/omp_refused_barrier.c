@@ -1,11 +1,11 @@
-/* expect: refused; flags: -fopenmp; plain: no; only: gcc; says: barrier; a barrier that one thread alone reaches */
+/* expect: refused; flags: -fopenmp; plain: no; says: barrier; a barrier that one thread alone reaches */
 static int x;
 static void wait_here(void) {
-#pragma omp barrier
+#pragma omp barrier /* refused */
   x++;
 }
 int main(void) {
-#pragma omp parallel num_threads(2) /* refused */
+#pragma omp parallel num_threads(2)
   {
 #pragma omp master
     wait_here();
