@@ -140,8 +140,10 @@ def in_c(rewriter, call, target, declared, operator, keyword, context):
     if target:
         place = source.fresh()
         value = source.inner(*target)
+        result = source.fresh()
         text = (f"{{ {start} __typeof__({value}) *{place} = &({value}); __cilkcheck_child_begin((void *){place}{shared});"
-                f" *{place} {operator} {called}; __cilkcheck_wrote((void *){place}, sizeof *{place});")
+                f" __extension__ __auto_type {result} = {called}; *{place} {operator} {result}; __cilkcheck_end_life(&{result}, sizeof {result});"
+                f" __cilkcheck_wrote((void *){place}, sizeof *{place});")
         return text + lives_end(rewriter, [*given, place]) + " __cilkcheck_child_end(); }"
     result = source.fresh()
     void = f"__builtin_types_compatible_p(__typeof__({called}), void)"

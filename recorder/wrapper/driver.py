@@ -9,7 +9,7 @@ from pathlib import Path
 
 from rewriter import Refused, rewrite
 
-from . import command_line, program
+from . import clang_ir, command_line, program
 from .command_line import COMPILED, Input
 
 ROOT = Path(__file__).resolve().parent.parent
@@ -107,9 +107,21 @@ class Driver:
             raise Failed(REFUSED) from None
         rewritten = self.folder / f"{self.count}.{'ii' if is_cxx else 'i'}"
         rewritten.write_text(text, encoding="utf-8", errors="surrogateescape")
-        run([*self.compile_command(language, text), "-S" if self.commands.mode == "-S" else "-c", str(rewritten), "-o", target])
+        stage = "-S" if self.commands.mode == "-S" else "-c"
+        if self.kind == "clang":
+            self.compile_by_clang(language, text, rewritten, stage, target)
+        else:
+            run([*self.compile_command(language, text), stage, str(rewritten), "-o", target])
         if self.commands.mode != "-S":
             self.redirect(target)
+
+    def compile_by_clang(self, language, text, source, stage, target):
+        """In two steps, since the instrumented LLVM text is mended between them."""
+        middle = source.with_suffix(".ll")
+        run([*self.compile_command(language, text), "-S", "-emit-llvm", str(source), "-o", str(middle)])
+        middle.write_text(clang_ir.mend(middle.read_text(encoding="utf-8", errors="surrogateescape")), encoding="utf-8", errors="surrogateescape")
+        machine = [it for it in self.commands.compile if it.startswith(("-m", "-fPI", "-fpi", "-fno-pi", "-fno-PI", "-target", "--target", "-ffunction-sections", "-fdata-sections"))]
+        run([self.compiler(language), *machine, self.level, "-Xclang", "-disable-llvm-passes", "-Wno-unused-command-line-argument", "-Wno-override-module", stage, str(middle), "-o", target])
 
     def compile_command(self, language, text):
         openmp = ["-fopenmp"] if "#pragma omp" in text else []

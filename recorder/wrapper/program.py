@@ -42,15 +42,8 @@ class Symbols:
         return None
 
 
-def file_offset(path, address):
-    for base, code, where in code_of(path):
-        if base <= address < base + len(code):
-            return where + address - base
-    raise ValueError(address)
-
-
 def code_of(path):
-    """The executable sections: [(address, bytes, offset in the file)]."""
+    """The executable sections: [(address, bytes)]."""
     image = Path(path).read_bytes()
     if image[:5] != b"\x7fELF\x02":
         return []
@@ -60,42 +53,20 @@ def code_of(path):
     for index in range(count):
         _, kind, flags, address, where, size = struct.unpack_from("<IIQQQQ", image, offset + index * entry)
         if kind == 1 and flags & 4:
-            out.append((address, image[where:where + size], where))
+            out.append((address, image[where:where + size]))
     return out
 
 
 def calls(path, targets):
     """The return addresses of direct calls of the targets: {return address: target}. Calls through a pointer are not found."""
     found = {}
-    for base, code, _ in code_of(path):
+    for base, code in code_of(path):
         for hit in re.finditer(rb"\xe8(?=(....))", code, re.S):
             behind = base + hit.start() + 5
             target = behind + struct.unpack("<i", hit.group(1))[0]
             if target in targets:
                 found[behind] = target
     return found
-
-
-def take_out_atomics(path):
-    """clang's coverage hooks tell atomic loads and stores as if they were plain, directly before the atomic hooks: these calls become nops."""
-    symbols = Symbols(path).address
-    plain, atomic = {}, {}
-    for size in (1, 2, 4, 8, 16):
-        for word in ("load", "store"):
-            for table, name in ((plain, f"__sanitizer_cov_{word}{size}"), (atomic, f"__tsan_atomic{8 * size}_{word}")):
-                if name in symbols:
-                    table[symbols[name]] = word, size
-    if not plain or not atomic:
-        return
-    image = bytearray(Path(path).read_bytes())
-    every = Symbols(path)
-    last = None
-    for behind, target in sorted(calls(path, {**plain, **atomic}).items()):
-        if target in atomic and last and plain.get(last[1]) == atomic[target] and every.function_at(last[0] - 1) == every.function_at(behind - 1):
-            where = file_offset(path, last[0] - 5)
-            image[where:where + 5] = b"\x0f\x1f\x44\x00\x00"
-        last = behind, target
-    Path(path).write_bytes(image)
 
 
 def runtime_names(runtime):
@@ -253,7 +224,6 @@ def instrumented(objects):
 
 def finish(output, objects, runtime, lists, include, folder):
     """Puts the table into the program, and says what is not seen."""
-    take_out_atomics(output)
     called = compiled_elsewhere(objects)
     lines = table(output, runtime, include, {name.removeprefix("__cilkcheck_libc_") for name in called}, set().union(*instrumented(objects).values()))
     missing = unseen(called, runtime, lists)
