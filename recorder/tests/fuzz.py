@@ -7,8 +7,9 @@ A program has globals of 1, 2, 4, 8 and 16 bytes, functions that call, spawn and
 are handed on, blocks of the heap, results of spawns, spawned blocks, loops of spawns, cilk_for, cilk_scope, atomics, copies, reducers, early
 returns; in C++ references, lambdas, methods and exceptions besides. The oracle (oracle.py) interprets the same tree. Each program is recorded
 three times: compressed, compressed with the judge deciding epochs, and with every access of every byte. Each recording has to show a race
-at exactly the bytes of globals at which the oracle finds one, and at as many bytes of locals and of the heap; the lines of each report and the
-spawn at which they part have to be a pair and a spawn that the oracle knows for that byte; and the output has to be the serial elision's.
+at exactly the bytes of globals at which the oracle finds one, and at as many bytes of locals and of the heap; at -O0 the lines of each report and
+the spawn at which they part have to be a pair and a spawn that the oracle knows for that byte (above it the compilers move code between lines);
+and the output has to be the serial elision's.
 
 Programs are spread over both compilers, three levels and both languages, 25 of them to a source.
 """
@@ -128,7 +129,7 @@ class Group:
                 bytes_of_lives += places.count(None)
             for place in dict.fromkeys(places):
                 known = found.racy.get(place, {}) if place else found.pairs_of_lives
-                for it in refusals[cell]:
+                for it in refusals[cell] if self.level == "-O0" else []:
                     pair = (it.earlier.line, it.later.line)
                     spawns = known.get(pair) or known.get(pair[::-1])
                     if spawns is None:

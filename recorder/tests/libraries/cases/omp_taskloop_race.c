@@ -4,8 +4,8 @@ int main(void) {
 #pragma omp parallel
 #pragma omp single
   {
-#pragma omp taskloop
-    for (int i = 0; i < 20; i++) sum += i; /* race: a a */
+#pragma omp taskloop /* may: c; where -O1 puts the read */
+    for (int i = 0; i < 20; i++) sum += i; /* race: a a, may: c */
 #pragma omp taskloop nogroup
     for (int i = 0; i < 20; i++) a[i] = i; /* race: b */
     seen = a[19]; /* race: b */
