@@ -1,7 +1,8 @@
 """What a source says in its comments that its recording has to show.
 
 `race: a` stands at both lines that race (at one line twice, as `race: a a`, where it races with itself); a label on more lines allows each pair
-of them. `may: a` allows what need not be found. `spawn: a` stands at the lines of spawns at which the two may part. `refused` stands at the line
+of them. `may: a` stands at a line that may
+race with the others of the label, and need not be found. `spawn: a` stands at the lines of spawns at which the two may part. `refused` stands at the line
 that is refused. Labels are separated by spaces; a comma separates the kinds; what stands behind a semicolon is for the reader.
 """
 import re
@@ -41,11 +42,11 @@ class Expected:
                     said.append(f"{rule} outside of the source: {it.earlier} and {it.later}")
                 continue
             pair = (it.earlier.line or it.later.line, it.later.line)
-            labels = [label for kind in (self.race, self.may) for label, lines in kind.items() if self.allows(lines, pair)]
+            labels = [it for it in {*self.race, *self.may} if self.allows(self.race.get(it, Counter()) + self.may.get(it, Counter()), pair)]
             if not labels:
                 said.append(f"{rule} of lines {pair[0]} and {pair[1]}, which is not expected")
                 continue
-            missing -= set(labels)
+            missing -= {it for it in labels if self.allows(self.race.get(it, {}), pair)}
             wanted = [line for label in labels for line in self.spawn.get(label, ())]
             for spawn in {it.spawn.line for it in refusals if it.spawn.line}:
                 if wanted and spawn not in wanted:
