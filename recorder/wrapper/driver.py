@@ -9,7 +9,7 @@ from pathlib import Path
 
 from rewriter import Refused, rewrite
 
-from . import clang_ir, command_line, program
+from . import clang_ir, command_line, gcc_structures, program
 from .command_line import COMPILED, Input
 
 ROOT = Path(__file__).resolve().parent.parent
@@ -29,6 +29,9 @@ QUIET = {"gcc": ["-fno-diagnostics-show-caret", "-fno-show-column", "-Wno-mislea
 
 
 REFUSED = 70                                                # the status of a program or a run that is refused
+
+
+TELLING = "void __cilkcheck_read(const volatile void *, unsigned long); void __cilkcheck_wrote(volatile void *, unsigned long);\n"
 
 
 class Failed(Exception):
@@ -111,7 +114,7 @@ class Driver:
         if self.kind == "clang":
             self.compile_by_clang(language, text, rewritten, stage, target)
         else:
-            run([*self.compile_command(language, text), stage, str(rewritten), "-o", target])
+            self.compile_by_gcc(language, text, rewritten, stage, target)
         if self.commands.mode != "-S":
             self.redirect(target)
 
@@ -127,6 +130,38 @@ class Driver:
         openmp = ["-fopenmp"] if "#pragma omp" in text else []
         own = GCC if self.kind == "gcc" else CLANG
         return [self.compiler(language), *self.commands.compile, *QUIET[self.kind], self.level, *RECORDED, *own, *openmp]
+
+    def compile_by_gcc(self, language, text, source, stage, target):
+        """Where structures by value are not told, once more, with their copies in the text."""
+        unseen = self.compile_and_look(language, text, source, stage, target)
+        is_cxx = COMPILED[language] == "c++"
+        told, left = gcc_structures.tell(text, is_cxx, [it for it in unseen if not it.file.startswith(gcc_structures.SYSTEM)])
+        if told != text:
+            if is_cxx:
+                told = told.replace("extern \"C\" {\n", "extern \"C\" {\n" + TELLING, 1)
+                if TELLING not in told:
+                    told = 'extern "C" {\n' + TELLING + "}\n" + told
+            source.write_text(told, encoding="utf-8", errors="surrogateescape")
+            again = self.compile_and_look(language, told, source, stage, target, quiet=True)
+            if not is_cxx:
+                left = [it for it in again if not it.file.startswith(gcc_structures.SYSTEM) and not any(it.expression == other.expression and it.line == other.line for other in unseen if other not in left and other.argument is None)]
+        if not left or stage == "-S":
+            return
+        how = self.commands.unseen or os.environ.get("CILKCHECK_UNSEEN") or ("note" if is_cxx else "refuse")
+        if how == "refuse":
+            for it in left:
+                say(f"refused: {it} (gcc tells no access of it; take a variable for it, or --cilkcheck-unseen=note)")
+            os.unlink(target)
+            raise Failed(REFUSED)
+        notes = self.folder / f"{self.count}.unseen"
+        notes.write_text("".join(f"{it}\n" for it in left), encoding="utf-8", errors="surrogateescape")
+        run(["objcopy", f"--add-section={program.UNSEEN}={notes}", target])
+
+    def compile_and_look(self, language, text, source, stage, target, quiet=False):
+        dump = self.folder / f"{self.count}.dump"
+        dump.unlink(missing_ok=True)
+        run([*self.compile_command(language, text), *(["-w"] if quiet else []), f"-fdump-tree-tsan-lineno={dump}", f"-fdump-tree-tsan0-lineno={dump}", stage, str(source), "-o", target])
+        return gcc_structures.parse(dump.read_text(encoding="utf-8", errors="surrogateescape")) if dump.exists() else []
 
     def redirect(self, target):
         """Calls of libc's functions come to those of the runtime, which tell what they read and write."""

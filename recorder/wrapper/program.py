@@ -183,6 +183,17 @@ def system_folders():
 
 
 STATE = "__cilkcheck_state_of_"
+UNSEEN = ".cilkcheck.unseen"                                # a section of objects: what the compiler does not tell, a line each
+
+
+def notes(path, folder):
+    """What the objects say that is not seen, once each."""
+    file = folder / "unseen"
+    if UNSEEN not in output_of(["objdump", "-h", path]):
+        return []
+    subprocess.run(["objcopy", f"--dump-section={UNSEEN}={file}", path, str(folder / "copy")], check=True)
+    lines = file.read_text(encoding="utf-8", errors="replace").replace("\0", "").splitlines()
+    return sorted(set(line for line in lines if line))
 
 
 def compiled_elsewhere(objects):
@@ -233,6 +244,13 @@ def finish(output, objects, runtime, lists, include, folder):
         text = ", ".join(told[:12]) + (f", .. ({len(told)} in all)" if len(told) > 12 else "")
         print(f"cilkcheck: not seen inside: {text}", file=sys.stderr)
         lines.append(f"no\t0\t{clean(text)}")
+    structures = notes(output, folder)
+    for it in structures[:20]:
+        lines.append(f"unseen\t0\tnot seen: {clean(it)}")
+    if len(structures) > 20:
+        lines.append(f"unseen\t0\tnot seen: {len(structures) - 20} structures more that are taken or returned by value")
+    if structures:
+        print(f"cilkcheck: not seen: {structures[0]}" + (f" (and {len(structures) - 1} more by value)" if len(structures) > 1 else ""), file=sys.stderr)
     file = folder / "places"
     file.write_text("\n".join(lines) + "\n", encoding="utf-8", errors="surrogateescape")
-    subprocess.run(["objcopy", "--remove-section=.cilkcheck", f"--add-section=.cilkcheck={file}", "--set-section-flags=.cilkcheck=noload,readonly", output], check=True)
+    subprocess.run(["objcopy", "--remove-section=.cilkcheck", f"--remove-section={UNSEEN}", f"--add-section=.cilkcheck={file}", "--set-section-flags=.cilkcheck=noload,readonly", output], check=True)
