@@ -19,16 +19,17 @@ typedef stream *manipulator(stream *);
 extern stream _ZSt3cin __attribute__((weak)), _ZSt4cout __attribute__((weak)), _ZSt4cerr __attribute__((weak)), _ZSt4clog __attribute__((weak));
 static bool unsynchronized;
 
-/* The std::ios_base of a std::istream or std::ostream, by the offset of its virtual base. */
+/* The std::ios_base of a std::istream or std::ostream, by the offset of its virtual base. None where it was not made, as std::cout in a
+   program without <iostream>. */
 static char *fields_of(const stream *s) {
-  const ptrdiff_t *table = *(const ptrdiff_t *const *)s;
-  return (char *)(uintptr_t)s + table[-3];
+  const ptrdiff_t *table = s ? *(const ptrdiff_t *const *)s : NULL;
+  return table ? (char *)(uintptr_t)s + table[-3] : NULL;
 }
 static bool is_standard(const char *fields) {
   if (unsynchronized) return false;
   const stream *standard[] = {&_ZSt3cin, &_ZSt4cout, &_ZSt4cerr, &_ZSt4clog};
   for (size_t i = 0; i < sizeof standard / sizeof *standard; i++)
-    if (standard[i] && fields == fields_of(standard[i])) return true;
+    if (fields == fields_of(standard[i])) return true;
   return false;
 }
 static void use_fields(const char *fields, enum access kind, uintptr_t place) {
@@ -151,6 +152,16 @@ GETS_STRING(_ZSt7getlineIcSt11char_traitsIcESaIcEERSt13basic_istreamIT_T0_ES7_RN
             (stream * s, struct string *to), (s, to))
 GETS_STRING(_ZSt7getlineIcSt11char_traitsIcESaIcEERSt13basic_istreamIT_T0_ES7_RNSt7__cxx1112basic_stringIS4_S5_T1_EES4_,
             (stream * s, struct string *to, int end), (s, to, end))
+
+/* ---- positions ---- */
+
+struct position { long offset, state; };
+#define SEEKS(kind, get)                                                                                                               \
+  LIBRARY(struct position, _ZNS##kind##5tell##get##Ev, (stream * s), (s), use(s, PLACE), )                                             \
+  LIBRARY(stream *, _ZNS##kind##5seek##get##ESt4fposI11__mbstate_tE, (stream * s, struct position to), (s, to), use(s, PLACE), )       \
+  LIBRARY(stream *, _ZNS##kind##5seek##get##ElSt12_Ios_Seekdir, (stream * s, long offset, int from), (s, offset, from), use(s, PLACE), )
+SEEKS(i, g)
+SEEKS(o, p)
 
 /* ---- std::ios: `fields` is the object itself ---- */
 

@@ -1,4 +1,4 @@
-// expect: clean; unseen: do_widen; plain: no; a function of libstdc++ that is in no list
+// expect: clean; unseen: std::use_facet; plain: no; a function of libstdc++ that is in no list
 #include <locale>
 int main() {
   const auto &kind = std::use_facet<std::ctype<char>>(std::locale::classic());
