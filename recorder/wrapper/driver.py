@@ -145,23 +145,28 @@ class Driver:
             again = self.compile_and_look(language, told, source, stage, target, quiet=True)
             if not is_cxx:
                 left = [it for it in again if not it.file.startswith(gcc_structures.SYSTEM) and not any(it.expression == other.expression and it.line == other.line for other in unseen if other not in left and other.argument is None)]
-        if not left or stage == "-S":
+        headers = [it for it in unseen if it.file.startswith(gcc_structures.SYSTEM)]
+        if stage == "-S" or not left and not headers:
             return
         how = self.commands.unseen or os.environ.get("CILKCHECK_UNSEEN") or ("note" if is_cxx else "refuse")
-        if how == "refuse":
+        if how == "refuse" and left:
             for it in left:
                 say(f"refused: {it} (gcc tells no access of it; take a variable for it, or --cilkcheck-unseen=note)")
             os.unlink(target)
             raise Failed(REFUSED)
         notes = self.folder / f"{self.count}.unseen"
-        notes.write_text("".join(f"{it}\n" for it in left), encoding="utf-8", errors="surrogateescape")
+        notes.write_text("".join(f"{it}\n" for it in left + headers), encoding="utf-8", errors="surrogateescape")
         run(["objcopy", f"--add-section={program.UNSEEN}={notes}", target])
 
     def compile_and_look(self, language, text, source, stage, target, quiet=False):
         dump = self.folder / f"{self.count}.dump"
         dump.unlink(missing_ok=True)
         run([*self.compile_command(language, text), *(["-w"] if quiet else []), f"-fdump-tree-tsan-lineno={dump}", f"-fdump-tree-tsan0-lineno={dump}", stage, str(source), "-o", target])
-        return gcc_structures.parse(dump.read_text(encoding="utf-8", errors="surrogateescape")) if dump.exists() else []
+        if not dump.exists():
+            return []
+        functions = gcc_structures.functions_of(target) if stage == "-c" else frozenset()
+        found = gcc_structures.parse(dump.read_text(encoding="utf-8", errors="surrogateescape"), functions)
+        return [it for it in found if not it.file.startswith(str(INCLUDE))]
 
     def redirect(self, target):
         """Calls of libc's functions come to those of the runtime, which tell what they read and write."""

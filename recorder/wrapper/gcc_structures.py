@@ -5,14 +5,16 @@ argument is read by a call of the recorder, or copied where the copy is told; a 
 neither is left over, to be refused or noted.
 """
 import re
+import subprocess
 from dataclasses import dataclass
 
 from rewriter.source import Source
 from rewriter.spawns import is_declaration
 
+from . import names
+
 PLACE = re.compile(r"\[([^\[\]\s]+):(\d+):(\d+)(?: discrim \d+)?\] ")
 SCALAR = re.compile(r"(?:[\w.$#]*_\d+(?:\(D\))?|[-+]?[\d.][\w.+-]*|&.*|\".*\"|'.*'|\{\}|NULL|__null|\(.*|_Literal.*|__complex__ .*)$", re.S)
-CALL = re.compile(r"(?:(?P<to>.+?) = )?(?P<callee>[\w.$:<>~*&, -]+?|OBJ_TYPE_REF\(.*?\)) \((?P<arguments>.*)\);(?: \[.*)?$")
 RETURNED = re.compile(r"\*_\d+\(D\)$")                    # where the function itself is to put its result: the callee does, and tells
 LOCAL = re.compile(r"  (?:[\w:<>, ]+[ *&]+)([\w.]+)(?:\[.*\])*;$")
 MADE = re.compile(r"D\.\d+$|cilkcheck_\d+_|__for_|__cilkcheck")      # temporaries, and what the rewriter or a loop over a range declares
@@ -47,43 +49,74 @@ def split_arguments(text):
     return [it for it in [*out, now.strip()] if it]
 
 
-def parse(dump):
+def read_call(statement):
+    """(what is returned into or None, the callee, its arguments) of a statement of the dump that is a call, else None."""
+    end = statement.rfind(");")
+    if end < 0 or statement[end + 2:].strip() and not statement[end + 2:].strip().startswith("["):
+        return None
+    depth, at = 0, end
+    while at >= 0:
+        depth += (statement[at] == ")") - (statement[at] == "(")
+        if depth == 0:
+            break
+        at -= 1
+    if at <= 0 or statement[at - 1] != " ":
+        return None
+    before = statement[:at - 1]
+    to, _, callee = before.rpartition(" = ")
+    callee = callee.strip()
+    if not re.match(r"[\w.$:~]|OBJ_TYPE_REF|\(", callee) or re.search(r"[-+*/] ?$", callee):
+        return None
+    return to or None, callee, split_arguments(statement[at + 1:end])
+
+
+def functions_of(target):
+    """The unqualified names of the functions that an object defines or calls: in the dump they look like objects where they are arguments."""
+    out = subprocess.run(["nm", "-C", target], capture_output=True, text=True, errors="replace").stdout
+    return {names.called(found.group(2)) for line in out.splitlines() if (found := re.match(r"[0-9a-f ]{16} (.) (.*)", line)) and ("(" in line or found.group(1) in "tT")}
+
+
+def parse(dump, functions=frozenset()):
     """All such structures of a compilation."""
-    found, body, inside = [], [], False
-    functions = set(re.findall(r"^;; Function (?:.*::)?(\w+)", dump, re.M))
+    found, body, inside, head = [], [], False, ""
+    functions = functions | set(re.findall(r"^;; Function (?:.*::)?(\w+)", dump, re.M))
     for line in dump.splitlines():
         if line == "{":
             inside, body = True, []
         elif line == "}" and inside:
             inside = False
-            found += of_function(body, functions)
+            found += of_function(head, body, functions)
         elif inside:
             body.append(line)
+        elif line:
+            head = line
     return sorted(set(found), key=lambda it: (it.file, it.line, it.column, it.argument is None, it.argument or 0))
 
 
-def of_function(body, functions):
+def of_function(head, body, functions):
     text = "\n".join(body)
     taken = set(re.findall(r"&([\w.]+)", text))
-    names = {match.group(1) for line in body if (match := LOCAL.match(line)) and "=" not in line}
+    own = {match.group(1) for line in body if (match := LOCAL.match(line)) and "=" not in line} | set(re.findall(r"(\w+)[,)]", head))
     out = []
     for line in body:
         places = PLACE.findall(line)
         statement = PLACE.sub("", line).strip()
-        match = CALL.match(statement) if places and not statement.startswith(("if ", "switch ", "return ", "goto ", "# ")) else None
-        if not match or match.group("callee").startswith(("__builtin", "__tsan", "__atomic", ".", "__cilkcheck", "__complex__")):
+        if not places or statement.startswith(("if ", "switch ", "return ", "goto ", "# ")):
             continue
+        call = read_call(statement)
+        if not call or call[1].startswith(("__builtin", "__tsan", "__atomic", ".", "__cilkcheck", "__complex__", "__cxxabiv1::", "__cxa_atexit", "operator%")):
+            continue
+        to, callee, arguments = call
         file, number, column = places[0][0], int(places[0][1]), int(places[0][2])
-        arguments = split_arguments(match.group("arguments"))
-        operands = [(None, match.group("to"))] + list(enumerate(arguments))
+        operands = [(None, to)] + list(enumerate(arguments))
         for argument, operand in operands:
             if not operand or SCALAR.match(operand) or operand.startswith("<retval>") or RETURNED.match(operand) or operand in functions:
                 continue
             base = re.match(r"[\w.]+", operand)
             base = base.group() if base and not operand.startswith("MEM") else ""
-            if MADE.match(base) or base in names and (base not in taken or file.startswith(SYSTEM)):
+            if MADE.match(base) or base in own and (base not in taken or file.startswith(SYSTEM)):
                 continue                                    # nobody else can reach it
-            out.append(Unseen(file, number, column, operand, re.split(r"[<(]", match.group("callee"))[0].split("::")[-1], argument, len(arguments)))
+            out.append(Unseen(file, number, column, operand, re.split(r"[<(]", callee)[0].split("::")[-1], argument, len(arguments)))
     return out
 
 
