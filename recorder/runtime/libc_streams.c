@@ -66,17 +66,23 @@ WRAPPER(void, setbuf, FILE *stream, char *buffer) {
     USE_STREAM(stream);                 \
     return call;                        \
   }
+/* Without the lock two uses race. */
+#define UNLOCKED(result, name, call, ...) \
+  WRAPPER(result, name, __VA_ARGS__) {    \
+    WRITE(stream, sizeof(uint32_t));      \
+    return call;                          \
+  }
 USES(int, fgetc, fgetc(stream), FILE *stream)
 USES(int, getc, getc(stream), FILE *stream)
 USES(int, _IO_getc, getc(stream), FILE *stream)
-USES(int, getc_unlocked, getc_unlocked(stream), FILE *stream)
-USES(int, fgetc_unlocked, fgetc_unlocked(stream), FILE *stream)
+UNLOCKED(int, getc_unlocked, getc_unlocked(stream), FILE *stream)
+UNLOCKED(int, fgetc_unlocked, fgetc_unlocked(stream), FILE *stream)
 USES(int, ungetc, ungetc(c, stream), int c, FILE *stream)
 USES(int, fputc, fputc(c, stream), int c, FILE *stream)
 USES(int, putc, putc(c, stream), int c, FILE *stream)
 USES(int, _IO_putc, putc(c, stream), int c, FILE *stream)
-USES(int, putc_unlocked, putc_unlocked(c, stream), int c, FILE *stream)
-USES(int, fputc_unlocked, fputc_unlocked(c, stream), int c, FILE *stream)
+UNLOCKED(int, putc_unlocked, putc_unlocked(c, stream), int c, FILE *stream)
+UNLOCKED(int, fputc_unlocked, fputc_unlocked(c, stream), int c, FILE *stream)
 USES(int, fseek, fseek(stream, offset, from), FILE *stream, long offset, int from)
 USES(int, fseeko, fseeko(stream, offset, from), FILE *stream, off_t offset, int from)
 USES(int, fseeko64, fseeko64(stream, offset, from), FILE *stream, off64_t offset, int from)
@@ -86,6 +92,14 @@ USES(off64_t, ftello64, ftello64(stream), FILE *stream)
 USES(int, feof, feof(stream), FILE *stream)
 USES(int, ferror, ferror(stream), FILE *stream)
 USES(int, fileno, fileno(stream), FILE *stream)
+WRAPPER(int, getchar_unlocked, void) {
+  WRITE(stdin, sizeof(uint32_t));
+  return getchar_unlocked();
+}
+WRAPPER(int, putchar_unlocked, int c) {
+  WRITE(stdout, sizeof(uint32_t));
+  return putchar_unlocked(c);
+}
 WRAPPER(void, rewind, FILE *stream) {
   USE_STREAM(stream);
   rewind(stream);
@@ -125,7 +139,7 @@ WRAPPER(int, fputs, const char *s, FILE *stream) {
   return fputs(s, stream);
 }
 WRAPPER(int, fputs_unlocked, const char *s, FILE *stream) {
-  USE_STREAM(stream);
+  WRITE(stream, sizeof(uint32_t));
   READ_STRING(s);
   return fputs(s, stream);
 }
@@ -149,7 +163,10 @@ static char *get_line(char *to, int room, FILE *stream, uintptr_t place) {
   return none ? NULL : to;
 }
 WRAPPER(char *, fgets, char *to, int room, FILE *stream) { return get_line(to, room, stream, PLACE); }
-WRAPPER(char *, fgets_unlocked, char *to, int room, FILE *stream) { return get_line(to, room, stream, PLACE); }
+WRAPPER(char *, fgets_unlocked, char *to, int room, FILE *stream) {
+  WRITE(stream, sizeof(uint32_t));
+  return get_line(to, room, stream, PLACE);
+}
 WRAPPER(char *, __fgets_chk, char *to, size_t size, int room, FILE *stream) {
   if (room > 0 && (size_t)room > size) refuse(PLACE, "fgets is told that its buffer has %d bytes, and it has %zu", room, size);
   return get_line(to, room, stream, PLACE);
@@ -162,7 +179,10 @@ static size_t get_blocks(void *to, size_t bytes, size_t count, FILE *stream, uin
   return bytes ? came / bytes : 0;
 }
 WRAPPER(size_t, fread, void *to, size_t bytes, size_t count, FILE *stream) { return get_blocks(to, bytes, count, stream, PLACE); }
-WRAPPER(size_t, fread_unlocked, void *to, size_t bytes, size_t count, FILE *stream) { return get_blocks(to, bytes, count, stream, PLACE); }
+WRAPPER(size_t, fread_unlocked, void *to, size_t bytes, size_t count, FILE *stream) {
+  WRITE(stream, sizeof(uint32_t));
+  return get_blocks(to, bytes, count, stream, PLACE);
+}
 WRAPPER(size_t, __fread_chk, void *to, size_t size, size_t bytes, size_t count, FILE *stream) {
   if (bytes && count > size / bytes) refuse(PLACE, "fread is told to read %zu elements of %zu bytes into a buffer of %zu", count, bytes, size);
   return get_blocks(to, bytes, count, stream, PLACE);
@@ -173,7 +193,7 @@ WRAPPER(size_t, fwrite, const void *from, size_t bytes, size_t count, FILE *stre
   return fwrite(from, bytes, count, stream);
 }
 WRAPPER(size_t, fwrite_unlocked, const void *from, size_t bytes, size_t count, FILE *stream) {
-  USE_STREAM(stream);
+  WRITE(stream, sizeof(uint32_t));
   READ(from, bytes * count);
   return fwrite(from, bytes, count, stream);
 }

@@ -1,6 +1,7 @@
 /* Wrappers of libc: time, environment, locale, and what the system says of itself. See libc.h. */
 #define _GNU_SOURCE
 #include "libc.h"
+#include <getopt.h>
 #include <locale.h>
 #include <stdlib.h>
 #include <string.h>
@@ -175,6 +176,42 @@ WRAPPER(int, putenv, char *text) {
 WRAPPER(int, clearenv, void) {
   WRITE_STATE(environment);
   return clearenv();
+}
+
+/* ---- options of the command: optind, optarg and optopt are variables of libc; words may change their places ---- */
+
+enum { MOST_WORDS = 4096 };
+static int next_option(int count, char *const *words, const char *letters, const struct option *options, int *index, int get(int, char *const *, const char *, const struct option *, int *),
+                       uintptr_t place) {
+  if (count > MOST_WORDS) refuse(place, "getopt of more than %d words", MOST_WORDS);
+  char *before[MOST_WORDS];
+  tell(letters, strlen(letters) + 1, ACCESS_READ, place);
+  tell(&optind, sizeof optind, ACCESS_READ, place);
+  for (int i = 0; i < count; i++) {
+    before[i] = words[i];
+    tell(&words[i], sizeof words[i], ACCESS_READ, place);
+    if (i >= optind && words[i]) tell(words[i], strlen(words[i]) + 1, ACCESS_READ, place);
+  }
+  int found = get(count, words, letters, options, index);
+  for (int i = 0; i < count; i++)
+    if (words[i] != before[i]) tell(&words[i], sizeof words[i], ACCESS_WRITE, place);
+  tell(&optind, sizeof optind, ACCESS_WRITE, place);
+  tell(&optarg, sizeof optarg, ACCESS_WRITE, place);
+  if (found == '?' || found == ':') tell(&optopt, sizeof optopt, ACCESS_WRITE, place);
+  if (index && options && found != -1 && found != '?') tell(index, sizeof *index, ACCESS_WRITE, place);
+  return found;
+}
+static int get_short(int count, char *const *words, const char *letters, const struct option *options, int *index) {
+  (void)options;
+  (void)index;
+  return getopt(count, words, letters);
+}
+WRAPPER(int, getopt, int count, char *const *words, const char *letters) { return next_option(count, words, letters, NULL, NULL, get_short, PLACE); }
+WRAPPER(int, getopt_long, int count, char *const *words, const char *letters, const struct option *options, int *index) {
+  return next_option(count, words, letters, options, index, getopt_long, PLACE);
+}
+WRAPPER(int, getopt_long_only, int count, char *const *words, const char *letters, const struct option *options, int *index) {
+  return next_option(count, words, letters, options, index, getopt_long_only, PLACE);
 }
 
 /* ---- the locale ---- */

@@ -33,6 +33,8 @@ void note_unseen(const char *format, ...) __attribute__((format(printf, 1, 2)));
 void begin_recording(void);
 extern bool recording_began;
 static inline void start_recording(void) { if (__builtin_expect(!recording_began, 0)) begin_recording(); }
+/* Ends the recording and writes the traces: behind the program's destructors, or where it ends without them. */
+void finish_recording(void);
 /* False before the recording begins and once its end has come: then nothing is looked at. */
 extern bool recording;
 /* Address space that reads as zeros; memory is taken as it is touched. Never NULL. */

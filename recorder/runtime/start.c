@@ -119,7 +119,7 @@ void begin_recording(void) {
 
 /* Before the constructors of the program, and behind all its destructors. */
 __attribute__((constructor(101))) static void begin(void) { start_recording(); }
-__attribute__((destructor(101))) static void finish(void) {
+__attribute__((destructor(101))) void finish_recording(void) {
   if (!recording) return;
   scope_close_all(PLACE);
   recording = false;

@@ -48,6 +48,7 @@ void refuse(uintptr_t place, const char *format, ...) {
 void note_unseen(const char *format, ...) { (void)format; }
 void end_lives(uintptr_t from, uintptr_t to, struct origin origin) { (void)from; (void)to; (void)origin; }
 void hide_accesses(bool on) { (void)on; }
+void finish_recording(void) {}
 void *plain_malloc(size_t bytes) { return malloc(bytes); }
 void plain_free(void *at) { free(at); }
 void heap_made(void *block, size_t bytes, uintptr_t place) { (void)place; name_region("made", block, bytes); }

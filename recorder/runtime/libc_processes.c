@@ -1,10 +1,12 @@
 /* What a recording cannot follow, since the serial run of one thread is not all that happens: threads, jumps out of functions, copies
-   of the process, handlers of signals, locks. Each is refused where it is called. */
+   of the process, handlers of signals, locks. Each is refused where it is called. And what else belongs to a process: its end, and sets
+   of signals. */
 #define _GNU_SOURCE
 #include "libc.h"
 #include <signal.h>
 #include <stdlib.h>
 #include <sys/single_threaded.h>
+#include <unistd.h>
 
 /* The definitions take no arguments: on the architectures that the recorder knows a function may leave those that it is given. */
 #define REFUSED(name, why)                                  \
@@ -22,6 +24,10 @@ REFUSED(pthread_create, THREADS)
 REFUSED(thrd_create, THREADS)
 REFUSED(clone, THREADS)
 REFUSED(_ZNSt6thread15_M_start_threadESt10unique_ptrINS_6_StateESt14default_deleteIS1_EEPFvvE, THREADS)
+
+/* A library that was not compiled by the wrapper comes here. */
+_Noreturn void pthread_create(void);
+_Noreturn void pthread_create(void) { refuse(0, "pthread_create: " THREADS); }
 
 REFUSED(longjmp, JUMPS)
 REFUSED(_longjmp, JUMPS)
@@ -87,6 +93,21 @@ WRAPPER(int, sigaction, int number, const struct sigaction *action, struct sigac
   if (!result) WRITE_IF(before);
   return result;
 }
+
+/* ---- ends of the program without its destructors, in which the traces are written ---- */
+
+_Noreturn void TELLS(_exit)(int status);
+__attribute__((weak)) _Noreturn void TELLS(_exit)(int status) {
+  finish_recording();
+  _exit(status);
+}
+_Noreturn void TELLS(_Exit)(int status);
+__attribute__((weak)) _Noreturn void TELLS(_Exit)(int status) {
+  finish_recording();
+  _exit(status);
+}
+/* The first handler to be registered is the last to be called. */
+__attribute__((constructor(102))) static void finish_at_quick_exit(void) { at_quick_exit(finish_recording); }
 
 /* ---- sets of signals ---- */
 
