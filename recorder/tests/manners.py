@@ -14,8 +14,7 @@ from pathlib import Path
 import harness
 import verdicts
 
-SOURCE = r"""
-#include <cilk/cilk.h>
+SOURCE = r"""#include <cilk/cilk.h>
 #include <stdio.h>
 #include <stdlib.h>
 #include <string.h>
@@ -79,6 +78,8 @@ class Manners:
         self.check("-c -o x.o makes x.o", not ran.status and (self.room / "x.o").exists(), ran.errors)
         ran = self.cc("x.o", "-o", "linked")
         self.check("an object is linked", not ran.status and harness.run(["./linked"], self.room).status == 0, ran.errors)
+        self.check("its trace is named after it", self.traces() == ["linked.trace"], self.traces())
+        (self.room / "linked.trace").unlink()
         (self.room / "wrong.c").write_text("#include <cilk/cilk.h>\nint main(void) { return y; }\n")
         ran = self.cc("wrong.c", "-o", "wrong")
         self.check("the compiler's errors and status come through", ran.status == 1 and "wrong.c:2" in ran.errors and not (self.room / "wrong").exists(), ran)
