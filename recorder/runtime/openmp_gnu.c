@@ -7,10 +7,11 @@ enum { FLAG_FINAL = 1 << 1, FLAG_DEPEND = 1 << 3, FLAG_UP = 1 << 8, FLAG_GRAINSI
 /* ---- tasks ---- */
 
 /* The task's own copy of `data`, which the spawner makes. */
-static void *copied(void *data, void copy(void *, void *), size_t bytes, size_t alignment) {
-  void *own = task_memory(bytes, alignment);
-  if (copy) copy(own, data);
-  else memcpy(own, data, bytes);
+static void *copied(void *data, void copy(void *, void *), size_t bytes, size_t alignment, uintptr_t place) {
+  void *own = task_memory(bytes, alignment, place);
+  if (!copy) return memcpy(own, data, bytes);
+  copy(own, data);
+  task_memory_handed(own, bytes, place);
   return own;
 }
 
@@ -24,9 +25,9 @@ void GOMP_task(void (*run)(void *), void *data, void (*copy)(void *, void *), lo
   if (flags & FLAG_DEPEND) refuse(PLACE, "a task with depend is not spawn and sync");
   if (flags & FLAG_DETACH) refuse(PLACE, "a task with detach is not spawn and sync");
   enum task_kind kind = task_kind(condition);
-  void *own = copied(data, copy, (size_t)bytes, (size_t)alignment);
+  void *own = copied(data, copy, (size_t)bytes, (size_t)alignment, PLACE);
   task_run(kind, flags & FLAG_FINAL, run, own, PLACE);
-  task_memory_free(own, (size_t)bytes);
+  task_memory_free(own, (size_t)bytes, PLACE);
 }
 
 /* The bounds stand first in the task's data: `first` and the one behind the last, of eight bytes each. */
@@ -37,11 +38,11 @@ static void task_loop(void run(void *), void *data, void copy(void *, void *), s
   struct division division = division_of(rounds, flags & FLAG_GRAINSIZE ? tasks : 0, flags & FLAG_GRAINSIZE ? 0 : tasks);
   for (uint64_t i = 0; i < division.tasks; i++) {
     uint64_t first, count = division_part(division, i, &first);
-    uint64_t *own = copied(data, copy, bytes, alignment);
+    uint64_t *own = copied(data, copy, bytes, alignment, place);
     own[0] = start + first * step;
     own[1] = start + (first + count) * step;
     task_run(task_kind(flags & FLAG_IF), flags & FLAG_FINAL, run, own, place);
-    task_memory_free(own, bytes);
+    task_memory_free(own, bytes, place);
   }
   if (!(flags & FLAG_NOGROUP)) task_group_end(place);
 }

@@ -26,10 +26,10 @@ enum { FLAG_FINAL = 1 << 1, FLAG_DESTROY = 1 << 3, FLAG_DETACH = 1 << 6 };
 
 static int thread_number(void) { return team_thread(team_level()); }
 
-static struct task *new_task(size_t task_bytes, size_t shared_bytes, int flags) {
+static struct task *new_task(size_t task_bytes, size_t shared_bytes, int flags, uintptr_t place) {
   task_bytes = (task_bytes + 15) & ~(size_t)15;
   size_t bytes = sizeof(struct head) + task_bytes + shared_bytes;
-  struct head *head = task_memory(bytes, sizeof *head);
+  struct head *head = task_memory(bytes, sizeof *head, place);
   memset(head, 0, sizeof *head + task_bytes);
   head->bytes = bytes;
   head->task_bytes = task_bytes;
@@ -38,7 +38,7 @@ static struct task *new_task(size_t task_bytes, size_t shared_bytes, int flags) 
   task->shared = (char *)task + task_bytes;
   return task;
 }
-static void free_task(struct task *task) { task_memory_free(HEAD(task), HEAD(task)->bytes); }
+static void free_task(struct task *task, uintptr_t place) { task_memory_free(HEAD(task), HEAD(task)->bytes, place); }
 
 /* The parts of an untied task that are left, and the destructors of its data. */
 static void finish_task(struct task *task) {
@@ -61,15 +61,16 @@ static void start_task(struct task *task, bool condition, uintptr_t place) {
     HEAD(task)->again = true;
     return;
   }
+  task_memory_handed(HEAD(task), HEAD(task)->bytes, place);
   task_run(task_kind(condition), HEAD(task)->flags & FLAG_FINAL, run_task, task, place);
-  free_task(task);
+  free_task(task, place);
 }
 
 CALLED(struct task *, __kmpc_omp_task_alloc, struct ident *where, int thread, int flags, size_t task_bytes, size_t shared_bytes, int (*run)(int, struct task *)) {
   (void)where;
   (void)thread;
   if (flags & FLAG_DETACH) refuse(PLACE, "a task with detach is not spawn and sync");
-  struct task *task = new_task(task_bytes, shared_bytes, flags);
+  struct task *task = new_task(task_bytes, shared_bytes, flags, PLACE);
   task->run = run;
   return task;
 }
@@ -93,13 +94,13 @@ CALLED(void, __kmpc_omp_task_complete_if0, struct ident *where, int thread, stru
   (void)thread;
   finish_task(task);
   task_end(HEAD(task)->kind, PLACE);
-  free_task(task);
+  free_task(task, PLACE);
 }
 
 /* The bounds of a taskloop lie in the task; the last round belongs to it. Each part is a copy of the task. */
-static struct task *task_part(struct task *task, void (*copy)(struct task *, struct task *, int), bool is_last) {
+static struct task *task_part(struct task *task, void (*copy)(struct task *, struct task *, int), bool is_last, uintptr_t place) {
   const struct head *head = HEAD(task);
-  struct task *part = new_task(head->task_bytes, head->bytes - sizeof *head - head->task_bytes, head->flags);
+  struct task *part = new_task(head->task_bytes, head->bytes - sizeof *head - head->task_bytes, head->flags, place);
   memcpy(part, task, head->bytes - sizeof *head);
   part->shared = (char *)part + head->task_bytes;
   if (copy) copy(part, task, is_last);
@@ -115,12 +116,12 @@ static void task_loop(struct task *task, bool condition, uint64_t *lower, uint64
   struct division division = division_of(rounds, divided == DIVIDED_BY_GRAIN ? number : 0, divided == DIVIDED_BY_COUNT ? number : 0);
   for (uint64_t i = 0; i < division.tasks; i++) {
     uint64_t first, count = division_part(division, i, &first);
-    struct task *part = task_part(task, copy, i == division.tasks - 1);
+    struct task *part = task_part(task, copy, i == division.tasks - 1, place);
     *(uint64_t *)(void *)((char *)part + ((char *)lower - (char *)task)) = from + first * (uint64_t)step;
     *(uint64_t *)(void *)((char *)part + ((char *)upper - (char *)task)) = from + (first + count - 1) * (uint64_t)step;
     start_task(part, condition, place);
   }
-  free_task(task);
+  free_task(task, place);
   if (!group) task_group_end(place);
 }
 CALLED(void, __kmpc_taskloop, struct ident *where, int thread, struct task *task, int condition, uint64_t *lower, uint64_t *upper, int64_t step, int no_group,

@@ -77,18 +77,20 @@ void openmp_function_end(uintptr_t from, uintptr_t to, uintptr_t place) {
 
 struct memory { void *block; size_t unused; };   /* stands before the memory; 16 bytes */
 
-void *task_memory(size_t bytes, size_t alignment) {
+static void new_lives(uintptr_t at, size_t bytes, uintptr_t place) { end_lives(at, at + bytes, (struct origin){ORIGIN_TASK, place, at, bytes}); }
+
+void *task_memory(size_t bytes, size_t alignment, uintptr_t place) {
   if (alignment < sizeof(struct memory)) alignment = sizeof(struct memory);
   char *block = plain_malloc(bytes + alignment + sizeof(struct memory));
-  if (!block) refuse(0, "no memory for a task's data");
+  if (!block) refuse(place, "no memory for a task's data");
   uintptr_t at = ((uintptr_t)block + sizeof(struct memory) + alignment - 1) & ~(uintptr_t)(alignment - 1);
   ((struct memory *)at)[-1].block = block;
-  end_lives(at, at + bytes, (struct origin){ORIGIN_TASK, 0, at, bytes});
+  new_lives(at, bytes, place);
   return (void *)at;
 }
-void task_memory_free(void *memory, size_t bytes) {
-  uintptr_t at = (uintptr_t)memory;
-  end_lives(at, at + bytes, (struct origin){ORIGIN_TASK, 0, at, bytes});
+void task_memory_handed(void *memory, size_t bytes, uintptr_t place) { new_lives((uintptr_t)memory, bytes, place); }
+void task_memory_free(void *memory, size_t bytes, uintptr_t place) {
+  new_lives((uintptr_t)memory, bytes, place);
   plain_free(((struct memory *)memory)[-1].block);
 }
 
