@@ -178,9 +178,10 @@ static inline history change(history from, uint32_t key, uintptr_t address, uint
 static __attribute__((noinline)) uint32_t *new_page(uintptr_t address) {
   uintptr_t index = address >> PAGE_SHIFT;
   if (index >= PAGES) refuse(0, "an access at an address above 2^47");
-  histories.pages[index] = reserve((size_t)1 << PAGE_SHIFT);
+  uint32_t *page = reserve((size_t)1 << PAGE_SHIFT);
+  histories.pages[index] = page;
   page_list[page_count++] = (uint32_t)index;
-  return history_unit(address);
+  return page + ((address & (((uintptr_t)1 << PAGE_SHIFT) - 1)) >> 2);
 }
 static inline uint32_t *unit_at(uintptr_t address) {
   uint32_t *unit = address >> PAGE_SHIFT < PAGES ? history_unit(address) : NULL;
