@@ -177,6 +177,11 @@ ASKS(void *, _ZNKSt9basic_iosIcSt11char_traitsIcEE5rdbufEv)
 ASKS(void *, _ZNKSt9basic_iosIcSt11char_traitsIcEE3tieEv)
 LIBRARY_VOID(_ZNSt9basic_iosIcSt11char_traitsIcEE5clearESt12_Ios_Iostate, (char *fields, int state), (fields, state), use_fields(fields, ACCESS_WRITE, PLACE), )
 LIBRARY_VOID(_ZNSt9basic_iosIcSt11char_traitsIcEE8setstateESt12_Ios_Iostate, (char *fields, int state), (fields, state), use_fields(fields, ACCESS_WRITE, PLACE), )
+#define COPIES_FORMAT(name)                                                                                             \
+  LIBRARY(char *, name, (char *fields, const char *other), (fields, other), use_fields(other, ACCESS_READ, PLACE);       \
+          is_standard(fields) ? WRITE(fields + FORMAT, FORMAT_BYTES) : WRITE(fields, ALL_BYTES), )
+COPIES_FORMAT(_ZNSt9basic_iosIcSt11char_traitsIcEE7copyfmtERKS2_)
+COPIES_FORMAT(_ZNSt9basic_iosIwSt11char_traitsIwEE7copyfmtERKS2_)
 LIBRARY(stream *, _ZNSt9basic_iosIcSt11char_traitsIcEE3tieEPSo, (char *fields, stream *other), (fields, other), WRITE(fields, ALL_BYTES), )
 extern bool _ZNSt8ios_base15sync_with_stdioEb(bool on) __attribute__((weak));
 WRAPPER(bool, _ZNSt8ios_base15sync_with_stdioEb, bool on) {

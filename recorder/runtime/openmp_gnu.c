@@ -9,7 +9,7 @@ enum { FLAG_FINAL = 1 << 1, FLAG_DEPEND = 1 << 3, FLAG_UP = 1 << 8, FLAG_GRAINSI
 /* The task's own copy of `data`, which the spawner makes. */
 static void *copied(void *data, void copy(void *, void *), size_t bytes, size_t alignment, uintptr_t place) {
   void *own = task_memory(bytes, alignment, place);
-  if (!copy) return memcpy(own, data, bytes);
+  if (!copy) return bytes ? memcpy(own, data, bytes) : own;
   copy(own, data);
   task_memory_handed(own, bytes, place);
   return own;
