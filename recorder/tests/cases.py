@@ -109,7 +109,7 @@ def main():
             levels = given.levels if not given.spread else ["-O0", "-O1" if (k + k // 2) % 2 else "-O2"]
             if header(source).get("only", compiler) == compiler:
                 jobs.append((given, room, source, compiler, levels))
-        failures = [it for found in harness.in_parallel(check, jobs, given.jobs) for it in found]
+        failures = harness.shown(it for found in harness.in_parallel(check, jobs, given.jobs) for it in found)
     harness.finish("cases", sum(len(it[-1]) for it in jobs), failures, given.expect)
 
 

@@ -6,7 +6,8 @@
 A program has globals of 1, 2, 4, 8 and 16 bytes, functions that call, spawn and call themselves, locals and elements and fields whose addresses
 are handed on, blocks of the heap, results of spawns, spawned blocks, loops of spawns, cilk_for, cilk_scope, atomics, copies, reducers, early
 returns; in C++ references, lambdas, methods and exceptions besides. The oracle (oracle.py) interprets the same tree. Each program is recorded
-three times: compressed, compressed with the judge deciding epochs, and with every access of every byte. Each recording has to show a race
+four times: compressed, compressed with the judge deciding epochs, compressed in traces of 60 requests (which the recorder may refuse), and with
+every access of every byte. Each recording has to show a race
 at exactly the bytes of globals at which the oracle finds one, and at as many bytes of locals and of the heap; at -O0 the lines of each report and
 the spawn at which they part have to be a pair and a spawn that the oracle knows for that byte (above it the compilers move code between lines);
 and the output has to be the serial elision's.
@@ -27,7 +28,7 @@ from generator import HEADER, Program, main_of
 from oracle import Oracle, TooLong
 
 EACH = 25
-MODES = {"compressed": {}, "epochs by the judge": {"CILKCHECK_EPOCHS": "no"}, "raw": {"CILKCHECK_RAW": "1"}}
+MODES = {"compressed": {}, "epochs by the judge": {"CILKCHECK_EPOCHS": "no"}, "in parts": {"CILKCHECK_LIMIT": "60"}, "raw": {"CILKCHECK_RAW": "1"}}
 SINK = """
 static unsigned long sum;
 void sink(long value) { sum = sum * 31 + (unsigned long)value; }
@@ -96,6 +97,10 @@ class Group:
         members = self.folder / "members"
         members.unlink(missing_ok=True)
         ran, traces = harness.record("p", words, self.folder, {**env, "CILKCHECK_MEMBERS": str(members)})
+        if mode == "in parts" and ran.status == 70 and not traces:
+            self.counts["refused"] += 1
+            return []
+        self.counts["parts"] += len(traces) > 1
         plain = harness.run([self.folder / "plain", *words], self.folder)
         if ran.status or ran.output != plain.output:
             return [f"status {ran.status}, {ran.output!r}, as plain C {plain.status}, {plain.output!r}: {ran.errors[-300:]}"]
@@ -142,7 +147,7 @@ class Group:
         lives = len(found.racy) - len(wanted)
         if bytes_of_globals != wanted:
             said.append(f"races lost: {told(wanted - bytes_of_globals)}; races that are none: {told(bytes_of_globals - wanted)}")
-        if bytes_of_lives != lives and (mode != "compressed" or bytes_of_lives < lives or not lives):
+        if bytes_of_lives != lives and (mode not in ("compressed", "in parts") or bytes_of_lives < lives or not lives):
             said.append(f"{bytes_of_lives} bytes of locals and blocks, by the oracle {lives} ({told(it for it in found.racy if it not in wanted)})")
         if bool(reducers) != bool(found.reducers):
             said.append(f"reducers: {reducers or 'no race'}, by the oracle {found.reducers or 'none'}")
@@ -184,7 +189,7 @@ def main():
                 counts += counted
                 for it in found:
                     print(it, flush=True)
-    print(f"fuzz: {counts['programs']} programs, {counts['racy']} of them racy at {counts['locations']} bytes, {counts['recordings']} recordings held against the oracle")
+    print(f"fuzz: {counts['programs']} programs, {counts['racy']} of them racy at {counts['locations']} bytes, {counts['recordings'] - counts['refused']} recordings held against the oracle, {counts['parts']} of them in parts")
     if given.expect_racy is not None and counts["racy"] != given.expect_racy:
         failures.append(print(f"fuzz: {given.expect_racy} racy programs were expected"))
     if given.expect is not None and counts["programs"] != given.expect:

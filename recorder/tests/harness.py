@@ -77,10 +77,17 @@ def in_parallel(function, items, jobs):
         yield from pool.map(function, items)
 
 
-def finish(what, checks, failures, expected):
-    """One line of counts; what failed before it. Nothing passes that was not run."""
+def shown(failures):
+    """Prints each failure as it comes, and gives them all."""
+    found = []
     for it in failures:
-        print(it)
+        print(it, flush=True)
+        found.append(it)
+    return found
+
+
+def finish(what, checks, failures, expected):
+    """Prints one line of counts. Nothing passes that was not run."""
     if expected is not None and checks != expected:
         failures = [*failures, print(f"{what}: {expected} checks were expected")]
     print(f"{what}: {checks} checks, {len(failures)} failed", flush=True)

@@ -58,7 +58,7 @@ class Manners:
     def check(self, what, holds, said=""):
         self.checks += 1
         if not holds:
-            self.failures.append(f"manners: not so: {what} {str(said)[-300:]}")
+            self.failures += harness.shown([f"manners: not so: {what} {str(said)[-300:]}"])
 
     def cc(self, *words, env=None):
         return harness.run([self.given.wrappers / "cilkcheck-cc", *words], self.room, env)

@@ -46,7 +46,7 @@ def main():
     sources = [it for it in sorted(PROGRAMS.glob("*.c")) if not given.names or it.stem in given.names]
     with tempfile.TemporaryDirectory(prefix="cilkcheck-programs-") as room:
         jobs = [(given, room, *it) for it in itertools.product(sources, (False, True), harness.COMPILERS, given.levels)]
-        failures = [it for it in harness.in_parallel(check, jobs, given.jobs) if it]
+        failures = harness.shown(it for it in harness.in_parallel(check, jobs, given.jobs) if it)
     harness.finish("programs", len(jobs), failures, given.expect)
 
 

@@ -53,7 +53,7 @@ def main():
     given = harness.parser(__doc__).parse_args()
     with tempfile.TemporaryDirectory(prefix="cilkcheck-projects-") as room:
         jobs = [(given, room, *it) for it in itertools.product((make, cmake), harness.COMPILERS, (False, True))]
-        failures = [it for it in harness.in_parallel(check, jobs, given.jobs) if it]
+        failures = harness.shown(it for it in harness.in_parallel(check, jobs, given.jobs) if it)
     harness.finish("projects", len(jobs), failures, given.expect)
 
 

@@ -71,7 +71,7 @@ def main():
     given = parser.parse_args()
     with tempfile.TemporaryDirectory(prefix="cilkcheck-sanitized-") as place:
         room = Path(place)
-        failures = [it for it in [warnings(room)] if it]
+        failures = harness.shown(it for it in [warnings(room)] if it)
         runtime, renamed = build(room)
         drawn_programs = [drawn(it, False) for it in SEEDS]
         lines = list(HEADER)
@@ -88,7 +88,7 @@ def main():
                 jobs.append((given, room, runtime, renamed, it, wanted.get("flags", "").split(), [], []))
         jobs += [(given, room, runtime, renamed, fuzz, [], [str(it)], [room / "sink.o"]) for it in SEEDS]
         jobs = [it for it in jobs if not given.names or it[4].stem.startswith(tuple(given.names))]
-        failures += [it for it in harness.in_parallel(check, jobs, given.jobs) if it]
+        failures += harness.shown(it for it in harness.in_parallel(check, jobs, given.jobs) if it)
     harness.finish("sanitized", len(jobs) + 1, failures, given.expect)
 
 

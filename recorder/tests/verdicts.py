@@ -181,7 +181,8 @@ def main():
     for note in dict.fromkeys(note for trace in traces for note in trace.notes):
         print(f"note: {note}")
     requests = sum(it.requests for it in traces)
-    print(f"{sum(map(len, found.values()))} refusals at {len(found)} pairs of lines" if found else "no race", f"among {requests} requests in {len(traces)} trace{'s' if len(traces) > 1 else ''}")
+    refused = sum(map(len, found.values()))
+    print(f"{refused} refusal{'s' * (refused > 1)} at {len(found)} pair{'s' * (len(found) > 1)} of lines" if found else "no race", f"among {requests} requests in {len(traces)} trace{'s' * (len(traces) > 1)}")
     sys.exit(max((it.status for it in traces), key=ORDER.index))
 
 
