@@ -3,12 +3,15 @@
 - A structure that is passed by value in memory (`byval`) is read by the call: told by a call of __cilkcheck_read.
 - Loads and stores of other sizes than 1, 2, 4, 8 and 16 bytes (long double, vectors, parts of structures) are told by __cilkcheck_read and _wrote.
 - Atomic loads and stores are told as plain ones, directly before their own hooks: these calls are taken out.
+- A function whose first block cannot return (it ends with a throw, or with a call of exit) has no coverage hooks: all its accesses are told.
 """
 import re
 
 ARGUMENT = re.compile(r"(?P<type>%(?:\"[^\"]+\"|[\w.$-]+)\*) (?:[a-z]+(?:\(\d+\))? )*byval\([^)]*\) align \d+ (?P<value>[%@](?:\"[^\"]+\"|[\w.$-]+))")
 LOAD = re.compile(r"\s+%[\w.\"]+ = load (?:volatile )?(?P<type>x86_fp80|fp128|i\d+|<[^>]*>|\{.*?\}|\[.*?\]|%(?:\"[^\"]+\"|[\w.$-]+)), (?P=type)\* (?P<value>.*?)(?:, align \d+)?(?:, ![\w.]+ ![\w.]+)*$")
 STORE = re.compile(r"\s+store (?:volatile )?(?P<type>x86_fp80|fp128|i\d+|<[^>]*>|\{.*?\}|\[.*?\]|%(?:\"[^\"]+\"|[\w.$-]+)) .*, (?P=type)\* (?P<value>.*?)(?:, align \d+)?(?:, ![\w.]+ ![\w.]+)*$")
+ANY_LOAD = re.compile(r"\s+%[\w.\"]+ = load (?:volatile )?(?P<type>.+?), (?P=type)\* (?P<value>.*?)(?:, align \d+)?(?:, ![\w.]+ ![\w.]+)*$")
+ANY_STORE = re.compile(r"\s+store (?:volatile )?(?P<type>.+?) (?:[^ ]+|.*\)), (?P=type)\* (?P<value>.*?)(?:, align \d+)?(?:, ![\w.]+ ![\w.]+)*$")
 TOLD = {"i1", "i8", "i16", "i32", "i64", "i128"}
 HOOK = re.compile(r"\s+call void @__sanitizer_cov_(load|store)(\d+)\(")
 ATOMIC = re.compile(r"@__tsan_atomic(\d+)_(load|store)\(")
@@ -31,13 +34,20 @@ def mend(text):
             out.append(f"  call void @{function}(i8* %cilkcheck.{count}, {size}){place}")
         else:
             out.append(f"  call void @{function}(i8* bitcast ({kind} {value} to i8*), {size}){place}")
-    for line in lines:
+    bare = False
+    for number, line in enumerate(lines):
+        if line.startswith("define "):
+            bare = has_no_hooks(lines, number + 1)
+        elif line.startswith("}"):
+            bare = False
         if "byval(" in line and re.match(r"\s+(%[\w.\"]+ = )?(tail |notail |musttail )?(call|invoke) ", line):
             for argument in ARGUMENT.finditer(line):
                 told("__cilkcheck_read", argument.group("type"), argument.group("value"), line)
         elif " load " in line or "  store " in line:
-            found = LOAD.match(line) or STORE.match(line)
-            if found and found.group("type") not in TOLD and (found.group("type")[0] != "<" or not is_power(found.group("type"))):
+            found = ANY_LOAD.match(line) or ANY_STORE.match(line) if bare else LOAD.match(line) or STORE.match(line)
+            if found and bare and " atomic " not in line:
+                told("__cilkcheck_read" if " load " in line else "__cilkcheck_wrote", found.group("type") + "*", found.group("value"), line)
+            elif found and not bare and found.group("type") not in TOLD and (found.group("type")[0] != "<" or not is_power(found.group("type"))):
                 told("__cilkcheck_read" if " load " in line else "__cilkcheck_wrote", found.group("type") + "*", found.group("value"), line)
         elif "@__tsan_atomic" in line:
             found = ATOMIC.search(line)
@@ -53,6 +63,17 @@ def mend(text):
         if f"@{function}(" in result and not re.search(rf"^declare .*@{function}\(", result, re.M):
             result += f"\ndeclare void @{function}(i8*, i64)\n"
     return result
+
+
+def has_no_hooks(lines, at):
+    """Whether the function whose lines begin there is instrumented, and has not one coverage hook."""
+    instrumented = False
+    while at < len(lines) and lines[at] != "}":
+        if "@__sanitizer_cov_" in lines[at]:
+            return False
+        instrumented = instrumented or "@__tsan_func_entry" in lines[at]
+        at += 1
+    return instrumented
 
 
 def is_power(vector):

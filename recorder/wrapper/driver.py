@@ -22,7 +22,7 @@ RECORDED = ["-g", "-fno-inline", "-fno-builtin", "-fno-omit-frame-pointer", "-fn
 # gcc puts no two variables into one place of the frame, and learns nothing of a function from its body
 GCC = ["-fno-ipa-icf", "-fno-ipa-modref", "-fno-ipa-pure-const", "-fno-ipa-sra", "-fno-ipa-cp", "-fno-ipa-ra", "-fno-partial-inlining", "-fstack-reuse=none", "-mno-accumulate-outgoing-args"]
 # clang 14's thread sanitizer leaves out the fields and elements of shared locals; its coverage hooks tell every load and store
-CLANG = ["-mllvm", "-tsan-instrument-memory-accesses=0", "-fsanitize-coverage=func,trace-loads,trace-stores", "-Wno-unused-command-line-argument"]
+CLANG = ["-gdwarf-4", "-mllvm", "-tsan-instrument-memory-accesses=0", "-fsanitize-coverage=func,trace-loads,trace-stores", "-Wno-unused-command-line-argument"]
 # the columns of rewritten text are not the user's
 QUIET = {"gcc": ["-fno-diagnostics-show-caret", "-fno-show-column", "-Wno-misleading-indentation"],
          "clang": ["-fno-caret-diagnostics", "-fno-show-column", "-Wno-misleading-indentation"]}

@@ -87,27 +87,32 @@ def parse(dump, functions=frozenset()):
             inside = False
             found += of_function(head, body, functions)
         elif inside:
-            body.append(line)
+            if "__builtin___tsan" not in line:
+                body.append(line)
         elif line:
             head = line
     return sorted(set(found), key=lambda it: (it.file, it.line, it.column, it.argument is None, it.argument or 0))
 
 
 def of_function(head, body, functions):
-    text = "\n".join(body)
-    taken = set(re.findall(r"&([\w.]+)", text))
-    own = {match.group(1) for line in body if (match := LOCAL.match(line)) and "=" not in line} | set(re.findall(r"(\w+)[,)]", head))
+    calls = [line for line in body if line.endswith((");", "]")) and " (" in line and line[2:3] == "["]
+    if not calls:
+        return []
+    taken = set(re.findall(r"&([\w.]+)", "\n".join(body)))
+    own = {match.group(1) for line in body if line[2:3] != "[" and (match := LOCAL.match(line)) and "=" not in line} | set(re.findall(r"(\w+)[,)]", head))
     out = []
-    for line in body:
+    for line in calls:
         places = PLACE.findall(line)
         statement = PLACE.sub("", line).strip()
         if not places or statement.startswith(("if ", "switch ", "return ", "goto ", "# ")):
             continue
         call = read_call(statement)
-        if not call or call[1].startswith(("__builtin", "__tsan", "__atomic", ".", "__cilkcheck", "__complex__", "__cxxabiv1::", "__cxa_atexit", "operator%")):
+        if not call or call[1].startswith(("__builtin", "__tsan", "__atomic", ".", "__cilkcheck", "__complex__", "__cxxabiv1::", "__cxa_", "operator%")):
             continue
         to, callee, arguments = call
         file, number, column = places[0][0], int(places[0][1]), int(places[0][2])
+        if statement.endswith("[return slot optimization]"):
+            to = None                                       # a new object, which the callee makes in its place
         operands = [(None, to)] + list(enumerate(arguments))
         for argument, operand in operands:
             if not operand or SCALAR.match(operand) or operand.startswith("<retval>") or RETURNED.match(operand) or operand in functions:
@@ -127,6 +132,8 @@ SIDE_EFFECTS = {"++", "--", "=", "+=", "-=", "*=", "/=", "%=", "&=", "|=", "^=",
 
 def tell(text, cxx, unseen):
     """The text in which they are told, and those that are left over."""
+    if not unseen:
+        return text, []
     source = Source(text)
     columns, where = [], {}
     column = 1

@@ -152,8 +152,8 @@ def table(path, runtime, include, called, compiled):
     for behind in sorted(sites):
         _, function = sites[behind]
         file, line = places.get(behind - 1, ("??", 0))
-        if line == 0 and before and before[0] == function:
-            file, line = before[1:]
+        if line == 0:
+            file, line = before[1:] if before and before[0] == function else places.get(function[0], ("??", 0))
         if line == 0:
             continue
         before = function, file, line
