@@ -107,8 +107,7 @@ static inline void end_life(history ended, uintptr_t address, uint32_t bytes, co
 /* ---- one access ---- */
 
 static inline uint32_t slot_of(history from, uint32_t key) {
-  uint64_t mixed = (from * 0x9E3779B97F4A7C15u) ^ (key * 0xC2B2AE3D27D4EB4Fu);
-  return (uint32_t)(mixed >> 32 ^ mixed >> 15) & slot_mask;
+  return (uint32_t)(((uint64_t)from << 32 | key) * 0x9E3779B97F4A7C15u >> 32) & slot_mask;
 }
 
 static void fill_slot(history from, uint32_t key, history to) {
@@ -212,11 +211,14 @@ static void access_bytes(uint32_t *unit, uintptr_t address, uintptr_t end, uint3
   if (four[0] == four[1] && four[0] == four[2] && four[0] == four[3]) unsplit(unit, four[0]);
 }
 
-void histories_access(uintptr_t address, size_t bytes, enum access kind, uintptr_t place) {
-  site_now = place_site(place);
-  uint32_t key = (site_now & site_mask) << 2 | (uint32_t)kind;
-  uintptr_t end = address + bytes;
+static inline uint32_t key_of(uintptr_t address, enum access kind, uintptr_t place) {
   stack_touch(address);
+  site_now = place_site(place);
+  return (site_now & site_mask) << 2 | (uint32_t)kind;
+}
+void histories_access(uintptr_t address, size_t bytes, enum access kind, uintptr_t place) {
+  uint32_t key = key_of(address, kind, place);
+  uintptr_t end = address + bytes;
   if (options.raw) { raw_access(address, bytes, kind, site_now); return; }
   history from = 0, to = 0;                                        /* the last change: neighbours mostly change alike */
   while (address < end) {
@@ -229,6 +231,19 @@ void histories_access(uintptr_t address, size_t bytes, enum access kind, uintptr
       access_bytes(unit, address, next < end ? next : end, key);
     }
     address = next;
+  }
+}
+
+void histories_access_one(uint32_t *unit, uintptr_t address, enum access kind, uintptr_t place) {
+  *unit = change(*unit, key_of(address, kind, place), address, 4);
+}
+void histories_access_two(uint32_t *units, uintptr_t address, enum access kind, uintptr_t place) {
+  uint32_t key = key_of(address, kind, place);
+  if (units[0] == units[1]) {
+    units[0] = units[1] = change(units[0], key, address, 8);
+  } else {
+    units[0] = change(units[0], key, address, 4);
+    units[1] = change(units[1], key, address + 4, 4);
   }
 }
 

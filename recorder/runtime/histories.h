@@ -53,8 +53,10 @@ void histories_look(bool on);
 void histories_stop_looking(void);
 /* Ends the lives of all locations that are left. */
 void histories_end_all(void);
-/* What could not be covered by a look at the unit. */
+/* What could not be covered by a look at the units: any access; and one of one or two whole units, which are there. */
 void histories_access(uintptr_t address, size_t bytes, enum access kind, uintptr_t place);
+void histories_access_one(uint32_t *unit, uintptr_t address, enum access kind, uintptr_t place);
+void histories_access_two(uint32_t *units, uintptr_t address, enum access kind, uintptr_t place);
 
 #define PAGE_SHIFT 22
 static inline uint32_t *history_unit(uintptr_t address) {
@@ -69,14 +71,20 @@ static inline bool history_covers(uint32_t entry, enum access kind) {
   return (int32_t)entry >= (int32_t)histories.steps_of_strand && ((entry & STEP_KIND) == (uint32_t)kind || (entry & STEP_KIND) == ACCESS_WRITE);
 }
 
-/* An access by compiled code, of 1, 2, 4, 8 or 16 bytes. */
+/* An access by compiled code, of 1, 2, 4, 8 or 16 bytes. (A raw recording has no units.) */
 static inline __attribute__((always_inline)) void access_memory(uintptr_t address, size_t bytes, enum access kind, uintptr_t place) {
   histories.accesses++;
   if (!histories.looking) return;
-  const uint32_t *unit = history_unit(address);
+  uint32_t *unit = history_unit(address);
   if (__builtin_expect(unit != NULL, 1)) {
-    if (bytes <= 4 && (address & 3) + bytes <= 4 && history_covers(*unit, kind)) return;
-    if (bytes == 8 && !(address & 7) && unit[0] == unit[1] && history_covers(*unit, kind)) return;
+    if (bytes <= 4 && (address & 3) + bytes <= 4) {
+      if (history_covers(*unit, kind)) return;
+      if (bytes == 4 && !(*unit & HISTORY_SPLIT)) { histories_access_one(unit, address, kind, place); return; }
+    }
+    if (bytes == 8 && !(address & 7)) {
+      if (unit[0] == unit[1] && history_covers(*unit, kind)) return;
+      if (!((unit[0] | unit[1]) & HISTORY_SPLIT)) { histories_access_two(unit, address, kind, place); return; }
+    }
   }
   histories_access(address, bytes, kind, place);
 }
