@@ -54,7 +54,7 @@ class Rewriter:
                 at += 1
                 continue
             if token == ";":
-                return "".join(out) + source.text(copied, at + 1), at + 1
+                return "".join(out) + self.expression(copied, at + 1, Context()), at + 1
             close = source.closing(at) if at in source.pairs else end - 1
             if not source.has(at, close):
                 if token == "{" and self.ends_there(begin, at, close, end):
@@ -67,7 +67,7 @@ class Rewriter:
                 at = copied = close + 1
                 continue
             what = self.brace(begin, at)
-            out.append(source.text(copied, at))
+            out.append(self.expression(copied, at, Context()))
             if what == "scope":
                 out.append("{" + self.declarations(at + 1, close) + "}")
             elif what == "function":
@@ -77,7 +77,7 @@ class Rewriter:
             at = copied = close + 1
             if self.ends_there(begin, at - 1 - (close - source.solid(close)), close, end, what):
                 return "".join(out), at
-        return "".join(out) + source.text(copied, end), end
+        return "".join(out) + self.expression(copied, end, Context()), end
 
     def ends_there(self, begin, opening, close, end, what=None):
         """Whether a declaration ends with the `}` at `close`: a function or a namespace, no class and no initializer."""
@@ -111,6 +111,8 @@ class Rewriter:
                 continue
             words.append(token)
             at += 1
+        if not words:
+            return "function"                               # C before 1989: the parameters' declarations come before the body
         if "namespace" in words or (words[:1] == ["extern"] and len(words) == 2):
             return "scope"
         heads = [word for word in words if word not in ("static", "typedef", "const", "volatile", "extern", "inline", "constexpr", "friend", "__extension__", "[")]

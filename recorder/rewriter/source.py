@@ -44,7 +44,7 @@ def parts(text):
         if lines:
             out.append((system, "\n".join(lines) + "\n"))
             lines.clear()
-    for line in text.split("\n"):
+    for line in text.removesuffix("\n").split("\n"):
         mark = MARK.match(line) if line[:1] in "# \t" else None
         if mark is None:
             if joined and line.lstrip().startswith("#"):    # a pragma, of a macro

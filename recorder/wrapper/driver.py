@@ -170,7 +170,7 @@ class Driver:
 
     def redirect(self, target):
         """Calls of libc's functions come to those of the runtime, which tell what they read and write."""
-        if (NAMES / "redirected").exists():
+        if (NAMES / "redirected").exists() and os.path.isfile(target):
             run(["objcopy", f"--redefine-syms={NAMES / 'redirected'}", target])
 
     def target(self, source):

@@ -1,5 +1,6 @@
 """What the wrapper puts into a linked program: the table of places (runtime/abi.h), and what is called but not seen inside."""
 import bisect
+import functools
 import re
 import struct
 import subprocess
@@ -111,10 +112,10 @@ def clean(text):
     return text.replace("\t", " ").replace("\n", " ")
 
 
+@functools.cache
 def shown(file):
     """A file's name as it is told: within the working folder, from there."""
-    here = str(Path.cwd()) + "/"
-    return file[len(here):] if file.startswith(here) else file
+    return clean(file.removeprefix(str(Path.cwd()) + "/"))
 
 
 def table(path, runtime, include, called, compiled):
@@ -161,10 +162,10 @@ def table(path, runtime, include, called, compiled):
         site = numbers.setdefault(key, len(numbers) + 1)
         if file.startswith(system):
             out.append(f"inside\t{behind:x}\t-")
-        out.append(f"at\t{behind:x}\t{site}\t{clean(shown(file))}\t{line}\t{clean(function_name(function, file, line))}\t{code.line(file, line)}")
+        out.append(f"at\t{behind:x}\t{site}\t{shown(file)}\t{line}\t{clean(function_name(function, file, line))}\t{code.line(file, line)}")
     for function in functions:
         file, line = places.get(function[0], ("??", 0))
-        out.append(f"in\t{function[0]:x}\t{function[1]:x}\t{clean(function_name(function, file, line))}\t{clean(shown(file))}\t{line}")
+        out.append(f"in\t{function[0]:x}\t{function[1]:x}\t{clean(function_name(function, file, line))}\t{shown(file)}\t{line}")
     objects = names.demangle([it[2] for it in symbols.objects])
     for address, size, name in symbols.objects:
         told = "the state of " + name[len(STATE):] if name.startswith(STATE) else objects[name]
