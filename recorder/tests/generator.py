@@ -162,7 +162,9 @@ class Program:
         if kind in ("write", "read", "modify"):
             return Statement(kind, place=self.scalar(scope, indices), value=self.random.randint(1, 9))
         if kind == "copy":
-            one = self.whole(scope, indices) if draw() < 0.5 else self.scalar(scope, indices)
+            # not into a local that may not be used behind it: above -O0 the compiler leaves out what is read for it
+            seen = [function.parameter]
+            one = self.whole(seen, indices) if draw() < 0.5 else self.scalar(seen, indices)
             other = self.whole(scope, indices, one.field_type) if one.field_type is STRUCT else self.scalar(scope, indices)
             return Statement(kind, place=one, other=other) if one.name != other.name else None
         if kind in ("fill", "move"):
