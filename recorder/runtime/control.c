@@ -135,21 +135,41 @@ static inline uint32_t count_bits(uint64_t bits) {                 /* (a library
   return (uint32_t)(((bits + (bits >> 4)) & 0x0F0F0F0F0F0F0F0Fu) * 0x0101010101010101u >> 56);
 }
 
+/* Of each 64 steps, the cells from the first to the last of any interval: most are none of the trace's. */
+static struct span { uint32_t first, end; } *spans;
+static void find_spans(uint32_t words) {
+  const struct step *steps = histories.steps;
+  spans = reserve(sizeof *spans * (words + 1));
+  for (uint32_t word = 0; word < words; word++) spans[word].first = UINT32_MAX;
+  for (uint32_t step = FIRST_STEP; step < histories.step_count; step++) {
+    struct span *span = &spans[step / 64];
+    if (steps[step].before >= steps[step].class) continue;
+    if (steps[step].before < span->first) span->first = steps[step].before;
+    if (steps[step].class > span->end) span->end = steps[step].class;
+  }
+}
+
+static uint64_t used_of(uint32_t word) {
+  const struct step *steps = histories.steps + (size_t)word * 64;
+  uint32_t from = trace->first_cell, to = trace->end_cell;
+  uint64_t bits = 0;
+  if (spans[word].first >= to || spans[word].end <= from) return 0;
+  for (uint32_t bit = 0; bit < 64; bit++) {
+    uint64_t is_used = steps[bit].before < to && steps[bit].class > from && steps[bit].before < steps[bit].class;
+    bits |= is_used << bit;
+  }
+  return bits;
+}
+
 static void find_used(void) {
   uint32_t words = histories.step_count / 64 + 1, sum = 0, seen = 0;
   if (!used) {
     used = reserve(sizeof *used * (words + 1));
     used_before = reserve(sizeof *used_before * (words + 1));
+    find_spans(words);
   }
-  const struct step *steps = histories.steps;
-  uint32_t from = trace->first_cell, to = trace->end_cell;
-  for (uint32_t word = 0, step = 0; word < words; word++) {
-    uint64_t bits = 0;
-    uint32_t end = step + 64 < histories.step_count ? step + 64 : histories.step_count;
-    for (uint32_t bit = 0; step < end; step++, bit++) {
-      uint64_t is_used = step >= FIRST_STEP && steps[step].before < to && steps[step].class > from && steps[step].before < steps[step].class;
-      bits |= is_used << bit;
-    }
+  for (uint32_t word = 0; word < words; word++) {
+    uint64_t bits = used_of(word);
     if (trace->group) {
       for (uint64_t left = bits; left; left &= left - 1) {
         uint32_t group = seen++ / trace->group;

@@ -27,17 +27,22 @@ static void put_places(const struct trace *trace) {
 static void put_class(struct text *text, const struct class *class) {
   static uint32_t last;
   static char name[LONGEST_LINE / 4];
+  static size_t length;
   static bool byte_follows;
-  if (class->origin != last || !byte_follows) byte_follows = origin_name(class->origin, class->offset, name, sizeof name);
-  last = class->origin;
-  text_line(text, name);
+  if (class->origin != last || !byte_follows) {
+    byte_follows = origin_name(class->origin, class->offset, name, sizeof name);
+    length = strlen(name);
+    last = class->origin;
+  }
+  text_bytes(text, name, length);
   if (byte_follows) {
-    text_line(text, ", byte ");
+    text_word(text, ", byte ");
     text_number(text, class->offset);
   }
-  text_line(text, class->bytes > 16 ? ", and " : ", ");
-  text_number(text, class->bytes > 16 ? class->bytes - 1 : class->bytes);
-  text_line(text, class->bytes > 16 ? " more bytes" : class->bytes == 1 ? " byte" : " bytes");
+  bool many = class->bytes > 16;
+  if (many) text_word(text, ", and "); else text_word(text, ", ");
+  text_number(text, many ? class->bytes - 1 : class->bytes);
+  if (many) text_word(text, " more bytes"); else if (class->bytes == 1) text_word(text, " byte"); else text_word(text, " bytes");
   text_end_line(text);
 }
 
@@ -63,9 +68,9 @@ static void put_cells(const struct trace *trace) {
     const struct class *class = &histories.classes[cells.class[cell]];
     if (most && class->origin == most->origin && class->offset == most->offset && class->bytes == most->bytes) continue;
     if (text_length(trace->text) > trace->most_bytes + (8u << 20)) break;       /* the file's limit comes before a name */
-    text_line(trace->text, "#of c[");
+    text_word(trace->text, "#of c[");
     text_number(trace->text, cell - trace->first_cell);
-    text_line(trace->text, "] ");
+    text_word(trace->text, "] ");
     put_class(trace->text, class);
   }
   if (!most) return;

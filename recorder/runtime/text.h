@@ -26,6 +26,10 @@ static inline void text_piece(struct text *text, const struct text_piece *piece)
 /* The words of a request have a fixed length, so that they are copied as one number. */
 #define text_word(text, word) (__builtin_memcpy((text)->buffer + (text)->used, word, sizeof word), (text)->used += sizeof word - 1)
 void text_line(struct text *text, const char *line);
+static inline void text_bytes(struct text *text, const char *bytes, size_t count) {
+  __builtin_memcpy(text->buffer + text->used, bytes, count);
+  text->used += count;
+}
 
 /* The four digits of each number below 10,000. */
 extern char text_digits[40004];
