@@ -338,8 +338,6 @@ class Rewriter:
         source, semicolon = self.source, self.source.semicolon(at)
         if not source.has(at, semicolon):
             return source.text(at, semicolon + 1), semicolon + 1
-        for keyword in reducers.declared(self, at, semicolon):
-            return reducers.statement(self, at, keyword, semicolon)
         spawn = self.top_level(at, semicolon, "_Cilk_spawn")
         if spawn is not None:
             return spawns.statement(self, at, spawn, context)
@@ -366,7 +364,7 @@ class Rewriter:
         while at < end:
             token, kind = source.tokens[at], source.kinds[at]
             if kind == "name" and token in KEYWORDS:
-                source.refuse(at, f"{KEYWORDS[token]} stands where it may not: {PLACES[token]}")
+                source.refuse(at, f"{KEYWORDS[token]}: {PLACES[token]}" if token == "_Cilk_reducer" else f"{KEYWORDS[token]} stands where it may not: {PLACES[token]}")
             if kind == "operator" and token == "[" and self.begins_lambda(at):
                 opening = self.lambda_body(at, end)
                 if opening is not None:
@@ -427,7 +425,7 @@ PLACES = {
     "_Cilk_sync": "it is a statement of its own",
     "_Cilk_for": "it begins a statement in a function",
     "_Cilk_scope": "it begins a statement in a function",
-    "_Cilk_reducer": "it stands in the declaration of a variable",
+    "_Cilk_reducer": "a variable that OpenCilk makes a reducer is not recorded; take one of <cilk/reducer.h>",
 }
 
 
@@ -437,10 +435,13 @@ def rewrite(text, cxx, openmp_on=False, tells_all_locals=False):
     has_keywords = re.search(r"\b_Cilk_(?:spawn|sync|for|scope|reducer)\b", text) is not None
     if cxx:
         text = STRINGS.sub(lambda found: "\n" * found.group().count("\n"), text)
-    if not has_keywords and not re.search(r"^[ \t]*#[ \t]*pragma[ \t]+(?:omp|cilk)\b", text, re.M):
+    has_views = not cxx and reducers.USE in text
+    if not has_keywords and not has_views and not re.search(r"^[ \t]*#[ \t]*pragma[ \t]+(?:omp|cilk)\b", text, re.M):
         return text
     source = Source(text)
     openmp.check(source, openmp_on)
+    if has_views:
+        reducers.classify(source)
     if not has_keywords:
         return source.text(0, len(source.tokens))
     rewriter = Rewriter(source, cxx, tells_all_locals)

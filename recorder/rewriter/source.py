@@ -210,3 +210,24 @@ class Source:
         if text.count("\n") == self.text(begin, end).count("\n") and not any(self.kinds[at] == "directive" for at in range(begin, end)):
             return text
         return text + self.mark(min(end, len(self.tokens) - 1))
+
+
+def assembly(text):
+    """Where the program's own text has inline assembly that may touch memory: [(file, line)]. An empty one, and a name for a function, does not."""
+    if not any(re.search(r"\b(?:asm|__asm__|__asm)\b", part) for is_system, part in parts(text) if not is_system):
+        return []
+    source, out = Source(text), []
+    for at, token in enumerate(source.tokens):
+        if token not in ("asm", "__asm__", "__asm") or source.kinds[at] != "name":
+            continue
+        opening = source.solid(at + 1)
+        while source.tokens[opening] in ("volatile", "__volatile__", "__volatile", "goto", "inline", "__inline__"):
+            opening = source.solid(opening + 1)
+        if source.tokens[opening] != "(" or opening not in source.pairs:
+            continue
+        words = source.words(opening + 1, source.closing(opening))
+        operands = ":" in words or "::" in words
+        template = "".join(word for word in (words[:words.index(":")] if ":" in words else words) if word.startswith('"'))
+        if template.replace('"', "").strip() and (operands or source.tokens[source.before(at)] in (";", "{", "}")):
+            out.append(source.places[at])
+    return out

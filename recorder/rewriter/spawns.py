@@ -121,7 +121,8 @@ def in_c(rewriter, call, target, declared, operator, keyword, context):
             names.append(source.inner(*part))
             continue
         name = source.fresh()
-        before.append(f"__extension__ __auto_type {name} = ({argument(rewriter, part, context)});")
+        member = len(solids) > 1 and source.tokens[solids[-2]] in (".", "->")     # it may be a bit-field, which has no type of its own
+        before.append(f"__extension__ __auto_type {name} = ({'(void)0, ' if member else ''}{argument(rewriter, part, context)});")
         names.append(name)
         given.append(name)
     called = f"{function}({', '.join(names)})"

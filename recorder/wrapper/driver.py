@@ -7,7 +7,7 @@ import sys
 import tempfile
 from pathlib import Path
 
-from rewriter import Refused, rewrite
+from rewriter import Refused, assembly, rewrite
 
 from . import clang_ir, command_line, gcc_structures, program
 from .command_line import COMPILED, Input
@@ -103,6 +103,7 @@ class Driver:
         language = self.language(language)
         is_cxx = COMPILED[language] == "c++"
         text = self.preprocess(source, language, target)
+        self.notes = [f"{file}:{line}: inline assembly" for file, line in assembly(text)]
         try:
             text = rewrite(text, is_cxx, self.commands.openmp, self.kind == "clang")
         except Refused as fault:
@@ -117,6 +118,14 @@ class Driver:
             self.compile_by_gcc(language, text, rewritten, stage, target)
         if self.commands.mode != "-S":
             self.redirect(target)
+            self.add_notes(target)
+
+    def add_notes(self, target):
+        """What is not seen of this object, for the program's trace."""
+        if self.notes and os.path.isfile(target):
+            file = self.folder / f"{self.count}.unseen"
+            file.write_text("".join(f"{it}\n" for it in self.notes), encoding="utf-8", errors="surrogateescape")
+            run(["objcopy", f"--add-section={program.UNSEEN}={file}", target])
 
     def compile_by_clang(self, language, text, source, stage, target):
         """In two steps, since the instrumented LLVM text is mended between them."""
@@ -154,9 +163,7 @@ class Driver:
                 say(f"refused: {it} (gcc tells no access of it; take a variable for it, or --cilkcheck-unseen=note)")
             os.unlink(target)
             raise Failed(REFUSED)
-        notes = self.folder / f"{self.count}.unseen"
-        notes.write_text("".join(f"{it}\n" for it in left + headers), encoding="utf-8", errors="surrogateescape")
-        run(["objcopy", f"--add-section={program.UNSEEN}={notes}", target])
+        self.notes += [str(it) for it in left + headers]
 
     def compile_and_look(self, language, text, source, stage, target, quiet=False):
         dump = self.folder / f"{self.count}.dump"

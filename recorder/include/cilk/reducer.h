@@ -41,7 +41,9 @@ extern void __cilkcheck_hide(int on);
 #define CILKCHECK_ON(reducer, operation) CILKCHECK_REDUCER(&(reducer), operation, &(reducer).CILKCHECK_VALUE, sizeof (reducer).CILKCHECK_VALUE)
 #define CILK_C_REGISTER_REDUCER(reducer) CILKCHECK_ON(reducer, CILKCHECK_MADE)
 #define CILK_C_UNREGISTER_REDUCER(reducer) CILKCHECK_ON(reducer, CILKCHECK_UNMADE)
-#define REDUCER_VIEW(reducer) (*(CILKCHECK_ON(reducer, CILKCHECK_UPDATE), &(reducer).CILKCHECK_VALUE))
+#define REDUCER_VIEW(reducer) (*(CILKCHECK_ON(reducer, __cilkcheck_use), &(reducer).CILKCHECK_VALUE))
+/* An update, where the rewriter does not see that the view is read or set (rewriter/reducers.py). */
+enum { __cilkcheck_use = CILKCHECK_UPDATE };
 /* Cilk Plus has no words in C for a read and for a set of the value: these two are cilkcheck's. */
 #define REDUCER_GET(reducer) (CILKCHECK_ON(reducer, CILKCHECK_GET), (reducer).CILKCHECK_VALUE)
 #define REDUCER_PUT(reducer, new_value) ((void)(CILKCHECK_ON(reducer, CILKCHECK_PUT), (reducer).CILKCHECK_VALUE = (new_value)))

@@ -10,13 +10,13 @@ from pathlib import Path
 sys.path.insert(0, str(Path(__file__).resolve().parent.parent.parent))
 from rewriter import Refused, rewrite  # noqa: E402
 
-PRELUDE_END = '# 0 "t.c" 2\n'
+PRELUDE_END, START = '# 0 "t.c" 2\n', '# 0 "t.c"\n'
 
 
 def out_of(text, cxx=False, **options):
     """The rewritten text without the prelude, its line marks and its spacing; made names are V1, V2, .. in order of appearance."""
     whole = rewrite('# 0 "t.c"\n# 1 "t.c"\n' + text, cxx, **options)
-    body = whole.split(PRELUDE_END, 1)[1]
+    body = whole.split(PRELUDE_END, 1)[-1].removeprefix(START)
     names = {}
     body = re.sub(r"cilkcheck_(\d+)_", lambda found: names.setdefault(found.group(1), f"V{len(names) + 1}"), body)
     body = re.sub(r'^# \d+ "t\.c".*\n', "", body, flags=re.M)
@@ -83,6 +83,9 @@ class SpawnsInC(unittest.TestCase):
         self.assertIn("const long x = (__cilkcheck_child_begin((void *)&x), f(1)); __cilkcheck_wrote((void *)&x, sizeof x); __cilkcheck_child_end();", text)
         self.assertIn("{ char V1 __attribute__((cleanup(__cilkcheck_sync_left), unused)); return x; }", text)
         self.assertTrue(text.endswith("return x; } }"), "no sync behind a return")
+
+    def test_a_member_as_an_argument_may_be_a_bit_field(self):
+        self.assertIn("__auto_type V1 = ((void)0, p->bits); ", out_of("void g(struct s *p) { _Cilk_spawn f(p->bits); }"))
 
     def test_added(self):
         self.assertIn("*V1 += V2;", out_of("void g(void) { a[i] += _Cilk_spawn f(1); }"))
@@ -159,6 +162,21 @@ class Loops(unittest.TestCase):
         self.assertEqual(out_of("void g() { _Cilk_scope { h(); } }", True), "void g() { { __cilkcheck_scope V1; { h(); __cilkcheck_sync(); } } }")
 
 
+class Views(unittest.TestCase):
+    def operations(self, text):
+        view = "(*(__cilkcheck_reducer((void *)&(%s), __cilkcheck_use, (void *)&(%s).v, 8), &(%s).v))"
+        text = re.sub(r"VIEW\((\w)\)", lambda found: view % ((found.group(1),) * 3), text)
+        return re.findall(r"&\(\w\), (\w+),", out_of(text))
+
+    def test_each(self):
+        for text, expected in [("VIEW(r) += 1;", "1"), ("VIEW(r)++;", "1"), ("++VIEW(r);", "1"), ("f(&VIEW(r));", "1"), ("VIEW(r).n = 2;", "1"),
+                               ("VIEW(r) = 5;", "2"), ("x = VIEW(r);", "3"), ("f(1, VIEW(r));", "3"), ("return VIEW(r);", "3"),
+                               ("VIEW(r) = VIEW(r) * 2;", "11"), ("if (VIEW(r) < x) VIEW(r) = x;", "11"), ("if (VIEW(r) < x) { VIEW(r) = x; }", "11"),
+                               ("VIEW(r) = VIEW(s);", "23"), ("VIEW(r) = 1; x = VIEW(r);", "23"), ("if (VIEW(r)) { VIEW(r) = 1; f(); }", "32")]:
+            with self.subTest(text=text):
+                self.assertEqual("".join(self.operations("void g(void) { " + text + " }")), expected)
+
+
 class Refusals(unittest.TestCase):
     CASES = [                                               # (text, C++, line, a part of why)
         ("void g(void) {\n  h(_Cilk_spawn f(1)); }", False, 2, "stands where it may not"),
@@ -183,6 +201,8 @@ class Refusals(unittest.TestCase):
         ("void g() { _Cilk_spawn (*p)(h(1)); }", True, 1, "arguments contain a call"),
         ("void g(void) { _Cilk_sync + 1; }", False, 1, "cilk_sync stands alone"),
         ("int x = _Cilk_spawn f(1);", False, 1, "stands where it may not"),
+        ("long _Cilk_reducer(zero, add) sum = 0;", False, 1, "a variable that OpenCilk makes a reducer is not recorded"),
+        ("void g(void) {\n  long _Cilk_reducer(zero, add) sum = 0; }", False, 2, "a variable that OpenCilk makes a reducer is not recorded"),
         ("void g(void) { _Cilk_scope f(); }", False, 1, "without a block"),
     ]
 
