@@ -1,0 +1,25 @@
+/* The keywords of Cilk Plus and OpenCilk. Compiled by cilkcheck-cc they are recorded; compiled otherwise they are the serial elision. */
+#ifndef CILKCHECK_CILK_CILK_H
+#define CILKCHECK_CILK_CILK_H
+#ifdef __CILKCHECK__
+#define cilk_spawn _Cilk_spawn
+#define cilk_sync _Cilk_sync
+#define cilk_for _Cilk_for
+#define cilk_scope _Cilk_scope
+#define cilk_reducer _Cilk_reducer
+#ifdef __cplusplus
+enum { __cilkcheck_cplusplus = __cplusplus };
+#endif
+#else
+#define cilk_spawn
+#define cilk_sync ((void)0)
+#define cilk_for for
+#define cilk_scope
+#define cilk_reducer(...)
+#ifndef __cilk
+#define _Cilk_spawn
+#define _Cilk_sync ((void)0)
+#define _Cilk_for for
+#endif
+#endif
+#endif

@@ -1,0 +1,7 @@
+/* The serial elision, as in Cilk Plus: the keywords mean nothing. */
+#ifndef CILKCHECK_CILK_CILK_STUB_H
+#define CILKCHECK_CILK_CILK_STUB_H
+#define _Cilk_spawn
+#define _Cilk_sync ((void)0)
+#define _Cilk_for for
+#endif

@@ -1,0 +1,32 @@
+"""Which directives of OpenMP the recorder can tell apart."""
+import re
+
+# worksharing and the like: a thread runs several parts one after another, which would count as one strand
+UNTOLD = {"for", "sections", "section", "ordered", "target", "teams", "distribute", "threadprivate", "cancel", "cancellation", "scan", "loop",
+          "workshare", "critical", "depobj", "interop", "metadirective", "requires", "assume", "scope"}
+CLAUSES = re.compile(r"\b(depend|detach|in_reduction|task_reduction|reduction|copyin|copyprivate|affinity)\s*\(")
+
+
+def check(source, used):
+    """Refuses what would be judged wrongly. Where the user gave no -fopenmp, the directives are taken out, as the compiler would."""
+    for at, token in enumerate(source.tokens):
+        if source.kinds[at] != "directive" or "pragma" not in token:
+            continue
+        if re.match(r"\s*#\s*pragma\s+cilk\b", token):      # a grain size
+            source.tokens[at] = ""
+            continue
+        found = re.match(r"\s*#\s*pragma\s+omp\s+(.*)", token)
+        if not found:
+            continue
+        if not used:
+            source.tokens[at] = ""
+            continue
+        words = re.match(r"[a-z \t]*", found.group(1)).group().split()
+        if words[:2] == ["declare", "simd"] or words[:1] == ["simd"] or words[:1] == ["end"]:
+            continue
+        untold = [word for word in words if word in UNTOLD]
+        if untold:
+            source.refuse(at, f"#pragma omp {' '.join(words)}: {untold[0]} is not recorded (task, taskloop, taskwait, taskgroup, parallel, single, master, atomic, barrier are)")
+        clause = CLAUSES.search(found.group(1))
+        if clause:
+            source.refuse(at, f"#pragma omp {' '.join(words)} with {clause.group(1)} is not recorded")

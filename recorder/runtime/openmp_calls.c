@@ -1,0 +1,218 @@
+/* OpenMP's functions for programs (omp_*), and the calls of both compilers that are no spawn and sync: each of these is refused where
+   it is called. See openmp.h. */
+#define _GNU_SOURCE
+#include "openmp.h"
+#include <time.h>
+
+#define ANSWERS(result, name, parameters, answer) \
+  result name parameters;                         \
+  result name parameters { return answer; }
+#define TAKES(name, parameters, does) \
+  void name parameters;               \
+  void name parameters { does; }
+
+/* ---- threads ---- */
+
+int omp_get_thread_num(void);
+int omp_get_thread_num(void) {
+  if (!team_exists()) return 0;
+  if (scope_top()->marks & MARK_EXPLICIT) refuse(PLACE, "omp_get_thread_num inside of a task: which thread runs it is not determined");
+  team_asked_thread();
+  return team_thread(team_level());
+}
+ANSWERS(int, omp_get_num_threads, (void), team_threads(team_level()))
+ANSWERS(int, omp_get_max_threads, (void), team_next_threads())
+ANSWERS(int, omp_get_num_procs, (void), team_next_threads())
+ANSWERS(int, omp_get_thread_limit, (void), 64)
+ANSWERS(int, omp_in_parallel, (void), team_active_level() > 0)
+ANSWERS(int, omp_in_final, (void), (scope_top()->marks & MARK_FINAL) != 0)
+ANSWERS(int, omp_get_level, (void), team_level())
+ANSWERS(int, omp_get_active_level, (void), team_active_level())
+ANSWERS(int, omp_get_ancestor_thread_num, (int level), team_thread(level))
+ANSWERS(int, omp_get_team_size, (int level), team_threads(level))
+ANSWERS(int, omp_get_dynamic, (void), 0)
+ANSWERS(int, omp_get_nested, (void), team_most_levels() > 1)
+ANSWERS(int, omp_get_max_active_levels, (void), team_most_levels())
+ANSWERS(int, omp_get_supported_active_levels, (void), 1000)
+TAKES(omp_set_num_threads, (int threads), team_set_threads(threads))
+TAKES(omp_set_dynamic, (int on), (void)on)
+TAKES(omp_set_nested, (int on), team_set_most_levels(on ? 1000 : 1))
+TAKES(omp_set_max_active_levels, (int levels), team_set_most_levels(levels))
+
+/* ---- what does not depend on threads ---- */
+
+static double seconds(clockid_t clock) {
+  struct timespec now;
+  clock_gettime(clock, &now);
+  return (double)now.tv_sec + (double)now.tv_nsec * 1e-9;
+}
+ANSWERS(double, omp_get_wtime, (void), seconds(CLOCK_MONOTONIC))
+ANSWERS(double, omp_get_wtick, (void), 1e-9)
+ANSWERS(int, omp_get_cancellation, (void), 0)
+ANSWERS(int, omp_get_proc_bind, (void), 0)
+ANSWERS(int, omp_get_max_task_priority, (void), 0)
+ANSWERS(int, omp_get_num_teams, (void), 1)
+ANSWERS(int, omp_get_team_num, (void), 0)
+ANSWERS(int, omp_get_num_devices, (void), 0)
+ANSWERS(int, omp_get_default_device, (void), 0)
+ANSWERS(int, omp_get_initial_device, (void), 0)
+ANSWERS(int, omp_is_initial_device, (void), 1)
+ANSWERS(int, omp_get_num_places, (void), 0)
+TAKES(omp_init_lock, (void *lock), (void)lock)
+TAKES(omp_destroy_lock, (void *lock), (void)lock)
+TAKES(omp_init_nest_lock, (void *lock), (void)lock)
+TAKES(omp_destroy_nest_lock, (void *lock), (void)lock)
+
+/* ---- what is refused ---- */
+
+#define REFUSED(name, why)                                         \
+  _Noreturn void name(void);                                       \
+  _Noreturn void name(void) { refuse(PLACE, "OpenMP's " why " (" #name ") is not spawn and sync"); }
+#define SECTION "critical section"
+#define LOCK "lock"
+#define LOOP "worksharing loop"
+#define SECTIONS "sections"
+#define REDUCTION "reduction"
+#define CANCEL "cancellation"
+#define DEPEND "depend"
+#define COPY "copyprivate"
+#define ORDERED "ordered"
+#define PRIVATE "threadprivate"
+#define ATOMIC "atomic on a type without atomic instructions"
+#define TARGET "target or teams"
+
+REFUSED(omp_set_lock, LOCK)
+REFUSED(omp_test_lock, LOCK)
+REFUSED(omp_unset_lock, LOCK)
+REFUSED(omp_set_nest_lock, LOCK)
+REFUSED(omp_test_nest_lock, LOCK)
+REFUSED(omp_unset_nest_lock, LOCK)
+REFUSED(omp_init_lock_with_hint, LOCK)
+REFUSED(omp_init_nest_lock_with_hint, LOCK)
+REFUSED(omp_fulfill_event, "detach")
+REFUSED(omp_set_schedule, LOOP)
+REFUSED(omp_get_schedule, LOOP)
+
+REFUSED(GOMP_critical_start, SECTION)
+REFUSED(GOMP_critical_end, SECTION)
+REFUSED(GOMP_critical_name_start, SECTION)
+REFUSED(GOMP_critical_name_end, SECTION)
+REFUSED(GOMP_atomic_start, ATOMIC)
+REFUSED(GOMP_atomic_end, ATOMIC)
+REFUSED(GOMP_single_copy_start, COPY)
+REFUSED(GOMP_single_copy_end, COPY)
+REFUSED(GOMP_taskwait_depend, DEPEND)
+REFUSED(GOMP_barrier_cancel, CANCEL)
+REFUSED(GOMP_cancel, CANCEL)
+REFUSED(GOMP_cancellation_point, CANCEL)
+REFUSED(GOMP_ordered_start, ORDERED)
+REFUSED(GOMP_ordered_end, ORDERED)
+REFUSED(GOMP_parallel_reductions, REDUCTION)
+REFUSED(GOMP_taskgroup_reduction_register, REDUCTION)
+REFUSED(GOMP_taskgroup_reduction_unregister, REDUCTION)
+REFUSED(GOMP_task_reduction_remap, REDUCTION)
+REFUSED(GOMP_workshare_task_reduction_unregister, REDUCTION)
+REFUSED(GOMP_scope_start, REDUCTION)
+REFUSED(GOMP_parallel_sections, SECTIONS)
+REFUSED(GOMP_sections_start, SECTIONS)
+REFUSED(GOMP_sections2_start, SECTIONS)
+REFUSED(GOMP_sections_next, SECTIONS)
+REFUSED(GOMP_sections_end, SECTIONS)
+REFUSED(GOMP_sections_end_nowait, SECTIONS)
+REFUSED(GOMP_parallel_loop_static, LOOP)
+REFUSED(GOMP_parallel_loop_dynamic, LOOP)
+REFUSED(GOMP_parallel_loop_guided, LOOP)
+REFUSED(GOMP_parallel_loop_runtime, LOOP)
+REFUSED(GOMP_parallel_loop_nonmonotonic_dynamic, LOOP)
+REFUSED(GOMP_parallel_loop_nonmonotonic_guided, LOOP)
+REFUSED(GOMP_parallel_loop_nonmonotonic_runtime, LOOP)
+REFUSED(GOMP_parallel_loop_maybe_nonmonotonic_runtime, LOOP)
+REFUSED(GOMP_loop_start, LOOP)
+REFUSED(GOMP_loop_static_start, LOOP)
+REFUSED(GOMP_loop_dynamic_start, LOOP)
+REFUSED(GOMP_loop_guided_start, LOOP)
+REFUSED(GOMP_loop_runtime_start, LOOP)
+REFUSED(GOMP_loop_nonmonotonic_dynamic_start, LOOP)
+REFUSED(GOMP_loop_nonmonotonic_guided_start, LOOP)
+REFUSED(GOMP_loop_nonmonotonic_runtime_start, LOOP)
+REFUSED(GOMP_loop_maybe_nonmonotonic_runtime_start, LOOP)
+REFUSED(GOMP_loop_ordered_static_start, LOOP)
+REFUSED(GOMP_loop_ordered_dynamic_start, LOOP)
+REFUSED(GOMP_loop_ordered_guided_start, LOOP)
+REFUSED(GOMP_loop_ordered_runtime_start, LOOP)
+REFUSED(GOMP_loop_doacross_static_start, LOOP)
+REFUSED(GOMP_loop_ull_start, LOOP)
+REFUSED(GOMP_loop_ull_static_start, LOOP)
+REFUSED(GOMP_loop_ull_dynamic_start, LOOP)
+REFUSED(GOMP_loop_ull_guided_start, LOOP)
+REFUSED(GOMP_loop_ull_runtime_start, LOOP)
+REFUSED(GOMP_loop_ull_nonmonotonic_dynamic_start, LOOP)
+REFUSED(GOMP_loop_ull_nonmonotonic_guided_start, LOOP)
+REFUSED(GOMP_loop_ull_nonmonotonic_runtime_start, LOOP)
+REFUSED(GOMP_loop_ull_maybe_nonmonotonic_runtime_start, LOOP)
+REFUSED(GOMP_loop_static_next, LOOP)
+REFUSED(GOMP_loop_dynamic_next, LOOP)
+REFUSED(GOMP_loop_guided_next, LOOP)
+REFUSED(GOMP_loop_runtime_next, LOOP)
+REFUSED(GOMP_loop_nonmonotonic_dynamic_next, LOOP)
+REFUSED(GOMP_loop_nonmonotonic_guided_next, LOOP)
+REFUSED(GOMP_loop_maybe_nonmonotonic_runtime_next, LOOP)
+REFUSED(GOMP_loop_end, LOOP)
+REFUSED(GOMP_loop_end_nowait, LOOP)
+REFUSED(GOMP_target_ext, TARGET)
+REFUSED(GOMP_target_data_ext, TARGET)
+REFUSED(GOMP_target_update_ext, TARGET)
+REFUSED(GOMP_target_enter_exit_data, TARGET)
+REFUSED(GOMP_target_end_data, TARGET)
+REFUSED(GOMP_teams4, TARGET)
+REFUSED(GOMP_teams_reg, TARGET)
+
+REFUSED(__kmpc_critical, SECTION)
+REFUSED(__kmpc_critical_with_hint, SECTION)
+REFUSED(__kmpc_end_critical, SECTION)
+REFUSED(__kmpc_atomic_start, ATOMIC)
+REFUSED(__kmpc_atomic_end, ATOMIC)
+REFUSED(__kmpc_copyprivate, COPY)
+REFUSED(__kmpc_omp_task_with_deps, DEPEND)
+REFUSED(__kmpc_omp_wait_deps, DEPEND)
+REFUSED(__kmpc_task_allow_completion_event, "detach")
+REFUSED(__kmpc_omp_reg_task_with_affinity, "affinity")
+REFUSED(__kmpc_cancel, CANCEL)
+REFUSED(__kmpc_cancellationpoint, CANCEL)
+REFUSED(__kmpc_cancel_barrier, CANCEL)
+REFUSED(__kmpc_ordered, ORDERED)
+REFUSED(__kmpc_end_ordered, ORDERED)
+REFUSED(__kmpc_reduce, REDUCTION)
+REFUSED(__kmpc_reduce_nowait, REDUCTION)
+REFUSED(__kmpc_end_reduce, REDUCTION)
+REFUSED(__kmpc_end_reduce_nowait, REDUCTION)
+REFUSED(__kmpc_taskred_init, REDUCTION)
+REFUSED(__kmpc_taskred_modifier_init, REDUCTION)
+REFUSED(__kmpc_task_reduction_init, REDUCTION)
+REFUSED(__kmpc_task_reduction_modifier_init, REDUCTION)
+REFUSED(__kmpc_task_reduction_modifier_fini, REDUCTION)
+REFUSED(__kmpc_task_reduction_get_th_data, REDUCTION)
+REFUSED(__kmpc_for_static_init_4, LOOP)
+REFUSED(__kmpc_for_static_init_4u, LOOP)
+REFUSED(__kmpc_for_static_init_8, LOOP)
+REFUSED(__kmpc_for_static_init_8u, LOOP)
+REFUSED(__kmpc_for_static_fini, LOOP)
+REFUSED(__kmpc_dispatch_init_4, LOOP)
+REFUSED(__kmpc_dispatch_init_4u, LOOP)
+REFUSED(__kmpc_dispatch_init_8, LOOP)
+REFUSED(__kmpc_dispatch_init_8u, LOOP)
+REFUSED(__kmpc_dispatch_next_4, LOOP)
+REFUSED(__kmpc_dispatch_next_4u, LOOP)
+REFUSED(__kmpc_dispatch_next_8, LOOP)
+REFUSED(__kmpc_dispatch_next_8u, LOOP)
+REFUSED(__kmpc_dispatch_fini_4, LOOP)
+REFUSED(__kmpc_dispatch_fini_8, LOOP)
+REFUSED(__kmpc_doacross_init, LOOP)
+REFUSED(__kmpc_doacross_wait, LOOP)
+REFUSED(__kmpc_doacross_post, LOOP)
+REFUSED(__kmpc_doacross_fini, LOOP)
+REFUSED(__kmpc_threadprivate, PRIVATE)
+REFUSED(__kmpc_threadprivate_cached, PRIVATE)
+REFUSED(__kmpc_threadprivate_register, PRIVATE)
+REFUSED(__kmpc_fork_teams, TARGET)
+REFUSED(__kmpc_push_num_teams, TARGET)

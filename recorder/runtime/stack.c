@@ -1,0 +1,86 @@
+/* The frames of the running stack. stack.h states the invariants. */
+#define _GNU_SOURCE
+#include "stack.h"
+#include "scopes.h"
+#include <sys/resource.h>
+
+#define MOST_FRAMES (1u << 24)
+#define THREAD_FRAMES (1u << 20)
+#define LARGEST_STACK ((uintptr_t)1 << 32)
+
+struct stack stack_now;
+static size_t next_arguments;
+
+void stack_begin(void) {
+  struct rlimit limit;
+  uintptr_t span = LARGEST_STACK;
+  if (!getrlimit(RLIMIT_STACK, &limit) && limit.rlim_cur < span) span = limit.rlim_cur;
+  uintptr_t here = (uintptr_t)__builtin_frame_address(0) & ~(uintptr_t)4095, above = (uintptr_t)8 << 20;
+  struct frame *frames = reserve(sizeof *frames * MOST_FRAMES);
+  stack_now = (struct stack){frames, 0, here - span, span + above, UINTPTR_MAX};
+}
+
+struct stack stack_current(void) { return stack_now; }
+void stack_use(struct stack stack) { stack_now = stack; }
+struct stack stack_new(uintptr_t low, size_t span) {
+  struct frame *frames = reserve(sizeof *frames * THREAD_FRAMES);
+  return (struct stack){frames, stack_now.depth, low, span, UINTPTR_MAX};
+}
+void stack_free(struct stack stack) { unreserve(stack.frames, sizeof *stack.frames * THREAD_FRAMES); }
+uint32_t stack_depth(void) { return stack_now.depth; }
+uintptr_t stack_caller(uint32_t above) { return stack_now.depth > above ? stack_now.frames[stack_now.depth - 1 - above].caller : 0; }
+
+void stack_next_arguments(size_t bytes) { next_arguments = bytes; }
+static void arguments_begin(uintptr_t top) {
+  struct scope *child = scope_top();
+  if (child->kind != SCOPE_CHILD || child->arguments || child->depth != stack_now.depth) return;
+  end_lives(top, top + next_arguments, (struct origin){ORIGIN_ARGUMENTS, 0, top, 0});
+  child->arguments = top;
+  child->argument_bytes = (uint32_t)next_arguments;
+  next_arguments = 0;
+}
+
+static inline void end_below(const struct frame *frame, uintptr_t top) {
+  if (stack_now.touched >= top) return;
+  uintptr_t from = stack_now.touched;
+  stack_now.touched = top;
+  end_lives(from, top, (struct origin){ORIGIN_STACK, frame->function, frame->top, 0});
+}
+
+void __tsan_func_entry(void *caller);
+void __tsan_func_exit(void);
+void __tsan_func_entry(void *caller) {
+  start_recording();
+  if (__builtin_expect(stack_now.depth == MOST_FRAMES, 0)) refuse(0, "more than %u calls at once", MOST_FRAMES);
+  /* Recorded code keeps frame pointers: the caller's saved one and the return address lie below what its own callers have. */
+  uintptr_t top = ((uintptr_t *)__builtin_frame_address(0))[0] + 2 * sizeof(void *);
+  struct frame *frame = &stack_now.frames[stack_now.depth];
+  end_below(frame, top);
+  if (__builtin_expect(spawn_awaited, 0)) spawn_entered(PLACE);
+  if (__builtin_expect(next_arguments != 0, 0)) arguments_begin(top);
+  *frame = (struct frame){top, PLACE, (uintptr_t)caller};
+  stack_now.depth++;
+}
+void __tsan_func_exit(void) {
+  if (scope_innermost->depth == stack_now.depth) scope_function_end(stack_now.depth, PLACE);
+  if (!stack_now.depth) return;
+  struct frame *frame = &stack_now.frames[--stack_now.depth];
+  if (__builtin_expect(scope_innermost->open && scope_innermost->marks & SCOPE_OF_TASKS, 0)) openmp_function_end(stack_now.touched, frame->top, PLACE);
+  end_below(frame, frame->top);
+}
+
+bool stack_frame_of(uintptr_t address, struct frame *frame) {
+  if (address - stack_now.low >= stack_now.span) return false;
+  uint32_t low = 0, high = stack_now.depth;                        /* the innermost frame whose top is above */
+  while (low < high) { uint32_t middle = (low + high) / 2; if (stack_now.frames[middle].top > address) low = middle + 1; else high = middle; }
+  if (!low) return false;
+  *frame = stack_now.frames[low - 1];
+  return true;
+}
+void stack_end_all(void) {
+  for (uint32_t i = stack_now.depth; i-- > 0;) {
+    const struct frame *frame = &stack_now.frames[i];
+    end_lives(stack_now.touched, frame->top, (struct origin){ORIGIN_STACK, frame->function, frame->top, 0});
+    if (stack_now.touched < frame->top) stack_now.touched = frame->top;
+  }
+}

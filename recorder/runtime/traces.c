@@ -1,0 +1,233 @@
+/* The files of a recording: which cells stand in which, and their names. traces.h states the invariant. */
+#define _GNU_SOURCE
+#include "traces.h"
+#include "classes.h"
+#include "histories.h"
+#include "log.h"
+#include "members.h"
+#include "notes.h"
+#include "places.h"
+#include "raw.h"
+#include "scopes.h"
+#include "start.h"
+#include <errno.h>
+#include <fcntl.h>
+#include <stdio.h>
+#include <stdlib.h>
+#include <string.h>
+#include <sys/syscall.h>
+#include <unistd.h>
+
+#define MOST_CELLS 1000000u
+#define MOST_BYTES ((uint64_t)52 << 20)        /* of requests, so that notes fit into a trace's 64 MiB */
+#define MOST_ACCESSES 64000000u
+#define MOST_REDUCERS 256u
+
+static char folder[4096], name[256];           /* of the traces, without ending */
+static struct text text;
+static struct trace trace;
+static uint32_t written;
+static uint64_t requests;
+
+/* ---- names ---- */
+
+static void file_name(char *path, size_t room, uint32_t number, const char *ending) {
+  char middle[16] = "";
+  if (number) snprintf(middle, sizeof middle, ".%u", number);
+  if ((size_t)snprintf(path, room, "%s/%s%s.trace%s", folder, name, middle, ending) >= room) refuse(0, "the name of the trace is too long");
+}
+
+/* Whether a file's name is NAME.trace or NAME.NUMBER.trace, perhaps with `.part` behind. */
+static bool is_ours(const char *file) {
+  size_t length = strlen(name);
+  if (strncmp(file, name, length)) return false;
+  file += length;
+  if (file[0] == '.' && file[1] >= '1' && file[1] <= '9') for (file++; *file >= '0' && *file <= '9';) file++;
+  return !strcmp(file, ".trace") || !strcmp(file, ".trace.part");
+}
+
+struct entry { uint64_t inode; int64_t offset; unsigned short bytes; unsigned char kind; char file[]; };
+static void remove_old(bool parts_alone) {
+  int at = open(folder, O_RDONLY | O_DIRECTORY | O_CLOEXEC);
+  if (at < 0) return;
+  bool again;
+  do {                                                             /* an unlink may move what is read next */
+    again = false;
+    if (lseek(at, 0, SEEK_SET) < 0) break;
+    char entries[8192] __attribute__((aligned(8)));
+    long got;
+    while ((got = syscall(SYS_getdents64, at, entries, sizeof entries)) > 0) {
+      for (long i = 0; i < got;) {
+        const struct entry *entry = (const struct entry *)(entries + i);
+        size_t length = strlen(entry->file);
+        bool part = length > 5 && !strcmp(entry->file + length - 5, ".part");
+        if (is_ours(entry->file) && (part || !parts_alone) && !unlinkat(at, entry->file, 0)) again = true;
+        i += entry->bytes;
+      }
+    }
+  } while (again);
+  close(at);
+}
+
+void traces_begin(void) {
+  char path[4096], here[4096];
+  if (options.trace && options.trace[0]) snprintf(path, sizeof path, "%s", options.trace);
+  else snprintf(path, sizeof path, "%s", program_invocation_short_name);
+  size_t length = strlen(path);
+  if (length > 6 && !strcmp(path + length - 6, ".trace")) path[length - 6] = 0;
+  char *slash = strrchr(path, '/');
+  const char *last = slash ? slash + 1 : path;
+  if (!*last || strlen(last) >= sizeof name) refuse(0, "CILKCHECK_TRACE=%s names no file", options.trace);
+  snprintf(name, sizeof name, "%s", last);
+  if (slash) *slash = 0; else path[0] = 0;
+  if (path[0] == '/' || (slash == path)) snprintf(folder, sizeof folder, "%s", path[0] ? path : "/");
+  else if (!getcwd(here, sizeof here)) refuse(0, "the working folder cannot be told: %s", strerror(errno));
+  else if ((size_t)snprintf(folder, sizeof folder, "%s%s%s", here, path[0] ? "/" : "", path) >= sizeof folder) refuse(0, "the name of the trace is too long");
+  remove_old(false);
+}
+
+void traces_discard(void) { if (name[0]) remove_old(true); }
+
+static void rename_all(void) {
+  char from[4700], to[4700];
+  for (uint32_t i = 1; i <= written; i++) {
+    file_name(from, sizeof from, i, ".part");
+    file_name(to, sizeof to, written > 1 ? i : 0, "");
+    if (!rename(from, to)) continue;
+    int why = errno;
+    remove_old(false);
+    refuse(0, "cannot write %s: %s", to, strerror(why));
+  }
+}
+
+/* ---- one trace ---- */
+
+static char part[4700];
+static void open_trace(uint32_t declared_cells, uint32_t declared_reducers) {
+  file_name(part, sizeof part, written + 1, ".part");
+  text_open(&text, part);
+  text_line(&text, "cilk 2");
+  text_end_line(&text);
+  if (declared_cells) {
+    text_line(&text, "mem c ");
+    text_number(&text, declared_cells);
+    text_end_line(&text);
+  }
+  for (uint32_t i = 0; i < declared_reducers; i++) {
+    text_line(&text, "reducer r");
+    text_number(&text, i);
+    text_line(&text, " sum");
+    text_end_line(&text);
+  }
+  if (!trace.sites) trace.sites = reserve(MOST_SITES / 8);
+  memset(trace.sites, 0, place_sites() / 8 + 9);
+  trace.text = &text;
+  trace.most_requests = options.limit;
+  trace.most_bytes = MOST_BYTES;
+}
+static void close_trace(void) {
+  char title[700];
+  snprintf(title, sizeof title, "%s: %lu accesses, %lu requests", command_words(), histories.accesses, trace.requests);
+  notes_write(&trace, title);
+  text_close(&text);
+  written++;
+  requests += trace.requests;
+}
+static void drop_trace(void) {
+  text_close(&text);
+  unlink(part);
+}
+
+static void write_raw(void) {
+  uint32_t declared = raw_has_loads() ? 2 * raw_locations() : raw_locations();
+  if (declared > MOST_CELLS || scope_reducers() > MOST_REDUCERS) refuse(0, "CILKCHECK_RAW is for small runs: %u bytes, and a trace holds %u cells", declared, MOST_CELLS);
+  open_trace(declared, scope_reducers());
+  if (!control_raw(&trace)) refuse(0, "CILKCHECK_RAW is for small runs: more than %lu requests", trace.most_requests);
+  close_trace();
+  for (uint32_t i = 0; i < declared; i++) members_byte(written, i, raw_has_loads() && i % 2, raw_address(raw_has_loads() ? i / 2 + 1 : i + 1));
+}
+
+static void write_reducers(void) {
+  uint32_t count = scope_reducers(), step = MOST_REDUCERS;
+  for (uint32_t from = 0; from < count;) {
+    uint32_t to = count - from < step ? count : from + step;
+    trace.first_cell = trace.end_cell = 0;
+    trace.first_reducer = from;
+    trace.end_reducer = to;
+    open_trace(0, to - from);
+    if (control_reducers(&trace)) { close_trace(); from = to; continue; }
+    drop_trace();
+    if (to - from == 1) refuse(0, "more than %lu requests for one reducer: take a smaller input", options.limit);
+    step = (to - from) / 2;
+  }
+}
+
+static bool write_cells(uint32_t from, uint32_t to) {
+  trace.first_cell = from;
+  trace.end_cell = to;
+  open_trace(to - from, 0);
+  if (!control_memory(&trace)) { drop_trace(); return false; }
+  close_trace();
+  for (uint32_t cell = from; cell < to; cell++) members_cell(written, cell - from, cell_is_second(cell), cells.class[cell]);
+  return true;
+}
+
+/* The accesses of one location in groups: a trace for each pair of groups, so that each pair of accesses is in one. */
+static void write_by_groups(uint32_t from, uint32_t to) {
+  uint32_t steps = cells.length[from], before = written;
+  uint64_t requests_before = requests;
+  for (trace.group = steps / 2 + 1; trace.group; trace.group = trace.group * 2 / 3) {
+    uint32_t groups = (steps + trace.group - 1) / trace.group;
+    bool fits = true;
+    for (uint32_t i = 0; fits && i < groups; i++)
+      for (uint32_t k = i + 1; fits && k < groups; k++) {
+        trace.first_group = i;
+        trace.second_group = k;
+        fits = write_cells(from, to);
+      }
+    if (fits) { trace.group = 0; return; }
+    for (; written > before; written--) { file_name(part, sizeof part, written, ".part"); unlink(part); }
+    requests = requests_before;
+  }
+  refuse(0, "more than %lu requests for two accesses of one location: take a smaller input", options.limit);
+}
+
+static void write_memory(void) {
+  /* Requests for each access: at first as if all spawns were told, then as the trace before had. */
+  double per_access = 1 + 5 * (double)log_spawns() / ((double)cells.accesses + 1);
+  for (uint32_t from = 0; from < cells.count;) {
+    uint64_t room = (uint64_t)(0.95 * (double)options.limit / per_access), sum = 0;
+    uint32_t to = from;
+    while (to < cells.count && to - from < MOST_CELLS - 1 && (to == from || sum + cells.length[to] <= room)) sum += cells.length[to++];
+    if (to < cells.count && cell_is_second(to)) to++;
+    if (write_cells(from, to)) {
+      if (trace.accesses) per_access = (double)trace.requests / (double)trace.accesses;
+      from = to;
+    } else if (to - from == 1 || (to - from == 2 && cell_is_second(from + 1))) {
+      write_by_groups(from, to);
+      from = to;
+    } else {
+      per_access *= 1.25;
+    }
+  }
+}
+
+void traces_write(void) {
+  char first[300], last[300] = "";
+  places_read();
+  text_begin();
+  if (options.raw) {
+    write_raw();
+  } else {
+    classes_number();
+    if (cells.accesses > MOST_ACCESSES) refuse(0, "%lu accesses of shared locations, and %u can be told: take a smaller input", cells.accesses, MOST_ACCESSES);
+    write_reducers();
+    write_memory();
+    if (!written) write_cells(0, 0);
+  }
+  members_write();
+  rename_all();
+  snprintf(first, sizeof first, written > 1 ? "%s.1.trace" : "%s.trace", name);
+  if (written > 1) snprintf(last, sizeof last, " to %s.%u.trace", name, written);
+  say("recorded %lu accesses as %lu requests in %s%s", histories.accesses, requests, first, last);
+}

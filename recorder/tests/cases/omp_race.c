@@ -1,0 +1,16 @@
+/* expect: race; flags: -fopenmp; plain: no; a forgotten taskwait */
+static int fib(int n) {
+  int x, y;
+  if (n < 2) return n;
+#pragma omp task shared(x)
+  x = fib(n - 1); /* race: a, may: b */
+  y = fib(n - 2);
+  return x + y; /* race: a */
+} /* may: b; the function gives up x while its task may write it */
+int main(void) {
+  int r;
+#pragma omp parallel
+#pragma omp single
+  r = fib(3) * 0;
+  return r;
+}

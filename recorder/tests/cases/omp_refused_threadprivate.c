@@ -1,0 +1,8 @@
+/* expect: refused; flags: -fopenmp; plain: no; a variable of each thread */
+int x;
+#pragma omp threadprivate(x) /* refused */
+int main(void) {
+#pragma omp parallel
+  x++;
+  return 0;
+}

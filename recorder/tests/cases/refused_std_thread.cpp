@@ -1,0 +1,9 @@
+// expect: refused; flags: -pthread; plain: no; nor are those of C++
+#include <cilk/cilk.h>
+#include <thread>
+static int x;
+int main() {
+  std::thread thread([] { x++; });
+  thread.join();
+  return 0;
+}

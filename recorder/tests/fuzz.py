@@ -1,0 +1,202 @@
+#!/usr/bin/env python3
+"""Random fork-join programs in C and C++, held against an oracle that knows nothing of the recorder.
+
+    fuzz.py [--count N] [--seed S] [--spread] [--keep FOLDER] [--expect N] [--expect-racy N]
+
+A program has globals of 1, 2, 4, 8 and 16 bytes, functions that call, spawn and call themselves, locals and elements and fields whose addresses
+are handed on, blocks of the heap, results of spawns, spawned blocks, loops of spawns, cilk_for, cilk_scope, atomics, copies, reducers, early
+returns; in C++ references, lambdas, methods and exceptions besides. The oracle (oracle.py) interprets the same tree. Each program is recorded
+four times: compressed, compressed with the judge deciding epochs, compressed in traces of 60 requests (which the recorder may refuse), and with
+every access of every byte. Each recording has to show a race
+at exactly the bytes of globals at which the oracle finds one, and at as many bytes of locals and of the heap; at -O0 the lines of each report and
+the spawn at which they part have to be a pair and a spawn that the oracle knows for that byte (above it the compilers move code between lines);
+and the output has to be the serial elision's.
+
+Programs are spread over both compilers, three levels and both languages, 25 of them to a source.
+"""
+import concurrent.futures
+import itertools
+import shutil
+import sys
+import tempfile
+from collections import Counter
+from pathlib import Path
+
+import harness
+import verdicts
+from generator import HEADER, Program, main_of
+from oracle import Oracle, TooLong
+
+EACH = 25
+MODES = {"compressed": {}, "epochs by the judge": {"CILKCHECK_EPOCHS": "no"}, "in parts": {"CILKCHECK_LIMIT": "60"}, "raw": {"CILKCHECK_RAW": "1"}}
+SINK = """
+static unsigned long sum;
+void sink(long value) { sum = sum * 31 + (unsigned long)value; }
+unsigned long sunk(void) { return sum; }
+"""
+
+
+def drawn(seed, cxx):
+    """The program of a seed: the first of its draws that is not too long, and what the oracle says of it."""
+    for draw in itertools.count():
+        program = Program(seed, draw, cxx)
+        program.write([])
+        try:
+            Oracle(program).run()
+            return program
+        except TooLong:
+            continue
+
+
+class Group:
+    """Programs of one source, by one compiler and level."""
+
+    def __init__(self, given, room, seeds, compiler, level, cxx):
+        self.given, self.compiler, self.level, self.cxx = given, compiler, level, cxx
+        self.name = f"{compiler}{level}{'-c++' * cxx}-{seeds[0]}"
+        self.folder = Path(given.keep or room) / self.name
+        self.folder.mkdir(parents=True, exist_ok=True)
+        self.programs = [drawn(it, cxx) for it in seeds]
+        self.failures, self.counts = [], Counter()
+
+    def built(self):
+        source = self.folder / ("p.cpp" if self.cxx else "p.c")
+        lines = list(HEADER)
+        for program in self.programs:
+            program.write(lines)
+        lines += main_of(self.programs)
+        source.write_text("\n".join(lines) + "\n")
+        for program in self.programs:
+            program.found = Oracle(program).run()
+        (self.folder / "sink.c").write_text(SINK)
+        harness.run(["gcc", "-c", "sink.c", "-o", "sink.o"], self.folder)
+        compiled = harness.compile(self.given.wrappers, [source, "sink.o"], "p", self.compiler, self.level, [], self.folder)
+        plain = harness.compile_plain(self.given.wrappers, [source, "sink.o"], "plain", self.compiler, self.level, [], self.folder)
+        for ran in compiled, plain:
+            if ran.status:
+                self.failures.append(f"{self.name}: not compiled: {ran.errors[-600:]}")
+        return not self.failures
+
+    def check(self):
+        if self.built():
+            for program in self.programs:
+                for mode, env in MODES.items():
+                    try:
+                        said = self.compare(program, mode, env)
+                    except verdicts.Fault as fault:
+                        said = [str(fault)]
+                    self.counts["recordings"] += 1
+                    self.failures += [f"{self.name} seed {program.seed} {mode}: {it}" for it in said]
+                self.counts["programs"] += 1
+                self.counts["racy"] += bool(program.found.racy or program.found.reducers)
+                self.counts["locations"] += len(program.found.racy)
+
+    def compare(self, program, mode, env):
+        found = program.found
+        words = [str(program.seed)]
+        members = self.folder / "members"
+        members.unlink(missing_ok=True)
+        ran, traces = harness.record("p", words, self.folder, {**env, "CILKCHECK_MEMBERS": str(members)})
+        if mode == "in parts" and ran.status == 70 and not traces:
+            self.counts["refused"] += 1
+            return []
+        self.counts["parts"] += len(traces) > 1
+        plain = harness.run([self.folder / "plain", *words], self.folder)
+        if ran.status or ran.output != plain.output:
+            return [f"status {ran.status}, {ran.output!r}, as plain C {plain.status}, {plain.output!r}: {ran.errors[-300:]}"]
+        at = {}
+        for line in ran.errors.splitlines():
+            if line.startswith("at "):
+                _, name, address, size = line.split()
+                at[name] = (int(address, 16), int(size))
+        if set(at) != set(program.globals):
+            return [f"the program told the places of {sorted(at)}"]
+        refusals, reducers = {}, set()
+        for number, trace in enumerate(verdicts.judged(traces, self.given.cilkcheck), 1):
+            for it in trace.refusals:
+                if it.rule in ("view-read", "unset"):
+                    reducers.add(it.rule)
+                else:
+                    refusals.setdefault((number, it.cell), []).append(it)
+        said, bytes_of_globals, bytes_of_lives, used = [], set(), 0, set()
+        for line in members.read_text().splitlines():
+            number, cell, address, size, first = line.split()
+            cell, address, size, first = (int(number), f"c[{cell}]"), int(address, 16), int(size), (int(number), f"c[{first}]")
+            if cell not in refusals:
+                continue
+            used.add(cell)
+            places = []
+            for k in range(size):
+                name = next((name for name, (first, bytes_) in at.items() if first <= address + k < first + bytes_), None)
+                places.append((name, address + k - at[name][0]) if name else None)
+            bytes_of_globals |= {it for it in places if it}
+            if cell == first or first not in refusals:              # a location with atomic loads is two cells
+                bytes_of_lives += places.count(None)
+            for place in dict.fromkeys(places):
+                known = found.racy.get(place, {}) if place else found.pairs_of_lives
+                for it in refusals[cell] if self.level == "-O0" else []:
+                    pair = (it.earlier.line, it.later.line)
+                    spawns = known.get(pair) or known.get(pair[::-1])
+                    if spawns is None:
+                        said.append(f"{it.rule} of lines {pair} at {place[0] if place else 'a local or block'}, which the oracle does not know")
+                    elif it.spawn.line not in spawns:
+                        said.append(f"lines {pair} at {place[0] if place else 'a local or block'} part at {it.spawn.line}, by the oracle at {sorted(spawns)}")
+        if lost := set(refusals) - used:
+            said.append(f"no members of {sorted(lost)}")
+        wanted = {it for it in found.racy if isinstance(it[0], str)}
+        lives = len(found.racy) - len(wanted)
+        if bytes_of_globals != wanted:
+            said.append(f"races lost: {told(wanted - bytes_of_globals)}; races that are none: {told(bytes_of_globals - wanted)}")
+        if bytes_of_lives != lives and (mode not in ("compressed", "in parts") or bytes_of_lives < lives or not lives):
+            said.append(f"{bytes_of_lives} bytes of locals and blocks, by the oracle {lives} ({told(it for it in found.racy if it not in wanted)})")
+        if bool(reducers) != bool(found.reducers):
+            said.append(f"reducers: {reducers or 'no race'}, by the oracle {found.reducers or 'none'}")
+        return list(dict.fromkeys(said))[:4]
+
+
+def check(job):
+    group = Group(*job)
+    group.check()
+    return group.failures, group.counts
+
+
+def told(places):
+    return ", ".join(f"{name}+{k}" for name, k in sorted(places, key=str)[:12]) or "none"
+
+
+def main():
+    parser = harness.parser(__doc__)
+    parser.add_argument("--count", type=int, default=300)
+    parser.add_argument("--seed", type=int, default=1)
+    parser.add_argument("--only", nargs="*", default=[], help="of the groups those whose names begin so, as gcc-O1 or clang-O0-c++")
+    parser.add_argument("--keep", help="a folder in which sources and programs stay")
+    parser.add_argument("--expect-racy", type=int, help="how many programs the oracle has to find racy")
+    given = parser.parse_args()
+    if given.keep:
+        shutil.rmtree(given.keep, ignore_errors=True)
+    combinations = list(itertools.product(harness.LEVELS, harness.COMPILERS, (False, True)))
+    failures, counts = [], Counter()
+    with tempfile.TemporaryDirectory(prefix="cilkcheck-fuzz-") as room:
+        jobs = []
+        for k, first in enumerate(range(given.seed, given.seed + given.count, EACH)):
+            level, compiler, cxx = combinations[k % len(combinations)]
+            seeds = list(range(first, min(first + EACH, given.seed + given.count)))
+            if not given.only or f"{compiler}{level}{'-c++' * cxx}".startswith(tuple(given.only)):
+                jobs.append((given, room, seeds, compiler, level, cxx))
+        with concurrent.futures.ProcessPoolExecutor(given.jobs) as pool:
+            for found, counted in pool.map(check, jobs):
+                failures += found
+                counts += counted
+                for it in found:
+                    print(it, flush=True)
+    print(f"fuzz: {counts['programs']} programs, {counts['racy']} of them racy at {counts['locations']} bytes, {counts['recordings'] - counts['refused']} recordings held against the oracle, {counts['parts']} of them in parts")
+    if given.expect_racy is not None and counts["racy"] != given.expect_racy:
+        failures.append(print(f"fuzz: {given.expect_racy} racy programs were expected"))
+    if given.expect is not None and counts["programs"] != given.expect:
+        failures.append(print(f"fuzz: {given.expect} programs were expected"))
+    print(f"fuzz: {len(failures)} failures")
+    sys.exit(1 if failures or not counts["racy"] else 0)
+
+
+if __name__ == "__main__":
+    main()
