@@ -4,7 +4,7 @@ int main(void) {
 #pragma omp parallel
 #pragma omp master
   {
-#pragma omp taskloop /* refused */
+#pragma omp taskloop /* refused, may: a; above -O0 sum is read here */
     for (int i = 0; i < n; i++) {
       int k = i * 2;
       a[i] = k;
