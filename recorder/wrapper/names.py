@@ -19,7 +19,7 @@ def depth_walk(text):
     """(index, character, whether it stands in no <>, () or {}); the brackets of operators count as letters."""
     depth, at = 0, 0
     while at < len(text):
-        operator = re.match(r"operator\s*(\(\)|\[\]|<=>|<<=|>>=|->\*|[-+*/%^&|~!=<>]=?|<<|>>|&&|\|\||\+\+|--|->|,)", text[at:]) if text.startswith("operator", at) and (at == 0 or not (text[at - 1].isalnum() or text[at - 1] == "_")) else None
+        operator = re.match(r"operator\s*(\(\)|\[\]|<=>|<<=|>>=|->\*|<<|>>|&&|\|\||\+\+|--|->|[-+*/%^&|~!=<>]=?|,)", text[at:]) if text.startswith("operator", at) and (at == 0 or not (text[at - 1].isalnum() or text[at - 1] == "_")) else None
         if operator:
             for index in range(at, at + operator.end()):
                 yield index, text[index], depth == 0
