@@ -94,6 +94,19 @@ class ClangText(unittest.TestCase):
         self.assertIn(hook, clang_ir.mend(self.function(hook, "call void @g()", atomic)))
         self.assertIn(hook, clang_ir.mend(self.function(hook, atomic.replace("32", "64"))))
 
+    def test_atomic_where_exceptions_pass(self):
+        hook, to = "invoke void @__sanitizer_cov_store4(i32* @x)", "        to label %5 unwind label %6, !dbg !1\n5:  ; preds = %0"
+        atomic = "invoke void @__tsan_atomic32_store(i32* @x, i32 1, i32 5)"
+        first = "call void @__sanitizer_cov_store4(i32* @y)"
+        out = clang_ir.mend(self.function(first, hook, to, atomic))
+        self.assertNotIn(hook, out)
+        self.assertIn("invoke void (i32, ...) @__cilkcheck_share(i32 0)\n          to label %5 unwind label %6", out)
+        self.assertIn("declare void @__cilkcheck_share(i32, ...)", out)
+        self.assertIn(first, out)
+        self.assertIn(hook, clang_ir.mend(self.function(hook, to.replace("5:", "7:"), atomic)))
+        other = "invoke void @g()\n          to label %4 unwind label %6\n4:  ; preds = %0"
+        self.assertIn(first, clang_ir.mend(self.function(first, other, atomic)))
+
     def test_a_function_without_hooks(self):
         text = self.function("store i32 2, i32* @x, align 4, !dbg !1", "%2 = load i64*, i64** @p, align 8")
         out = clang_ir.mend(text)
