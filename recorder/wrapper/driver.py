@@ -171,8 +171,10 @@ class Driver:
         run([*self.compile_command(language, text), *(["-w"] if quiet else []), f"-fdump-tree-tsan-lineno={dump}", f"-fdump-tree-tsan0-lineno={dump}", stage, str(source), "-o", target])
         if not dump.exists():
             return []
-        functions = gcc_structures.functions_of(target) if stage == "-c" else frozenset()
-        found = gcc_structures.parse(dump.read_text(encoding="utf-8", errors="surrogateescape"), functions)
+        found = gcc_structures.parse(dump.read_text(encoding="utf-8", errors="surrogateescape"))
+        if found and stage == "-c":
+            functions = gcc_structures.functions_of(target)
+            found = [it for it in found if it.expression not in functions]
         return [it for it in found if not it.file.startswith(str(INCLUDE))]
 
     def redirect(self, target):
