@@ -1,4 +1,4 @@
-/* expect: race or refused; flags: -fopenmp; rounds of a taskloop */
+/* expect: race or refused; flags: -fopenmp; plain: no; rounds of a taskloop */
 int a[40], n = 40, sum;
 int main(void) {
 #pragma omp parallel
