@@ -34,9 +34,13 @@ def outside(text, mark=""):
     return "".join(out)
 
 
+RENAMED = "__cilkcheck_libc_"        # before the name of a program's own function that is called as one of libc's
+
+
 @functools.cache
 def short(plain):
     """Without parameters, template arguments and return type: `std::vector<int>::push_back(int const&)` is `std::vector::push_back`."""
+    plain = plain.removeprefix(RENAMED)
     plain = re.sub(r" \[clone [^]]*\]|\(anonymous namespace\)::|\._omp_fn\.\d+|\.(?:constprop|isra|part|cold)\.?\d*", "", plain)
     lambda_at = re.search(r"::\{lambda\(|::'lambda|::\$_\d", plain)
     if lambda_at:
@@ -55,7 +59,7 @@ def last_word(kept):
 @functools.cache
 def called(plain):
     """The unqualified name by which a function is called, or `-` for a constructor, a destructor, a conversion and an operator other than ()."""
-    plain = re.sub(r" \[clone [^]]*\]|\.(?:constprop|isra|part|cold)\.?\d*", "", plain)
+    plain = re.sub(r" \[clone [^]]*\]|\.(?:constprop|isra|part|cold)\.?\d*", "", plain.removeprefix(RENAMED))
     text = outside(plain, "\0")
     text = re.sub("\0+", "\0", text)
     text = re.sub(r"\s*\b(const|volatile)\b\s*&*\s*$", "", text).rstrip("\0 &")
