@@ -5,7 +5,7 @@ assigns: `REDUCER_VIEW(r) = REDUCER_VIEW(r) * 2;`, `if (REDUCER_VIEW(r) < x) RED
 """
 USE = "__cilkcheck_use"                                     # in cilk/reducer.h: the operation, of a view that is used
 UPDATE, PUT, GET = "1", "2", "3"
-UPDATING = {"+=", "-=", "*=", "/=", "%=", "&=", "|=", "^=", "<<=", ">>=", "++", "--", ".", "->", "["}
+UPDATING = {"+=", "-=", "*=", "/=", "%=", "&=", "|=", "^=", "<<=", ">>=", "++", "--", "("}
 
 
 def classify(source):
@@ -18,7 +18,7 @@ def classify(source):
         if outer is None:                                   # where the header itself names it
             continue
         begin, end = statement(source, outer)
-        uses.append((at, source.text(source.solid(outer + 4), at), operation(source, outer), begin, end))
+        uses.append((at, " ".join(source.words(outer, at)), operation(source, outer), begin, end))
     for at, key, done, begin, end in uses:
         same = {other for where, name, other, first, last in uses if name == key and (begin <= where < end or first <= at < last)}
         source.tokens[at] = UPDATE if {PUT, GET} <= same or UPDATE in same and done == GET else done
@@ -36,8 +36,12 @@ def outer_bracket(source, at):
 
 
 def operation(source, outer):
-    behind, before = source.tokens[source.solid(source.closing(outer) + 1)], source.tokens[source.before(outer)]
-    if behind in UPDATING or before in ("&", "++", "--"):
+    before, at = source.tokens[source.before(outer)], source.solid(source.closing(outer) + 1)
+    part = False                                            # a member or an element of the view
+    while source.tokens[at] in (".", "->", "["):
+        part, at = True, source.solid((source.closing(at) if source.tokens[at] == "[" else source.solid(at + 1)) + 1)
+    behind = source.tokens[at]
+    if behind in UPDATING or before in ("&", "++", "--") or part and behind == "=":
         return UPDATE
     return PUT if behind == "=" else GET
 

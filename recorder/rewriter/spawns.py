@@ -55,17 +55,17 @@ def statement(rewriter, begin, keyword, context):
 
 
 def outside_brackets(source, begin, end):
-    """The words that stand in no bracket, of any kind; angles count where they close."""
+    """The words that stand in no bracket; < and > are brackets where a > follows."""
     out, at, angles = [], begin, 0
+    closed = any(token in (">", ">>") for token in source.tokens[begin:end])
     while at < end:
-        if source.kinds[at] == "operator" and source.tokens[at] in ("(", "[", "{"):
+        token = source.tokens[at]
+        if source.kinds[at] == "operator" and token in ("(", "[", "{"):
             at = source.closing(at)
-        elif source.kinds[at] not in ("space", "directive"):
-            token = source.tokens[at]
-            if token in ("<", ">", ">>") and any(other in (">", ">>") for other in source.tokens[at:end]) | angles:
-                angles += (token == "<") - (token == ">") - 2 * (token == ">>")
-            elif angles <= 0:
-                out.append(token)
+        elif token in ("<", ">", ">>") and closed:
+            angles += {"<": 1, ">": -1, ">>": -2}[token]
+        elif source.kinds[at] not in ("space", "directive") and angles <= 0:
+            out.append(token)
         at += 1
     return out
 

@@ -20,7 +20,7 @@
 
 struct histories histories;
 static int hidden;                            /* calls of hide_accesses that are open */
-static bool outstanding;
+static bool open_blocks;
 static uint32_t *page_list, page_count;       /* the indices of the pages that are there */
 static uint32_t split_count = 1, split_free;  /* the first free one; each names the next in its first entry */
 
@@ -34,8 +34,8 @@ static uint32_t site_now, site_mask = UINT32_MAX;
 static struct slot { history from; uint32_t key; history to; } *slots;
 static uint32_t slot_mask = FEWEST_SLOTS - 1, slots_used;
 
-static void look(void) { histories.looking = recording && !hidden && (outstanding || !options.epochs); }
-void histories_look(bool on) { outstanding = on; look(); }
+static void look(void) { histories.looking = recording && !hidden && (open_blocks || !options.epochs); }
+void histories_look(bool on) { open_blocks = on; look(); }
 void histories_stop_looking(void) { histories.looking = false; }
 void hide_accesses(bool on) {
   start_recording();
@@ -72,8 +72,9 @@ uint32_t histories_next_strand(void) {
   return made;
 }
 
-/* Law `an_epoch`: a strand that ended before a moment at which no spawned function is outstanding precedes each that begins behind
-   it, so what is done to a location before and after may be told as done to two locations. */
+/* Law `an_epoch`: at a moment at which no block is open anywhere (each child has returned and is synced with; one that has returned and is
+   not synced with is still parallel to what follows), every strand so far precedes each that begins from there on. So what is done to a
+   location before and after may be told as done to two locations. */
 void histories_next_epoch(void) { histories.steps_of_epoch = histories.step_count << 2; }
 
 /* ---- the end of a location's life ---- */

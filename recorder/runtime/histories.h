@@ -9,7 +9,8 @@
      are exactly those from number `steps_of_strand / 4` on: `history >= steps_of_strand` says that the running strand made it.
    - A unit is four bytes of memory at a multiple of four. Its entry is the history of all four; or, with HISTORY_SPLIT, the number of
      four entries in `splits`, one for each byte.
-   - A history below `steps_of_epoch` was made before a moment with nothing outstanding. It has ended, though its units still name it. */
+   - A history below `steps_of_epoch` was made before a moment at which no block was open. It has ended, though its units still
+     name it. */
 #ifndef CILKCHECK_HISTORIES_H
 #define CILKCHECK_HISTORIES_H
 #include "recorder.h"
@@ -39,7 +40,7 @@ struct histories {
   struct class *classes; uint32_t class_count;
   history steps_of_strand, steps_of_epoch;
   uint64_t accesses;                         /* told by the program so far */
-  bool looking;                              /* false where nothing is outstanding, or accesses are hidden */
+  bool looking;                              /* false where no block is open (CILKCHECK_EPOCHS), or accesses are hidden */
 };
 extern struct histories histories;
 
@@ -48,7 +49,7 @@ void histories_begin(void);
 uint32_t histories_next_strand(void);
 /* All that was done comes before all that will be done. */
 void histories_next_epoch(void);
-/* Whether something is outstanding. */
+/* Whether a block is open anywhere. */
 void histories_look(bool on);
 void histories_stop_looking(void);
 /* Ends the lives of all locations that are left. */

@@ -27,7 +27,7 @@ REFUSED(_ZNSt6thread15_M_start_threadESt10unique_ptrINS_6_StateESt14default_dele
 
 /* A library that was not compiled by the wrapper comes here. */
 _Noreturn void pthread_create(void);
-_Noreturn void pthread_create(void) { refuse(0, "pthread_create: " THREADS); }
+__attribute__((weak)) _Noreturn void pthread_create(void) { refuse(0, "pthread_create: " THREADS); }
 
 REFUSED(longjmp, JUMPS)
 REFUSED(_longjmp, JUMPS)

@@ -9,7 +9,7 @@
 
 struct scope *scope_innermost;
 static struct scope *scopes;
-static uint32_t outstanding, strand, last_strand, reducers;
+static uint32_t open_blocks, strand, last_strand, reducers;
 void scopes_begin(void) {
   log_begin();
   scope_innermost = scopes = reserve(sizeof *scopes * MOST_SCOPES);
@@ -34,7 +34,7 @@ static void sync_scope(struct scope *scope, uintptr_t place) {
   log_strand_end(LOG_SYNC, histories_next_strand(), place_site(place));
   scope->open = false;
   begin_strand();
-  if (--outstanding) return;
+  if (--open_blocks) return;
   if (options.epochs) histories_next_epoch();
   histories_look(false);
 }
@@ -64,7 +64,7 @@ void scope_spawn_here(uint32_t depth, uintptr_t place) {
   uint32_t words = log_spawn(histories_next_strand(), place_site(place));
   if (!spawner->open) {
     spawner->open = true;
-    if (!outstanding++) histories_look(true);
+    if (!open_blocks++) histories_look(true);
   }
   struct scope *child = push(SCOPE_CHILD, depth);
   child->spawned_at = words;

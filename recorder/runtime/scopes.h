@@ -1,8 +1,9 @@
 /* What is open in the running program: functions with children, children, blocks, OpenMP's groups.
 
    Invariants: the scopes are a stack, the outermost is the root. A function becomes a scope at its first spawn, and its scope is left
-   where the function ends. `outstanding` is the number of scopes that are open; where it is 0, nothing that was spawned runs on. A
-   strand is the piece of the run between two of: spawn, end of a child, sync. */
+   where the function ends. `open_blocks` is the number of scopes whose block is open: a block opens at its first spawn and closes at
+   its sync, so a child that has returned and is not synced with counts. A strand is the piece of the run between two of: spawn, end of
+   a child, sync. */
 #ifndef CILKCHECK_SCOPES_H
 #define CILKCHECK_SCOPES_H
 #include "recorder.h"

@@ -11,7 +11,7 @@ The first line of a case is a comment of parts between semicolons, the last one 
     expect: race or refused, race or unseen    one of the two
     unseen: NAME      "not seen inside" names it, when the program is linked and in the trace
     says: TEXT        is in the refusal
-    flags: ..         for the compiler; only: gcc | clang; plain: no (the elision's output is not compared)
+    flags: ..         for the compiler; only: gcc | clang; level: -O0 (alone); from: -O1; plain: no (the elision's output is not compared)
     library: yes      places in headers of the C++ library are as good as those that the comments tell
 
 A refusal must say `cilkcheck: refused: FILE:LINE: why`. Else the run's output and status must be those of the serial elision.
@@ -107,6 +107,7 @@ def main():
         jobs = []
         for k, (source, compiler) in enumerate(itertools.product(sources, given.compilers)):
             levels = given.levels if not given.spread else ["-O0", "-O1" if (k + k // 2) % 2 else "-O2"]
+            levels = [it for it in levels if it == header(source).get("level", it) and it >= header(source).get("from", it)]
             if header(source).get("only", compiler) == compiler:
                 jobs.append((given, room, source, compiler, levels))
         failures = harness.shown(it for found in harness.in_parallel(check, jobs, given.jobs) for it in found)

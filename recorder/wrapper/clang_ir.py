@@ -13,13 +13,17 @@ STORE = re.compile(r"\s+store (?:volatile )?(?P<type>x86_fp80|fp128|i\d+|<[^>]*>
 ANY_LOAD = re.compile(r"\s+%[\w.\"]+ = load (?:volatile )?(?P<type>.+?), (?P=type)\* (?P<value>.*?)(?:, align \d+)?(?:, ![\w.]+ ![\w.]+)*$")
 ANY_STORE = re.compile(r"\s+store (?:volatile )?(?P<type>.+?) (?:[^ ]+|.*\)), (?P=type)\* (?P<value>.*?)(?:, align \d+)?(?:, ![\w.]+ ![\w.]+)*$")
 TOLD = {"i1", "i8", "i16", "i32", "i64", "i128"}
-HOOK = re.compile(r"\s+call void @__sanitizer_cov_(load|store)(\d+)\(")
+HOOK = re.compile(r"\s+(call|invoke) void @__sanitizer_cov_(load|store)(\d+)\(")
+TO = re.compile(r"\s+to label %(\"[^\"]+\"|[\w.$-]+) unwind label ")
+LABEL = re.compile(r"(\"[^\"]+\"|[\w.$-]+):")
+BRANCH = re.compile(r"\s+(br|ret|switch|unreachable|resume|indirectbr|callbr)\b")
+NOTHING = "  invoke void (i32, ...) @__cilkcheck_share(i32 0)"
 ATOMIC = re.compile(r"@__tsan_atomic(\d+)_(load|store)\(")
 PLACE = re.compile(r", !dbg !\d+")
 
 
 def mend(text):
-    lines, out, count, last_hook = text.split("\n"), [], 0, None
+    lines, out, count, last_hook, next_block = text.split("\n"), [], 0, None, None
     uses = set()
 
     def told(function, kind, value, line):
@@ -51,14 +55,23 @@ def mend(text):
                 told("__cilkcheck_read" if " load " in line else "__cilkcheck_wrote", found.group("type") + "*", found.group("value"), line)
         elif "@__tsan_atomic" in line:
             found = ATOMIC.search(line)
-            if found and last_hook is not None and HOOK.match(out[last_hook]).groups() == (found.group(2), str(int(found.group(1)) // 8)):
-                out[last_hook] = ""
+            if found and last_hook is not None and HOOK.match(out[last_hook]).groups()[1:] == (found.group(2), str(int(found.group(1)) // 8)):
+                out[last_hook] = "" if HOOK.match(out[last_hook]).group(1) == "call" else NOTHING
+                last_hook = None
         out.append(line)
+        # the last hook is the atomic's own where no other call stands between the two; an invoked one goes on in the block that it names
         if HOOK.match(line):
-            last_hook = len(out) - 1
-        elif "call " in line or line.endswith(":") or line.startswith("}"):
+            last_hook, next_block = len(out) - 1, None
+        elif last_hook is not None and (label := LABEL.match(line)):
+            if label.group(1) != next_block:
+                last_hook = None
+        elif last_hook is not None and next_block is None and (to := TO.match(line)):
+            next_block = to.group(1)
+        elif "call " in line or "invoke " in line or line.startswith("}") or BRANCH.match(line):
             last_hook = None
     result = "\n".join(out)
+    if NOTHING in out and not re.search(r"^declare .*@__cilkcheck_share\(", result, re.M):
+        result += "\ndeclare void @__cilkcheck_share(i32, ...)\n"
     for function in sorted(uses):
         if f"@{function}(" in result and not re.search(rf"^declare .*@{function}\(", result, re.M):
             result += f"\ndeclare void @{function}(i8*, i64)\n"

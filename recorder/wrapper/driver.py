@@ -171,8 +171,10 @@ class Driver:
         run([*self.compile_command(language, text), *(["-w"] if quiet else []), f"-fdump-tree-tsan-lineno={dump}", f"-fdump-tree-tsan0-lineno={dump}", stage, str(source), "-o", target])
         if not dump.exists():
             return []
-        functions = gcc_structures.functions_of(target) if stage == "-c" else frozenset()
-        found = gcc_structures.parse(dump.read_text(encoding="utf-8", errors="surrogateescape"), functions)
+        found = gcc_structures.parse(dump.read_text(encoding="utf-8", errors="surrogateescape"))
+        if found and stage == "-c":
+            functions = gcc_structures.functions_of(target)
+            found = [it for it in found if it.expression not in functions]
         return [it for it in found if not it.file.startswith(str(INCLUDE))]
 
     def redirect(self, target):
@@ -201,6 +203,11 @@ class Driver:
             return 0
         return self.link(sources)
 
+    def archive(self, library):
+        """The archive that -lLIBRARY means in a folder of the user's, where there is one."""
+        found = [os.path.join(folder, f"lib{library}.a") for folder in folders_of(self.commands.link)]
+        return [it for it in found if os.path.isfile(it)][:1]
+
     def link(self, sources):
         commands, inputs, objects = self.commands, [], []
         for it in commands.inputs:
@@ -214,6 +221,7 @@ class Driver:
                 objects.append(it.name)
             else:
                 inputs += it if isinstance(it, list) else [it]
+                objects += self.archive("".join(it).removeprefix("-l"))
         cxx = self.cxx or any(COMPILED[it.language] == "c++" for it in sources)
         linker = self.cxx_compiler if cxx else self.c_compiler
         output = commands.output or "a.out"
@@ -225,6 +233,12 @@ class Driver:
         run([linker, *options, *inputs, str(runtime), "-lm", "-o", output])
         program.finish(output, objects, runtime, NAMES, INCLUDE, self.folder)
         return 0
+
+
+def folders_of(options):
+    """The folders of -L."""
+    joined = " ".join(options).replace("-L ", "-L").split()
+    return [it.removeprefix("-L") for it in joined if it.startswith("-L")]
 
 
 def runtime_object():

@@ -76,10 +76,10 @@ def functions_of(target):
     return {names.called(found.group(2)) for line in out.splitlines() if (found := re.match(r"[0-9a-f ]{16} (.) (.*)", line)) and ("(" in line or found.group(1) in "tT")}
 
 
-def parse(dump, functions=frozenset()):
+def parse(dump):
     """All such structures of a compilation."""
     found, body, inside, head = [], [], False, ""
-    functions = functions | set(re.findall(r"^;; Function (?:.*::)?(\w+)", dump, re.M))
+    functions = set(re.findall(r"^;; Function (?:.*::)?(\w+)", dump, re.M))
     for line in dump.splitlines():
         if line == "{":
             inside, body = True, []

@@ -238,7 +238,8 @@ def finish(output, objects, runtime, lists, include, folder):
     """Puts the table into the program, and says what is not seen."""
     called = compiled_elsewhere(objects)
     lines = table(output, runtime, include, {name.removeprefix("__cilkcheck_libc_") for name in called}, set().union(*instrumented(objects).values()))
-    missing = unseen(called, runtime, lists)
+    linked = {words[-1].partition("@")[0] for line in output_of(["nm", output]).splitlines() if (words := line.split())}
+    missing = [name for name in unseen(called, runtime, lists) if name in linked]       # not what an archive's other members call
     if missing:
         plain = names.demangle(missing)
         told = [names.short(plain[name]) for name in missing]

@@ -169,7 +169,7 @@ class Views(unittest.TestCase):
         return re.findall(r"&\(\w\), (\w+),", out_of(text))
 
     def test_each(self):
-        for text, expected in [("VIEW(r) += 1;", "1"), ("VIEW(r)++;", "1"), ("++VIEW(r);", "1"), ("f(&VIEW(r));", "1"), ("VIEW(r).n = 2;", "1"),
+        for text, expected in [("VIEW(r) += 1;", "1"), ("VIEW(r)++;", "1"), ("++VIEW(r);", "1"), ("f(&VIEW(r));", "1"), ("VIEW(r).n = 2;", "1"), ("VIEW(r).n++;", "1"), ("x = VIEW(r).n;", "3"), ("VIEW(r).at[2] += 1;", "1"),
                                ("VIEW(r) = 5;", "2"), ("x = VIEW(r);", "3"), ("f(1, VIEW(r));", "3"), ("return VIEW(r);", "3"),
                                ("VIEW(r) = VIEW(r) * 2;", "11"), ("if (VIEW(r) < x) VIEW(r) = x;", "11"), ("if (VIEW(r) < x) { VIEW(r) = x; }", "11"),
                                ("VIEW(r) = VIEW(s);", "23"), ("VIEW(r) = 1; x = VIEW(r);", "23"), ("if (VIEW(r)) { VIEW(r) = 1; f(); }", "32")]:

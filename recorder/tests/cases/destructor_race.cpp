@@ -1,4 +1,4 @@
-// expect: race; a block's local ends while a child uses it
+// expect: race; level: -O0; a block's local ends while a child uses it
 #include <cilk/cilk.h>
 #include <memory>
 struct Box { int x = 1; ~Box() { x = 0; } }; /* race: a */

@@ -7,7 +7,7 @@ static void child(void) { use(all); } /* race: a a, refused */
 int main(void) {
   cilk_spawn child(); /* spawn: a */
   all.at[3] = 5;      /* race: a */
-  all = other;        /* may: a */
+  all = other;        /* race: a; above -O0 the store before is left out */
   cilk_sync;
   return got;
 }

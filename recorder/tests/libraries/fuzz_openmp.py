@@ -23,43 +23,50 @@ sys.path.insert(0, str(Path(__file__).resolve().parent.parent))
 import harness  # noqa: E402
 import verdicts  # noqa: E402
 
-EACH, CELLS, FUNCTIONS = 20, 5, 3
+EACH, CELLS, FUNCTIONS, MOST_NODES = 20, 12, 3, 400
 
 
 class Program:
     """Statements are tuples: (kind, ..). A cell is a number, or "l" for the function's local."""
 
-    def __init__(self, seed):
-        self.seed, self.random = seed, random.Random(seed)
-        self.left = self.random.randint(8, 30)
-        self.functions = [self.body(1, True, k + 1) for k in range(FUNCTIONS)]
-        self.phases = [self.phase() for _ in range(self.random.randint(1, 3))]
+    def __init__(self, seed, draw):
+        self.seed, self.random = seed, random.Random(f"{seed}.{draw}")
+        self.left = 0
+        self.functions = [self.part(12, lambda k=k: self.body(1, (), True, k + 1)) for k in range(FUNCTIONS)]
+        self.phases = [self.part(40, self.phase) for _ in range(self.random.randint(1, 3))]
 
-    def access(self, local):
-        cell = "l" if local and self.random.random() < 0.4 else self.random.randrange(CELLS)
-        return "access", cell, self.random.choices("rwa", (5, 3, 1))[0]
+    def part(self, most, make):
+        self.left = self.random.randint(5, most)
+        return make()
 
-    def statement(self, depth, local, callee):
+    def access(self, cells, local):
+        cell = "l" if local and self.random.random() < 0.4 else self.random.choice(cells)
+        return "access", cell, self.random.choices("rwa", (6, 3, 1))[0]
+
+    def statement(self, depth, cells, local, callee):
         draw = self.random.random()
         self.left -= 1
-        if draw < 0.35 or self.left < 0 or depth > 4:
-            return self.access(local)
-        if draw < 0.65:
-            return "task", self.random.choices(("", "if (0)", "final(1)", "untied", "firstprivate(v)"), (8, 1, 1, 1, 1))[0], self.body(depth + 1, local, callee)
-        if draw < 0.75:
+        if draw < 0.25 or self.left < 0 or depth > 4:
+            return self.access(cells, local)
+        if draw < 0.6:
+            return "task", self.random.choices(("", "if (0)", "final(1)", "untied", "firstprivate(v)"), (6, 2, 2, 1, 1))[0], self.body(depth + 1, cells, local, callee)
+        if draw < 0.76:
             return ("wait",)
-        if draw < 0.83:
-            return "group", self.body(depth + 1, local, callee)
-        if draw < 0.9:
-            return "loop", self.random.choice(("", "nogroup", "grainsize(2)", "num_tasks(2)")), self.random.randrange(CELLS), self.random.choice("rwa")
-        return ("call", self.random.randrange(callee, FUNCTIONS)) if callee < FUNCTIONS else self.access(local)
+        if draw < 0.85:
+            return "group", self.body(depth + 1, cells, local, callee)
+        if draw < 0.91:
+            return "loop", self.random.choice(("", "nogroup", "grainsize(2)", "num_tasks(2)")), self.random.choice(cells), self.random.choice("rwa")
+        return ("call", self.random.randrange(callee, FUNCTIONS)) if callee < FUNCTIONS else self.access(cells, local)
 
-    def body(self, depth, local, callee):
-        return [self.statement(depth, local, callee) for _ in range(self.random.randint(1, 4))]
+    def body(self, depth, cells, local, callee):
+        """A body's cells are one of those around it and one more, so that it meets what is near to it, and not everything everywhere."""
+        cells = [self.random.choice(cells)] if cells else []
+        cells.append(self.random.randrange(CELLS))
+        return [self.statement(depth, cells, local, callee) for _ in range(self.random.randint(2, 6))]
 
     def phase(self):
-        both = [self.access(False) for _ in range(self.random.choice((0, 0, 1)))]
-        return both, self.random.random() < 0.3, self.body(0, False, 0), self.random.random() < 0.5
+        both = [self.access([self.random.randrange(CELLS)], False) for _ in range(self.random.choice((0, 0, 0, 1)))]
+        return both, self.random.random() < 0.3, self.body(0, (), False, 0), self.random.random() < 0.5
 
     # ---- as C
 
@@ -112,6 +119,10 @@ class Refused(Exception):
     pass
 
 
+class TooLong(Exception):
+    pass
+
+
 class Instance:
     """A task that runs: the last node of its own, its children, the tasks of its taskgroup."""
 
@@ -151,6 +162,8 @@ class Oracle:
         return one == other or bool(self.before[other] >> one & 1)
 
     def node(self, *behind):
+        if len(self.before) == MOST_NODES:
+            raise TooLong
         self.before.append(0)
         for it in behind:
             self.before[-1] |= self.before[it] | 1 << it
@@ -227,6 +240,20 @@ class Oracle:
                 self.access(task, own, "w")
 
 
+def drawn(seed):
+    """The program of a seed: the first of its draws that is not too long, nor refused but where five divides the seed."""
+    for draw in itertools.count():
+        program = Program(seed, draw)
+        try:
+            Oracle(program)
+        except Refused:
+            if seed % 5:
+                continue
+        except TooLong:
+            continue
+        return program
+
+
 HEADER = "#include <stdio.h>\n#include <stdlib.h>\nvoid sink(int value);"
 
 
@@ -234,7 +261,7 @@ def group_of(given, room, seeds, compiler, level):
     """The failures of some programs in one source, and how many were what."""
     folder = Path(given.keep or room) / f"{compiler}{level}-{seeds[0]}"
     folder.mkdir(parents=True, exist_ok=True)
-    programs, lines = [Program(it) for it in seeds], [HEADER]
+    programs, lines = [drawn(it) for it in seeds], [HEADER]
     for it in programs:
         it.write(lines)
     lines += ["int main(int count, char **words) {", "  switch (atoi(words[count - 1])) {", *(f"  case {it}: p{it}(); break;" for it in seeds), "  }\n  return 0;\n}"]
