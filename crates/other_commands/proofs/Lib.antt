@@ -5,4 +5,6 @@ pub mod ExplanationCauses
 mod Pairs
 mod ReplayCauses
 mod ShortNames
+mod Sorted
+mod Recorded
 pub mod TracedCauses

@@ -121,9 +121,12 @@ pub record IsFaultTold (manner : Manner) (text : List ℕ) (told : List ℕ) (st
 abbrev pub clean_trace_words : List ℕ
 clean_trace_words = codes "clean: no two of the accesses of this trace race, in whatever order its strands run\n"
 
+abbrev pub recorded_line : List ℕ → List ℕ
+recorded_line run = codes "recorded: " ++ run ++ codes "\n"
+
 -- what was recorded, by the notes
 abbrev pub recorded_text : Notes Global → List ℕ
-recorded_text notes = flat_map (λ run. codes "recorded: " ++ run ++ codes "\n") (kept_runs notes)
+recorded_text notes = flat_map recorded_line (kept_runs notes)
 
 -- how many requests were judged
 abbrev pub judged_text : ℕ → List ℕ

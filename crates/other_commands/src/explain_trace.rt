@@ -9,7 +9,7 @@ ghost use Rattle.model_histories.specs.Legal.{IsLegal};
 ghost use Rattle.model_histories.specs.Shapes.{Shape};
 ghost use Rattle.command_streams.specs.Outcomes.{refusal_status};
 ghost use Rattle.other_commands.specs.Replays.{AnswersAll, StopsGate};
-ghost use Rattle.other_commands.specs.Explanations.{clean_trace_words, recorded_text, judged_text, TellsEntries, IsTraceTold, IsTraceFaultTold};
+ghost use Rattle.other_commands.specs.Explanations.{clean_trace_words, recorded_line, recorded_text, judged_text, TellsEntries, IsTraceTold, IsTraceFaultTold};
 ghost use Rattle.other_commands.specs.Explanations.{IsUntoldTrace};
 
 use crate::explain::Manner;
@@ -60,14 +60,21 @@ fn entries_told(
     trace_explanation(alloc, manner.is_painted, notes, trace, entries)
 }
 
+/// Adds what was recorded by one note.
+fn push_run(told: &mut Vec<u8>, run: &str) -> Result<(), AllocError>
+    ensures { OnOk result (told.new.items ≡ told.old.items ++ recorded_line run.now) }
+{
+    push_words(told, "recorded: ")?;
+    push_words(told, run)?;
+    push_words(told, "\n")
+}
+
 /// Adds what was recorded.
 fn push_recorded(told: &mut Vec<u8>, notes: &Notes<Global>) -> Result<(), AllocError>
     ensures { OnOk result (told.new.items ≡ told.old.items ++ recorded_text notes.now) }
 {
     for run in notes.runs() {
-        push_words(told, "recorded: ")?;
-        push_words(told, run.as_str())?;
-        push_words(told, "\n")?;
+        push_run(told, run.as_str())?;
     }
     Ok(())
 }

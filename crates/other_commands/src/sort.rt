@@ -1,8 +1,8 @@
 //! Whether a text is to mean a program or a trace.
 
-ghost use Rattle.std.specs.Prelude.{◌≡◌, Some, None};
+ghost use Rattle.std.specs.Prelude.{◌≡◌, Bool, Some, unwrap_or};
 ghost use Rattle.std.specs.Option.{option_map};
-ghost use Rattle.other_commands.specs.Sorts.{first_word, is_declaring, is_program_text};
+ghost use Rattle.other_commands.specs.Sorts.{first_word, is_declaring, decided, is_program_text};
 
 use text_words::{Words, as_text, split_line, without_return};
 
@@ -10,7 +10,9 @@ use text_words::{Words, as_text, split_line, without_return};
 fn first_word(line: &[u8]) -> Option<&str>
     ensures { option_map (λ word. word.now) result ≡ first_word line.now }
 {
-    let text = as_text(line)?;
+    let Some(text) = as_text(line) else {
+        return None;
+    };
     let mut words = Words::of_line(text);
     words.take()
 }
@@ -20,6 +22,27 @@ fn is_declaring(word: &str) -> bool
     ensures { result ≡ is_declaring word.now }
 {
     word == "mem" || word == "reducer"
+}
+
+/// What a first word decides: that the text is to mean a program, or that it is not; nothing where it declares a name.
+fn sort_by(word: &str) -> Option<bool>
+    ensures { (behind : Bool) → unwrap_or result behind ≡ decided (Some word.now) behind }
+{
+    if is_declaring(word) {
+        None
+    } else {
+        Some(word == "func")
+    }
+}
+
+/// What a line decides.
+fn sort_of(line: &[u8]) -> Option<bool>
+    ensures { (behind : Bool) → unwrap_or result behind ≡ decided (first_word line.now) behind }
+{
+    match first_word(line) {
+        Some(word) => sort_by(word),
+        None => None,
+    }
 }
 
 /// Whether a text is to mean a program: the first word behind its header and its declarations is `func`. Else it is to mean a trace.
@@ -32,12 +55,10 @@ pub fn is_program(text: &[u8]) -> bool
     let (_, mut rest) = split_line(text);
     while !rest.is_empty() {
         let (line, behind) = split_line(rest);
-        if let Some(word) = first_word(without_return(line))
-            && !is_declaring(word)
-        {
-            return word == "func";
+        match sort_of(without_return(line)) {
+            Some(is_program) => return is_program,
+            None => rest = behind,
         }
-        rest = behind;
     }
     false
 }

@@ -1,0 +1,29 @@
+use Rattle.std.proofs.Common.{List, sym, subst}
+use Rattle.trace_text.specs.Traces.{contents as trace_contents}
+use Rattle.model_histories.specs.declared.answer.Entry.{Entry}
+use Rattle.model_histories.specs.Legal.{IsLegal}
+use Rattle.other_commands.proofs.explain_trace.trace_told.Goals as goal
+
+pub entries_told-requires : goal.entries_told-requires
+entries_told-requires c = record {
+  legal = (
+    c.in_ok-gate.gate.shape,
+    subst (λ (xs : List Entry). IsLegal c.in_ok-gate.gate.shape xs) (sym c.history-entries.ensures.entries) c.history-entries.ensures.judged.legal,
+  );
+}
+
+pub returns-clause-ok : goal.returns-clause-ok
+returns-clause-ok c = record {
+  trace = trace_contents c.args.trace.now;
+  means = c.requires;
+  gate = c.in_ok-gate.gate;
+  answers = c.in_ok-gate.ensures.ok;
+  entries = c.history-entries.result.now;
+  history = c.history-entries.ensures.entries;
+  notes = c.in_ok-notes.notes;
+  are_notes = c.in_ok-notes.ensures;
+  verdict = c.in_ok-told.told.items;
+  tells = c.in_ok-told.ensures;
+  told_is = c.in_ok-push_recorded.ensures;
+  status_is = c.refusal_status.ensures;
+}
