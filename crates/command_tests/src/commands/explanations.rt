@@ -45,6 +45,83 @@ const FIB_TOLD: &str =
 const CUT_TOLD: &str =
     "0 refusals at 0 pairs of lines, among 9 requests\nthis is no whole run: the limit ended it after 9 requests, and there may be more to tell\n";
 
+/// A spawned function writes what its spawner reads, and notes say what the marks and the cell stand for.
+const NOTED_TRACE: &str =
+    "cilk 1\nmem x\n#at 5 pair.c:5, main | cilk_spawn f(&x, 7);\n#at 6 pair.c:6, main | printf(\"%d\", x);\n#at 9 pair.c:9, f | *p = v;\n#of x a local of main\n#run ./pair\nspawn 0 @5\nwrite 1 x 7 @9\nread 2 x @6\n";
+
+const NOTED_TRACE_TOLD: &str = "race: write-read on a local of main, 1 time
+  --> pair.c:9, in f
+   |  *p = v;
+   = this write
+   = spawned at pair.c:5, in main
+  --> pair.c:6, in main
+   |  printf(\"%d\", x);
+   = this read, may run before it or after it
+  --> pair.c:5, in main
+   |  cilk_spawn f(&x, 7);
+   = here they part: what is spawned comes to pair.c:9, while `main` goes on to pair.c:6
+   = help: a `sync` in `main` before pair.c:6 would order them
+
+1 refusal at 1 pair of places, among 3 requests
+recorded: ./pair
+";
+
+/// The same with no note.
+const PLAIN_TRACE: &str = "cilk 1\nmem x\nspawn 0 @5\nwrite 1 x 7 @9\nread 2 x @6\n";
+
+const PLAIN_TRACE_TOLD: &str = "race: write-read on x, 1 time
+  --> line 9
+   = this write
+   = spawned at line 5
+  --> line 6
+   = this read, may run before it or after it
+  --> line 5
+   = here they part: what is spawned comes to line 9, while the spawner goes on to line 6
+   = help: a `sync` in the spawner before line 6 would order them
+
+1 refusal at 1 pair of places, among 3 requests
+";
+
+/// A get while a spawn is outstanding that was not at the put.
+const VIEW_TRACE: &str = "cilk 1\nreducer h sum\nput 0 h 1\nspawn 0\nget 2 h\n";
+
+const VIEW_TRACE_TOLD: &str = "view-read race: reads with other peers of h, 1 time
+  --> line 3
+   = this put
+  --> line 5
+   = this get, has other peers
+  --> line 4
+   = this spawn is outstanding at line 5, and not at line 3
+   = help: move what stands on line 5 behind the `sync` of the spawner, where this spawn has ended
+
+1 refusal at 1 pair of places, among 3 requests
+";
+
+const CLEAN_TRACE: &str = "cilk 1\nmem x\n#run one write\nwrite 0 x 1\nreturn 0\n";
+
+const CLEAN_TRACE_TOLD: &str =
+    "clean: no two of the accesses of this trace race, in whatever order its strands run\njudged: 2 requests\nrecorded: one write\n";
+
+const NO_TRACE: &str = "cilk 1\nmem x\nread 0 y\n";
+
+const NO_TRACE_TOLD: &str = "error: a name is not declared as what its place wants
+ --> p.cilk:3
+  |
+3 | read 0 y
+  | ^^^^^^^^
+  = the form of this line is `read STRAND CELL`
+  = `y` is declared nowhere
+";
+
+/// Traces and what is told of them.
+const TRACES_EXPLAINED: &[Case<'static>] = &[
+    (Explain(2, 713), NOTED_TRACE, Text(1, NOTED_TRACE_TOLD)),
+    (Explain(2, 713), PLAIN_TRACE, Text(1, PLAIN_TRACE_TOLD)),
+    (Explain(2, 713), VIEW_TRACE, Text(1, VIEW_TRACE_TOLD)),
+    (Explain(2, 713), CLEAN_TRACE, Text(0, CLEAN_TRACE_TOLD)),
+    (Explain(2, 713), NO_TRACE, Text(2, NO_TRACE_TOLD)),
+];
+
 /// Programs and what is told of them.
 const EXPLAINED: &[Case<'static>] = &[
     (Explain(1, 713), FIB, Text(0, FIB_TOLD)),
@@ -61,4 +138,11 @@ const EXPLAINED: &[Case<'static>] = &[
 #[test]
 fn clean_racy_cut_and_meaningless_programs_are_explained(rt: HostRuntime) {
     check_all(&rt, rt.alloc(), EXPLAINED);
+}
+
+/// The races of a trace are told by its notes, or by its numbers and names where it has none; a clean one, and what is wrong with a text
+/// that is no trace.
+#[test]
+fn clean_racy_and_meaningless_traces_are_explained(rt: HostRuntime) {
+    check_all(&rt, rt.alloc(), TRACES_EXPLAINED);
 }
