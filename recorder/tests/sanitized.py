@@ -21,6 +21,9 @@ RUNTIME = harness.RECORDER / "runtime"
 LIBRARIES = ["-Wl,--no-as-needed", "-lasan", "-lubsan", "-lm"]
 FINDING = re.compile(r"AddressSanitizer|runtime error|UndefinedBehaviorSanitizer")
 SEEDS = range(1, 13)
+REFUSED = 70
+# AddressSanitizer puts itself before a function of this case's library, and does not find it.
+NO_LIBRARY = "unseen.c"
 
 
 def warnings(room):
@@ -55,6 +58,8 @@ def check(job):
         [given.wrappers / "cilkcheck-cc", *flags, "program.o", *others, *LIBRARIES, "-o", "program"],
     ):
         ran = harness.run(command, folder, env)
+        if ran.status == REFUSED and source.parent == cases.CASES and "refused" in cases.header(source)["expect"]:
+            return None
         if ran.status:
             return f"{name}: {ran.errors[-300:]}"
     ran = harness.run([folder / "program", *words], folder, {"ASAN_OPTIONS": "detect_leaks=0:exitcode=99", **({"CILKCHECK_RAW": "1"} if words else {})})
@@ -84,7 +89,7 @@ def main():
         jobs = [(given, room, runtime, renamed, it, flags, [], []) for it in sorted(PROGRAMS.glob("*.c")) for flags in (["-lm"], ["-DRACE", "-lm"])]
         for it in sorted(cases.CASES.glob("*.c")):
             wanted = cases.header(it)
-            if not it.name.startswith(("refused_", "omp_refused")) and wanted["expect"] != "refused":
+            if not it.name.startswith(("refused_", "omp_refused")) and wanted["expect"] != "refused" and it.name != NO_LIBRARY:
                 jobs.append((given, room, runtime, renamed, it, wanted.get("flags", "").split(), [], []))
         jobs += [(given, room, runtime, renamed, fuzz, [], [str(it)], [room / "sink.o"]) for it in SEEDS]
         jobs = [it for it in jobs if not given.names or it[4].stem.startswith(tuple(given.names))]

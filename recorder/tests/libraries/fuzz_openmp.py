@@ -257,8 +257,13 @@ def drawn(seed):
 HEADER = "#include <stdio.h>\n#include <stdlib.h>\nvoid sink(int value);"
 
 
-def group_of(given, room, seeds, compiler, level):
-    """The failures of some programs in one source, and how many were what."""
+# How often programs are drawn anew where the compiler itself crashes on a source, as clang 14 does now and then.
+MOST_DRAWS, NEXT_DRAW = 6, 1_000_000
+CRASHED = re.compile("frontend command failed|Stack dump|PLEASE submit a bug report|InstalledDir")
+
+
+def compiled_group(given, room, seeds, compiler, level):
+    """Some programs, the folder of their source, and how that was compiled."""
     folder = Path(given.keep or room) / f"{compiler}{level}-{seeds[0]}"
     folder.mkdir(parents=True, exist_ok=True)
     programs, lines = [drawn(it) for it in seeds], [HEADER]
@@ -268,7 +273,16 @@ def group_of(given, room, seeds, compiler, level):
     (folder / "p.c").write_text("\n".join(lines) + "\n")
     (folder / "sink.c").write_text("static int sum;\nvoid sink(int value) { sum += value; }\n")
     harness.run(["gcc", "-c", "sink.c", "-o", "sink.o"], folder)
-    compiled = harness.compile(given.wrappers, ["p.c", "sink.o"], "p", compiler, level, ["-fopenmp"], folder)
+    return programs, folder, harness.compile(given.wrappers, ["p.c", "sink.o"], "p", compiler, level, ["-fopenmp"], folder)
+
+
+def group_of(given, room, seeds, compiler, level):
+    """The failures of some programs in one source, and how many were what."""
+    for draw in range(MOST_DRAWS):
+        drawn_seeds = [it + draw * NEXT_DRAW for it in seeds]
+        programs, folder, compiled = compiled_group(given, room, drawn_seeds, compiler, level)
+        if not CRASHED.search(compiled.errors):
+            break
     counts = Counter()
     if compiled.status:
         return [f"{folder.name}: not compiled: {compiled.errors[-500:]}"], counts
@@ -328,6 +342,8 @@ def main():
         for failed, counted in harness.in_parallel(lambda job: group_of(*job), jobs, given.jobs):
             failures += failed
             counts += counted
+    for failure in failures:
+        print(failure)
     print(", ".join(f"{counts[it]} {it}" for it in ("programs", "racy", "refused")))
     harness.finish("OpenMP", counts["programs"], failures, given.expect)
 
