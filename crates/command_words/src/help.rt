@@ -13,7 +13,7 @@ pub const PROGRAM: &str =
     "`run` and `elide` take a program in a small language of spawn and sync: 'cilkcheck run --help' has the language.
 `judge` takes a trace, the requests of a program's strands in some order: 'cilkcheck judge --help' has its lines.
 `replay` takes both. `run --trace OUT` writes the trace of a run, so that it can be kept, judged again and replayed.
-`explain` takes a program, and tells a person of its races: both lines, what led there, and what would order them.
+`explain` takes a program or a trace, and tells a person of its races: both lines, what led there, and what would order them.
 `draw` takes a trace, and draws its strands and their races.
 
 A trace in which a function spawns a child, and both write the cell x:
@@ -157,12 +157,10 @@ Output: `replayed N` where the N entries are a finished run, `unfinished` where 
 Exit status: 0 where nothing was refused, 1 where an access was, 2 for a fault of the input, declarations that differ or an
 illegal request, 3 for want of memory, 4 where the entries are no finished run or the limit was passed.";
 
-pub const EXPLAIN: &str =
-    "Runs a program by many workers, and explains its races to a person, with the lines of its text";
+pub const EXPLAIN: &str = "Explains the races of a run of a program, or of a trace, to a person";
 
 /// What stands before the help of `explain`.
-pub const EXPLANATION: &str =
-    "Runs a program by many workers, and explains its races to a person, with the lines of its text
+pub const EXPLANATION: &str = "Explains the races of a run of a program, or of a trace, to a person
 
 For example:
 
@@ -188,6 +186,10 @@ For example:
 Each pair of lines is told once, of more than 20 pairs the first 20. Of a run in which nothing was refused it says so, and
 that no schedule has a race, and then the memory, a cell a line. Where the limit ends the run it tells the races until then.
 Of a text with a fault it shows the line, and what is wanted there.
+A text whose first word behind the declarations is not `func` is a trace. Its places and cells are told as its notes say:
+  #at K FILE:LINE, FUNCTION | CODE   what the mark @K stands for
+  #of CELL TEXT                      what a cell stands for
+  #run TEXT                          what was recorded
 
 Exit status: 0 where nothing was refused, 1 where an access was, 2 for a fault of the input, 3 for want of memory, 4 where
 the limit was passed.";
