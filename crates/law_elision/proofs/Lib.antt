@@ -15,4 +15,5 @@ pub mod Elided
 pub mod Roles
 pub mod Views
 pub mod Gets
+pub mod Evaluations
 pub mod Meeting

@@ -1,6 +1,6 @@
 -- What is told of the serial elision is so of a clean finished run.
-use Rattle.std.proofs.Common.{◌≡◌, ℕ, zero, suc, ◌<◌, List, [], ◌∷◌, Some, length, refl, sym, ap, ◌∙◌, subst, arith}
-use Rattle.std.specs.Prelude.{slice_get, slice_index}
+use Rattle.std.proofs.Common.{◌≡◌, ℕ, zero, suc, ◌<◌, List, [], ◌∷◌, length, refl, sym, ap, ◌∙◌, subst, subst₂, arith}
+use Rattle.std.specs.Prelude.{slice_index}
 use Rattle.std.proofs.lemmas.List.{length-map}
 use Rattle.model_histories.specs.Entries.{Entries}
 use Rattle.model_histories.specs.Shapes.{Shape}
@@ -10,15 +10,9 @@ use Rattle.model_programs.specs.Evaluation.{Store}
 use Rattle.model_programs.specs.Elisions.{HasMain, EvaluatesProgram, Elides}
 use Rattle.model_runs.specs.Serial.{Numbered, effect_of, effects_of}
 use Rattle.model_runs.specs.Laws.{IsElided, IsToldByElision, ElidedRunLaw}
+use Rattle.law_elision.specs.Laws.{CleanElisionLaw}
+use Rattle.law_elision.proofs.Evaluations.{one_main, evaluated_law}
 use Rattle.law_elision.proofs.Elided.{elision_law}
-
--- a program has one `main`
-one_main : (functions : List Code) (one other : Code) → HasMain functions one → HasMain functions other → one ≡ other
-one_main functions one other a b =
-    let place : Some a.0 ≡ Some b.0 = sym a.1 ∙ b.1 in
-    let same : a.0 ≡ b.0 = cc in
-    let code : Some one ≡ Some other = sym a.2 ∙ ap (slice_get functions) same ∙ b.2 in
-    cc
 
 same_cells : (one other : List ℕ) → length one ≡ length other → ((cell : ℕ) → cell < length one → slice_index one cell ≡ slice_index other cell) → one ≡ other
 same_cells [] [] size each = refl
@@ -65,3 +59,9 @@ module _ (functions : List Code) (shape : Shape) (entries : Entries) (e : IsElid
 
 pub elided_run_law : ElidedRunLaw
 elided_run_law functions shape sound entries run clean = told_by_elision functions shape entries (elision_law functions shape sound entries run clean)
+
+pub clean_elision_law : CleanElisionLaw
+clean_elision_law functions shape sound entries run clean memory is =
+    let e = elision_law functions shape sound entries run clean in
+    let elides = evaluated_law functions shape.monoids shape.cells e.main e.is_main (effects_of e.listed) (record { memory = e.memory; views = e.views }) e.evaluates in
+    subst₂ (Elides functions shape.monoids shape.cells) (one_memory shape.cells entries e.memory memory e.holds is) (requests_of functions shape entries e) elides

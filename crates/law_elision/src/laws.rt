@@ -1,6 +1,6 @@
 //! The laws of clean runs, each as the contract of a function that does nothing.
 
-ghost use Rattle.law_elision.specs.Laws.{ExpansionLaw, SerialListLaw};
+ghost use Rattle.law_elision.specs.Laws.{ExpansionLaw, SerialListLaw, OneEvaluationLaw, OneElisionLaw, EvaluatedLaw, CleanElisionLaw};
 ghost use Rattle.model_runs.specs.Laws.{ElisionLaw, ElidedRunLaw};
 
 /// A whole dialogue, with what the spawned functions did behind each spawn, is an evaluation where each value is the serial one.
@@ -23,4 +23,18 @@ pub fn elision_law()
 /// the memory of that run, makes as many requests as it has entries, and needs no more.
 pub fn elided_run_law()
     ensures { ElidedRunLaw }
+{}
+
+/// What is left of a function is evaluated in one way, and so is a program from its one `main` on: it has one serial elision, which does one
+/// list of requests and leaves one memory. So whatever evaluates it tells how it ends.
+pub fn evaluation_law()
+    ensures one { OneEvaluationLaw }
+    ensures program { OneElisionLaw }
+    ensures elides { EvaluatedLaw }
+{}
+
+/// A finished run of a sound program in which nothing was refused tells how the program ends: the elision leaves the memory of that run and
+/// makes as many requests as it has entries.
+pub fn clean_elision_law()
+    ensures { CleanElisionLaw }
 {}

@@ -1,5 +1,6 @@
 -- The worked histories are judged, and the wrong omissions in them change the verdict.
-use Rattle.std.proofs.Common.{◌≡◌, ◌≢◌, ◌⊎◌, inl, inr, ℕ, true, false, [], ◌∷◌, Some, refl, sym, ap, ◌∙◌, subst, lit<}
+use Rattle.std.proofs.Common.{◌≡◌, ◌≢◌, ◌⊎◌, inl, inr, ℕ, true, false, [], ◌∷◌, refl, sym, ap, ◌∙◌, subst, lit<}
+use Rattle.std.proofs.lemmas.List.Elements.{All-from_recursion}
 use Rattle.model_accesses.specs.declared.kind.Kind.{Kind}
 use Rattle.model_accesses.specs.declared.kind.Kind.TheVariants as kinds
 use Rattle.model_accesses.specs.declared.kind.Rule.TheVariants.{Free, Race}
@@ -14,31 +15,30 @@ use Rattle.model_strands.specs.Addresses.{address}
 use Rattle.law_strands.proofs.Updates.{updated_case}
 use Rattle.law_strands.proofs.Places.{running_not_reserved, over_not_reserved, reserved_not_absent}
 use Rattle.model_histories.specs.declared.answer.Answer.TheVariants.{Split, Joined, Ended, Granted, Value}
+use Rattle.model_histories.specs.declared.answer.Entry.{Entry}
+use Rattle.model_histories.specs.Extensions.{IsCleanAnswer}
 use Rattle.model_histories.specs.Entries.{control_part}
 use Rattle.model_accesses.specs.declared.request.Request.{Request}
-use Rattle.model_races.specs.declared.access.CellAccess.{CellAccess}
-use Rattle.model_races.specs.Accesses.{cell_access}
 use Rattle.model_races.specs.Judged.{IsJudged}
-use Rattle.law_traces.specs.Locations.{access_of, Accesses, HasRefusal}
+use Rattle.law_traces.specs.Locations.{Accesses, HasRefusal}
 use Rattle.law_traces.specs.Sets.{HaveSameAccesses}
 use Rattle.law_traces.specs.Omissions.{LeavesOut, nothing, keeps, omits, IsRepeated, IsReadByWriter, IsOfCell, IsOfOther}
 use Rattle.law_traces.specs.Epochs.{HasNoOpenBlock}
+use Rattle.law_traces.specs.CleanTraces.{SpeaksForOrders}
 use Rattle.law_traces.specs.Spawns.{GoesThrough, IsSpawned, IsEmpty, LeavesOutSpawn}
 use Rattle.law_traces.specs.Spawns as without_spawn
 use Rattle.law_traces.specs.Examples.{two_cells, asked, refused_by, spawned, both_write, one_writes, writes_twice, reads_and_writes, only_writes, only_reads, writes_another, both_write_both, both_read_another, two_spawns, spawn_behind, both_children_write, one_child_writes, synced, returned, WorkedHistories}
-use Rattle.law_traces.proofs.Locations.{accesses_same}
-use Rattle.law_traces.proofs.Judging.{write_granted, write_refused, read_granted, read_refused, spawns, returns, syncs, parallel_in, none_refused, each_access}
+use Rattle.law_traces.proofs.Histories.{legal_part, extends_self}
+use Rattle.law_traces.proofs.Sets.{location_here}
+use Rattle.law_traces.proofs.CleanTraces.{clean_trace_law}
+use Rattle.law_traces.proofs.Calls.{both_calls_write_judged, second_begins, second_inside, first_outside, second_moved, second_refused, called_again_judged, called_again_refused, second_left_out_moved, syncs_between_judged, same_first, its_first, after_sync, before_sync, syncs_between_refused, syncs_between_clean, not_alike, only_syncs_judged, only_syncs_refused, synced_left_out, join_none}
+use Rattle.law_traces.proofs.PairExamples.{write_read_write_judged, write_read_write_refused, first_near, last_near, writes_not_near, near_as_cells_judged, first_as_cell, last_as_cell, its_pairs, near_as_cells_clean, near_as_cells_refused, with_first_judged, with_first_read, with_first_last, with_first_clean, not_its_pairs, write_then_reads_judged, write_then_reads_refused, across_near, neighbours_judged, neighbours_clean, not_by_neighbours, second_as_first}
+use Rattle.law_traces.proofs.Judging.{write_granted, write_refused, read_granted, read_refused, spawns, returns, syncs, parallel_in, none_refused, each_access, another_cell, nothing_judged, cell_of, kind_of, no_access_of_spawn, no_access_of_sync, no_access_of_return}
 
 free_no_race : Free ≡ Race → ⊥
 free_no_race e = absurd (cc)
 
-another_cell : ◌≡◌ {A = ℕ} 1 0 → ⊥
-another_cell e = absurd (cc)
-
 -- ---- two strands, by one spawn
-
-nothing_judged : IsJudged two_cells []
-nothing_judged = record { legal = tt; memory = tt; reducers = tt }
 
 spawned_judged : IsJudged two_cells spawned
 unfolding updated
@@ -63,6 +63,15 @@ one_writes_judged = write_granted spawned spawned_judged 2 refl 0 2 (lit< tt) tt
 
 one_writes_clean : HasRefusal one_writes 0 → ⊥
 one_writes_clean = none_refused 0 one_writes ((λ k q r. r), ((λ k q r. r), tt))
+
+one_writes_speaks : SpeaksForOrders two_cells one_writes
+one_writes_speaks =
+    clean_trace_law two_cells one_writes one_writes_judged (All-from_recursion (λ (entry : Entry). IsCleanAnswer entry.answer) one_writes (tt, (tt, tt)))
+
+both_write_speaks : SpeaksForOrders two_cells both_write → ⊥
+both_write_speaks speaks =
+    speaks.race_free.cells (control_part both_write) (extends_self (control_part both_write)) (legal_part two_cells both_write both_write_judged.legal) 0
+    ((location_here two_cells both_write both_write_judged 0).0 both_write_refused)
 
 -- an access of cell 0 is left out
 spawned_kept : {May : Request → Type 0} → LeavesOut May spawned spawned
@@ -129,12 +138,6 @@ writes_another_judged =
     write_refused (asked 1 (Write 0 1) Granted ∷ asked 1 (Write 1 7) Granted ∷ spawned) both 2 refl 0 2 (record { entry = 3; strand = 1; kind = kinds.Write }) (lit< tt)
     ((1, lit< tt, refl), refl, refl, parallel_in (asked 1 (Write 0 1) Granted ∷ asked 1 (Write 1 7) Granted ∷ spawned) both 1 2 (inl refl) (inl refl) refl)
 
-cell_of : {kind its_kind : Kind} {cell other : ℕ} → Some (access_of its_kind cell) ≡ Some (access_of kind other) → cell ≡ other
-cell_of q = ap (λ (z : CellAccess). z.location) (accesses_same q)
-
-kind_of : {kind its_kind : Kind} {cell other : ℕ} → Some (access_of its_kind cell) ≡ Some (access_of kind other) → kind ≡ its_kind
-kind_of q = sym (ap (λ (z : CellAccess). z.kind) (accesses_same q))
-
 another_left_out : LeavesOut (IsOfOther 0) writes_another both_write
 another_left_out = keeps (keeps (omits spawned_kept (_, refl) (λ k q. another_cell (cell_of q))) (refl, refl)) (refl, refl)
 
@@ -150,15 +153,6 @@ both_write_both_judged =
     ((0, lit< tt, refl), refl, refl, parallel_in twice second 1 2 (inl refl) (inl refl) refl) in
     write_refused (asked 2 (Write 0 2) (refused_by 2 1 kinds.Write) ∷ twice) third 2 refl 1 2 (record { entry = 3; strand = 1; kind = kinds.Write }) (lit< tt)
     ((1, lit< tt, refl), refl, refl, parallel_in (asked 2 (Write 0 2) (refused_by 2 1 kinds.Write) ∷ twice) third 1 2 (inl refl) (inl refl) refl)
-
-no_access_of_spawn : {kind : Kind} {cell : ℕ} → cell_access Spawn ≡ Some (access_of kind cell) → ⊥
-no_access_of_spawn q = absurd (cc)
-
-no_access_of_sync : {kind : Kind} {cell : ℕ} → cell_access Sync ≡ Some (access_of kind cell) → ⊥
-no_access_of_sync q = absurd (cc)
-
-no_access_of_return : {kind : Kind} {cell : ℕ} → cell_access Return ≡ Some (access_of kind cell) → ⊥
-no_access_of_return q = absurd (cc)
 
 -- the accesses of either cell are the writes of strands 1 and 2
 abbrev IsWriter : ℕ → Kind → Type 0
@@ -404,6 +398,8 @@ examples_law = record {
   one_writes_judged = one_writes_judged;
   one_writes_clean = one_writes_clean;
   write_left_out = write_left_out;
+  one_writes_speaks = one_writes_speaks;
+  both_write_speaks = both_write_speaks;
   writes_twice_judged = writes_twice_judged;
   second_left_out = second_left_out;
   reads_and_writes_judged = reads_and_writes_judged;
@@ -421,6 +417,50 @@ examples_law = record {
   both_read_another_judged = both_read_another_judged;
   both_read_another_refused = both_read_another_refused;
   both_read_another_clean = both_read_another_clean;
+  both_calls_write_judged = both_calls_write_judged;
+  second_begins = second_begins;
+  second_inside = second_inside;
+  first_outside = first_outside;
+  second_moved = second_moved;
+  second_refused = second_refused;
+  called_again_judged = called_again_judged;
+  called_again_refused = called_again_refused;
+  second_left_out_moved = second_left_out_moved;
+  syncs_between_judged = syncs_between_judged;
+  same_first = same_first;
+  its_first = its_first;
+  after_sync = after_sync;
+  before_sync = before_sync;
+  syncs_between_refused = syncs_between_refused;
+  syncs_between_clean = syncs_between_clean;
+  not_alike = not_alike;
+  only_syncs_judged = only_syncs_judged;
+  only_syncs_refused = only_syncs_refused;
+  synced_left_out = synced_left_out;
+  same_behind = λ rest kind. ((λ x. absurd (join_none rest kind 0 x)), (λ x. absurd (join_none rest kind 1 x)));
+  write_read_write_judged = write_read_write_judged;
+  write_read_write_refused = write_read_write_refused;
+  first_near = first_near;
+  last_near = last_near;
+  writes_not_near = writes_not_near;
+  near_as_cells_judged = near_as_cells_judged;
+  first_as_cell = first_as_cell;
+  last_as_cell = last_as_cell;
+  its_pairs = its_pairs;
+  near_as_cells_clean = near_as_cells_clean;
+  near_as_cells_refused = near_as_cells_refused;
+  with_first_judged = with_first_judged;
+  with_first_read = with_first_read;
+  with_first_last = with_first_last;
+  with_first_clean = with_first_clean;
+  not_its_pairs = not_its_pairs;
+  write_then_reads_judged = write_then_reads_judged;
+  write_then_reads_refused = write_then_reads_refused;
+  across_near = across_near;
+  neighbours_judged = neighbours_judged;
+  neighbours_clean = neighbours_clean;
+  not_by_neighbours = not_by_neighbours;
+  second_as_first = second_as_first;
   two_spawns_judged = two_spawns_judged;
   two_spawns_refused = two_spawns_refused;
   two_spawns_empty = two_spawns_empty;

@@ -6,17 +6,17 @@ use Rattle.model_accesses.specs.declared.kind.Rule.TheVariants.{Race}
 use Rattle.model_accesses.specs.Table.{rule_between}
 use Rattle.model_accesses.specs.Accesses.{Access, Races, witness_of}
 use Rattle.model_accesses.specs.declared.witness.Witness.{Witness}
-use Rattle.model_accesses.specs.declared.request.Act.TheVariants.{Spawn, Sync, Return, Read, Write}
-use Rattle.model_strands.specs.History.{History, split, joined, ended}
+use Rattle.model_accesses.specs.declared.request.Act.TheVariants.{Spawn, Sync, Call, Return, Read, Write}
+use Rattle.model_strands.specs.History.{History, split, joined, resumed, ended}
 use Rattle.model_strands.specs.declared.spawned.Spawned.{Spawned}
 use Rattle.model_strands.specs.Strands.{Begun, Running}
-use Rattle.model_strands.specs.Legal.{Allowed}
+use Rattle.model_strands.specs.Legal.{Allowed, function_call}
 use Rattle.model_strands.specs.Dag.{IsParallel}
 use Rattle.model_strands.specs.Addresses.{address}
 use Rattle.law_addresses.specs.Address.{parallel}
 use Rattle.law_addresses.proofs.Extremes.{contains-cases}
 use Rattle.law_strands.proofs.Orders.{parallel_iff}
-use Rattle.model_histories.specs.declared.answer.Answer.TheVariants.{Split, Joined, Ended, Granted, Value, Refused}
+use Rattle.model_histories.specs.declared.answer.Answer.TheVariants.{Split, Same, Joined, Resumed, Ended, Granted, Value, Refused}
 use Rattle.model_histories.specs.declared.answer.Entry.{Entry}
 use Rattle.model_histories.specs.Entries.{Entries, control_part}
 use Rattle.model_races.specs.Accesses.{cell_access, granted}
@@ -27,6 +27,8 @@ use Rattle.model_races.specs.Judged.{IsJudged}
 use Rattle.law_traces.specs.Locations.{access_of, Accesses, HasRefusal}
 use Rattle.law_traces.specs.Examples.{two_cells, asked}
 use Rattle.law_traces.proofs.Histories.{none_in, legal_part}
+use Rattle.law_traces.proofs.Locations.{accesses_same}
+use Rattle.model_races.specs.declared.access.CellAccess.{CellAccess}
 
 -- none of the accesses races with the new one
 abbrev pub AllFree : History → ℕ → Kind → ℕ → List Access → Type 0
@@ -112,6 +114,20 @@ module _ (entries : Entries) (judged : IsJudged two_cells entries) (strand : ℕ
     reducers = (judged.reducers, tt);
   }
 
+  pub calls : IsJudged two_cells (asked strand Call Same ∷ entries)
+  calls = record {
+    legal = (judged.legal, record { runs = runs; in_range = tt; belongs = tt; allowed = function_call runs });
+    memory = (judged.memory, tt);
+    reducers = (judged.reducers, tt);
+  }
+
+  pub resumes : Allowed (control_part entries) (resumed strand) → IsJudged two_cells (asked strand Return Resumed ∷ entries)
+  resumes allowed = record {
+    legal = (judged.legal, record { runs = runs; in_range = tt; belongs = tt; allowed = allowed });
+    memory = (judged.memory, tt);
+    reducers = (judged.reducers, tt);
+  }
+
 -- strands are parallel where their addresses are
 pub parallel_in : (entries : Entries) → IsJudged two_cells entries → (strand other : ℕ) → Begun (control_part entries) strand → Begun (control_part entries) other →
     parallel (address (control_part entries) strand) (address (control_part entries) other) ≡ true → IsParallel (control_part entries) strand other
@@ -143,3 +159,29 @@ each_access Has c (e ∷ H) each s k (one, h, at, q) = elim (contains-cases e on
       (each.0 k (subst (λ (x : Entry). cell_access x.request.act ≡ Some (access_of k c)) is q))
   | inr t ↦ each_access Has c H each.1 s k (one, t, at, q)
 ]
+
+-- ---- what is the same in each worked history
+
+pub another_cell : ◌≡◌ {A = ℕ} 1 0 → ⊥
+another_cell e = absurd (cc)
+
+pub nothing_judged : IsJudged two_cells []
+nothing_judged = record { legal = tt; memory = tt; reducers = tt }
+
+pub cell_of : {kind its_kind : Kind} {cell other : ℕ} → Some (access_of its_kind cell) ≡ Some (access_of kind other) → cell ≡ other
+cell_of q = ap (λ (z : CellAccess). z.location) (accesses_same q)
+
+pub kind_of : {kind its_kind : Kind} {cell other : ℕ} → Some (access_of its_kind cell) ≡ Some (access_of kind other) → kind ≡ its_kind
+kind_of q = sym (ap (λ (z : CellAccess). z.kind) (accesses_same q))
+
+pub no_access_of_spawn : {kind : Kind} {cell : ℕ} → cell_access Spawn ≡ Some (access_of kind cell) → ⊥
+no_access_of_spawn q = absurd (cc)
+
+pub no_access_of_sync : {kind : Kind} {cell : ℕ} → cell_access Sync ≡ Some (access_of kind cell) → ⊥
+no_access_of_sync q = absurd (cc)
+
+pub no_access_of_return : {kind : Kind} {cell : ℕ} → cell_access Return ≡ Some (access_of kind cell) → ⊥
+no_access_of_return q = absurd (cc)
+
+pub no_access_of_call : {kind : Kind} {cell : ℕ} → cell_access Call ≡ Some (access_of kind cell) → ⊥
+no_access_of_call q = absurd (cc)

@@ -6,10 +6,16 @@ pub mod Reducers
 pub mod Sets
 pub mod Controls
 pub mod Omissions
+pub mod Moves
+pub mod Functions
+pub mod Pairs
 pub mod Moments
 pub mod Epochs
 pub mod Behind
 pub mod Renamings
 pub mod Spawns
+pub mod CleanTraces
 pub mod Judging
+pub mod Calls
+pub mod PairExamples
 pub mod Examples

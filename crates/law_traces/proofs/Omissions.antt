@@ -131,7 +131,7 @@ equal_locations_law shape H j c d same = (
 )
 
 -- what may be left out may be by a weaker condition
-leaves_more : (May Might : Request → Type 0) → ((request : Request) → May request → Might request) → {whole kept : Entries} → LeavesOut May whole kept → LeavesOut Might whole kept
+pub leaves_more : (May Might : Request → Type 0) → ((request : Request) → May request → Might request) → {whole kept : Entries} → LeavesOut May whole kept → LeavesOut Might whole kept
 leaves_more May Might more nothing = nothing
 leaves_more May Might more (keeps rest same) = keeps (leaves_more May Might more rest) same
 leaves_more May Might more (omits {entry = e} rest i may) = omits (leaves_more May Might more rest) i (more e.request may)

@@ -1,6 +1,8 @@
 -- What holds of what a judged history asks of one location, and of two judged histories where one leaves out what the other asks.
 use Rattle.std.specs.Prelude.{◌≡◌, ◌≢◌, ◌⊎◌, ◌↔◌, ℕ, None, List, ◌++◌}
 use Rattle.model_accesses.specs.declared.kind.Kind.{Kind}
+use Rattle.model_accesses.specs.declared.kind.Rule.TheVariants.{Race}
+use Rattle.model_accesses.specs.Table.{rule_between}
 use Rattle.model_strands.specs.History.{Event, History}
 use Rattle.model_strands.specs.Strands.{Running, Begun}
 use Rattle.model_strands.specs.Blocks.{stack, enclosing}
@@ -11,12 +13,17 @@ use Rattle.model_strands.specs.Address.{Address}
 use Rattle.model_strands.specs.Addresses.{address}
 use Rattle.model_histories.specs.Entries.{Entries, control_part}
 use Rattle.model_histories.specs.Shapes.{Shape}
+use Rattle.model_histories.specs.Extensions.{IsClean}
 use Rattle.model_races.specs.ViewReads.{Completes}
 use Rattle.model_races.specs.Judged.{IsJudged}
 use Rattle.law_traces.specs.Locations.{Accesses, HasRefusal, HasRaceAt, HasReadRefusal, HasViewRaceAt}
 use Rattle.law_traces.specs.Sets.{HasRaceBetween, AreCovered, HaveSameAccesses}
+use Rattle.law_traces.specs.Moves.{IsBelow, IsMoved, AreCoveredBehind, IsLike, IsOfOneLeftOut}
+use Rattle.law_traces.specs.Functions.{begins_at, IsAskedInside}
+use Rattle.law_traces.specs.Pairs.{HasNearRaceAt, StandsForPair, HasItsPairs, HasRefusedPair}
 use Rattle.law_traces.specs.Omissions.{LeavesOut, IsRepeated, IsReadByWriter, IsOfCell, IsOfOther}
 use Rattle.law_traces.specs.Epochs.{HasNoOpenBlock, moved, AskChanged, unchanged}
+use Rattle.law_traces.specs.CleanTraces.{SpeaksForOrders}
 use Rattle.law_traces.specs.Spawns.{renamed, GoesThrough, IsSpawned, IsEmpty, LeavesOutSpawn}
 
 -- some access of a cell is refused exactly where the cell has a race, in the dag of the history and in that of each legal longer one
@@ -73,6 +80,66 @@ LeftOutLocationLaw =
     HaveSameAccesses whole cell left_out → LeavesOut (IsOfCell left_out) whole kept →
     (HasRefusal whole left_out ↔ HasRefusal kept cell) × ((other : ℕ) → other ≢ left_out → HasRefusal whole other ↔ HasRefusal kept other)
 
+-- strands are parallel by what is behind the address with which theirs begin, in one history or in two
+abbrev pub MovedStrandsLaw : Type 0
+MovedStrandsLaw =
+    (history other_history : History) → Legal history → Legal other_history → (front other_front rest other_rest : Address) →
+    (strand other : ℕ) → Begun history strand → Begun history other → (strand' other' : ℕ) → Begun other_history strand' →
+    Begun other_history other' → address history strand ≡ front ++ rest → address history other ≡ front ++ other_rest →
+    address other_history strand' ≡ other_front ++ rest → address other_history other' ≡ other_front ++ other_rest →
+    IsParallel history strand other ↔ IsParallel other_history strand' other'
+
+-- so two cells to which the same is done behind two addresses have one verdict, in one history or in two
+abbrev pub MovedLocationLaw : Type 0
+MovedLocationLaw =
+    (shape other_shape : Shape) (entries others : Entries) → IsJudged shape entries → IsJudged other_shape others →
+    (front other_front : Address) (cell other_cell : ℕ) → IsMoved entries front cell others other_front other_cell →
+    HasRefusal entries cell ↔ HasRefusal others other_cell
+
+-- and so have two cells whose accesses cover one another behind two addresses
+abbrev pub MovedCoveringLaw : Type 0
+MovedCoveringLaw =
+    (shape other_shape : Shape) (entries others : Entries) → IsJudged shape entries → IsJudged other_shape others →
+    (front other_front : Address) (cell other_cell : ℕ) → AreCoveredBehind entries front cell others other_front other_cell →
+    AreCoveredBehind others other_front other_cell entries front cell → HasRefusal entries cell ↔ HasRefusal others other_cell
+
+-- What is asked for in a function, and in those that are called and spawned from there, is asked for by strands whose addresses begin with
+-- that of the function's first strand.
+abbrev pub FunctionLaw : Type 0
+FunctionLaw =
+    (shape : Shape) (entries : Entries) → IsJudged shape entries → (function cell : ℕ) → IsAskedInside entries function cell →
+    IsBelow entries (begins_at (control_part entries) function) cell
+
+-- Where one cell of each kind stands for all, to which the same is done but for where, and the accesses of all others are left out, the
+-- verdict on each cell is that on the one that stands for it.
+abbrev pub StandInLaw : Type 0
+StandInLaw =
+    (shape kept_shape : Shape) (whole kept : Entries) → IsJudged shape whole → IsJudged kept_shape kept → (stand_in : ℕ → ℕ) →
+    ((cell : ℕ) → stand_in (stand_in cell) ≡ stand_in cell) → ((cell : ℕ) → stand_in cell ≢ cell → IsLike whole cell (stand_in cell)) →
+    LeavesOut (IsOfOneLeftOut stand_in) whole kept → (cell : ℕ) → HasRefusal whole cell ↔ HasRefusal kept (stand_in cell)
+
+-- some access of a cell is refused exactly where the strands of a near pair of it are parallel, in the dag of the history and in that of each
+-- legal longer one
+abbrev pub NearPairLaw : Type 0
+NearPairLaw =
+    (shape : Shape) (entries : Entries) → IsJudged shape entries → (whole : History) → Extends whole (control_part entries) → Legal whole →
+    (cell : ℕ) → HasRefusal entries cell ↔ HasNearRaceAt whole entries cell
+
+-- some access of a cell that stands for two accesses is refused exactly where these conflict and their strands are parallel
+abbrev pub PairCellLaw : Type 0
+PairCellLaw =
+    (history : History) → Legal history → (kept_shape : Shape) (kept : Entries) → IsJudged kept_shape kept → (strand other : ℕ) →
+    Begun history strand → Begun history other → (kind other_kind : Kind) (pair_cell : ℕ) →
+    StandsForPair history strand kind other other_kind kept pair_cell →
+    HasRefusal kept pair_cell ↔ ((rule_between kind other_kind ≡ Race) × IsParallel history strand other)
+
+-- so a cell may be left out where for each near pair of it a cell stands, in the same history or in another one: some access of it is refused
+-- exactly where some access of one of these is
+abbrev pub KeptPairsLaw : Type 0
+KeptPairsLaw =
+    (shape kept_shape : Shape) (whole kept : Entries) → IsJudged shape whole → IsJudged kept_shape kept → (cell : ℕ) →
+    HasItsPairs whole cell kept → HasRefusal whole cell ↔ HasRefusedPair whole cell kept
+
 -- no block is open exactly where a strand that runs stands in none: in the root function, or in functions called from there
 abbrev pub OpenBlockLaw : Type 0
 OpenBlockLaw =
@@ -111,3 +178,7 @@ EmptySpawnLaw =
     (shape kept_shape : Shape) (whole kept : Entries) → IsJudged shape whole → IsJudged kept_shape kept → (spawner : Address) (blocks : ℕ) →
     IsEmpty whole spawner → GoesThrough (control_part whole) spawner blocks → LeavesOutSpawn spawner blocks whole kept →
     (cell : ℕ) → HasRefusal whole cell ↔ HasRefusal kept cell
+
+-- a judged history in which nothing is refused speaks for each order in which its strands can come
+abbrev pub CleanTraceLaw : Type 0
+CleanTraceLaw = (shape : Shape) (clean : Entries) → IsJudged shape clean → IsClean clean → SpeaksForOrders shape clean

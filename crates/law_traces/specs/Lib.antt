@@ -1,7 +1,11 @@
 pub mod Locations
 pub mod Sets
+pub mod Moves
+pub mod Functions
+pub mod Pairs
 pub mod Omissions
 pub mod Epochs
 pub mod Spawns
+pub mod CleanTraces
 pub mod Examples
 pub mod Laws
