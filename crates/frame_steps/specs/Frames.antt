@@ -1,5 +1,5 @@
 -- A frame's stack, and the dialogue after which it stands.
-use Rattle.std.specs.Prelude.{ℕ, ◌≡◌, ◌↔◌, false, Result, Err, OnOk, OnErr, List, [], ◌∷◌}
+use Rattle.std.specs.Prelude.{ℕ, ◌≡◌, ◌≢◌, ◌↔◌, false, Result, Err, OnOk, OnErr, List, [], ◌∷◌}
 use Rattle.std.specs.Prelude.{◌++◌, map, reverse, Option, Some, None, slice_get, IsTrue}
 use Rattle.model_programs.specs.Dialogue.{DialogueOf, Extent, Part}
 use Rattle.model_bodies.specs.Codes.{Code}
@@ -113,6 +113,8 @@ pub record IsAnswered {T : Type 0} (functions : List Code) (before : State)
   pub goes_on : OnOk result ((function argument : ℕ) (history : List Exchange) (x : Exchange) →
       IsAfter functions function argument history before → Wants functions before x → x.answer ≡ answer →
       IsAfter functions function argument (history ++ x ∷ []) after)
+  pub unasked : OnOk result (after.phase ≢ Wanting)
+  pub room : OnOk result ((x : Exchange) → Wants functions before x → x.act ≢ Act.Call → after.has_room ≡ before.has_room)
   pub err : OnErr result (after ≡ before)
   pub strange : result ≡ Err FrameFault.Strange → MayAnswer functions before answer → ⊥
   pub memory : result ≡ Err FrameFault.Memory →

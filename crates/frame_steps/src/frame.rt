@@ -176,8 +176,8 @@ impl<A: Allocator> Frame<A> {
         Ok(())
     }
 
-    /// Answers what is wanted. `Strange` where no such answer belongs to the wanted act or nothing is wanted, and `Memory` where a call
-    /// finds none.
+    /// Answers what is wanted; then nothing is wanted until `next`. Room for a call is kept behind an act that is none. `Strange` where no
+    /// such answer belongs to the wanted act or nothing is wanted, and `Memory` where a call finds none.
     pub fn answer<B: Allocator>(
         &mut self,
         program: &Program<B>,
@@ -189,6 +189,9 @@ impl<A: Allocator> Frame<A> {
         ensures after { OnOk result ((function argument : ℕ) (history : List Exchange) (x : Exchange) →
             IsAfter program.now.functions function argument history self.old → Wants program.now.functions self.old x →
             x.answer ≡ answer.now → IsAfter program.now.functions function argument (history ++ x ∷ []) self.new) }
+        ensures unasked { OnOk result (self.new.phase ≢ Phase.Wanting) }
+        ensures room { OnOk result ((x : Exchange) → Wants program.now.functions self.old x → x.act ≢ Act.Call →
+            self.new.has_room ≡ self.old.has_room) }
         ensures err { OnErr result (self.new ≡ self.old) }
         ensures strange { result ≡ Err FrameFault.Strange → MayAnswer program.now.functions self.old answer.now → ⊥ }
         ensures memory { result ≡ Err FrameFault.Memory →
@@ -283,6 +286,8 @@ impl<A: Allocator> Frame<A> {
     fn leave(&mut self, answer: &Answer) -> Result<(), FrameFault>
         ensures ok { OnOk result (IsLeft answer.now self.old self.new) }
         ensures returned { OnOk result (IsReturned (began_by self.old.callers) answer.now) }
+        ensures unasked { OnOk result (self.new.phase ≢ Phase.Wanting) }
+        ensures room { OnOk result (self.new.has_room ≡ self.old.has_room) }
         ensures err { OnErr result (self.new ≡ self.old) }
         ensures strange { IfErr result (λ fault. (fault ≡ FrameFault.Strange) × (IsReturned (began_by self.old.callers) answer.now → ⊥)) }
     {
@@ -291,7 +296,6 @@ impl<A: Allocator> Frame<A> {
                 Some(caller) => {
                     self.top = caller;
                     self.phase = Phase::Running;
-                    self.has_room = false;
                     Ok(())
                 }
                 None => Err(FrameFault::Strange),
@@ -307,6 +311,7 @@ impl<A: Allocator> Frame<A> {
     fn end(&mut self) -> Result<(), FrameFault>
         ensures ok { OnOk result ((self.old.callers ≡ []) × (self.new.top ≡ self.old.top)
             × (self.new.callers ≡ []) × (self.new.phase ≡ Phase.Over)) }
+        ensures room { OnOk result (self.new.has_room ≡ self.old.has_room) }
         ensures err { OnErr result (self.new ≡ self.old) }
         ensures strange { IfErr result (λ fault. (fault ≡ FrameFault.Strange) × (self.old.callers ≢ [])) }
     {

@@ -1,5 +1,5 @@
 -- The table of the digits of numbers below 100, and bytes put into a list.
-use Rattle.std.proofs.Common.{◌≡◌, ℕ, zero, suc, ◌+◌, ◌-◌, ◌*◌, ◌/◌, ◌%◌, ◌^◌, ◌<◌, ◌≤◌, Bool, true, false, ◌&&◌, T, eqb, List, [], ◌∷◌, ◌++◌, length, get_or, set, take, inl, inr, arith, ap, sym, ◌∙◌, append_assoc, length-set, eq-zero-or-pos, eqb→eq}
+use Rattle.std.proofs.Common.{◌≡◌, ℕ, zero, suc, ◌+◌, ◌-◌, ◌*◌, ◌/◌, ◌%◌, ◌<◌, ◌≤◌, Bool, true, ◌&&◌, T, eqb, List, [], ◌∷◌, ◌++◌, length, get_or, set, take, inl, inr, arith, ap, sym, ◌∙◌, append_assoc, length-set, eq-zero-or-pos, eqb→eq}
 use Rattle.std.proofs.lemmas.List.{take_more_set, take-take, length-take-le}
 use Rattle.std.proofs.lemmas.Grind.{take-set_at}
 use lib.Ieee.Fits.{and_l, and_r}

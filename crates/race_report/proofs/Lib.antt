@@ -5,4 +5,5 @@ pub mod CleanRuns
 pub mod JudgedRuns
 pub mod Schedules
 pub mod Digits
-pub mod RefusalTexts
+pub mod RefusalValues
+pub mod ReportTexts

@@ -3,6 +3,7 @@ pub mod RefusedText
 pub mod Rooms
 pub mod Counted
 pub mod Refusals
+pub mod RefusalValues
 pub mod ReportText
 pub mod Conditions
 pub mod Laws

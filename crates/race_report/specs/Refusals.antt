@@ -32,19 +32,19 @@ name_asked known act = []
 abbrev pub line_of_entry : List Entry → ℕ → ℕ
 line_of_entry entries entry_number = unwrap_or (option_map (λ entry. entry.request.line) (slice_get entries (entry_number - 1))) 0
 
--- the witness of a refusal: its entry, the line of that entry, and its strand
-abbrev pub witness_told : List Entry → Witness → Data
-witness_told entries witness =
+-- the witness of a refusal, with the line of its entry: the entry, that line, and the strand
+abbrev pub witness_told : (line : ℕ) → Witness → Data
+witness_told line witness =
     object (member (codes "entry") (number (unsigned witness.entry))
-    (member (codes "line") (number (unsigned (line_of_entry entries witness.entry)))
+    (member (codes "line") (number (unsigned line))
     (member (codes "strand") (number (unsigned witness.strand)) no_members)))
 
--- a refusal: the number of its entry, the request that was refused, the word of the rule, and the witness
-abbrev pub refusal_told : Known → ℕ → Request → List ℕ → Data → Data
-refusal_told known entry_number request rule witness =
+-- a refusal: the number of its entry, the request that was refused, the name that it asks for, the word of the rule, and the witness
+abbrev pub refusal_told : ℕ → Request → (name rule : List ℕ) → Data → Data
+refusal_told entry_number request name rule witness =
     object (member (codes "entry") (number (unsigned entry_number))
     (member (codes "line") (number (unsigned request.line))
-    (member (codes "name") (string (name_asked known request.act))
+    (member (codes "name") (string name)
     (member (codes "rule") (string rule)
     (member (codes "strand") (number (unsigned request.strand))
     (member (codes "witness") witness no_members))))))
@@ -53,8 +53,10 @@ refusal_told known entry_number request rule witness =
 -- with none, and nothing of other entries.
 abbrev pub answer_told : Known → List Entry → ℕ → Request → Answer → Option Data
 answer_told known entries entry_number request (Refused rule witness) =
-    Some (refusal_told known entry_number request (unwrap_or (refusal_word request.act witness.kind) []) (witness_told entries witness))
-answer_told known entries entry_number request Unset = Some (refusal_told known entry_number request (codes "unset") null)
+    Some (refusal_told entry_number request (name_asked known request.act) (unwrap_or (refusal_word request.act witness.kind) [])
+    (witness_told (line_of_entry entries witness.entry) witness))
+answer_told known entries entry_number request Unset =
+    Some (refusal_told entry_number request (name_asked known request.act) (codes "unset") null)
 answer_told known entries entry_number request answer = None
 
 -- the refusals among the entries that stand behind so many others, in their order

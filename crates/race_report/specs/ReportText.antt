@@ -1,14 +1,12 @@
 -- The report of a run as a JSON value, and its text.
-use Rattle.std.specs.Prelude.{ℕ, Bool, true, false, List, [], ◌∷◌, ◌++◌, codes, decimal, length, map, take, drop}
+use Rattle.std.specs.Prelude.{ℕ, Bool, true, false, List, [], ◌∷◌, codes, length, map, take, drop}
 use Rattle.serde_json.specs.Data.{Data, boolean, number, unsigned, string, array, object, Members, member, no_members, put}
 use Rattle.serde_json.specs.View.{items_of}
 use Rattle.serde_json.specs.Written.{compact_text}
 use Rattle.text_words.specs.declared.value.Mem.{Mem}
 use Rattle.text_words.specs.Values.{Known}
 use Rattle.model_histories.specs.declared.answer.Entry.{Entry}
-use Rattle.model_accesses.specs.declared.request.Request.{Request}
-use Rattle.model_accesses.specs.declared.witness.Witness.{Witness}
-use Rattle.race_report.specs.Refusals.{name_asked, line_of_entry, refusals_told}
+use Rattle.race_report.specs.Refusals.{refusals_told}
 
 -- what the cells of a memory hold: the number of a single cell, and the list of the numbers of an array
 abbrev pub cells_told : (is_array : Bool) → List ℕ → Data
@@ -52,27 +50,3 @@ report_told known entries memory =
 -- its text, with no space and no line feed
 abbrev pub report_text : Known → List Entry → List ℕ → List ℕ
 report_text known entries memory = compact_text (report_told known entries memory)
-
--- ---- parts of the text
-
--- what a report begins with, before the number of entries, and what it ends with, behind the refusals
-abbrev pub first_words : (clean : Bool) → List ℕ
-first_words true = codes "{\"clean\":true"
-first_words false = codes "{\"clean\":false"
-
-abbrev pub last_words : (clean : Bool) → List ℕ
-last_words true = codes ",\"schedules\":\"clean for every schedule\"}"
-last_words false = codes "}"
-
--- what a refusal has before its witness: the number of its entry, the request that was refused, and the word of the rule
-abbrev pub refusal_head : Known → ℕ → Request → List ℕ → List ℕ
-refusal_head known entry_number request rule =
-    codes "{\"entry\":" ++ decimal entry_number ++ codes ",\"line\":" ++ decimal request.line ++ codes ",\"name\":" ++
-    compact_text (string (name_asked known request.act)) ++ codes ",\"rule\":\"" ++ rule ++ codes "\",\"strand\":" ++ decimal request.strand ++
-    codes ",\"witness\":"
-
--- its witness, and the brace behind the refusal
-abbrev pub witness_tail : List Entry → Witness → List ℕ
-witness_tail entries witness =
-    codes "{\"entry\":" ++ decimal witness.entry ++ codes ",\"line\":" ++ decimal (line_of_entry entries witness.entry) ++
-    codes ",\"strand\":" ++ decimal witness.strand ++ codes "}}"

@@ -1,8 +1,8 @@
 //! The report of a run.
 
-ghost use Rattle.std.specs.Prelude.{◌≡◌, ◌<◌, ◌≤◌, ◌↔◌, ◌++◌, List, true, false, length, map, reverse, string_bytes, IfOk, OnOk, IsTrue, IsSome};
+ghost use Rattle.std.specs.Prelude.{◌≡◌, ◌<◌, ◌≤◌, ◌↔◌, ◌++◌, List, [], true, false, codes, length, map, reverse, string_bytes, IfOk, OnOk, IsTrue, IsSome};
 ghost use Rattle.std.specs.Option.{option_to_list};
-ghost use Rattle.serde_json.specs.Data.{Data, number, string, unsigned};
+ghost use Rattle.serde_json.specs.Data.{Data, number, unsigned};
 ghost use Rattle.serde_json.specs.View.{view, items_of};
 ghost use Rattle.serde_json.specs.Written.{has_float, comma_if, compact_text, items_text};
 ghost use Rattle.text_words.specs.Declarations.{cells_of};
@@ -11,18 +11,19 @@ ghost use Rattle.model_histories.specs.Shapes.{IsInRange};
 ghost use Rattle.model_histories.specs.Extensions.{IsClean};
 ghost use Rattle.race_report.specs.VerdictText.{kind_asked};
 ghost use Rattle.race_report.specs.Refusals.{name_asked, line_of_entry, answer_told, refusals_told};
-ghost use Rattle.race_report.specs.ReportText.{cells_told, memory_told, first_words, last_words, refusal_head, witness_tail, report_text};
+ghost use Rattle.race_report.specs.RefusalValues.{refusal_in};
+ghost use Rattle.race_report.specs.ReportText.{cells_told, memory_told, report_with, report_text};
 ghost use Rattle.race_report.specs.Conditions.{shape_known, IsTellable, AreTellable};
 
+use crate::refusal::{LinedWitness, Refusal};
 use crate::verdict::rule_of_refusal;
 use locked_replay::{Entries, Whole};
 use model_accesses::Witness;
 use program_text::Program;
 use race_gate::{Answer, Entry};
-use serde_json::{Map, Value, put};
+use serde_json::{Map, Value, json, put, to_vec};
 use std::alloc::{AllocError, Allocator, Global};
-use text_buffers::{push_number, push_words};
-use text_words::{Act, Mem, Request};
+use text_words::{Act, Mem};
 use trace_text::cell_name;
 
 /// The name of the cell or the reducer that an act asks for.
@@ -56,60 +57,44 @@ fn line_of_entry(entries: &Entries, number: u32) -> u32
     entries.get(number as usize - 1).request.line
 }
 
-/// Adds the compact text of a value in which no number is a float.
-fn push_value(alloc: Global, text: &mut Vec<u8>, value: &Value) -> Result<(), AllocError>
-    requires { has_float (view value.now) ≡ false }
-    ensures { OnOk result (text.new.items ≡ text.old.items ++ compact_text (view value.now)) }
-{
-    let written = value.to_vec(alloc)?;
-    text.extend_from_slice(written.as_slice())
-}
-
-/// What stands before a refusal: a comma, where there is one before it.
-fn comma(later: bool) -> &'static str
-    ensures { result.now ≡ comma_if later }
-{
-    if later { "," } else { "" }
-}
-
-/// Adds what is told of a refusal, which is the entry with this number, before its witness, behind a comma where others stand before it.
-fn push_refusal<A: Allocator>(
-    alloc: Global,
-    text: &mut Vec<u8>,
-    program: &Program<A>,
-    number: usize,
-    request: Request,
-    rule: &str,
-    later: bool,
-) -> Result<(), AllocError>
-    requires access { IsSome (kind_asked request.act) }
-    requires within { IsInRange (shape_known (contents program.now).known) request.act }
-    ensures { OnOk result (text.new.items ≡
-        (text.old.items ++ comma_if later) ++ refusal_head (contents program.now).known number request rule.now) }
-{
-    let name = Value::from(name_of(alloc, program, request.act)?);
-    push_words(text, comma(later))?;
-    push_number(text, "{\"entry\":", number as u64)?;
-    push_number(text, ",\"line\":", u64::from(request.line))?;
-    push_words(text, ",\"name\":")?;
-    push_value(alloc, text, &name)?;
-    push_words(text, ",\"rule\":\"")?;
-    push_words(text, rule)?;
-    push_number(text, "\",\"strand\":", u64::from(request.strand))?;
-    push_words(text, ",\"witness\":")
-}
-
-/// Adds what is told of a witness, with which the refusal ends.
-fn push_witness(text: &mut Vec<u8>, entries: &Entries, witness: Witness) -> Result<(), AllocError>
+/// The witness of a refusal, with the line of its entry.
+fn with_line(entries: &Entries, witness: Witness) -> LinedWitness
     requires first { 0 < witness.entry }
     requires last { witness.entry ≤ length entries.now.items }
-    ensures { OnOk result (text.new.items ≡ text.old.items ++ witness_tail entries.now.items witness) }
+    ensures witness { result.witness ≡ witness }
+    ensures line { result.line ≡ line_of_entry entries.now.items witness.entry }
 {
-    let line = line_of_entry(entries, witness.entry);
-    push_number(text, "{\"entry\":", u64::from(witness.entry))?;
-    push_number(text, ",\"line\":", u64::from(line))?;
-    push_number(text, ",\"strand\":", u64::from(witness.strand))?;
-    push_words(text, "}}")
+    LinedWitness {
+        witness,
+        line: line_of_entry(entries, witness.entry),
+    }
+}
+
+/// The text of a refusal.
+fn refusal_text(alloc: Global, refusal: &Refusal<'_>) -> Result<Vec<u8>, AllocError>
+    ensures { IfOk result (λ text. text.items ≡ compact_text (refusal_in refusal.now)) }
+{
+    // A refusal has nothing that JSON has no text for, so this fails only for want of memory.
+    match to_vec(alloc, refusal) {
+        Ok(text) => Ok(text),
+        Err(_) => Err(AllocError),
+    }
+}
+
+/// Adds a refusal, behind a comma where others stand before it.
+fn push_refusal(
+    alloc: Global,
+    text: &mut Vec<u8>,
+    refusal: &Refusal<'_>,
+    later: bool,
+) -> Result<(), AllocError>
+    ensures { OnOk result (text.new.items ≡ text.old.items ++ (comma_if later ++ compact_text (refusal_in refusal.now))) }
+{
+    if later {
+        text.push(b',')?;
+    }
+    let told = refusal_text(alloc, refusal)?;
+    text.extend_from_slice(told.as_slice())
 }
 
 /// Adds what is told of the entry with this number, where it is a refusal, behind others where there are some. It says whether there are
@@ -127,43 +112,43 @@ fn push_entry<A: Allocator>(
     ensures { IfOk result (λ some. (rest : List Data) → text.new.items ++ items_text some (items_of rest) ≡ text.old.items ++ items_text later
         (items_of (option_to_list (answer_told (contents program.now).known entries.now.items number entry.request entry.answer) ++ rest))) }
 {
-    match entry.answer {
-        Answer::Refused { witness, .. } => {
-            let rule = rule_of_refusal(entry.request.act, witness.kind);
-            push_refusal(alloc, text, program, number, entry.request, rule, later)?;
-            push_witness(text, entries, witness)?;
-            Ok(true)
-        }
-        Answer::Unset => {
-            push_refusal(alloc, text, program, number, entry.request, "unset", later)?;
-            push_words(text, "null}")?;
-            Ok(true)
-        }
-        _ => Ok(later),
-    }
+    let request = entry.request;
+    let (rule, witness) = match entry.answer {
+        Answer::Refused { witness, .. } => (
+            rule_of_refusal(request.act, witness.kind),
+            Some(with_line(entries, witness)),
+        ),
+        Answer::Unset => ("unset", None),
+        _ => return Ok(later),
+    };
+    let name = name_of(alloc, program, request.act)?;
+    let refusal = Refusal {
+        number,
+        request,
+        name: name.as_str(),
+        rule,
+        witness,
+    };
+    push_refusal(alloc, text, &refusal, later)?;
+    Ok(true)
 }
 
-/// Adds the refusals, in order of entries, and the bracket behind them. Where it is known that there are none, no entry is looked at.
+/// Adds the refusals among these entries, in order, and the bracket behind them.
 fn push_refusals<A: Allocator>(
     alloc: Global,
     text: &mut Vec<u8>,
     program: &Program<A>,
-    whole: &Whole,
+    entries: &Entries,
 ) -> Result<(), AllocError>
-    requires entries { AreTellable (shape_known (contents program.now).known) whole.now.entries.items }
-    requires clean { IsTrue whole.now.clean ↔ IsClean (reverse whole.now.entries.items) }
+    requires { AreTellable (shape_known (contents program.now).known) entries.now.items }
     ensures { OnOk result (text.new.items ≡ text.old.items ++
-        items_text false (items_of (refusals_told (contents program.now).known whole.now.entries.items))) }
+        items_text false (items_of (refusals_told (contents program.now).known entries.now.items))) }
 {
-    if whole.clean {
-        return push_words(text, "]");
-    }
-    let entries = &whole.entries;
     let mut some = false;
     for at in 0..entries.len() {
         some = push_entry(alloc, text, program, entries, at + 1, entries.get(at), some)?;
     }
-    push_words(text, "]")
+    Ok(text.push(b']')?)
 }
 
 /// Numbers as values.
@@ -203,26 +188,41 @@ fn memory_value(alloc: Global, mems: &[Mem], values: &[u64]) -> Result<Value, Al
     Ok(Value::from(members))
 }
 
-/// What a report begins with, before the number of entries.
-fn first_words(clean: bool) -> &'static str
-    ensures { result.now ≡ first_words clean }
+/// The report of a clean run with so many entries and this memory.
+fn clean_value(alloc: Global, entries: usize, memory: Value) -> Result<Value, AllocError>
+    ensures { IfOk result (λ value. view value ≡ report_with true entries (view memory) []) }
 {
-    if clean {
-        "{\"clean\":true"
-    } else {
-        "{\"clean\":false"
-    }
+    json!(in alloc; {
+        "clean": true,
+        "entries": entries,
+        "memory": memory,
+        "refusals": [],
+        "schedules": "clean for every schedule"
+    })
 }
 
-/// What a report ends with, behind the refusals.
-fn last_words(clean: bool) -> &'static str
-    ensures { result.now ≡ last_words clean }
+/// The report of a run that is not clean, but for its refusals.
+fn bare_value(alloc: Global, entries: usize, memory: Value) -> Result<Value, AllocError>
+    ensures { IfOk result (λ value. view value ≡ report_with false entries (view memory) []) }
 {
-    if clean {
-        ",\"schedules\":\"clean for every schedule\"}"
-    } else {
-        "}"
-    }
+    json!(in alloc; {
+        "clean": false,
+        "entries": entries,
+        "memory": memory,
+        "refusals": []
+    })
+}
+
+/// The text of the report of a run that is not clean, up to its first refusal: what is told with no refusal, without the two brackets at
+/// its end.
+fn open_text(alloc: Global, entries: usize, memory: Value) -> Result<Vec<u8>, AllocError>
+    requires { has_float (view memory) ≡ false }
+    ensures { IfOk result (λ text. (refusals : List Data) → text.items ++ (items_text false (items_of refusals) ++ codes "}") ≡
+        compact_text (report_with false entries (view memory) refusals)) }
+{
+    let mut text = bare_value(alloc, entries, memory)?.to_vec(alloc)?;
+    text.truncate(text.len() - 2);
+    Ok(text)
 }
 
 /// The report of a run of the program: one JSON object in compact text, its keys in byte order. It tells whether the run is clean, the
@@ -242,13 +242,12 @@ pub fn report<A: Allocator>(
     ensures { IfOk result (λ text. text.items ≡ report_text (contents program.now).known whole.now.entries.items whole.now.memory.items) }
 {
     let memory = memory_value(alloc, program.mems.as_slice(), whole.memory.as_slice())?;
-    let mut text = Vec::new(alloc);
-    push_words(&mut text, first_words(whole.clean))?;
-    push_number(&mut text, ",\"entries\":", whole.entries.len() as u64)?;
-    push_words(&mut text, ",\"memory\":")?;
-    push_value(alloc, &mut text, &memory)?;
-    push_words(&mut text, ",\"refusals\":[")?;
-    push_refusals(alloc, &mut text, program, whole)?;
-    push_words(&mut text, last_words(whole.clean))?;
+    let entries = whole.entries.len();
+    if whole.clean {
+        return clean_value(alloc, entries, memory)?.to_vec(alloc);
+    }
+    let mut text = open_text(alloc, entries, memory)?;
+    push_refusals(alloc, &mut text, program, &whole.entries)?;
+    text.push(b'}')?;
     Ok(text)
 }

@@ -11,6 +11,7 @@ mod counted;
 mod json_report;
 pub mod laws;
 mod placed;
+mod refusal;
 mod verdict;
 
 pub use counted::Counted;

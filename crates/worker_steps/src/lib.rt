@@ -6,6 +6,7 @@
 //! functions: by `step`, a step that goes well has asked what its task can go on with, and nothing else, and has kept that receipt; by the
 //! rule of each deque, `Lossless`, its tasks are those that were pushed and not yet taken, each as often. [`Room::settle`] answers the
 //! receipts of the workers and counts what they asked, and [`Worker::run`] says that a join which is met twice shows in the last receipt.
+//! [`run_serially`] runs a program by one worker that enters each child at its spawn; whether that was a run the caller looks up.
 #![tactic(auto)]
 
 mod ends;
@@ -14,6 +15,7 @@ mod hand;
 mod joining;
 mod lot;
 mod reach;
+mod serial;
 mod task;
 mod worker;
 
@@ -21,5 +23,6 @@ pub use ends::{Ends, make_ends};
 pub use fault::{first_of, of_threads};
 pub use joining::Room;
 pub use lot::{Lot, LotFault};
+pub use serial::run_serially;
 pub use task::Task;
 pub use worker::Worker;

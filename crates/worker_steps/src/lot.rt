@@ -29,9 +29,6 @@ pub(crate) const DOZE: u64 = 200;
 
 const LONGEST_DOZE: u64 = 3_200;
 
-/// The greatest join for which there is a mark. No gate has so many strands.
-const MOST_JOIN: u32 = 4_194_303;
-
 /// For how many joins more there is a mark at once.
 const MORE_MARKS: usize = 1_024;
 
@@ -99,9 +96,6 @@ impl<'p> Places<'p> {
     {
         if (join as usize) < self.marks.len() {
             return Ok(());
-        }
-        if join > MOST_JOIN {
-            return Err(AllocError);
         }
         self.marks.resize(join as usize + MORE_MARKS, Mark::Unmet)
     }

@@ -24,7 +24,7 @@ use std::sync::ledger::Ledger;
 use text_words::{Act, Request};
 
 /// The function that a frame spawns, which wants this act. The frame is not asked where it can be none.
-fn spawned(frame: &Frame<Global>, program: &Program<Global>, act: Act) -> Option<Target>
+pub(crate) fn spawned(frame: &Frame<Global>, program: &Program<Global>, act: Act) -> Option<Target>
     requires { Stands program.now.functions frame.now }
     ensures { IfSome result (λ target. target.function < length program.now.functions) }
 {

@@ -9,6 +9,6 @@ use Rattle.race_report.proofs.json_report.push_refusals.Given as goal
 abbrev pub invariant-loop-at : goal.invariant-loop-at
 invariant-loop-at g l =
     let known = (contents l.program).known in
-    let entries = l.whole.entries.items in
+    let entries = l.entries.items in
     l.text.items ++ items_text l.some (items_of (refusals_behind known entries l.at (drop l.at entries))) ≡
     l.initial.text.items ++ items_text false (items_of (refusals_told known entries))

@@ -18,7 +18,7 @@ returns-in-None g c =
     let before = c.args.self.now in
     let top = ap (λ (s : State). s.top) c.self.view_is in
     let none : statement_of functions before.top ≡ None = ap (λ t. statement_of functions t) (sym top) ∙ sym c.statement.ensures.at ∙ c.in-None.is in
-    left_answered functions before c.leave.new.self c.args.answer.now c.leave.result c.requires.stands c.requires.wanting none c.leave.ensures.ok c.leave.ensures.returned c.leave.ensures.err c.leave.ensures.strange
+    left_answered functions before c.leave.new.self c.args.answer.now c.leave.result c.requires.stands c.requires.wanting none c.leave.ensures.ok c.leave.ensures.returned c.leave.ensures.unasked c.leave.ensures.room c.leave.ensures.err c.leave.ensures.strange
 
 pub returns-in-Same : goal.returns-in-Same
 returns-in-Same g c =
@@ -56,3 +56,4 @@ returns-then-answered g c =
     (c.go_on.ensures.function ∙ ap same top) c.go_on.ensures.registers (c.go_on.ensures.join ∙ ap (λ (t : Activation). join_after c.args.answer.now t.join) top)
     (λ t is plain. ap (λ a. left functions a) (sym top) ∙ sym (left_same functions _ _) ∙ c.go_on.ensures.behind t (statement_same functions _ _ ∙ ap (λ a. statement_of functions a) top ∙ is) plain)
     (c.go_on.ensures.rest.0 ∙ ap (λ (s : State). s.callers) c.self.view_is) c.go_on.ensures.rest.1
+    (c.go_on.ensures.rest.2 ∙ ap (λ (s : State). s.has_room) c.self.view_is)

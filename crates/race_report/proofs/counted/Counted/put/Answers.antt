@@ -1,4 +1,4 @@
-use Rattle.std.proofs.Common.{rules, ◌≡◌, ◌+◌, ◌/◌, ◌%◌, ◌<◌, ◌≤◌, ◌^◌, ◌++◌, length, take, refl, ap, arith, append_assoc, ◌∙◌}
+use Rattle.std.proofs.Common.{rules, ◌≡◌, ◌+◌, ◌/◌, ◌≤◌, ◌++◌, length, take, refl, ap, arith, append_assoc, ◌∙◌}
 use Rattle.std.specs.Prelude.{◌==◌, decimal, false}
 use Rattle.std.proofs.lemmas.Bool.Decides.{nat_tests}
 use Rattle.itoa.proofs.Decimal.{decimal_pair}
