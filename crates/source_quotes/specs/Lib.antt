@@ -1,3 +1,5 @@
 pub mod Lines
 pub mod Quotes
+pub mod Parts
+pub mod Mistakes
 pub mod FaultTexts

@@ -2,58 +2,61 @@
 
 ghost use Rattle.std.specs.Prelude.{◌≡◌, ◌++◌, IfOk, OnOk};
 ghost use Rattle.text_words.specs.Text.{lines};
-ghost use Rattle.source_quotes.specs.FaultTexts.{meaning, fault_text, TellsFault};
+ghost use Rattle.source_quotes.specs.Lines.{line_in};
+ghost use Rattle.source_quotes.specs.Parts.{IsWithin};
+ghost use Rattle.source_quotes.specs.FaultTexts.{fault_quote, fault_text, TellsFault};
 
-use crate::hint::{Meant, hint};
-use crate::look::{Look, Paint, push_marked, push_painted, push_place, push_three};
+use crate::diagnosis::diagnose;
+use crate::hint::hint;
+use crate::look::{Look, Paint, push_painted, push_place, push_quote, push_sign_below, push_three};
+use crate::meant::Meant;
+use crate::mistake::{Mistake, title_words};
+use crate::part::{Span, span_of};
+use crate::scene::{Scene, words_of};
 use crate::source::Source;
 use std::alloc::{AllocError, Allocator};
 use text_buffers::push_words;
 use text_words::Cause;
 
-/// What a cause means.
-fn meaning_of(why: Cause) -> &'static str
-    ensures { result.now ≡ meaning why }
+/// Adds the faulty line, with a sign below a part of it.
+fn push_fault_quote<A: Allocator, B: Allocator>(
+    text: &mut Vec<u8, A>,
+    look: Look,
+    source: &Source<'_, B>,
+    number: u32,
+    span: Span,
+) -> Result<(), AllocError>
+    requires { IsWithin span (line_in source.now number) }
+    ensures { OnOk result (text.new.items ≡ text.old.items ++ fault_quote look source.now number span) }
 {
-    match why {
-        Cause::NotText => "a line has printable ASCII characters and tabs alone, in comments too",
-        Cause::BadHeader => {
-            "the first line has to be `cilk 1`, or `cilk 2` for `bump`, `pfor` and `digits`"
-        }
-        Cause::BadWord => "a word is missing, is too much, or is none that may stand in its place",
-        Cause::BadNumber => "a number is out of the range of its place, or is none",
-        Cause::UnknownName => "a name is not declared as what its place wants",
-        Cause::TwiceNamed => {
-            "a name is declared already; memories, reducers and functions share one space of names"
-        }
-        Cause::BadNesting => "this may not stand here, or a function or an `if` above has no `end`",
-        Cause::NoMain => "there is no function `main`",
-        Cause::TooMany => "a limit is passed here",
-    }
+    push_quote(text, look, source, number)?;
+    push_sign_below(text, look, source.line(number), span, b'^')
 }
 
-/// Adds the cause, the place, the faulty line with a sign below it, and what may help.
+/// Adds the mistake, the place, the faulty line with a sign below the part that is wrong, and what may help.
 fn push_fault<A: Allocator, B: Allocator>(
     text: &mut Vec<u8, A>,
     look: Look,
     file: &str,
     source: &Source<'_, B>,
     number: u32,
-    why: Cause,
+    mistake: Mistake,
+    span: Span,
     help: &[u8],
 ) -> Result<(), AllocError>
-    ensures { OnOk result (text.new.items ≡ text.old.items ++ (fault_text look file.now source.now number why ++ help.now)) }
+    requires { IsWithin span (line_in source.now number) }
+    ensures { OnOk result (text.new.items ≡ text.old.items ++ (fault_text look file.now source.now number mistake span ++ help.now)) }
 {
     push_painted(text, look, Paint::Red, "error")?;
-    push_three(text, ": ", meaning_of(why), "\n")?;
+    push_three(text, ": ", title_words(mistake), "\n")?;
     push_place(text, look, file, number)?;
-    push_marked(text, look, source, number, b'^')?;
+    push_fault_quote(text, look, source, number, span)?;
     push_words(text, "\n")?;
     text.extend_from_slice(help)
 }
 
-/// What is told of the text of a program or a trace that has a fault at this line: the meaning of the cause, the line with a sign below it, and what may
-/// help, such as the form that the line wants, the name that is not known, or the `if` that is open.
+/// What is told of the text of a program or a trace that has a fault at this line: what is wrong, the line with a sign below the part of it that
+/// is wrong, and what may help, such as the name or the keyword that was meant.
 pub fn fault_message<A: Allocator + Copy>(
     alloc: A,
     is_painted: bool,
@@ -67,8 +70,26 @@ pub fn fault_message<A: Allocator + Copy>(
 {
     let source = Source::new(alloc, text)?;
     let look = Look::of(is_painted, &source);
-    let help = hint(alloc, look, &source, number, why, meant)?;
+    let words = words_of(alloc, source.line(number))?;
+    let scene = Scene {
+        source: &source,
+        number,
+        meant,
+        words: words.as_slice(),
+    };
+    let found = diagnose(&scene, why);
+    let span = span_of(source.line(number), found.part);
+    let help = hint(alloc, look, &scene, found)?;
     let mut told = Vec::new(alloc);
-    push_fault(&mut told, look, file, &source, number, why, help.as_slice())?;
+    push_fault(
+        &mut told,
+        look,
+        file,
+        &source,
+        number,
+        found.mistake,
+        span,
+        help.as_slice(),
+    )?;
     Ok(told)
 }

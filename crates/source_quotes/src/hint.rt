@@ -1,242 +1,106 @@
-//! What may help where a program's text means nothing. No contract says which help is told.
+//! What may help where a text means nothing: what is declared, the name or keyword that was meant, and what to do. No contract says which
+//! help is told.
 
-ghost use Rattle.std.specs.Prelude.{◌<◌, length, IfSome};
-ghost use Rattle.text_words.specs.Text.{IsTextLine};
-
-use crate::look::{Look, push_noted, push_three};
-use crate::source::Source;
+use crate::diagnosis::Diagnosis;
+use crate::form::{begins_behind, form_of};
+use crate::hint_names::{note_array, note_unknown};
+use crate::hint_words::{note_form, note_range, note_word};
+use crate::look::Look;
+use crate::meant::Meant;
+use crate::mistake::{
+    ByteMistake, HeaderMistake, LimitMistake, Mistake, NestingMistake, NumberMistake,
+};
+use crate::near::Nearest;
+use crate::notes::Notes;
+use crate::part::Part;
+use crate::scene::{Scene, declared_at, first_words, open_at};
+use crate::shape::element;
 use std::alloc::{AllocError, Allocator};
-use text_buffers::{push_number, push_words};
-use text_words::{Cause, Words, as_text, is_name};
 
-/// The first words of lines at the head of a program or a trace, and the form of the lines that begin with each.
-const DECLARATION_FORMS: &[(&str, &str)] = &[
-    ("cilk", "cilk 1, or cilk 2, as the first line"),
-    (
-        "mem",
-        "mem NAME, or mem NAME LENGTH with a length from 1 to 1000000",
-    ),
-    (
-        "reducer",
-        "reducer NAME MONOID, with sum, min, max, last, or in version 2 digits",
-    ),
-];
-
-/// The first words of other lines of a program, and the form of the lines that begin with each.
-const FORMS: &[(&str, &str)] = &[
-    ("func", "func NAME PARAMETER"),
-    (
-        "let",
-        "let r = VALUE, or let r = VALUE + VALUE, also with -, * and <",
-    ),
-    ("read", "read r CELL"),
-    ("write", "write CELL VALUE"),
-    ("bump", "bump CELL VALUE, in version 2"),
-    ("update", "update REDUCER VALUE"),
-    ("put", "put REDUCER VALUE"),
-    ("get", "get r REDUCER"),
-    ("spawn", "spawn FUNCTION VALUE"),
-    ("call", "call FUNCTION VALUE"),
-    ("sync", "sync"),
-    ("if", "if r"),
-    ("else", "else"),
-    ("end", "end"),
-    ("pfor", "pfor r COUNT FUNCTION, in version 2"),
-];
-
-/// The first words of lines of a trace behind its declarations, and the form of the lines that begin with each.
-const REQUEST_FORMS: &[(&str, &str)] = &[
-    ("spawn", "spawn STRAND"),
-    ("sync", "sync STRAND"),
-    ("call", "call STRAND"),
-    ("return", "return STRAND"),
-    ("read", "read STRAND CELL"),
-    ("write", "write STRAND CELL VALUE"),
-    ("bump", "bump STRAND CELL VALUE, in version 2"),
-    ("update", "update STRAND REDUCER VALUE"),
-    ("put", "put STRAND REDUCER VALUE"),
-    ("get", "get STRAND REDUCER"),
-];
-
-/// What a text is to mean.
-#[derive(Clone, Copy, Debug, PartialEq, Eq)]
-pub enum Meant {
-    /// A program.
-    Program,
-    /// A trace.
-    Trace,
-}
-
-/// The form, among these, of the lines that begin with a word.
-fn form_among(forms: &[(&'static str, &'static str)], word: &str) -> Option<&'static str> {
-    for (first, form) in forms {
-        if *first == word {
-            return Some(form);
+/// What to do about a byte that no line may hold.
+fn byte_help(mistake: ByteMistake) -> &'static str {
+    match mistake {
+        ByteMistake::Other => "write it in ASCII, or leave it out",
+        ByteMistake::OrderMark => "save the file without a byte-order mark",
+        ByteMistake::Wide => "save the file as ASCII",
+        ByteMistake::Control => "remove it, or put a space in its place",
+        ByteMistake::Return => {
+            "end each line with a line feed, or with a carriage return and a line feed"
         }
     }
-    None
 }
 
-/// The form of the lines that begin with a word.
-fn form_of(meant: Meant, word: &str) -> Option<&'static str> {
-    match meant {
-        Meant::Trace => match form_among(REQUEST_FORMS, word) {
-            Some(form) => Some(form),
-            None => form_among(DECLARATION_FORMS, word),
-        },
-        Meant::Program => match form_among(FORMS, word) {
-            Some(form) => Some(form),
-            None => form_among(DECLARATION_FORMS, word),
-        },
+/// What to do about a first line that is no header.
+fn header_help(mistake: HeaderMistake) -> &'static str {
+    match mistake {
+        HeaderMistake::Other => "put the line `cilk 1` before this one",
+        HeaderMistake::Empty => "begin with the line `cilk 1`",
+        HeaderMistake::Comment => "put the comment below the line `cilk 1`",
+        HeaderMistake::Blank => "begin with the line `cilk 1`, and leave out the blank one",
+        HeaderMistake::Version => { "write `cilk 1`, or `cilk 2` for `bump`, `pfor` and `digits`" }
+        HeaderMistake::Long => "put what follows on the next line",
     }
 }
 
-/// The limit that a line with this first word may pass.
-fn limit_of(word: &str) -> &'static str {
-    match word {
-        "mem" => "a program has at most 1000000 cells in all",
-        "reducer" => "a program has at most 256 reducers",
-        "func" => "a program has at most 1000 functions",
-        "if" =>
-            "at most 64 `if` stand within one another, and a program has at most 100000 statements",
-        "let" | "read" | "get" | "pfor" => {
-            "a function has at most 16 registers, and a program at most 100000 statements"
+/// What to do where a limit is passed.
+fn limit_help(mistake: LimitMistake) -> &'static str {
+    match mistake {
+        LimitMistake::Other => "make the text smaller",
+        LimitMistake::Lines => "leave out comments and blank lines, or split the text",
+        LimitMistake::Requests =>
+            "record fewer accesses, or judge the parts of the trace one by one",
+        LimitMistake::Cells => "declare smaller arrays, or fewer",
+        LimitMistake::Reducers => "let several values share a reducer",
+        LimitMistake::Functions => "join functions, with an `if` on their parameter",
+        LimitMistake::Statements => "put what is repeated into a function of its own",
+        LimitMistake::Registers => {
+            "assign again a register whose value is not used below, or put a part into a function of its own"
         }
-        _ => "a program has at most 100000 statements, and a text 4000000 lines",
+        LimitMistake::Depth => "put the inner part into a function of its own",
     }
 }
 
-/// The first three words of a line; where there are fewer, nothing in their place.
-fn first_words<'a>(line: &'a [u8]) -> (&'a str, &'a str, &'a str) {
-    let Some(text) = as_text(line) else {
-        return ("", "", "");
+/// Notes what a header has to be.
+fn note_header<A: Allocator>(notes: &mut Notes<A>, mistake: HeaderMistake, first: &str) {
+    if matches!(mistake, HeaderMistake::Other) {
+        let mut nearest = Nearest::to(first);
+        nearest.offer("cilk");
+        if nearest.found().is_some() {
+            return notes.help("did you mean `cilk`?");
+        }
+    }
+    notes.help(header_help(mistake));
+}
+
+/// Notes what is known of a number that is none, or is out of range.
+fn note_number<A: Allocator, B: Allocator>(
+    notes: &mut Notes<A>,
+    scene: &Scene<'_, '_, B>,
+    mistake: NumberMistake,
+    part: Part,
+) {
+    let form = form_of(scene.meant, scene.word(0));
+    let wanted = match (form, part) {
+        (Some(form), Part::Word(at)) => form.place(at),
+        _ => None,
     };
-    let mut words = Words::of_line(text);
-    let first = words.take().unwrap_or("");
-    let second = words.take().unwrap_or("");
-    (first, second, words.take().unwrap_or(""))
-}
-
-/// Whether a line gives a program the name, as a memory, a reducer or a function.
-fn declares(line: &[u8], name: &str) -> bool {
-    let (first, second, _) = first_words(line);
-    second == name && (first == "mem" || first == "reducer" || first == "func")
-}
-
-/// Whether lines with this first word assign the register behind it.
-fn is_assignment(first: &str) -> bool {
-    matches!(first, "let" | "read" | "get" | "pfor")
-}
-
-/// Whether a line of a function makes a register of this name known.
-fn assigns(line: &[u8], name: &str) -> bool {
-    let (first, second, third) = first_words(line);
-    if first == "func" {
-        third == name
-    } else {
-        second == name && is_assignment(first)
-    }
-}
-
-/// Notes, a line each. That there was no memory for a part is noted, and asked for once, at the end.
-struct Notes<A: Allocator> {
-    text: Vec<u8, A>,
-    look: Look,
-    is_short: bool,
-}
-
-impl<A: Allocator> Notes<A> {
-    /// Notes that there is no memory.
-    fn fail(&mut self) {
-        self.is_short = true;
-    }
-
-    /// Adds words.
-    fn words(&mut self, words: &str) {
-        self.is_short |= push_words(&mut self.text, words).is_err();
-    }
-
-    /// Begins a note.
-    fn begin(&mut self, words: &str) {
-        self.is_short |= push_noted(&mut self.text, self.look).is_err();
-        self.words(words);
-    }
-
-    /// Adds a word in quotes, and the words behind it.
-    fn quoted(&mut self, word: &str, behind: &str) {
-        self.is_short |= push_three(&mut self.text, "`", word, "`").is_err();
-        self.words(behind);
-    }
-
-    /// Adds the number of a line, and ends the note.
-    fn line(&mut self, number: u64) {
-        self.is_short |= push_number(&mut self.text, "", number).is_err();
-        self.words("\n");
-    }
-
-    /// All notes. Errors where there was no memory for a part.
-    fn end(self) -> Result<Vec<u8, A>, AllocError> {
-        let Notes {
-            text,
-            look: _,
-            is_short,
-        } = self;
-        if is_short {
-            return Err(AllocError);
+    match mistake {
+        NumberMistake::Other => note_form(notes, scene),
+        NumberMistake::Digits => {
+            notes.help("write decimal digits alone, and spaces around each sign");
         }
-        Ok(text)
-    }
-}
-
-/// Notes the form of the lines with this first word.
-fn note_form<A: Allocator>(notes: &mut Notes<A>, meant: Meant, first: &str) {
-    match form_of(meant, first) {
-        Some(form) => {
-            notes.begin("the form of this line is ");
-            notes.quoted(form, "\n");
-        }
-        None => {
-            notes.begin("no line begins with ");
-            notes.quoted(first, "\n");
+        NumberMistake::Range | NumberMistake::Mark => note_range(notes, wanted),
+        NumberMistake::Index => {
+            if let Part::Index(at) = part
+                && let Some((name, _)) = element(scene.word(at))
+            {
+                note_array(notes, scene, name);
+            }
         }
     }
 }
 
-/// The line before which a name was declared, as the lines in front of it have it.
-fn declared_at(lines: &[&[u8]], name: &str) -> Option<usize>
-    ensures { IfSome result (λ place. place < length lines.now) }
-{
-    lines.iter().position(|line| declares(line, name))
-}
-
-/// Notes where a name was declared before.
-fn note_earlier<A: Allocator>(notes: &mut Notes<A>, before: &[&[u8]], name: &str) {
-    if let Some(place) = declared_at(before, name) {
-        notes.begin("");
-        notes.quoted(name, " is declared at line ");
-        notes.line(place as u64 + 1);
-    }
-}
-
-/// The place of the innermost `func` or `if` on these lines that has no `end` yet.
-fn open_at(lines: &[&[u8]]) -> Option<usize>
-    ensures { IfSome result (λ place. place < length lines.now) }
-{
-    let mut place = lines.len();
-    let mut ends = 0_usize;
-    while place > 0 {
-        place -= 1;
-        match first_words(lines[place]).0 {
-            "func" | "if" if ends == 0 => return Some(place),
-            "func" | "if" => ends -= 1,
-            "end" => ends += 1,
-            _ => {}
-        }
-    }
-    None
-}
-
-/// Notes what is open before a line that may not stand there.
+/// Notes what is open before a line, or behind the last one.
 fn note_open<A: Allocator>(notes: &mut Notes<A>, before: &[&[u8]]) {
     match open_at(before) {
         Some(place) => {
@@ -245,107 +109,103 @@ fn note_open<A: Allocator>(notes: &mut Notes<A>, before: &[&[u8]]) {
                 first_words(before[place]).0,
                 " that is open here begins at line ",
             );
-            notes.line(place as u64 + 1);
+            notes.line(place);
         }
-        None => notes.begin("no function is open here\n"),
+        None => notes.note("no function is open here"),
     }
 }
 
-/// The names that a statement uses, each once: all behind its first word but for that of the register that it assigns.
-fn used_by<'a, A: Allocator>(alloc: A, line: &'a str) -> Result<Vec<&'a str, A>, AllocError>
-    requires { IsTextLine line.now }
-{
-    let mut names = Vec::new(alloc);
-    let mut words = Words::of_line(line);
-    if is_assignment(words.take().unwrap_or("")) {
-        words.take();
-    }
-    while let Some(word) = words.take() {
-        for part in word.split('[') {
-            let name = part.strip_suffix(']').unwrap_or(part);
-            if is_name(name) && !names.contains(&name) {
-                names.push(name)?;
-            }
-        }
-    }
-    Ok(names)
-}
-
-/// The lines of the function that the last of these lines stands in, from its `func` on.
-fn function_lines<'s, 'a>(before: &'s [&'a [u8]]) -> &'s [&'a [u8]] {
-    let begin = before
+/// Notes the line with the first function or request.
+fn note_first<A: Allocator, B: Allocator>(notes: &mut Notes<A>, scene: &Scene<'_, '_, B>) {
+    let before = scene.before();
+    let begun = before
         .iter()
-        .rposition(|line| first_words(line).0 == "func");
-    &before[begin.unwrap_or(0)..]
-}
-
-/// Whether some line makes the name known behind these lines, which are of a function: as a register, or as a declared name.
-fn is_known<B: Allocator>(source: &Source<'_, B>, function: &[&[u8]], name: &str) -> bool {
-    name == "ok"
-        || function.iter().any(|line| assigns(line, name))
-        || declared_at(source.as_slice(), name).is_some()
-}
-
-/// What is noted of a name that nothing makes known.
-fn unknown_words(meant: Meant) -> &'static str {
-    match meant {
-        Meant::Program => " is declared nowhere, and no line above assigns it\n",
-        Meant::Trace => " is declared nowhere\n",
+        .position(|line| begins_behind(scene.meant, first_words(line).0));
+    if let Some(place) = begun {
+        notes.begin(match scene.meant {
+            Meant::Program => "the first function begins at line ",
+            Meant::Trace => "the first request stands at line ",
+        });
+        notes.line(place);
     }
 }
 
-/// Notes each name that a line uses and that nothing makes known, once.
-fn note_unknown<A: Allocator + Copy, B: Allocator>(
-    alloc: A,
+/// What to do about a line that may not stand where it does.
+fn nesting_help(mistake: NestingMistake) -> &'static str {
+    match mistake {
+        NestingMistake::Other => "end each function and each `if` by an `end` of its own",
+        NestingMistake::Declaration | NestingMistake::TraceDeclaration => {
+            "move this line above that one"
+        }
+        NestingMistake::Function => "put an `end` before this line, one for each open `if` too",
+        NestingMistake::Statement => "put it between a `func` and its `end`",
+        NestingMistake::Else => "put it between an `if` and its `end`",
+        NestingMistake::SecondElse => "put an `end` before it, or leave it out",
+        NestingMistake::End => "leave it out, or look for an `end` too many above",
+        NestingMistake::OpenFunction | NestingMistake::OpenIf => "add a line `end`",
+    }
+}
+
+/// Notes what is known of a line that may not stand where it does.
+fn note_nesting<A: Allocator, B: Allocator>(
     notes: &mut Notes<A>,
-    source: &Source<'_, B>,
-    number: u32,
-    meant: Meant,
+    scene: &Scene<'_, '_, B>,
+    mistake: NestingMistake,
 ) {
-    let Some(line) = as_text(source.line(number)) else {
-        return;
-    };
-    let Ok(used) = used_by(alloc, line) else {
-        return notes.fail();
-    };
-    let function = function_lines(source.before(number));
-    for name in used.as_slice() {
-        if !is_known(source, function, name) {
-            notes.begin("");
-            notes.quoted(name, unknown_words(meant));
+    match mistake {
+        NestingMistake::Declaration | NestingMistake::TraceDeclaration => note_first(notes, scene),
+        _ => note_open(notes, scene.before()),
+    }
+    notes.help(nesting_help(mistake));
+}
+
+/// Notes a function that may have been meant to be `main`.
+fn note_main<A: Allocator, B: Allocator>(notes: &mut Notes<A>, scene: &Scene<'_, '_, B>) {
+    let mut nearest = Nearest::to("main");
+    for line in scene.source.as_slice() {
+        let (first, second, _) = first_words(line);
+        if first == "func" {
+            nearest.offer(second);
         }
     }
+    match nearest.found() {
+        Some(name) => {
+            notes.begin("help: write `main` in place of ");
+            notes.quoted(name, "\n");
+        }
+        None => notes.help("add the function with which the program begins: `func main z`"),
+    }
+}
+
+/// Notes where a name was declared before.
+fn note_twice<A: Allocator, B: Allocator>(notes: &mut Notes<A>, scene: &Scene<'_, '_, B>) {
+    let name = scene.word(1);
+    if let Some(place) = declared_at(scene.before(), name) {
+        notes.begin("");
+        notes.quoted(name, " is declared at line ");
+        notes.line(place);
+    }
+    notes.help("take another name for one of them");
 }
 
 /// What may help, a note a line.
-pub(crate) fn hint<A: Allocator + Copy, B: Allocator>(
+pub(crate) fn hint<A: Allocator, B: Allocator>(
     alloc: A,
     look: Look,
-    source: &Source<'_, B>,
-    number: u32,
-    why: Cause,
-    meant: Meant,
+    scene: &Scene<'_, '_, B>,
+    found: Diagnosis,
 ) -> Result<Vec<u8, A>, AllocError> {
-    let (first, second, _) = first_words(source.line(number));
-    let before = source.before(number);
-    let mut notes = Notes {
-        text: Vec::new(alloc),
-        look,
-        is_short: false,
-    };
-    match why {
-        Cause::BadWord | Cause::BadNumber => note_form(&mut notes, meant, first),
-        Cause::UnknownName => {
-            note_form(&mut notes, meant, first);
-            note_unknown(alloc, &mut notes, source, number, meant);
-        }
-        Cause::TwiceNamed => note_earlier(&mut notes, before, second),
-        Cause::BadNesting => note_open(&mut notes, before),
-        Cause::TooMany => {
-            notes.begin(limit_of(first));
-            notes.words("\n");
-        }
-        Cause::NotText | Cause::BadHeader | Cause::NoMain => {}
+    let mut notes = Notes::new(alloc, look);
+    match found.mistake {
+        Mistake::Byte(mistake) => notes.help(byte_help(mistake)),
+        Mistake::Header(mistake) => note_header(&mut notes, mistake, scene.word(0)),
+        Mistake::Word(mistake) => note_word(&mut notes, scene, mistake, found.part),
+        Mistake::Number(mistake) => note_number(&mut notes, scene, mistake, found.part),
+        Mistake::Unknown(mistake) => note_unknown(&mut notes, scene, mistake, found.part),
+        Mistake::Twice => note_twice(&mut notes, scene),
+        Mistake::Nesting(mistake) => note_nesting(&mut notes, scene, mistake),
+        Mistake::NoMain => note_main(&mut notes, scene),
+        Mistake::Limit(mistake) => notes.help(limit_help(mistake)),
     }
     notes.end()
 }

@@ -6,15 +6,28 @@
 //! the cause, and what the first word of the line wants.
 #![tactic(auto)]
 
+mod diagnosis;
 mod fault;
+mod form;
 mod hint;
+mod hint_names;
+mod hint_words;
 mod look;
+mod meant;
+mod mistake;
+mod near;
+mod notes;
+mod part;
+mod scene;
+mod shape;
 mod source;
+mod values;
+mod words;
 
 pub use fault::fault_message;
-pub use hint::Meant;
 pub use look::{
     Look, Paint, push_count, push_gutter, push_left, push_marked, push_noted, push_painted,
     push_place, push_quote, push_sign, statement_of,
 };
+pub use meant::Meant;
 pub use source::Source;

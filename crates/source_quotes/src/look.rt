@@ -4,8 +4,10 @@ ghost use Rattle.std.specs.Prelude.{◌≡◌, ◌≤◌, ◌++◌, OnOk, length
 ghost use Rattle.source_quotes.specs.Lines.{line_in, blanks, end_from, statement_length};
 ghost use Rattle.source_quotes.specs.declared.look.Paint.TheVariants.{Blue};
 ghost use Rattle.source_quotes.specs.Quotes.{look_of, before_paint, behind_paint, painted};
+ghost use Rattle.source_quotes.specs.Parts.{IsWithin, indent, sign_below};
 ghost use Rattle.source_quotes.specs.Quotes.{gutter, quote, sign, marked, place, noted, counted};
 
+use crate::part::Span;
 use crate::source::Source;
 use itoa::Buffer;
 use std::alloc::{AllocError, Allocator};
@@ -151,7 +153,7 @@ pub fn push_quote<A: Allocator, B: Allocator>(
 }
 
 /// How many blanks stand at the beginning of a line.
-fn blanks_of(line: &[u8]) -> usize
+pub(crate) fn blanks_of(line: &[u8]) -> usize
     ensures count { result ≡ blanks line.now }
     ensures within { result ≤ length line.now }
 {
@@ -164,7 +166,7 @@ fn blanks_of(line: &[u8]) -> usize
 }
 
 /// Where a statement ends, without the blanks and the comment behind it.
-fn end_of(line: &[u8]) -> usize
+pub(crate) fn end_of(line: &[u8]) -> usize
     ensures end { result ≡ end_from 0 0 line.now }
     ensures within { result ≤ length line.now }
 {
@@ -219,6 +221,36 @@ pub fn push_marked<A: Allocator, B: Allocator>(
 {
     push_quote(text, look, source, number)?;
     push_sign(text, look, source.line(number), mark)
+}
+
+/// Adds what stands below these bytes: their tabs, and a space for each other byte.
+fn push_indent<A: Allocator>(text: &mut Vec<u8, A>, front: &[u8]) -> Result<(), AllocError>
+    ensures { OnOk result (text.new.items ≡ text.old.items ++ indent front.now) }
+{
+    for byte in front {
+        text.push(if *byte == b'\t' { b'\t' } else { b' ' })?;
+    }
+    Ok(())
+}
+
+/// Adds, below a line, this sign under a part of it.
+pub(crate) fn push_sign_below<A: Allocator>(
+    text: &mut Vec<u8, A>,
+    look: Look,
+    line: &[u8],
+    span: Span,
+    mark: u8,
+) -> Result<(), AllocError>
+    requires { IsWithin span line.now }
+    ensures { OnOk result (text.new.items ≡ text.old.items ++ sign_below look line.now span mark) }
+{
+    let (front, _) = line.split_at(span.from);
+    push_gutter(text, look)?;
+    push_words(text, " ")?;
+    push_indent(text, front)?;
+    push_words(text, before(look, Paint::Red))?;
+    push_repeated(text, span.count, mark)?;
+    push_words(text, behind(look))
 }
 
 /// Adds how many there are, and of what, which is one word.

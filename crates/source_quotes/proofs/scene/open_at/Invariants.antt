@@ -1,5 +1,5 @@
 use Rattle.std.proofs.Common.{◌≤◌, ◌+◌, length}
-use Rattle.source_quotes.proofs.hint.open_at.Given as goal
+use Rattle.source_quotes.proofs.scene.open_at.Given as goal
 
 -- no more ends were passed than lines
 abbrev pub invariant-loop-place : goal.invariant-loop-place

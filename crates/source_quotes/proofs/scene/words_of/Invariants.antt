@@ -1,5 +1,5 @@
 use Rattle.std.proofs.Common.{length}
-use Rattle.source_quotes.proofs.hint.used_by.Given as goal
+use Rattle.source_quotes.proofs.scene.words_of.Given as goal
 
 abbrev pub decreases-loop-word : goal.decreases-loop-word
 decreases-loop-word g l = length l.words

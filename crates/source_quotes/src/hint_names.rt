@@ -1,0 +1,242 @@
+//! Notes about names.
+
+use crate::meant::Meant;
+use crate::mistake::UnknownMistake;
+use crate::near::Nearest;
+use crate::notes::Notes;
+use crate::part::Part;
+use crate::scene::{Kind, Scene, declared_at, first_words, kind_of, named_at, register_of};
+use crate::shape::element;
+use std::alloc::Allocator;
+
+/// Notes what a name is declared as, and where.
+pub(crate) fn note_declared<A: Allocator, B: Allocator>(
+    notes: &mut Notes<A>,
+    scene: &Scene<'_, '_, B>,
+    name: &str,
+) {
+    let lines = scene.source.as_slice();
+    let Some(place) = declared_at(lines, name) else {
+        return;
+    };
+    notes.begin("");
+    notes.quoted(
+        name,
+        match kind_of(lines[place]) {
+            Kind::Cell => " is one cell, declared at line ",
+            Kind::Array(_) => " is an array, declared at line ",
+            Kind::Reducer => " is a reducer, declared at line ",
+            Kind::Function => " is a function, declared at line ",
+        },
+    );
+    notes.line(place);
+}
+
+/// Notes what an array is, and which of its cells can be named.
+pub(crate) fn note_array<A: Allocator, B: Allocator>(
+    notes: &mut Notes<A>,
+    scene: &Scene<'_, '_, B>,
+    name: &str,
+) {
+    note_declared(notes, scene, name);
+    if let Some(Kind::Array(length)) = scene.kind(name)
+        && let Ok(length) = length.parse::<u64>()
+    {
+        notes.begin("help: name one of its cells, from ");
+        notes.element(name, 0, " to ");
+        notes.element(name, length.saturating_sub(1), "\n");
+    }
+}
+
+/// Which names may stand in a place.
+#[derive(Clone, Copy)]
+enum Sort {
+    /// Cells and arrays.
+    Memory,
+    /// Reducers.
+    Reducer,
+    /// Functions.
+    Function,
+}
+
+/// The first word of the lines that declare such names.
+fn first_of(sort: Sort) -> &'static str {
+    match sort {
+        Sort::Memory => "mem",
+        Sort::Reducer => "reducer",
+        Sort::Function => "func",
+    }
+}
+
+/// The name of this sort that comes nearest to a word, where one is near.
+fn nearest_name<'a, B: Allocator>(
+    scene: &Scene<'_, 'a, B>,
+    sort: Sort,
+    word: &str,
+) -> Option<&'a str> {
+    let mut nearest = Nearest::to(word);
+    let wanted = first_of(sort);
+    for line in scene.source.as_slice() {
+        let (first, second, _) = first_words(line);
+        if first == wanted {
+            nearest.offer(second);
+        }
+    }
+    nearest.found()
+}
+
+/// The register of the function so far that comes nearest to a word, where one is near.
+fn nearest_register<'a, B: Allocator>(scene: &Scene<'_, 'a, B>, word: &str) -> Option<&'a str> {
+    let mut nearest = Nearest::to(word);
+    for line in scene.function() {
+        if let Some(name) = register_of(line) {
+            nearest.offer(name);
+        }
+    }
+    nearest.offer("ok");
+    nearest.found()
+}
+
+/// What to do where no name is near.
+fn sort_help(sort: Sort, meant: Meant) -> &'static str {
+    match (sort, meant) {
+        (Sort::Memory, Meant::Program) => "declare it before the first function, by `mem NAME`",
+        (Sort::Memory, Meant::Trace) => "declare it before the first request, by `mem NAME`",
+        (Sort::Reducer, Meant::Program) => {
+            "declare it before the first function, by `reducer NAME MONOID`"
+        }
+        (Sort::Reducer, Meant::Trace) => {
+            "declare it before the first request, by `reducer NAME MONOID`"
+        }
+        (Sort::Function, _) => "add it: `func NAME PARAMETER`, statements, and `end`",
+    }
+}
+
+/// Asks whether this word was meant.
+fn note_meant<A: Allocator>(notes: &mut Notes<A>, word: &str) {
+    notes.begin("help: did you mean ");
+    notes.quoted(word, "?\n");
+}
+
+/// Notes the name of a sort that was meant, or how one is declared.
+fn note_sort<A: Allocator, B: Allocator>(
+    notes: &mut Notes<A>,
+    scene: &Scene<'_, '_, B>,
+    sort: Sort,
+    name: &str,
+) {
+    note_declared(notes, scene, name);
+    match nearest_name(scene, sort, name) {
+        Some(other) if other != name => note_meant(notes, other),
+        _ => notes.help(sort_help(sort, scene.meant)),
+    }
+}
+
+/// Notes the register that was meant, or how one is assigned.
+fn note_register<A: Allocator, B: Allocator>(
+    notes: &mut Notes<A>,
+    scene: &Scene<'_, '_, B>,
+    name: &str,
+) {
+    note_declared(notes, scene, name);
+    match nearest_register(scene, name) {
+        Some(other) if other != name => note_meant(notes, other),
+        _ => {
+            notes.begin("help: assign it on a line above, as by ");
+            notes.three("`let ", name, " = 0`\n");
+        }
+    }
+}
+
+/// Notes how the value of a cell or a reducer comes into a register.
+fn note_read<A: Allocator, B: Allocator>(
+    notes: &mut Notes<A>,
+    scene: &Scene<'_, '_, B>,
+    keyword: &str,
+    name: &str,
+) {
+    note_declared(notes, scene, name);
+    notes.begin("help: ");
+    notes.three(keyword, " it into a register first: `", keyword);
+    notes.three(
+        " r ",
+        name,
+        match scene.kind(name) {
+            Some(Kind::Array(_)) => "[0]`, and use `r`\n",
+            _ => "`, and use `r`\n",
+        },
+    );
+}
+
+/// Whether a `read` of a program has its cell where its register is wanted.
+fn is_turned<B: Allocator>(scene: &Scene<'_, '_, B>) -> bool {
+    matches!(scene.meant, Meant::Program)
+        && scene.word(0) == "read"
+        && matches!(scene.kind(scene.word(1)), Some(Kind::Cell))
+}
+
+/// Notes how a `read` is written whose two words are turned.
+fn note_turned<A: Allocator, B: Allocator>(notes: &mut Notes<A>, scene: &Scene<'_, '_, B>) {
+    notes.begin("help: the register comes first: `read ");
+    notes.three(scene.word(2), " ", scene.word(1));
+    notes.words("`\n");
+}
+
+/// Notes the register that stands where a cell is wanted.
+fn note_instead<A: Allocator, B: Allocator>(
+    notes: &mut Notes<A>,
+    scene: &Scene<'_, '_, B>,
+    name: &str,
+) {
+    let function = scene.function();
+    let begin = scene.before().len().saturating_sub(function.len());
+    if let Some(place) = named_at(function, name) {
+        notes.begin("");
+        notes.quoted(name, " is a register, named first at line ");
+        notes.line(begin.saturating_add(place));
+    }
+    if is_turned(scene) {
+        note_turned(notes, scene);
+    } else {
+        notes.help("assign a register by `let`, and name a cell here");
+    }
+}
+
+/// Notes what is known of a name that is not declared as what its place wants.
+pub(crate) fn note_unknown<A: Allocator, B: Allocator>(
+    notes: &mut Notes<A>,
+    scene: &Scene<'_, '_, B>,
+    mistake: UnknownMistake,
+    part: Part,
+) {
+    let word = scene.culprit(part);
+    let name = match element(word) {
+        Some((name, _)) => name,
+        None => word,
+    };
+    match mistake {
+        UnknownMistake::Other => notes.help("declare it, or name another one"),
+        UnknownMistake::Register => note_register(notes, scene, name),
+        UnknownMistake::Cell if is_turned(scene) => note_turned(notes, scene),
+        UnknownMistake::Cell => note_sort(notes, scene, Sort::Memory, name),
+        UnknownMistake::Reducer => note_sort(notes, scene, Sort::Reducer, name),
+        UnknownMistake::Function => note_sort(notes, scene, Sort::Function, name),
+        UnknownMistake::CellRead => note_read(notes, scene, "read", name),
+        UnknownMistake::ReducerRead => note_read(notes, scene, "get", name),
+        UnknownMistake::NoIndex => note_array(notes, scene, name),
+        UnknownMistake::NoArray => {
+            note_declared(notes, scene, name);
+            notes.begin("help: write ");
+            notes.quoted(name, ", or declare an array, by `mem NAME LENGTH`\n");
+        }
+        UnknownMistake::ReducerForCell => {
+            note_declared(notes, scene, name);
+            notes.help("a reducer is used by `update`, `put` and `get`");
+        }
+        UnknownMistake::CellForReducer => {
+            note_declared(notes, scene, name);
+            notes.help("a cell is used by `read`, `write` and `bump`");
+        }
+        UnknownMistake::RegisterForCell => note_instead(notes, scene, name),
+    }
+}

@@ -1,0 +1,283 @@
+//! Notes about words of another shape than their places want, and about words that are missing or too much.
+
+use crate::form::{Wanted, form_of, offer_firsts};
+use crate::hint_names::note_array;
+use crate::meant::Meant;
+use crate::mistake::WordMistake;
+use crate::near::Nearest;
+use crate::notes::Notes;
+use crate::part::Part;
+use crate::scene::Scene;
+use crate::shape::element;
+use std::alloc::Allocator;
+
+/// Notes the form of the lines with the same first word.
+pub(crate) fn note_form<A: Allocator, B: Allocator>(
+    notes: &mut Notes<A>,
+    scene: &Scene<'_, '_, B>,
+) {
+    if let Some(form) = form_of(scene.meant, scene.word(0)) {
+        notes.begin("help: the form of this line is ");
+        notes.quoted(form.text, "\n");
+    }
+}
+
+/// Notes the range of a number in its place.
+pub(crate) fn note_range<A: Allocator>(notes: &mut Notes<A>, wanted: Option<Wanted>) {
+    notes.help(match wanted {
+        Some(Wanted::Length) => "write a length from 1 to 1000000",
+        Some(Wanted::Strand) => "write the number of a strand, from 0 to 4294967295",
+        Some(Wanted::Mark) => {
+            "write the number of a line of the program, from `@1` to `@4294967295`, or no mark"
+        }
+        _ => "write a number from 0 to 18446744073709551615",
+    });
+}
+
+/// The first word that comes nearest to a word, where one is near.
+fn nearest_first(meant: Meant, word: &str) -> Option<&'static str> {
+    let mut nearest = Nearest::to(word);
+    offer_firsts(meant, &mut nearest);
+    nearest.found()
+}
+
+/// What the first words of lines are.
+fn firsts_help(meant: Meant) -> &'static str {
+    match meant {
+        Meant::Program => {
+            "begin with `let`, `read`, `write`, `bump`, `update`, `put`, `get`, `spawn`, `call`, `sync`, `if`, `else`, `end` or `pfor`, or declare by `mem`, `reducer` or `func`"
+        }
+        Meant::Trace => {
+            "begin with `spawn`, `call`, `sync`, `return`, `read`, `write`, `bump`, `update`, `put` or `get`, or declare by `mem` or `reducer`"
+        }
+    }
+}
+
+/// Notes the first word that was meant, in this kind of text or else in the other, or those that there are.
+fn note_first<A: Allocator>(notes: &mut Notes<A>, meant: Meant, word: &str) {
+    if let Some(first) = nearest_first(meant, word) {
+        notes.begin("help: did you mean ");
+        notes.quoted(first, "?\n");
+    } else if let Some(first) = nearest_first(meant.other(), word) {
+        notes.begin("help: did you mean ");
+        notes.quoted(
+            first,
+            match meant {
+                Meant::Program => ", as in a trace?\n",
+                Meant::Trace => ", as in a program?\n",
+            },
+        );
+    } else {
+        notes.help(firsts_help(meant));
+    }
+}
+
+/// Notes how what stands before a `=` is assigned.
+fn note_assignment<A: Allocator, B: Allocator>(notes: &mut Notes<A>, scene: &Scene<'_, '_, B>) {
+    let (target, value) = (scene.word(0), scene.word(2));
+    notes.begin("help: assign a register by `let ");
+    notes.three(target, " = ", value);
+    notes.three("`, a cell by `write ", target, " ");
+    notes.three(value, "`", "\n");
+}
+
+/// Notes the monoid that was meant, or those that there are.
+fn note_monoid<A: Allocator>(notes: &mut Notes<A>, word: &str) {
+    let mut nearest = Nearest::to(word);
+    for monoid in ["sum", "min", "max", "last", "digits"] {
+        nearest.offer(monoid);
+    }
+    match nearest.found() {
+        Some(other) => {
+            notes.begin("help: did you mean ");
+            notes.quoted(other, "?\n");
+        }
+        None => notes.help("take `sum`, `min`, `max`, `last`, or in version 2 `digits`"),
+    }
+}
+
+/// Notes how a `let` of several operators is written: `let r = a + b + c` as two.
+fn note_chain<A: Allocator, B: Allocator>(notes: &mut Notes<A>, scene: &Scene<'_, '_, B>) {
+    match scene.words {
+        [_, target, _, left, sign, right, next, last, ..] => {
+            notes.begin("help: write a line for each: `let ");
+            notes.three(target, " = ", left);
+            notes.three(" ", sign, " ");
+            notes.three(right, "`, then `let ", target);
+            notes.three(" = ", target, " ");
+            notes.three(next, " ", last);
+            notes.words("`\n");
+        }
+        _ => notes.help("write a line for each operator"),
+    }
+}
+
+/// Notes what is done in place of what is too much.
+fn note_extra<A: Allocator, B: Allocator>(
+    notes: &mut Notes<A>,
+    scene: &Scene<'_, '_, B>,
+    word: &str,
+) {
+    match scene.words {
+        ["if", left, sign, right, ..] => {
+            notes.begin("help: assign the condition first: `let t = ");
+            notes.three(left, " ", sign);
+            notes.three(" ", right, "`, then `if t`\n");
+        }
+        ["else", "if", ..] => {
+            notes.help("put the `if` on a line of its own behind the `else`, and end both");
+        }
+        _ if word.starts_with('[') => notes.help("write a cell without spaces, as `a[0]`"),
+        _ => note_form(notes, scene),
+    }
+}
+
+/// Notes what a number with a minus sign is written as.
+fn note_negative<A: Allocator, B: Allocator>(
+    notes: &mut Notes<A>,
+    scene: &Scene<'_, '_, B>,
+    wanted: Option<Wanted>,
+    word: &str,
+) {
+    match (scene.meant, wanted, word.strip_prefix('-')) {
+        (Meant::Program, Some(Wanted::Operand), Some(digits)) => {
+            notes.note("numbers are modulo 18446744073709551616");
+            notes.begin("help: subtract it from 0: `let r = 0 - ");
+            notes.words(digits);
+            notes.words("`, and use `r`\n");
+        }
+        _ => {
+            note_range(notes, wanted);
+        }
+    }
+}
+
+/// Notes how an array is declared that was declared as in C.
+fn note_declaration<A: Allocator>(notes: &mut Notes<A>, word: &str) {
+    match word.split_once('[') {
+        Some((name, behind)) => {
+            notes.begin("help: write `mem ");
+            let length = behind.strip_suffix(']').unwrap_or(behind);
+            notes.three(name, " ", if length.is_empty() { "LENGTH" } else { length });
+            notes.words("`\n");
+        }
+        None => notes.help("write `mem NAME LENGTH`"),
+    }
+}
+
+/// Notes how a comparison is written that is none of the operators.
+fn note_operator<A: Allocator, B: Allocator>(notes: &mut Notes<A>, scene: &Scene<'_, '_, B>) {
+    match scene.words {
+        ["let", target, _, left, ">", right] => {
+            notes.begin("help: swap the two: `let ");
+            notes.three(target, " = ", right);
+            notes.three(" < ", left, "`\n");
+        }
+        _ => notes.help("take `+`, `-`, `*` or `<`"),
+    }
+}
+
+/// Notes a statement or a request in a text of the other kind.
+fn note_other_kind<A: Allocator, B: Allocator>(notes: &mut Notes<A>, scene: &Scene<'_, '_, B>) {
+    if let Some(form) = form_of(scene.meant, scene.word(0)) {
+        notes.begin(match scene.meant {
+            Meant::Program => "the form of this line in a program is ",
+            Meant::Trace => "the form of this line in a trace is ",
+        });
+        notes.quoted(form.text, "\n");
+    }
+    notes.help(match scene.meant {
+        Meant::Program =>
+            "judge a trace by `cilkcheck judge FILE`; a program has no requests, but functions",
+        Meant::Trace =>
+            "run a program by `cilkcheck run FILE`; behind its declarations it begins with `func`",
+    });
+}
+
+/// Notes which cells the array has whose index is wrong.
+fn note_element<A: Allocator, B: Allocator>(
+    notes: &mut Notes<A>,
+    scene: &Scene<'_, '_, B>,
+    part: Part,
+) {
+    if let Part::Index(at) = part
+        && let Some((name, _)) = element(scene.word(at))
+    {
+        note_array(notes, scene, name);
+    }
+}
+
+/// Notes what is known of a word of another shape than its place wants, or of words that are missing or too much.
+pub(crate) fn note_word<A: Allocator, B: Allocator>(
+    notes: &mut Notes<A>,
+    scene: &Scene<'_, '_, B>,
+    mistake: WordMistake,
+    part: Part,
+) {
+    let word = scene.culprit(part);
+    let wanted = match (form_of(scene.meant, scene.word(0)), part) {
+        (Some(form), Part::Word(at)) => form.place(at),
+        _ => None,
+    };
+    match mistake {
+        WordMistake::Statement if scene.word(1) == "=" => note_assignment(notes, scene),
+        WordMistake::Statement | WordMistake::Request => note_first(notes, scene.meant, word),
+        WordMistake::OfTrace if scene.word(0) == "return" => {
+            notes.help("a function returns at its `end`");
+        }
+        WordMistake::OfTrace | WordMistake::OfProgram => note_other_kind(notes, scene),
+        WordMistake::Later => notes.help("write `cilk 2` as the first line"),
+        WordMistake::Slashes => notes.help("write `#` before a comment"),
+        WordMistake::Semicolon => notes.help("leave out the `;`"),
+        WordMistake::Extra => note_extra(notes, scene, word),
+        WordMistake::Argument => {
+            note_form(notes, scene);
+            notes.help("hand on other values in cells, which the function reads");
+        }
+        WordMistake::Chain => note_chain(notes, scene),
+        WordMistake::UpperCase => {
+            notes.begin("help: write `");
+            notes.lowered(word);
+            notes.words("`\n");
+        }
+        WordMistake::Name => {
+            notes.help(
+                "begin with a lower-case letter, and go on with such letters, digits and `_`",
+            );
+        }
+        WordMistake::LongName => {
+            notes.begin("help: shorten it from ");
+            notes.number(word.len() as u64, " to 32 bytes\n");
+        }
+        WordMistake::Ok => {
+            notes.note("each access sets `ok`: to 1 where it is granted, to 0 where it is refused");
+            notes.help("name another register");
+        }
+        WordMistake::Negative => note_negative(notes, scene, wanted, word),
+        WordMistake::Element => {
+            notes.begin("help: read it into a register first: `read r ");
+            notes.words(word);
+            notes.words("`, and use `r`\n");
+        }
+        WordMistake::NoRegister if scene.word(0) == "if" => {
+            notes.begin("help: assign a register first: `let t = ");
+            notes.words(word);
+            notes.words("`, then `if t`\n");
+        }
+        WordMistake::NoNumber if matches!(part, Part::Index(_)) => note_element(notes, scene, part),
+        WordMistake::NoNumber => {
+            note_range(notes, wanted);
+            note_form(notes, scene);
+        }
+        WordMistake::NoMonoid => note_monoid(notes, word),
+        WordMistake::Operator => note_operator(notes, scene),
+        WordMistake::Spaces => {
+            notes.help("put a space on each side of `=` and of each operator");
+        }
+        WordMistake::Cell => {
+            notes.help("name a cell as `NAME`, or as `NAME[INDEX]` without spaces");
+        }
+        WordMistake::Array => note_declaration(notes, word),
+        _ => note_form(notes, scene),
+    }
+}

@@ -1,0 +1,20 @@
+//! What a text is to mean.
+
+/// What a text is to mean.
+#[derive(Clone, Copy, Debug, PartialEq, Eq)]
+pub enum Meant {
+    /// A program.
+    Program,
+    /// A trace.
+    Trace,
+}
+
+impl Meant {
+    /// The other of the two.
+    pub(crate) fn other(self) -> Meant {
+        match self {
+            Meant::Program => Meant::Trace,
+            Meant::Trace => Meant::Program,
+        }
+    }
+}

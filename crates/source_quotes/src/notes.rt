@@ -1,0 +1,96 @@
+//! Notes below a quote.
+
+use crate::look::{Look, push_noted, push_three};
+use std::alloc::{AllocError, Allocator};
+use text_buffers::{push_number, push_words};
+
+/// Notes, a line each. That there was no memory for a part is noted, and asked for once, at the end.
+pub(crate) struct Notes<A: Allocator> {
+    text: Vec<u8, A>,
+    look: Look,
+    is_short: bool,
+}
+
+impl<A: Allocator> Notes<A> {
+    /// No note.
+    pub(crate) fn new(alloc: A, look: Look) -> Notes<A> {
+        Notes {
+            text: Vec::new(alloc),
+            look,
+            is_short: false,
+        }
+    }
+
+    /// Adds words.
+    pub(crate) fn words(&mut self, words: &str) {
+        self.is_short |= push_words(&mut self.text, words).is_err();
+    }
+
+    /// Begins a note.
+    pub(crate) fn begin(&mut self, words: &str) {
+        self.is_short |= push_noted(&mut self.text, self.look).is_err();
+        self.words(words);
+    }
+
+    /// Adds a note.
+    pub(crate) fn note(&mut self, words: &str) {
+        self.begin(words);
+        self.words("\n");
+    }
+
+    /// Adds a note of what to do.
+    pub(crate) fn help(&mut self, words: &str) {
+        self.begin("help: ");
+        self.words(words);
+        self.words("\n");
+    }
+
+    /// Adds a word in quotes, and the words behind it.
+    pub(crate) fn quoted(&mut self, word: &str, behind: &str) {
+        self.is_short |= push_three(&mut self.text, "`", word, "`").is_err();
+        self.words(behind);
+    }
+
+    /// Adds three pieces of text.
+    pub(crate) fn three(&mut self, first: &str, second: &str, third: &str) {
+        self.is_short |= push_three(&mut self.text, first, second, third).is_err();
+    }
+
+    /// Adds the cell of an array in quotes, and the words behind it.
+    pub(crate) fn element(&mut self, name: &str, index: u64, behind: &str) {
+        self.three("`", name, "[");
+        self.number(index, "]`");
+        self.words(behind);
+    }
+
+    /// Adds a number, and the words behind it.
+    pub(crate) fn number(&mut self, number: u64, behind: &str) {
+        self.is_short |= push_number(&mut self.text, "", number).is_err();
+        self.words(behind);
+    }
+
+    /// Adds the number of the line before which so many stand, and ends the note.
+    pub(crate) fn line(&mut self, before: usize) {
+        self.number((before as u64).saturating_add(1), "\n");
+    }
+
+    /// Adds a word with small letters in place of upper-case ones.
+    pub(crate) fn lowered(&mut self, word: &str) {
+        for byte in word.bytes() {
+            self.is_short |= self.text.push(byte.to_ascii_lowercase()).is_err();
+        }
+    }
+
+    /// All notes. Errors where there was no memory for a part.
+    pub(crate) fn end(self) -> Result<Vec<u8, A>, AllocError> {
+        let Notes {
+            text,
+            look: _,
+            is_short,
+        } = self;
+        if is_short {
+            return Err(AllocError);
+        }
+        Ok(text)
+    }
+}

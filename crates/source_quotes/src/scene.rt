@@ -1,0 +1,182 @@
+//! What the lines around a faulty one say.
+
+ghost use Rattle.std.specs.Prelude.{◌<◌, length, IfSome};
+
+use crate::meant::Meant;
+use crate::part::Part;
+use crate::source::Source;
+use std::alloc::{AllocError, Allocator};
+use text_words::{Words, as_text};
+
+/// The first three words of a line; where there are fewer, nothing in their place.
+pub(crate) fn first_words<'a>(line: &'a [u8]) -> (&'a str, &'a str, &'a str) {
+    let Some(text) = as_text(line) else {
+        return ("", "", "");
+    };
+    let mut words = Words::of_line(text);
+    let first = words.take().unwrap_or("");
+    let second = words.take().unwrap_or("");
+    (first, second, words.take().unwrap_or(""))
+}
+
+/// The words of a line, and none where it has a byte that no line may hold.
+pub(crate) fn words_of<'a, A: Allocator>(
+    alloc: A,
+    line: &'a [u8],
+) -> Result<Vec<&'a str, A>, AllocError> {
+    let mut taken = Vec::new(alloc);
+    if let Some(text) = as_text(line) {
+        let mut words = Words::of_line(text);
+        while let Some(word) = words.take() {
+            taken.push(word)?;
+        }
+    }
+    Ok(taken)
+}
+
+/// Whether a line gives a program the name, as a memory, a reducer or a function.
+fn declares(line: &[u8], name: &str) -> bool {
+    let (first, second, _) = first_words(line);
+    second == name && matches!(first, "mem" | "reducer" | "func")
+}
+
+/// The register that a line of a function names, if it does.
+pub(crate) fn register_of<'a>(line: &'a [u8]) -> Option<&'a str> {
+    let (first, second, third) = first_words(line);
+    match first {
+        "func" => Some(third),
+        "let" | "read" | "get" | "pfor" => Some(second),
+        _ => None,
+    }
+}
+
+/// The line before which a name is declared.
+pub(crate) fn declared_at(lines: &[&[u8]], name: &str) -> Option<usize>
+    ensures { IfSome result (λ place. place < length lines.now) }
+{
+    lines.iter().position(|line| declares(line, name))
+}
+
+/// The line before which a register is named.
+pub(crate) fn named_at(lines: &[&[u8]], name: &str) -> Option<usize>
+    ensures { IfSome result (λ place. place < length lines.now) }
+{
+    lines
+        .iter()
+        .position(|line| register_of(line) == Some(name))
+}
+
+/// The place of the innermost `func` or `if` on these lines that has no `end` yet.
+pub(crate) fn open_at(lines: &[&[u8]]) -> Option<usize>
+    ensures { IfSome result (λ place. place < length lines.now) }
+{
+    let mut place = lines.len();
+    let mut ends = 0_usize;
+    while place > 0 {
+        place -= 1;
+        match first_words(lines[place]).0 {
+            "func" | "if" if ends == 0 => return Some(place),
+            "func" | "if" => ends -= 1,
+            "end" => ends += 1,
+            _ => {}
+        }
+    }
+    None
+}
+
+/// What a name is declared as.
+#[derive(Clone, Copy)]
+pub(crate) enum Kind<'a> {
+    /// A single cell.
+    Cell,
+    /// An array, whose length is this word.
+    Array(&'a str),
+    /// A reducer.
+    Reducer,
+    /// A function.
+    Function,
+}
+
+/// What a line with a name in it declares.
+pub(crate) fn kind_of<'a>(line: &'a [u8]) -> Kind<'a> {
+    match first_words(line) {
+        ("mem", _, "") => Kind::Cell,
+        ("mem", _, length) => Kind::Array(length),
+        ("reducer", _, _) => Kind::Reducer,
+        _ => Kind::Function,
+    }
+}
+
+/// A faulty line and the text around it.
+#[derive(Clone, Copy)]
+pub(crate) struct Scene<'s, 'a, B: Allocator> {
+    /// The text.
+    pub(crate) source: &'s Source<'a, B>,
+    /// The number of the line.
+    pub(crate) number: u32,
+    /// What the text is to mean.
+    pub(crate) meant: Meant,
+    /// The words of the line.
+    pub(crate) words: &'s [&'a str],
+}
+
+impl<'s, 'a, B: Allocator> Scene<'s, 'a, B> {
+    /// The word with this number, and an empty one behind the last.
+    pub(crate) fn word(&self, number: usize) -> &'a str {
+        self.words.get(number).copied().unwrap_or("")
+    }
+
+    /// The word that a part of the line is, or begins with.
+    pub(crate) fn culprit(&self, part: Part) -> &'a str {
+        match part {
+            Part::Word(at) | Part::Onward(at) => self.word(at),
+            Part::Index(at) => {
+                let word = self.word(at);
+                match word.split_once('[') {
+                    Some((_, behind)) => behind.strip_suffix(']').unwrap_or(behind),
+                    None => word,
+                }
+            }
+            Part::Statement | Part::Byte(_) => "",
+        }
+    }
+
+    /// The lines before the faulty one.
+    pub(crate) fn before(&self) -> &'s [&'a [u8]] {
+        self.source.before(self.number)
+    }
+
+    /// The lines of the function that the faulty line stands in, from its `func` up to the line before.
+    pub(crate) fn function(&self) -> &'s [&'a [u8]] {
+        let before = self.before();
+        let begin = before
+            .iter()
+            .rposition(|line| first_words(line).0 == "func");
+        &before[begin.unwrap_or(before.len())..]
+    }
+
+    /// Whether the text is of version 2.
+    pub(crate) fn is_second(&self) -> bool {
+        first_words(self.source.line(1)).1 == "2"
+    }
+
+    /// Whether a line above names the register.
+    pub(crate) fn is_register(&self, name: &str) -> bool {
+        name == "ok" || named_at(self.function(), name).is_some()
+    }
+
+    /// Whether some line of the text begins a function of this name.
+    pub(crate) fn is_function(&self, name: &str) -> bool {
+        self.source.as_slice().iter().any(|line| {
+            let (first, second, _) = first_words(line);
+            first == "func" && second == name
+        })
+    }
+
+    /// What a line above declares the name as.
+    pub(crate) fn kind(&self, name: &str) -> Option<Kind<'a>> {
+        let before = self.before();
+        let place = declared_at(before, name)?;
+        Some(kind_of(before[place]))
+    }
+}

@@ -1,0 +1,231 @@
+//! Words of another shape than their places want.
+
+use crate::form::Wanted;
+use crate::mistake::WordMistake;
+use crate::part::Part;
+use text_words::{NAME_LEN, Version, is_name, monoid_of};
+
+/// Whether a word stands for a number, or begins like one.
+pub(crate) fn begins_with_digit(word: &str) -> bool {
+    matches!(word.as_bytes(), [b'0'..=b'9', ..])
+}
+
+/// Whether a word is a number with a minus sign.
+fn is_negative(word: &str) -> bool {
+    matches!(word.as_bytes(), [b'-', b'0'..=b'9', ..])
+}
+
+/// Whether a word has this byte.
+fn has(word: &str, byte: u8) -> bool {
+    word.as_bytes().contains(&byte)
+}
+
+/// Whether a word has an upper-case letter.
+fn has_upper_case(word: &str) -> bool {
+    word.as_bytes().iter().any(|byte| byte.is_ascii_uppercase())
+}
+
+/// Whether a word joins others by a sign. Only `is_operand` takes a minus sign for one, which a name that is none may have too.
+fn has_sign(word: &str, is_operand: bool) -> bool {
+    word.len() > 1
+        && (has(word, b'=')
+            || has(word, b'+')
+            || has(word, b'*')
+            || has(word, b'<')
+            || (is_operand && has(word, b'-')))
+}
+
+/// Whether a word is an operator.
+pub(crate) fn is_operator(word: &str) -> bool {
+    matches!(word, "+" | "-" | "*" | "<")
+}
+
+/// Whether a word has the shape of an operand.
+fn is_operand(word: &str) -> bool {
+    is_name(word) || begins_with_digit(word)
+}
+
+/// What a word has of the language C.
+pub(crate) fn of_c(word: &str) -> Option<WordMistake> {
+    if word.starts_with("//") || word.starts_with("/*") {
+        Some(WordMistake::Slashes)
+    } else if has(word, b'(') || has(word, b')') {
+        Some(WordMistake::Parentheses)
+    } else if has(word, b';') {
+        Some(WordMistake::Semicolon)
+    } else {
+        None
+    }
+}
+
+/// What is wrong with a word that is no name, nor a number. `other` is a word with nothing of what is often seen.
+fn of_letters(word: &str, other: WordMistake) -> WordMistake {
+    match of_c(word) {
+        Some(mistake) => mistake,
+        None if has_upper_case(word) => WordMistake::UpperCase,
+        None if word.len() > NAME_LEN => WordMistake::LongName,
+        None => other,
+    }
+}
+
+/// What is wrong with a word as a name; where a number stands in place of it, `number`.
+fn name_shape(word: &str, number: WordMistake) -> Option<WordMistake> {
+    if is_name(word) {
+        None
+    } else if begins_with_digit(word) {
+        Some(number)
+    } else if has_sign(word, false) {
+        Some(WordMistake::Spaces)
+    } else {
+        Some(of_letters(word, WordMistake::Name))
+    }
+}
+
+/// What is wrong with a word as the name of what is declared.
+fn fresh_shape(word: &str) -> Option<WordMistake> {
+    match word.split_once('[') {
+        Some((name, _)) if is_name(name) => Some(WordMistake::Array),
+        _ => name_shape(word, WordMistake::NoName),
+    }
+}
+
+/// What is wrong with a word as the name of a register that is assigned.
+fn assigned_shape(word: &str) -> Option<WordMistake> {
+    if word == "ok" {
+        Some(WordMistake::Ok)
+    } else {
+        name_shape(word, WordMistake::NoRegister)
+    }
+}
+
+/// What is wrong with a word as an operand.
+fn operand_shape(word: &str) -> Option<WordMistake> {
+    if is_operand(word) {
+        None
+    } else if is_negative(word) {
+        Some(WordMistake::Negative)
+    } else if has(word, b'[') {
+        Some(WordMistake::Element)
+    } else if has_sign(word, true) {
+        Some(WordMistake::Spaces)
+    } else {
+        Some(of_letters(word, WordMistake::Operand))
+    }
+}
+
+/// What is wrong with a word as a number.
+fn number_shape(word: &str) -> Option<WordMistake> {
+    if begins_with_digit(word) {
+        None
+    } else if is_negative(word) {
+        Some(WordMistake::Negative)
+    } else if word.starts_with('@') {
+        Some(WordMistake::Missing)
+    } else {
+        match of_c(word) {
+            Some(mistake) => Some(mistake),
+            None => Some(WordMistake::NoNumber),
+        }
+    }
+}
+
+/// What is wrong with a word as a single cell.
+fn single_shape(word: &str) -> Option<WordMistake> {
+    if is_name(word) {
+        None
+    } else if begins_with_digit(word) {
+        Some(WordMistake::NoName)
+    } else if word.starts_with('@') {
+        Some(WordMistake::Missing)
+    } else {
+        Some(of_letters(word, WordMistake::Cell))
+    }
+}
+
+/// What is wrong with the index of a cell.
+fn index_shape(index: &str, is_trace: bool) -> Option<WordMistake> {
+    if begins_with_digit(index) || (is_name(index) && !is_trace) {
+        None
+    } else if is_negative(index) {
+        Some(WordMistake::Negative)
+    } else if is_trace {
+        Some(WordMistake::NoNumber)
+    } else {
+        Some(WordMistake::Operand)
+    }
+}
+
+/// The name of an array and the index, where a word has the shape of a cell of one.
+pub(crate) fn element(word: &str) -> Option<(&str, &str)> {
+    let (name, behind) = word.split_once('[')?;
+    let index = behind.strip_suffix(']')?;
+    if is_name(name) {
+        Some((name, index))
+    } else {
+        None
+    }
+}
+
+/// What is wrong with a word as a cell, the word with this number on its line.
+fn cell_shape(word: &str, at: usize, is_trace: bool) -> Option<(WordMistake, Part)> {
+    match element(word) {
+        Some((_, index)) => match index_shape(index, is_trace) {
+            Some(mistake) => Some((mistake, Part::Index(at))),
+            None => None,
+        },
+        None => match single_shape(word) {
+            Some(mistake) => Some((mistake, Part::Word(at))),
+            None => None,
+        },
+    }
+}
+
+/// What is wrong with a word as a monoid.
+fn monoid_shape(word: &str, version: Version) -> Option<WordMistake> {
+    if monoid_of(version, word).is_some() {
+        None
+    } else if word == "digits" {
+        Some(WordMistake::Later)
+    } else {
+        Some(WordMistake::NoMonoid)
+    }
+}
+
+/// What is wrong with a word that has to be a sign.
+fn sign_shape(is_right: bool, mistake: WordMistake) -> Option<WordMistake> {
+    if is_right { None } else { Some(mistake) }
+}
+
+/// What is wrong with the shape of a word in a place that wants no cell.
+fn word_shape(wanted: Wanted, word: &str, version: Version) -> Option<WordMistake> {
+    match wanted {
+        Wanted::Fresh => fresh_shape(word),
+        Wanted::Parameter | Wanted::Assigned => assigned_shape(word),
+        Wanted::Decider => name_shape(word, WordMistake::NoRegister),
+        Wanted::Reducer | Wanted::Function => name_shape(word, WordMistake::NoName),
+        Wanted::Operand => operand_shape(word),
+        Wanted::Length | Wanted::Strand | Wanted::Value => number_shape(word),
+        Wanted::Monoid => monoid_shape(word, version),
+        Wanted::Equals => sign_shape(word == "=", WordMistake::Equals),
+        Wanted::Sign => sign_shape(is_operator(word), WordMistake::Operator),
+        Wanted::Mark => sign_shape(word.starts_with('@'), WordMistake::Extra),
+        Wanted::Cell | Wanted::TraceCell => None,
+    }
+}
+
+/// What is wrong with the shape of the word with this number on its line, and which part of it is wrong.
+pub(crate) fn misshapen(
+    wanted: Wanted,
+    word: &str,
+    at: usize,
+    version: Version,
+) -> Option<(WordMistake, Part)> {
+    match wanted {
+        Wanted::Cell => cell_shape(word, at, false),
+        Wanted::TraceCell => cell_shape(word, at, true),
+        _ => match word_shape(wanted, word, version) {
+            Some(mistake) => Some((mistake, Part::Word(at))),
+            None => None,
+        },
+    }
+}

@@ -1,0 +1,115 @@
+//! Lines whose words have another shape than their places want, or are too few or too many.
+
+use crate::form::{Form, begins_behind, form_of};
+use crate::meant::Meant;
+use crate::mistake::WordMistake;
+use crate::part::Part;
+use crate::scene::Scene;
+use crate::shape::{is_operator, misshapen, of_c};
+use std::alloc::Allocator;
+use text_words::Version;
+
+/// The first word that has another shape than its place wants.
+fn first_misshapen(form: Form, words: &[&str], version: Version) -> Option<(WordMistake, Part)> {
+    for (at, word) in words.iter().enumerate() {
+        if let Some(wanted) = form.place(at)
+            && let Some(found) = misshapen(wanted, word, at, version)
+        {
+            return Some(found);
+        }
+    }
+    None
+}
+
+/// What is too much from the word with this number on.
+fn extra(meant: Meant, first: &str, word: &str, at: usize) -> (WordMistake, Part) {
+    let mistake = match first {
+        "let" if is_operator(word) => WordMistake::Chain,
+        "func" => WordMistake::Argument,
+        "spawn" | "call" if matches!(meant, Meant::Program) => WordMistake::Argument,
+        _ => WordMistake::Extra,
+    };
+    (mistake, Part::Onward(at))
+}
+
+/// The number of a line's words that a form takes at most, its first word too.
+fn most(form: Form) -> usize {
+    form.wanted
+        .len()
+        .saturating_add(form.optional.len())
+        .saturating_add(1)
+}
+
+/// Whether a line has so few words, or not all of what may stand at its end.
+fn is_cut(form: Form, count: usize) -> bool {
+    count < most(form) && count != form.wanted.len().saturating_add(1)
+}
+
+/// Whether a line with this first word fits a form in full.
+fn fits(form: Form, words: &[&str], version: Version) -> bool {
+    first_misshapen(form, words, version).is_none()
+        && !is_cut(form, words.len())
+        && words.len() <= most(form)
+}
+
+/// What is wrong with a first word that begins no line.
+fn bad_first(meant: Meant, first: &str) -> WordMistake {
+    if let Some(mistake) = of_c(first) {
+        return mistake;
+    }
+    match meant {
+        Meant::Program if begins_behind(Meant::Trace, first) => WordMistake::OfTrace,
+        Meant::Trace if begins_behind(Meant::Program, first) => WordMistake::OfProgram,
+        Meant::Program => WordMistake::Statement,
+        Meant::Trace => WordMistake::Request,
+    }
+}
+
+/// What the words are in the other kind of text.
+fn of_other(meant: Meant) -> WordMistake {
+    match meant {
+        Meant::Program => WordMistake::OfTrace,
+        Meant::Trace => WordMistake::OfProgram,
+    }
+}
+
+/// What is wrong with words behind the first one, which has this form.
+fn bad_behind<B: Allocator>(
+    scene: &Scene<'_, '_, B>,
+    form: Form,
+    version: Version,
+) -> (WordMistake, Part) {
+    if let Some(other) = form_of(scene.meant.other(), scene.word(0))
+        && fits(other, scene.words, version)
+    {
+        return (of_other(scene.meant), Part::Statement);
+    }
+    if let Some(found) = first_misshapen(form, scene.words, version) {
+        return found;
+    }
+    if is_cut(form, scene.words.len()) {
+        return (WordMistake::Missing, Part::Statement);
+    }
+    let at = most(form);
+    if at < scene.words.len() {
+        return extra(scene.meant, scene.word(0), scene.word(at), at);
+    }
+    (WordMistake::Other, Part::Statement)
+}
+
+/// What is wrong with the words of a line that has a word of another shape than its place wants, or too few or too many.
+pub(crate) fn bad_words<B: Allocator>(scene: &Scene<'_, '_, B>) -> (WordMistake, Part) {
+    let first = scene.word(0);
+    let version = if scene.is_second() {
+        Version::Two
+    } else {
+        Version::One
+    };
+    match form_of(scene.meant, first) {
+        None => (bad_first(scene.meant, first), Part::Word(0)),
+        Some(_) if matches!(first, "bump" | "pfor") && !scene.is_second() => {
+            (WordMistake::Later, Part::Word(0))
+        }
+        Some(form) => bad_behind(scene, form, version),
+    }
+}
