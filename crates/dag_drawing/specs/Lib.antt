@@ -3,4 +3,9 @@ pub mod Walks
 pub mod Told
 pub mod Drawn
 pub mod Texts
+pub mod Labels
+pub mod Dots
+pub mod Plans
+pub mod Pictures
+pub mod Forms
 pub mod Laws

@@ -6,10 +6,17 @@
 //! letter by letter, `drawing_text` of `specs/` says.
 #![tactic(auto)]
 
+mod dot;
 mod drawing;
+mod form;
+mod labels;
 pub mod laws;
+mod plan;
+mod svg;
 mod text;
 mod walk;
 
 pub use drawing::{Access, Drawing, Edge, EdgeKind, MOST_STRANDS, Race, draw};
+pub use form::{Form, write_drawing};
+pub use labels::Names;
 pub use text::text_of;

@@ -1,0 +1,11 @@
+use Rattle.std.proofs.Common.{◌≡◌, ◌++◌, drop}
+use Rattle.dag_drawing.specs.Labels.{naming_of}
+use Rattle.dag_drawing.specs.Plans.{plan_of}
+use Rattle.dag_drawing.specs.Pictures.{races_text}
+use Rattle.dag_drawing.proofs.svg.push_races.Given as goal
+
+-- what is written so far and what is left are the whole
+abbrev pub invariant-loop-number : goal.invariant-loop-number
+invariant-loop-number l =
+    l.text.items ++ races_text (plan_of l.layout) (naming_of l.names) l.number (drop l.number l.races) ≡
+    l.initial.text.items ++ races_text (plan_of l.layout) (naming_of l.names) 0 l.races

@@ -1,0 +1,178 @@
+//! The text of a drawing in Graphviz's language.
+
+ghost use Rattle.std.specs.Prelude.{◌≡◌, ◌++◌, OnOk, IfOk, IsTrue, flat_map, map, string_bytes};
+ghost use Rattle.trace_text.specs.Shapes.{is_numbered};
+ghost use Rattle.dag_drawing.specs.Texts.{escaped, kind_word, edge_text, red_text};
+ghost use Rattle.dag_drawing.specs.Labels.{naming_of, title_lines};
+ghost use Rattle.dag_drawing.specs.Dots.{line_text, box_text, boxes_text, arc_text, heading_text, dot_text};
+
+use crate::drawing::{Access, Drawing, Edge, EdgeKind, Race};
+use crate::labels::{Names, node_lines, own_of, race_label};
+use std::alloc::{AllocError, Global};
+use text_buffers::{push_number, push_words};
+
+/// Adds text as it stands between quotation marks.
+fn push_escaped(text: &mut Vec<u8>, name: &str) -> Result<(), AllocError>
+    ensures { OnOk result (text.new.items ≡ text.old.items ++ escaped name.now) }
+{
+    for byte in name.as_bytes() {
+        if *byte == b'"' || *byte == b'\\' {
+            text.push(b'\\')?;
+        }
+        text.push(*byte)?;
+    }
+    Ok(())
+}
+
+/// Adds a line of a label.
+fn push_line(text: &mut Vec<u8>, line: &str) -> Result<(), AllocError>
+    ensures { OnOk result (text.new.items ≡ text.old.items ++ line_text line.now) }
+{
+    push_escaped(text, line)?;
+    push_words(text, "\\l")
+}
+
+/// Adds the lines of a label.
+fn push_lines(text: &mut Vec<u8>, lines: &[String]) -> Result<(), AllocError>
+    ensures { OnOk result (text.new.items ≡ text.old.items ++ flat_map line_text (map string_bytes lines.now)) }
+{
+    for line in lines {
+        push_line(text, line.as_str())?;
+    }
+    Ok(())
+}
+
+/// Adds a strand with the lines of its node.
+fn push_box(text: &mut Vec<u8>, strand: usize, lines: &[String]) -> Result<(), AllocError>
+    ensures { OnOk result (text.new.items ≡ text.old.items ++ box_text strand (map string_bytes lines.now)) }
+{
+    push_number(text, "  ", strand as u64)?;
+    push_words(text, " [label=\"")?;
+    push_lines(text, lines)?;
+    push_words(text, "\"];\n")
+}
+
+/// Adds strands, each with its own of the accesses.
+fn push_boxes(
+    alloc: Global,
+    text: &mut Vec<u8>,
+    names: &Names<'_>,
+    strands: &[usize],
+    accesses: &[Access],
+) -> Result<(), AllocError>
+    requires numbered { IsTrue (is_numbered 0 names.now.mems.now) }
+    ensures { OnOk result (text.new.items ≡ text.old.items ++ boxes_text (naming_of names.now) strands.now accesses.now) }
+{
+    let mut rest = accesses;
+    for strand in strands {
+        let (own, others) = rest.split_at(own_of(*strand, rest));
+        let lines = node_lines(alloc, names, *strand, own)?;
+        push_box(text, *strand, lines.as_slice())?;
+        rest = others;
+    }
+    Ok(())
+}
+
+/// The word of a kind of edge.
+pub fn word_of(kind: EdgeKind) -> &'static str
+    ensures { result.now ≡ kind_word kind }
+{
+    match kind {
+        EdgeKind::Child => "child",
+        EdgeKind::Next => "next",
+        EdgeKind::Join => "join",
+    }
+}
+
+/// Adds an edge.
+fn push_edge(text: &mut Vec<u8>, edge: &Edge) -> Result<(), AllocError>
+    ensures { OnOk result (text.new.items ≡ text.old.items ++ edge_text edge.now) }
+{
+    push_number(text, "  ", u64::from(edge.from))?;
+    push_number(text, " -> ", u64::from(edge.to))?;
+    push_words(text, " [label=\"")?;
+    push_words(text, word_of(edge.kind))?;
+    push_words(text, "\"];\n")
+}
+
+/// Adds edges.
+fn push_edges(text: &mut Vec<u8>, edges: &[Edge]) -> Result<(), AllocError>
+    ensures { OnOk result (text.new.items ≡ text.old.items ++ flat_map edge_text edges.now) }
+{
+    for edge in edges {
+        push_edge(text, edge)?;
+    }
+    Ok(())
+}
+
+/// The end of a race.
+fn red() -> &'static str
+    ensures { result.now ≡ red_text }
+{
+    "\", color=red, fontcolor=red, constraint=false];\n"
+}
+
+/// Adds a race.
+fn push_arc(
+    alloc: Global,
+    text: &mut Vec<u8>,
+    names: &Names<'_>,
+    race: &Race,
+) -> Result<(), AllocError>
+    requires numbered { IsTrue (is_numbered 0 names.now.mems.now) }
+    ensures { OnOk result (text.new.items ≡ text.old.items ++ arc_text (naming_of names.now) race.now) }
+{
+    let label = race_label(alloc, names, race)?;
+    push_number(text, "  ", u64::from(race.witness.strand))?;
+    push_number(text, " -> ", u64::from(race.request.strand))?;
+    push_words(text, " [label=\"")?;
+    push_escaped(text, label.as_str())?;
+    push_words(text, red())
+}
+
+/// Adds races.
+fn push_arcs(
+    alloc: Global,
+    text: &mut Vec<u8>,
+    names: &Names<'_>,
+    races: &[Race],
+) -> Result<(), AllocError>
+    requires numbered { IsTrue (is_numbered 0 names.now.mems.now) }
+    ensures { OnOk result (text.new.items ≡ text.old.items ++ flat_map (arc_text (naming_of names.now)) races.now) }
+{
+    for race in races {
+        push_arc(alloc, text, names, race)?;
+    }
+    Ok(())
+}
+
+/// Adds what was recorded.
+fn push_heading(text: &mut Vec<u8>, runs: &[String]) -> Result<(), AllocError>
+    ensures { OnOk result (text.new.items ≡ text.old.items ++ heading_text (map string_bytes runs.now)) }
+{
+    if runs.is_empty() {
+        return Ok(());
+    }
+    push_words(text, "  labelloc=t;\n  label=\"")?;
+    push_lines(text, runs)?;
+    push_words(text, "\";\n")?;
+    Ok(())
+}
+
+/// The text of a drawing in Graphviz's language: above the graph what was recorded, a node for each strand, an edge for each edge of the
+/// dag, and a red edge for each race. Errors where there is no memory.
+pub fn dot_text(alloc: Global, names: &Names<'_>, drawing: &Drawing) -> Result<Vec<u8>, AllocError>
+    requires numbered { IsTrue (is_numbered 0 names.now.mems.now) }
+    ensures { IfOk result (λ text. text.items ≡ dot_text (naming_of names.now) drawing.now) }
+{
+    let mut text = Vec::new(alloc);
+    push_words(&mut text, "digraph trace {\n")?;
+    push_heading(&mut text, names.notes.runs())?;
+    let strands = drawing.strands.as_slice();
+    let accesses = drawing.accesses.as_slice();
+    push_boxes(alloc, &mut text, names, strands, accesses)?;
+    push_edges(&mut text, drawing.edges.as_slice())?;
+    push_arcs(alloc, &mut text, names, drawing.races.as_slice())?;
+    push_words(&mut text, "}\n")?;
+    Ok(text)
+}

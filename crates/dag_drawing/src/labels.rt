@@ -1,0 +1,317 @@
+//! What is written beside the strands and the races of a drawing.
+
+ghost use Rattle.std.specs.Prelude.{◌≡◌, ◌++◌, ◌≤◌, IfOk, OnOk, IsTrue, codes, decimal, length, map, take, string_bytes};
+ghost use Rattle.std.specs.Option.{option_map};
+ghost use Rattle.trace_text.specs.Shapes.{is_numbered, name_in, name_of_cell};
+ghost use Rattle.trace_text.specs.Printing.{name_of_reducer};
+ghost use Rattle.trace_notes.specs.Places.{place_parts};
+ghost use Rattle.dag_drawing.specs.Texts.{kind_text, outcome_text, rule_text, count_own};
+ghost use Rattle.dag_drawing.specs.Labels.{naming_of, plain_name, told_name, place_of, site_text, access_line, first_place, function_text};
+ghost use Rattle.dag_drawing.specs.Labels.{head_line, most_told, rest_lines, node_lines, race_label};
+
+use crate::drawing::{Access, Race};
+use access_table::{Kind, rule_word, word};
+use race_gate::Answer;
+use std::alloc::{AllocError, Global};
+use std::fmt::Write;
+use text_words::{Act, Mem, Reducer, access_asked};
+use trace_notes::{Notes, Place};
+use trace_text::memory_at;
+
+/// The most accesses of a strand that are told.
+const MOST_TOLD: usize = 12;
+
+/// What a drawing's cells, reducers and marks are told by.
+#[derive(Drop)]
+pub struct Names<'a> {
+    /// The memories that the trace declares.
+    pub mems: &'a [Mem],
+    /// The reducers that it declares.
+    pub reducers: &'a [Reducer],
+    /// Its notes.
+    pub notes: &'a Notes<Global>,
+}
+
+/// Adds a number.
+fn put_number(line: &mut String, number: usize) -> Result<(), AllocError>
+    ensures { OnOk result (string_bytes line.new ≡ string_bytes line.old ++ decimal number) }
+{
+    write!(line, "{number}")
+}
+
+/// Adds the name of a memory's cell with this index.
+fn put_element(name: &mut String, mem: &Mem, index: u32) -> Result<(), AllocError>
+    ensures { OnOk result (string_bytes name.new ≡ string_bytes name.old ++ name_in mem.now index) }
+{
+    name.push_str(mem.name.as_str())?;
+    if mem.array {
+        write!(name, "[{index}]")?;
+    }
+    Ok(())
+}
+
+/// Adds the name of the cell with this number.
+fn put_cell(name: &mut String, mems: &[Mem], location: u32) -> Result<(), AllocError>
+    requires numbered { IsTrue (is_numbered 0 mems.now) }
+    ensures { OnOk result (string_bytes name.new ≡ string_bytes name.old ++ name_of_cell mems.now location) }
+{
+    match memory_at(mems, location) {
+        Some(mem) => put_element(name, mem, location - mem.first),
+        None => Ok(()),
+    }
+}
+
+/// The name of the reducer with this number.
+fn reducer_name(reducers: &[Reducer], number: u32) -> &str
+    ensures { result.now ≡ name_of_reducer reducers.now number }
+{
+    match reducers.get(number as usize) {
+        Some(reducer) => reducer.name.as_str(),
+        None => "",
+    }
+}
+
+/// The name that the trace declares for what an act accesses.
+fn plain_name(alloc: Global, names: &Names<'_>, act: Act) -> Result<String, AllocError>
+    requires numbered { IsTrue (is_numbered 0 names.now.mems.now) }
+    ensures { IfOk result (λ name. string_bytes name ≡ plain_name (naming_of names.now) act) }
+{
+    let mut name = String::new(alloc);
+    match act {
+        Act::Read(location) | Act::Write(location, _) | Act::Bump(location, _) => {
+            put_cell(&mut name, names.mems, location)?
+        }
+        Act::Update(reducer, _) | Act::Put(reducer, _) | Act::Get(reducer) => {
+            name.push_str(reducer_name(names.reducers, reducer))?
+        }
+        Act::Spawn | Act::Sync | Act::Call | Act::Return => {}
+    }
+    Ok(name)
+}
+
+/// Adds what the notes say that a name stands for, or the name.
+fn put_told(line: &mut String, names: &Names<'_>, name: &str) -> Result<(), AllocError>
+    ensures { OnOk result (string_bytes line.new ≡ string_bytes line.old ++ told_name (naming_of names.now) name.now) }
+{
+    match names.notes.text_of(name) {
+        Some(text) => line.push_str(text),
+        None => line.push_str(name),
+    }
+}
+
+/// What is said of an access that was not done.
+pub fn outcome(answer: Answer) -> &'static str
+    ensures { result.now ≡ outcome_text answer }
+{
+    match answer {
+        Answer::Refused { .. } => " refused",
+        Answer::Unset => " unset",
+        _ => "",
+    }
+}
+
+/// The word of an access.
+pub fn kind_of_act(act: Act) -> &'static str
+    ensures { result.now ≡ kind_text act }
+{
+    match access_asked(act) {
+        Some(asked) => word(asked.kind),
+        None => "",
+    }
+}
+
+/// The place of an access in a program's source.
+fn place_of<'a>(names: &Names<'a>, access: &Access) -> Option<Place<'a>>
+    ensures { option_map place_parts result ≡ place_of (naming_of names.now) access.now }
+{
+    names.notes.place_of(access.request.line)
+}
+
+/// Adds the place of an access, or the number of its entry.
+fn put_site(line: &mut String, names: &Names<'_>, access: &Access) -> Result<(), AllocError>
+    ensures { OnOk result (string_bytes line.new ≡ string_bytes line.old ++ site_text (place_of (naming_of names.now) access.now) access.now.entry) }
+{
+    match place_of(names, access) {
+        Some(place) => line.push_str(place.location),
+        None => put_number(line, access.entry),
+    }
+}
+
+/// The line of an access, of what has this name.
+fn line_of(
+    alloc: Global,
+    names: &Names<'_>,
+    access: &Access,
+    name: &str,
+) -> Result<String, AllocError>
+    requires { name.now ≡ plain_name (naming_of names.now) access.now.request.act }
+    ensures { IfOk result (λ line. string_bytes line ≡ access_line (naming_of names.now) access.now) }
+{
+    let mut line = String::new(alloc);
+    put_site(&mut line, names, access)?;
+    line.push_str(" ")?;
+    line.push_str(kind_of_act(access.request.act))?;
+    line.push_str(" ")?;
+    put_told(&mut line, names, name)?;
+    line.push_str(outcome(access.answer))?;
+    Ok(line)
+}
+
+/// The line of an access.
+fn access_line(alloc: Global, names: &Names<'_>, access: &Access) -> Result<String, AllocError>
+    requires numbered { IsTrue (is_numbered 0 names.now.mems.now) }
+    ensures { IfOk result (λ line. string_bytes line ≡ access_line (naming_of names.now) access.now) }
+{
+    let name = plain_name(alloc, names, access.request.act)?;
+    line_of(alloc, names, access, name.as_str())
+}
+
+/// The place of the first access that has one.
+fn first_place<'a>(names: &Names<'a>, own: &[Access]) -> Option<Place<'a>>
+    ensures { option_map place_parts result ≡ first_place (naming_of names.now) own.now }
+{
+    for access in own {
+        if let Some(place) = place_of(names, access) {
+            return Some(place);
+        }
+    }
+    None
+}
+
+/// Adds the function of a place.
+fn put_function(line: &mut String, place: Option<Place<'_>>) -> Result<(), AllocError>
+    ensures { OnOk result (string_bytes line.new ≡ string_bytes line.old ++ function_text (option_map place_parts place.entry)) }
+{
+    match place {
+        Some(
+            Place {
+                function: Some(function),
+                ..
+            },
+        ) => {
+            line.push_str(" in ")?;
+            line.push_str(function)
+        }
+        _ => Ok(()),
+    }
+}
+
+/// The first line of a strand.
+fn head_line(
+    alloc: Global,
+    names: &Names<'_>,
+    strand: usize,
+    own: &[Access],
+) -> Result<String, AllocError>
+    ensures { IfOk result (λ line. string_bytes line ≡ head_line (naming_of names.now) strand own.now) }
+{
+    let mut line = String::new(alloc);
+    put_number(&mut line, strand)?;
+    put_function(&mut line, first_place(names, own))?;
+    Ok(line)
+}
+
+/// Adds the lines of accesses.
+fn add_accesses(
+    alloc: Global,
+    lines: &mut Vec<String>,
+    names: &Names<'_>,
+    told: &[Access],
+) -> Result<(), AllocError>
+    requires numbered { IsTrue (is_numbered 0 names.now.mems.now) }
+    ensures { OnOk result (map string_bytes lines.new.items ≡ map string_bytes lines.old.items ++ map (access_line (naming_of names.now)) told.now) }
+{
+    for access in told {
+        lines.push(access_line(alloc, names, access)?)?;
+    }
+    Ok(())
+}
+
+/// The line that says how many accesses are not told.
+fn rest_line(alloc: Global, rest: usize) -> Result<String, AllocError>
+    ensures { IfOk result (λ line. string_bytes line ≡ codes "and " ++ decimal rest ++ codes " more") }
+{
+    let mut line = String::new(alloc);
+    line.push_str("and ")?;
+    put_number(&mut line, rest)?;
+    line.push_str(" more")?;
+    Ok(line)
+}
+
+/// Adds how many accesses are not told.
+fn add_rest(alloc: Global, lines: &mut Vec<String>, count: usize) -> Result<(), AllocError>
+    ensures { OnOk result (map string_bytes lines.new.items ≡ map string_bytes lines.old.items ++ rest_lines count) }
+{
+    if count > MOST_TOLD {
+        lines.push(rest_line(alloc, count - MOST_TOLD)?)?;
+    }
+    Ok(())
+}
+
+/// The accesses that are told.
+fn told_of(own: &[Access]) -> &[Access]
+    ensures { result.now ≡ take most_told own.now }
+{
+    if own.len() > MOST_TOLD {
+        let (told, _) = own.split_at(MOST_TOLD);
+        told
+    } else {
+        own
+    }
+}
+
+/// The lines of a strand with its accesses.
+pub fn node_lines(
+    alloc: Global,
+    names: &Names<'_>,
+    strand: usize,
+    own: &[Access],
+) -> Result<Vec<String>, AllocError>
+    requires numbered { IsTrue (is_numbered 0 names.now.mems.now) }
+    ensures { IfOk result (λ lines. map string_bytes lines.items ≡ node_lines (naming_of names.now) strand own.now) }
+{
+    let mut lines = Vec::new(alloc);
+    lines.push(head_line(alloc, names, strand, own)?)?;
+    add_accesses(alloc, &mut lines, names, told_of(own))?;
+    add_rest(alloc, &mut lines, own.len())?;
+    Ok(lines)
+}
+
+/// The word of the rule that an act and an earlier access come under.
+pub fn rule_of(act: Act, earlier: Kind) -> &'static str
+    ensures { result.now ≡ rule_text act earlier }
+{
+    match access_asked(act) {
+        Some(asked) => match rule_word(earlier, asked.kind) {
+            Some(word) => word,
+            None => "",
+        },
+        None => "",
+    }
+}
+
+/// What is written beside a race.
+pub fn race_label(alloc: Global, names: &Names<'_>, race: &Race) -> Result<String, AllocError>
+    requires numbered { IsTrue (is_numbered 0 names.now.mems.now) }
+    ensures { IfOk result (λ label. string_bytes label ≡ race_label (naming_of names.now) race.now) }
+{
+    let name = plain_name(alloc, names, race.request.act)?;
+    let mut label = String::new(alloc);
+    label.push_str(rule_of(race.request.act, race.witness.kind))?;
+    label.push_str(" on ")?;
+    put_told(&mut label, names, name.as_str())?;
+    Ok(label)
+}
+
+/// How many of the accesses at the head of a slice are the strand's.
+pub fn own_of(strand: usize, accesses: &[Access]) -> usize
+    ensures value { result ≡ count_own strand accesses.now }
+    ensures bound { result ≤ length accesses.now }
+{
+    for (before, access) in accesses.iter().enumerate() {
+        if access.request.strand as usize != strand {
+            return before;
+        }
+    }
+    accesses.len()
+}

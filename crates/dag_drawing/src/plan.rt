@@ -1,0 +1,317 @@
+//! Where the boxes of a picture stand.
+
+ghost use Rattle.std.specs.Prelude.{◌≡◌, ◌+◌, ◌-◌, ◌*◌, ◌<◌, ◌≤◌, ◌^◌, max, IfOk, IsTrue, length, map, replicate, slice_index_or, slice_set, string_bytes};
+ghost use Rattle.trace_text.specs.Shapes.{is_numbered};
+ghost use Rattle.dag_drawing.specs.Labels.{naming_of, title_lines};
+ghost use Rattle.dag_drawing.specs.Plans.{stepped, capped, deepened, depths_by, counted, counts_by, columns_by, greatest, longest, longest_line, most_lines};
+ghost use Rattle.dag_drawing.specs.Plans.{plan_of, plan, last_of, left_at, middle_at, top_at, width_of, height_of};
+
+use crate::drawing::{Access, Drawing, Edge};
+use crate::labels::{Names, node_lines, own_of};
+use std::alloc::{AllocError, Global};
+
+/// The characters of a line that there is room for.
+pub const MOST_CHARACTERS: u16 = 64;
+
+/// The characters of a line of the title.
+pub const MOST_TITLE_CHARACTERS: u16 = 120;
+
+/// The lines of a box.
+pub const MOST_BOX_LINES: u16 = 14;
+
+/// The lines of the title.
+pub const MOST_TITLE_LINES: u16 = 100;
+
+/// Numbers of strands are below this: two strands begin at each spawn, and one number more is reserved for a join.
+const MOST_NUMBERS: u16 = 20_000;
+
+/// The most strands of a level, and of levels.
+const MOST: u32 = 10_000;
+
+/// Where the boxes of a picture stand.
+pub struct Layout {
+    /// The levels of strands, by their numbers.
+    pub depths: Vec<u32>,
+    /// Their columns.
+    pub columns: Vec<u32>,
+    /// How many strands stand on each level.
+    pub counts: Vec<u32>,
+    /// The most strands of a level.
+    pub widest: u32,
+    /// The last level.
+    pub deepest: u32,
+    /// Half of a box's width.
+    pub half: u16,
+    /// Half of the way from a box to the next one.
+    pub across: u16,
+    /// The way from a level to the next one.
+    pub down: u16,
+    /// The top of the first level.
+    pub above: u16,
+    /// The width of the title.
+    pub title: u16,
+}
+
+impl Drop for Layout {
+    fn drop(self) {
+        let Layout {
+            depths: _,
+            columns: _,
+            counts: _,
+            widest: _,
+            deepest: _,
+            half: _,
+            across: _,
+            down: _,
+            above: _,
+            title: _,
+        } = self;
+    }
+}
+
+/// The next number, which is at most that of the strands that are drawn.
+fn step(number: u32) -> u32
+    ensures { result ≡ stepped number }
+{
+    if number < MOST { number + 1 } else { MOST }
+}
+
+/// A number, or the most.
+pub fn at_most(most: u16, number: usize) -> u16
+    ensures value { result ≡ capped most number }
+    ensures bound { result ≤ most }
+{
+    if number < usize::from(most) {
+        number as u16
+    } else {
+        most
+    }
+}
+
+/// A number of a list, or 0 behind its end.
+fn number_at(numbers: &[u32], at: usize) -> u32
+    ensures { result ≡ slice_index_or numbers.now at 0 }
+{
+    match numbers.get(at) {
+        Some(number) => *number,
+        None => 0,
+    }
+}
+
+/// Puts a number in its place, where the list has that.
+fn put(numbers: &mut Vec<u32>, at: usize, number: u32)
+    ensures { numbers.new.items ≡ slice_set numbers.old.items at number }
+{
+    if at < numbers.len() {
+        numbers[at] = number;
+    }
+}
+
+/// Puts what an edge leads to on a level below that which it comes from.
+fn deepen(depths: &mut Vec<u32>, edge: &Edge)
+    ensures { depths.new.items ≡ deepened depths.old.items edge.now }
+{
+    let to = number_at(depths.as_slice(), edge.to as usize);
+    let below = step(number_at(depths.as_slice(), edge.from as usize));
+    put(depths, edge.to as usize, to.max(below));
+}
+
+/// The levels of strands, by their numbers.
+fn depths_of(alloc: Global, size: usize, edges: &[Edge]) -> Result<Vec<u32>, AllocError>
+    ensures { IfOk result (λ depths. depths.items ≡ depths_by (replicate size 0) edges.now) }
+{
+    let mut depths = vec![in alloc; 0u32; size]?;
+    for edge in edges {
+        deepen(&mut depths, edge);
+    }
+    Ok(depths)
+}
+
+/// Puts a strand behind those of its level.
+fn seat(depths: &[u32], counts: &mut Vec<u32>, columns: &mut Vec<u32>, strand: usize)
+    ensures counts { counts.new.items ≡ counted depths.now counts.old.items strand }
+    ensures columns { columns.new.items
+        ≡ slice_set columns.old.items strand (slice_index_or counts.old.items (slice_index_or depths.now strand 0) 0) }
+{
+    let level = number_at(depths, strand) as usize;
+    let column = number_at(counts.as_slice(), level);
+    put(counts, level, step(column));
+    put(columns, strand, column);
+}
+
+/// Puts strands behind those of their levels.
+fn seat_all(depths: &[u32], counts: &mut Vec<u32>, columns: &mut Vec<u32>, strands: &[usize])
+    ensures counts { counts.new.items ≡ counts_by depths.now counts.old.items strands.now }
+    ensures columns { columns.new.items ≡ columns_by depths.now counts.old.items columns.old.items strands.now }
+{
+    for strand in strands {
+        seat(depths, counts, columns, *strand);
+    }
+}
+
+/// The greatest of some numbers.
+fn greatest(numbers: &[u32]) -> u32
+    ensures { result ≡ greatest 0 numbers.now }
+{
+    let mut most = 0;
+    for number in numbers {
+        most = most.max(*number);
+    }
+    most
+}
+
+/// The length of the longest line, which is not below this.
+fn longest(most: usize, lines: &[String]) -> usize
+    ensures { result ≡ longest most (map string_bytes lines.now) }
+{
+    let mut most = most;
+    for line in lines {
+        most = most.max(line.as_str().len());
+    }
+    most
+}
+
+/// The length of the longest line of strands.
+fn longest_line(
+    alloc: Global,
+    names: &Names<'_>,
+    strands: &[usize],
+    accesses: &[Access],
+) -> Result<usize, AllocError>
+    requires numbered { IsTrue (is_numbered 0 names.now.mems.now) }
+    ensures { IfOk result (λ length. length ≡ longest_line (naming_of names.now) 0 strands.now accesses.now) }
+{
+    let mut length = 0;
+    let mut rest = accesses;
+    for strand in strands {
+        let (own, others) = rest.split_at(own_of(*strand, rest));
+        let lines = node_lines(alloc, names, *strand, own)?;
+        length = longest(length, lines.as_slice());
+        rest = others;
+    }
+    Ok(length)
+}
+
+/// The most lines of a strand.
+fn most_lines(
+    alloc: Global,
+    names: &Names<'_>,
+    strands: &[usize],
+    accesses: &[Access],
+) -> Result<usize, AllocError>
+    requires numbered { IsTrue (is_numbered 0 names.now.mems.now) }
+    ensures { IfOk result (λ most. most ≡ most_lines (naming_of names.now) 0 strands.now accesses.now) }
+{
+    let mut most = 0;
+    let mut rest = accesses;
+    for strand in strands {
+        let (own, others) = rest.split_at(own_of(*strand, rest));
+        let lines = node_lines(alloc, names, *strand, own)?;
+        most = most.max(lines.len());
+        rest = others;
+    }
+    Ok(most)
+}
+
+/// The last of some numbers.
+fn last_of(numbers: &[usize]) -> usize
+    ensures { result ≡ last_of numbers.now }
+{
+    match numbers.last() {
+        Some(number) => *number,
+        None => 0,
+    }
+}
+
+/// Where the boxes of a drawing stand.
+pub fn layout_of(alloc: Global, names: &Names<'_>, drawing: &Drawing) -> Result<Layout, AllocError>
+    requires numbered { IsTrue (is_numbered 0 names.now.mems.now) }
+    ensures { IfOk result (λ layout. plan_of layout ≡ plan (naming_of names.now) drawing.now) }
+{
+    let strands = drawing.strands.as_slice();
+    let accesses = drawing.accesses.as_slice();
+    let length = longest_line(alloc, names, strands, accesses)?;
+    let lines = most_lines(alloc, names, strands, accesses)?;
+    let size = usize::from(at_most(MOST_NUMBERS, last_of(strands))) + 1;
+    let depths = depths_of(alloc, size, drawing.edges.as_slice())?;
+    let mut counts = vec![in alloc; 0u32; size]?;
+    let mut columns = vec![in alloc; 0u32; size]?;
+    seat_all(depths.as_slice(), &mut counts, &mut columns, strands);
+    let characters = at_most(MOST_CHARACTERS, length);
+    let runs = names.notes.runs();
+    Ok(Layout {
+        widest: greatest(counts.as_slice()),
+        deepest: greatest(depths.as_slice()),
+        depths,
+        columns,
+        counts,
+        half: 4 * characters + 8,
+        across: 4 * characters + 24,
+        down: 16 * at_most(MOST_BOX_LINES, lines) + 80,
+        above: 16 * at_most(MOST_TITLE_LINES, runs.len()) + 96,
+        title: 8 * at_most(MOST_TITLE_CHARACTERS, longest(0, runs)) + 32,
+    })
+}
+
+/// So many times a way.
+fn scaled(count: u64, way: u16) -> u64
+    requires small { count < 2 ^ 34 }
+    ensures value { result ≡ count * way }
+    ensures bound { result < 2 ^ 50 }
+{
+    count * u64::from(way)
+}
+
+impl Layout {
+    /// The left end of a strand's box, with each level in the middle.
+    pub fn left(&self, strand: usize) -> u64
+        ensures value { result ≡ left_at (plan_of self.now) strand }
+        ensures bound { result < 2 ^ 51 }
+    {
+        let level = number_at(self.depths.as_slice(), strand) as usize;
+        let count = number_at(self.counts.as_slice(), level);
+        let column = number_at(self.columns.as_slice(), strand);
+        let steps = u64::from(self.widest.saturating_sub(count)) + 2 * u64::from(column);
+        16 + scaled(steps, self.across)
+    }
+
+    /// The width of a box.
+    pub fn box_width(&self) -> u64
+        ensures { result ≡ 2 * (plan_of self.now).half }
+    {
+        let half = self.half;
+        2 * u64::from(half)
+    }
+
+    /// The middle of a strand's box.
+    pub fn middle(&self, strand: usize) -> u64
+        ensures value { result ≡ middle_at (plan_of self.now) strand }
+        ensures bound { result < 2 ^ 52 }
+    {
+        self.left(strand) + u64::from(self.half)
+    }
+
+    /// The top of a strand's box.
+    pub fn top(&self, strand: usize) -> u64
+        ensures value { result ≡ top_at (plan_of self.now) strand }
+        ensures bound { result < 2 ^ 51 }
+    {
+        let level = number_at(self.depths.as_slice(), strand);
+        u64::from(self.above) + scaled(u64::from(level), self.down)
+    }
+
+    /// The width of the picture.
+    pub fn width(&self) -> u64
+        ensures { result ≡ width_of (plan_of self.now) }
+    {
+        let boxes = 16 + scaled(2 * u64::from(self.widest), self.across);
+        boxes.max(u64::from(self.title))
+    }
+
+    /// Its height.
+    pub fn height(&self) -> u64
+        ensures { result ≡ height_of (plan_of self.now) }
+    {
+        u64::from(self.above) + scaled(u64::from(self.deepest) + 1, self.down)
+    }
+}

@@ -1,0 +1,381 @@
+//! The text of a drawing in SVG.
+
+ghost use Rattle.std.specs.Prelude.{◌≡◌, ◌++◌, ◌+◌, ◌-◌, ◌≤◌, OnOk, IfOk, IsTrue, decimal, flat_map, length, map, string_bytes, take};
+ghost use Rattle.trace_text.specs.Shapes.{is_numbered};
+ghost use Rattle.dag_drawing.specs.Labels.{naming_of, title_lines};
+ghost use Rattle.dag_drawing.specs.Plans.{plan_of, middle_at, top_at, most_title_lines, most_title_characters};
+ghost use Rattle.dag_drawing.specs.Pictures.{xml_byte, xml_text, cut_text, line_text, lines_text, edge_text, box_height, rect_text, node_text, nodes_text};
+ghost use Rattle.dag_drawing.specs.Pictures.{rise, ends_text, curve_text, arc_text, label_text, race_text, races_text, style_text, head_text, title_text};
+ghost use Rattle.dag_drawing.specs.Pictures.{picture_text, svg_text};
+
+use crate::dot::word_of;
+use crate::drawing::{Access, Drawing, Edge, Race};
+use crate::labels::{Names, node_lines, own_of, race_label};
+use crate::plan::{
+    Layout, MOST_BOX_LINES, MOST_CHARACTERS, MOST_TITLE_CHARACTERS, MOST_TITLE_LINES, at_most,
+    layout_of,
+};
+use std::alloc::{AllocError, Global};
+use text_buffers::{push_number, push_words};
+
+/// Adds a byte as it stands in XML.
+fn push_xml_byte(text: &mut Vec<u8>, byte: u8) -> Result<(), AllocError>
+    ensures { OnOk result (text.new.items ≡ text.old.items ++ xml_byte byte) }
+{
+    match byte {
+        b'&' => push_words(text, "&amp;"),
+        b'<' => push_words(text, "&lt;"),
+        b'>' => push_words(text, "&gt;"),
+        b'"' => push_words(text, "&quot;"),
+        b'\'' => push_words(text, "&apos;"),
+        b' '..=b'~' => {
+            text.push(byte)?;
+            Ok(())
+        }
+        _ => push_words(text, "?"),
+    }
+}
+
+/// Adds bytes as they stand in XML.
+fn push_xml(text: &mut Vec<u8>, bytes: &[u8]) -> Result<(), AllocError>
+    ensures { OnOk result (text.new.items ≡ text.old.items ++ xml_text bytes.now) }
+{
+    for byte in bytes {
+        push_xml_byte(text, *byte)?;
+    }
+    Ok(())
+}
+
+/// Adds a line, which is cut where it is longer than this.
+fn push_cut(text: &mut Vec<u8>, most: u16, line: &str) -> Result<(), AllocError>
+    ensures { OnOk result (text.new.items ≡ text.old.items ++ cut_text most line.now) }
+{
+    let bytes = line.as_bytes();
+    if bytes.len() > usize::from(most) {
+        let (kept, _) = bytes.split_at(usize::from(most.saturating_sub(2)));
+        push_xml(text, kept)?;
+        push_words(text, "..")
+    } else {
+        push_xml(text, bytes)
+    }
+}
+
+/// Adds a line below the one before it.
+fn push_line(text: &mut Vec<u8>, most: u16, left: u64, line: &str) -> Result<(), AllocError>
+    ensures { OnOk result (text.new.items ≡ text.old.items ++ line_text most left line.now) }
+{
+    push_number(text, "<tspan x=\"", left)?;
+    push_words(text, "\" dy=\"16\">")?;
+    push_cut(text, most, line)?;
+    push_words(text, "</tspan>")
+}
+
+/// Adds lines, one below the other.
+fn push_lines(text: &mut Vec<u8>, most: u16, left: u64, lines: &[String]) -> Result<(), AllocError>
+    ensures { OnOk result (text.new.items ≡ text.old.items ++ lines_text most left (map string_bytes lines.now)) }
+{
+    for line in lines {
+        push_line(text, most, left, line.as_str())?;
+    }
+    Ok(())
+}
+
+/// Adds an edge.
+fn push_edge(text: &mut Vec<u8>, layout: &Layout, edge: &Edge) -> Result<(), AllocError>
+    ensures { OnOk result (text.new.items ≡ text.old.items ++ edge_text (plan_of layout.now) edge.now) }
+{
+    push_words(text, "<line class=\"")?;
+    push_words(text, word_of(edge.kind))?;
+    push_number(text, "\" data-from=\"", u64::from(edge.from))?;
+    push_number(text, "\" data-to=\"", u64::from(edge.to))?;
+    push_number(text, "\" x1=\"", layout.middle(edge.from as usize))?;
+    push_number(text, "\" y1=\"", layout.top(edge.from as usize))?;
+    push_number(text, "\" x2=\"", layout.middle(edge.to as usize))?;
+    push_number(text, "\" y2=\"", layout.top(edge.to as usize))?;
+    push_words(text, "\"/>\n")?;
+    Ok(())
+}
+
+/// Adds edges.
+fn push_edges(text: &mut Vec<u8>, layout: &Layout, edges: &[Edge]) -> Result<(), AllocError>
+    ensures { OnOk result (text.new.items ≡ text.old.items ++ flat_map (edge_text (plan_of layout.now)) edges.now) }
+{
+    for edge in edges {
+        push_edge(text, layout, edge)?;
+    }
+    Ok(())
+}
+
+/// The height of a box of so many lines.
+fn box_height(lines: usize) -> u64
+    ensures { result ≡ box_height lines }
+{
+    16 * u64::from(at_most(MOST_BOX_LINES, lines)) + 8
+}
+
+/// Adds the box of a strand.
+fn push_rect(
+    text: &mut Vec<u8>,
+    layout: &Layout,
+    strand: usize,
+    lines: usize,
+) -> Result<(), AllocError>
+    ensures { OnOk result (text.new.items ≡ text.old.items ++ rect_text (plan_of layout.now) strand lines) }
+{
+    push_number(text, "<g id=\"strand-", strand as u64)?;
+    push_number(text, "\">\n<rect x=\"", layout.left(strand))?;
+    push_number(text, "\" y=\"", layout.top(strand))?;
+    push_number(text, "\" width=\"", layout.box_width())?;
+    push_number(text, "\" height=\"", box_height(lines))?;
+    push_words(text, "\"/>\n")?;
+    Ok(())
+}
+
+/// Adds a strand with the lines of its box.
+fn push_node(
+    text: &mut Vec<u8>,
+    layout: &Layout,
+    strand: usize,
+    lines: &[String],
+) -> Result<(), AllocError>
+    ensures { OnOk result (text.new.items ≡ text.old.items ++ node_text (plan_of layout.now) strand (map string_bytes lines.now)) }
+{
+    push_rect(text, layout, strand, lines.len())?;
+    push_number(text, "<text y=\"", layout.top(strand))?;
+    push_words(text, "\">")?;
+    push_lines(text, MOST_CHARACTERS, layout.left(strand) + 8, lines)?;
+    push_words(text, "</text>\n</g>\n")?;
+    Ok(())
+}
+
+/// Adds strands, each with its own of the accesses.
+fn push_nodes(
+    alloc: Global,
+    text: &mut Vec<u8>,
+    layout: &Layout,
+    names: &Names<'_>,
+    strands: &[usize],
+    accesses: &[Access],
+) -> Result<(), AllocError>
+    requires numbered { IsTrue (is_numbered 0 names.now.mems.now) }
+    ensures { OnOk result (text.new.items ≡ text.old.items ++ nodes_text (plan_of layout.now) (naming_of names.now) strands.now accesses.now) }
+{
+    let mut rest = accesses;
+    for strand in strands {
+        let (own, others) = rest.split_at(own_of(*strand, rest));
+        let lines = node_lines(alloc, names, *strand, own)?;
+        push_node(text, layout, *strand, lines.as_slice())?;
+        rest = others;
+    }
+    Ok(())
+}
+
+/// How high the arc of the race with this number rises.
+fn rise(number: usize) -> u64
+    ensures value { result ≡ rise number }
+    ensures bound { result ≤ 72 }
+{
+    24 + 12 * (number % 5) as u64
+}
+
+/// Adds between which strands a race is.
+fn push_ends(text: &mut Vec<u8>, race: &Race) -> Result<(), AllocError>
+    ensures { OnOk result (text.new.items ≡ text.old.items ++ ends_text race.now) }
+{
+    push_number(
+        text,
+        "<g class=\"race\" data-from=\"",
+        u64::from(race.witness.strand),
+    )?;
+    push_number(text, "\" data-to=\"", u64::from(race.request.strand))?;
+    push_words(text, "\">\n")?;
+    Ok(())
+}
+
+/// Adds the arc from one place to another, by a height above each.
+fn push_curve(
+    text: &mut Vec<u8>,
+    from: (u64, u64, u64),
+    to: (u64, u64, u64),
+) -> Result<(), AllocError>
+    ensures { OnOk result (text.new.items ≡ text.old.items ++ curve_text from.0 from.1 from.2 to.0 to.1 to.2) }
+{
+    push_number(text, "<path d=\"M ", from.0)?;
+    push_number(text, " ", from.1)?;
+    push_number(text, " C ", from.0)?;
+    push_number(text, " ", from.2)?;
+    push_number(text, " ", to.0)?;
+    push_number(text, " ", to.2)?;
+    push_number(text, " ", to.0)?;
+    push_number(text, " ", to.1)?;
+    push_words(text, "\"/>\n")?;
+    Ok(())
+}
+
+/// The place of an arc's end at a strand, and the height above it.
+fn end_of(layout: &Layout, number: usize, strand: usize) -> (u64, u64, u64)
+    ensures middle { result.0 ≡ middle_at (plan_of layout.now) strand }
+    ensures top { result.1 ≡ top_at (plan_of layout.now) strand }
+    ensures above { result.2 ≡ top_at (plan_of layout.now) strand - rise number }
+{
+    let top = layout.top(strand);
+    (layout.middle(strand), top, top.saturating_sub(rise(number)))
+}
+
+/// Adds the arc from one strand to another.
+fn push_arc(
+    text: &mut Vec<u8>,
+    layout: &Layout,
+    number: usize,
+    from: usize,
+    to: usize,
+) -> Result<(), AllocError>
+    ensures { OnOk result (text.new.items ≡ text.old.items ++ arc_text (plan_of layout.now) number from to) }
+{
+    push_curve(
+        text,
+        end_of(layout, number, from),
+        end_of(layout, number, to),
+    )
+}
+
+/// Adds what is written in the middle of an arc.
+fn push_label(
+    text: &mut Vec<u8>,
+    layout: &Layout,
+    number: usize,
+    from: usize,
+    to: usize,
+    label: &str,
+) -> Result<(), AllocError>
+    ensures { OnOk result (text.new.items ≡ text.old.items ++ label_text (plan_of layout.now) number from to label.now) }
+{
+    let left = (layout.middle(from) + layout.middle(to)) / 2;
+    let top = (layout.top(from) + layout.top(to)) / 2;
+    push_number(text, "<text x=\"", left)?;
+    push_number(text, "\" y=\"", top.saturating_sub(rise(number)))?;
+    push_words(text, "\">")?;
+    push_xml(text, label.as_bytes())?;
+    push_words(text, "</text>\n</g>\n")?;
+    Ok(())
+}
+
+/// Adds a race.
+fn push_race(
+    alloc: Global,
+    text: &mut Vec<u8>,
+    layout: &Layout,
+    names: &Names<'_>,
+    number: usize,
+    race: &Race,
+) -> Result<(), AllocError>
+    requires numbered { IsTrue (is_numbered 0 names.now.mems.now) }
+    ensures { OnOk result (text.new.items ≡ text.old.items ++ race_text (plan_of layout.now) (naming_of names.now) number race.now) }
+{
+    let from = race.witness.strand as usize;
+    let to = race.request.strand as usize;
+    let label = race_label(alloc, names, race)?;
+    push_ends(text, race)?;
+    push_arc(text, layout, number, from, to)?;
+    push_label(text, layout, number, from, to, label.as_str())?;
+    Ok(())
+}
+
+/// Adds races.
+fn push_races(
+    alloc: Global,
+    text: &mut Vec<u8>,
+    layout: &Layout,
+    names: &Names<'_>,
+    races: &[Race],
+) -> Result<(), AllocError>
+    requires numbered { IsTrue (is_numbered 0 names.now.mems.now) }
+    ensures { OnOk result (text.new.items ≡ text.old.items ++ races_text (plan_of layout.now) (naming_of names.now) 0 races.now) }
+{
+    for (number, race) in races.iter().enumerate() {
+        push_race(alloc, text, layout, names, number, race)?;
+    }
+    Ok(())
+}
+
+/// How the parts of a picture look.
+fn style() -> &'static str
+    ensures { result.now ≡ style_text }
+{
+    "<style>\nsvg { background: white }\ntext { font: 13px monospace; white-space: pre }\nrect { fill: white; stroke: black }\nline { stroke: black; marker-end: url(#arrow) }\n.join { stroke-dasharray: 6 3 }\n.race path { fill: none; stroke: red }\n.race text { fill: red; text-anchor: middle }\n</style>\n<marker id=\"arrow\" markerWidth=\"8\" markerHeight=\"8\" refX=\"8\" refY=\"4\" orient=\"auto\"><path d=\"M 0 0 L 8 4 L 0 8 z\"/></marker>\n"
+}
+
+/// Adds the head of a picture of this width and height.
+fn push_head(text: &mut Vec<u8>, width: u64, height: u64) -> Result<(), AllocError>
+    ensures { OnOk result (text.new.items ≡ text.old.items ++ head_text width height) }
+{
+    push_number(
+        text,
+        "<svg xmlns=\"http://www.w3.org/2000/svg\" width=\"",
+        width,
+    )?;
+    push_number(text, "\" height=\"", height)?;
+    push_number(text, "\" viewBox=\"0 0 ", width)?;
+    push_number(text, " ", height)?;
+    push_words(text, "\">\n")?;
+    push_words(text, style())?;
+    Ok(())
+}
+
+/// The lines of the title that there is room for.
+fn shown_of(runs: &[String]) -> &[String]
+    ensures { map string_bytes result.now ≡ take most_title_lines (map string_bytes runs.now) }
+{
+    if runs.len() > usize::from(MOST_TITLE_LINES) {
+        let (shown, _) = runs.split_at(usize::from(MOST_TITLE_LINES));
+        shown
+    } else {
+        runs
+    }
+}
+
+/// Adds what was recorded.
+fn push_title(text: &mut Vec<u8>, runs: &[String]) -> Result<(), AllocError>
+    ensures { OnOk result (text.new.items ≡ text.old.items ++ title_text (map string_bytes runs.now)) }
+{
+    if runs.is_empty() {
+        return Ok(());
+    }
+    push_words(text, "<text id=\"title\" y=\"8\">")?;
+    push_lines(text, MOST_TITLE_CHARACTERS, 16, shown_of(runs))?;
+    push_words(text, "</text>\n")?;
+    Ok(())
+}
+
+/// Adds a drawing by its layout.
+fn push_picture(
+    alloc: Global,
+    text: &mut Vec<u8>,
+    layout: &Layout,
+    names: &Names<'_>,
+    drawing: &Drawing,
+) -> Result<(), AllocError>
+    requires numbered { IsTrue (is_numbered 0 names.now.mems.now) }
+    ensures { OnOk result (text.new.items ≡ text.old.items ++ picture_text (plan_of layout.now) (naming_of names.now) drawing.now) }
+{
+    let strands = drawing.strands.as_slice();
+    let accesses = drawing.accesses.as_slice();
+    push_head(text, layout.width(), layout.height())?;
+    push_title(text, names.notes.runs())?;
+    push_edges(text, layout, drawing.edges.as_slice())?;
+    push_nodes(alloc, text, layout, names, strands, accesses)?;
+    push_races(alloc, text, layout, names, drawing.races.as_slice())?;
+    push_words(text, "</svg>\n")
+}
+
+/// The text of a drawing in SVG: above it what was recorded, a box for each strand, on a level below those that lead to it, a line for
+/// each edge of the dag, and a red arc for each race. Errors where there is no memory.
+pub fn svg_text(alloc: Global, names: &Names<'_>, drawing: &Drawing) -> Result<Vec<u8>, AllocError>
+    requires numbered { IsTrue (is_numbered 0 names.now.mems.now) }
+    ensures { IfOk result (λ text. text.items ≡ svg_text (naming_of names.now) drawing.now) }
+{
+    let layout = layout_of(alloc, names, drawing)?;
+    let mut text = Vec::new(alloc);
+    push_picture(alloc, &mut text, &layout, names, drawing)?;
+    Ok(text)
+}
