@@ -1,14 +1,14 @@
 -- What a failed write says of an explanation.
-use Rattle.std.proofs.Common.{◌≡◌, ◌≤◌, ◌⊎◌, ℕ, Bool, true, false, List, Option, inl, inr, sym, subst, arith, if◌then◌else◌}
+use Rattle.std.proofs.Common.{◌≡◌, ◌≤◌, ◌⊎◌, ℕ, Bool, true, false, List, Option, inl, inr, refl, sym, subst, arith, if◌then◌else◌}
 use Rattle.std.specs.List.{list_any}
 use Rattle.model_histories.specs.declared.answer.Entry.{Entry}
 use Rattle.command_streams.specs.declared.fault.CliFault.{CliFault}
 use Rattle.command_streams.specs.declared.fault.CliFault.TheVariants.{Write, Memory}
-use Rattle.command_streams.specs.Outcomes.{is_refused}
+use Rattle.command_streams.specs.Outcomes.{is_refused, refusal_status}
 use Rattle.command_streams.specs.Streams.{IsRead, StopsWriting}
 use Rattle.command_streams.specs.Readings.{Reading}
 use Rattle.other_commands.specs.declared.explain.End.{End}
-use Rattle.other_commands.specs.declared.explain.End.TheVariants.{Clean, Raced, Cut}
+use Rattle.other_commands.specs.declared.explain.End.TheVariants.{Clean, Raced, Cut, CutRaced}
 use Rattle.other_commands.specs.Sorts.{is_program_text}
 use Rattle.other_commands.specs.Explanations.{Manner, status_of_end, ExplainsAs, Explains, StopsTellingAs, StopsTelling, IsExplained, HasExplanationCause}
 
@@ -34,6 +34,7 @@ end_status : (end : End) → status_of_end end ≤ 4
 end_status Clean = omega arith
 end_status Raced = omega arith
 end_status Cut = omega arith
+end_status CutRaced = omega arith
 
 refused_status : (is_racy : Bool) → (if is_racy then 1 else 0) ≤ 4
 refused_status true = omega arith
@@ -66,3 +67,11 @@ explains_as is_program manner text limit told status is explains =
 pub explained_status : (manner : Manner) (reader : Reading) (wrote writes : Option (List ℕ)) (limit status : ℕ) →
     IsExplained manner reader wrote writes limit status → status ≤ 4
 explained_status manner reader wrote writes limit status explained = told_status manner explained.text limit explained.told status explained.explains
+
+-- the status of entries of which one is refused
+pub some_refused : (entries : List Entry) → (refusal_status entries ≡ 0 → ⊥) → 1 ≡ refusal_status entries
+some_refused entries some = by (list_any (λ (entry : Entry). is_refused entry.answer) entries) refl
+  where
+    by : (any : Bool) → list_any (λ (entry : Entry). is_refused entry.answer) entries ≡ any → 1 ≡ refusal_status entries
+    by true is = rw is refl
+    by false is = absurd (some (rw is refl))

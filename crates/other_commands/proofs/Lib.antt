@@ -6,5 +6,6 @@ mod Pairs
 mod ReplayCauses
 mod ShortNames
 mod Sorted
+mod KeptRuns
 mod Recorded
 pub mod TracedCauses

@@ -5,11 +5,12 @@ use Rattle.program_text.specs.Drafts.{Contents}
 use Rattle.model_histories.specs.declared.fault.GateFault.{GateFault}
 use Rattle.model_histories.specs.declared.fault.GateFault.TheVariants.{Stopped as GateStopped, Limit as GateLimit, NotRunning, BadName, Unsynced, Memory as GateMemory}
 use Rattle.command_streams.specs.declared.fault.CliFault.{CliFault}
-use Rattle.command_streams.specs.declared.fault.CliFault.TheVariants.{Read, Write, TooLong, Shape, Illegal, Limit, Memory}
+use Rattle.command_streams.specs.declared.fault.CliFault.TheVariants.{Read, Write, TooLong, Trace, Shape, Illegal, Limit, Memory}
 use Rattle.other_commands.specs.Declarations.{DeclareSame}
-use Rattle.command_streams.specs.Streams.{StopsWriting}
+use Rattle.text_words.specs.declared.fault.TextFault.TheVariants.{At}
+use Rattle.command_streams.specs.Streams.{StopsWriting, IsRead, IsFaultOf}
 use Rattle.command_streams.specs.Readings.{Reading, StopsReader}
-use Rattle.other_commands.specs.Replays.{AreRead, StopsGate, fault_of_request, ReplaysContents, StopsReplay, HasReplayCause}
+use Rattle.other_commands.specs.Replays.{AreRead, HasProgram, StopsGate, fault_of_request, ReplaysContents, StopsReplay, HasReplayCause}
 
 request_cause : (program : Contents) (trace : TraceContents) (number : ℕ) (cause : GateFault) → DeclareSame program.known trace.known →
     StopsGate trace (fault_of_request number cause) → StopsReplay program trace (fault_of_request number cause)
@@ -57,8 +58,16 @@ replay_cut program trace wrote writes contents trace_contents line status Write 
 replay_cut program trace wrote writes contents trace_contents line status fault read replays stops = absurd stops
 
 -- the trace is not read to its end
-pub trace_unread : (program trace : Reading) (wrote writes : Option (List ℕ)) (fault : CliFault) → StopsReader trace fault → HasReplayCause program trace wrote writes fault
-trace_unread program trace wrote writes Read stops = tt
-trace_unread program trace wrote writes TooLong stops = inr stops
-trace_unread program trace wrote writes Memory stops = tt
-trace_unread program trace wrote writes fault stops = absurd stops
+pub trace_unread : (program trace : Reading) (wrote writes : Option (List ℕ)) (fault : CliFault) → HasProgram program → StopsReader trace fault →
+    HasReplayCause program trace wrote writes fault
+trace_unread program trace wrote writes Read first stops = tt
+trace_unread program trace wrote writes TooLong first stops = inr (first, stops)
+trace_unread program trace wrote writes Memory first stops = tt
+trace_unread program trace wrote writes fault first stops = absurd stops
+
+-- the trace has a fault
+pub trace_faulty : (program trace : Reading) (wrote writes : Option (List ℕ)) (text : List ℕ) (fault : CliFault) → HasProgram program →
+    IsRead trace.before trace.behind text → IsFaultOf text fault → HasReplayCause program trace wrote writes fault
+trace_faulty program trace wrote writes text (Trace (At line why)) first read faulty = (first, record { text = text; read = read; faulty = faulty })
+trace_faulty program trace wrote writes text Memory first read faulty = tt
+trace_faulty program trace wrote writes text fault first read faulty = absurd faulty

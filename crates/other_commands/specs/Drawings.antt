@@ -1,6 +1,8 @@
 -- What is read of a trace, and what is drawn of it.
 use Rattle.std.specs.Prelude.{ℕ, ◌≡◌, Option, List, ◌++◌, reverse}
+use Rattle.std.specs.Global.{Global}
 use Rattle.std.specs.Io.KnownBytes.{Appends}
+use Rattle.text_words.specs.Text.{lines}
 use Rattle.text_words.specs.Values.{Contents}
 use Rattle.trace_text.specs.Grammar.{TextMeans}
 use Rattle.model_histories.specs.declared.answer.Entry.{Entry}
@@ -8,7 +10,11 @@ use Rattle.model_histories.specs.Entries.{control_part}
 use Rattle.model_histories.specs.States.{State}
 use Rattle.dag_drawing.specs.declared.drawing.Drawing.{Drawing}
 use Rattle.dag_drawing.specs.Drawn.{IsDrawing, HasMoreStrands}
-use Rattle.dag_drawing.specs.Texts.{drawing_text}
+use Rattle.dag_drawing.specs.declared.form.Form.{Form}
+use Rattle.dag_drawing.specs.Labels.{Naming}
+use Rattle.dag_drawing.specs.Forms.{text_in}
+use Rattle.trace_notes.specs.declared.notes.Notes.{Notes}
+use Rattle.trace_notes.specs.Notes.{AreNotes}
 use Rattle.command_streams.specs.declared.fault.CliFault.{CliFault}
 use Rattle.command_streams.specs.declared.fault.CliFault.TheVariants.{Read, Write, TooLong, Trace, Illegal, Limit, TooManyStrands, Memory}
 use Rattle.command_streams.specs.Outcomes.{refusal_status}
@@ -22,16 +28,20 @@ most_strands = 10_000
 
 -- ---- the drawing of a trace
 
--- A gate answered each request of the trace, and the text is that of the drawing of the gate's history, by the names that the trace
--- declares. The status tells whether something was refused in it.
-pub record DrawsContents (trace : Contents) (text : List ℕ) (status : ℕ) : Type 0 where
+-- what cells, reducers and marks are told by: what the trace declares, and notes
+abbrev pub naming_in : Notes Global → Contents → Naming
+naming_in notes trace = record { mems = trace.known.mems; reducers = trace.known.reducers; notes = notes }
+
+-- A gate answered each request of the trace, and the text is that of the drawing of the gate's history in this language, by the names
+-- that the trace declares and by notes. The status tells whether something was refused in it.
+pub record DrawsContents (form : Form) (notes : Notes Global) (trace : Contents) (text : List ℕ) (status : ℕ) : Type 0 where
   pub gate : State
   pub answers : AnswersAll trace gate
   pub entries : List Entry
   pub history : reverse entries ≡ gate.history
   pub drawing : Drawing
   pub drawn : IsDrawing entries drawing
-  pub text_is : text ≡ drawing_text trace.known.mems trace.known.reducers drawing
+  pub text_is : text ≡ text_in form (naming_in notes trace) drawing
   pub status_is : status ≡ refusal_status entries
 
 -- why entries, given from the oldest on, are not drawn
@@ -62,23 +72,27 @@ pub record IsTraceRead (reader : Reading) (trace : Contents) : Type 0 where
   pub read : IsRead reader.before reader.behind text
   pub means : TextMeans text trace
 
--- A trace was read, and its drawing was written.
-pub record IsDrawn (reader : Reading) (wrote writes : Option (List ℕ)) (status : ℕ) : Type 0 where
+-- A trace was read, and its drawing was written, by the notes of the text that was read.
+pub record IsDrawn (form : Form) (reader : Reading) (wrote writes : Option (List ℕ)) (status : ℕ) : Type 0 where
   pub trace : Contents
   pub text : List ℕ
   pub read : IsTraceRead reader trace
-  pub draws : DrawsContents trace text status
+  pub notes : Notes Global
+  pub noted : AreNotes (lines read.text) notes
+  pub draws : DrawsContents form notes trace text status
   pub written : Appends wrote writes text
 
 -- A trace was read, and only a part of its drawing could be written.
-pub record IsDrawingCut (reader : Reading) (wrote writes : Option (List ℕ)) : Type 0 where
+pub record IsDrawingCut (form : Form) (reader : Reading) (wrote writes : Option (List ℕ)) : Type 0 where
   pub trace : Contents
   pub text : List ℕ
   pub status : ℕ
   pub part : List ℕ
   pub rest : List ℕ
   pub read : IsTraceRead reader trace
-  pub draws : DrawsContents trace text status
+  pub notes : Notes Global
+  pub noted : AreNotes (lines read.text) notes
+  pub draws : DrawsContents form notes trace text status
   pub written : Appends wrote writes part
   pub prefix : part ++ rest ≡ text
 
@@ -89,10 +103,10 @@ pub record IsDrawingStopped (reader : Reading) (fault : CliFault) : Type 0 where
   pub stops : StopsDrawing trace fault
 
 -- Why a drawing is not written, or not wholly: each fault has its cause.
-abbrev pub HasDrawingCause : Reading → (wrote writes : Option (List ℕ)) → CliFault → Type 0
-HasDrawingCause reader wrote writes Read = Unit {0}
-HasDrawingCause reader wrote writes Write = IsDrawingCut reader wrote writes
-HasDrawingCause reader wrote writes TooLong = StopsReader reader TooLong
-HasDrawingCause reader wrote writes (Trace fault) = IsFaulty reader.before reader.behind (Trace fault)
-HasDrawingCause reader wrote writes Memory = Unit {0}
-HasDrawingCause reader wrote writes fault = IsDrawingStopped reader fault
+abbrev pub HasDrawingCause : Form → Reading → (wrote writes : Option (List ℕ)) → CliFault → Type 0
+HasDrawingCause form reader wrote writes Read = Unit {0}
+HasDrawingCause form reader wrote writes Write = IsDrawingCut form reader wrote writes
+HasDrawingCause form reader wrote writes TooLong = StopsReader reader TooLong
+HasDrawingCause form reader wrote writes (Trace fault) = IsFaulty reader.before reader.behind (Trace fault)
+HasDrawingCause form reader wrote writes Memory = Unit {0}
+HasDrawingCause form reader wrote writes fault = IsDrawingStopped reader fault

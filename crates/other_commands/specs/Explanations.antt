@@ -18,13 +18,14 @@ use Rattle.model_races.specs.Memory.{IsMemory}
 use Rattle.model_histories.specs.Extensions.{IsFinished, IsClean}
 use Rattle.model_runs.specs.Runs.{IsRun, IsFinishedRun}
 use Rattle.locked_replay.specs.Laws.{SpeaksForAll}
+use Rattle.law_traces.specs.CleanTraces.{SpeaksForOrders}
 use Rattle.source_quotes.specs.FaultTexts.{TellsFault}
 use Rattle.source_quotes.specs.Quotes.{counted}
 use Rattle.race_explanations.specs.Explained.{IsExplanation, IsTraceExplanation}
 use Rattle.command_streams.specs.declared.fault.CliFault.{CliFault}
 use Rattle.command_streams.specs.declared.fault.CliFault.TheVariants.{Read, Write, TooLong, Memory}
 use Rattle.other_commands.specs.declared.explain.End.{End}
-use Rattle.other_commands.specs.declared.explain.End.TheVariants.{Clean, Raced, Cut}
+use Rattle.other_commands.specs.declared.explain.End.TheVariants.{Clean, Raced, Cut, CutRaced}
 use Rattle.command_streams.specs.ElisionText.{memory_text}
 use Rattle.command_streams.specs.Readings.{Reading, StopsReader, shape_of_program}
 use Rattle.run_command.specs.Runs.{IsRunFault}
@@ -79,26 +80,29 @@ pub record IsRacedTold (manner : Manner) (text : List ℕ) (program : Contents) 
   pub raced : IsClean (reverse entries) → ⊥
   pub explains : IsExplanation manner.is_painted manner.file (lines text) program entries told
 
--- The races are told of a run that came to the limit and not to its end, and that it is no whole run.
-pub record IsCutTold (manner : Manner) (text : List ℕ) (program : Contents) (limit : ℕ) (told : List ℕ) : Type 0 where
+-- The races are told of a run that has just as many entries as the limit and has not come to its end, and that it is no whole run.
+pub record IsCutTold (manner : Manner) (text : List ℕ) (program : Contents) (limit : ℕ) (told : List ℕ) (refused : ℕ) : Type 0 where
   pub entries : List Entry
   pub run : IsRun program.functions (shape_of_program program) (reverse entries)
-  pub full : limit ≤ length entries
+  pub full : length entries ≡ limit
   pub unfinished : IsFinished (reverse entries) → ⊥
   pub explanation : List ℕ
   pub explains : IsExplanation manner.is_painted manner.file (lines text) program entries explanation
   pub told_is : told ≡ explanation ++ cut_text (length entries)
+  pub refused_is : refused ≡ refusal_status entries
 
 -- A run with this end is told.
 abbrev pub TellsEnd : Manner → (text : List ℕ) → Contents → (limit : ℕ) → (told : List ℕ) → End → Type 0
 TellsEnd manner text program limit told Clean = IsCleanTold program limit told
 TellsEnd manner text program limit told Raced = IsRacedTold manner text program limit told
-TellsEnd manner text program limit told Cut = IsCutTold manner text program limit told
+TellsEnd manner text program limit told Cut = IsCutTold manner text program limit told 0
+TellsEnd manner text program limit told CutRaced = IsCutTold manner text program limit told 1
 
 abbrev pub status_of_end : End → ℕ
 status_of_end Clean = 0
 status_of_end Raced = 1
 status_of_end Cut = 4
+status_of_end CutRaced = 1
 
 -- A run of the program is told that the text means.
 pub record IsRunTold (manner : Manner) (text : List ℕ) (limit : ℕ) (told : List ℕ) (status : ℕ) : Type 0 where
@@ -138,7 +142,8 @@ TellsEntries manner notes trace entries told =
     (IsClean (reverse entries) × (told ≡ clean_trace_words ++ judged_text (length entries))) ⊎
     ((IsClean (reverse entries) → ⊥) × IsTraceExplanation manner.is_painted notes trace.known entries told)
 
--- A gate answered each request of the trace that the text means, and its entries are told by the notes of that very text.
+-- A gate answered each request of the trace that the text means, and its entries are told by the notes of that very text. Where nothing was
+-- refused, that speaks for each order in which the strands can come.
 pub record IsTraceTold (manner : Manner) (text : List ℕ) (told : List ℕ) (status : ℕ) : Type 0 where
   pub trace : TraceContents
   pub means : TraceMeans text trace
@@ -146,6 +151,7 @@ pub record IsTraceTold (manner : Manner) (text : List ℕ) (told : List ℕ) (st
   pub answers : AnswersAll trace gate
   pub entries : List Entry
   pub history : reverse entries ≡ gate.history
+  pub speaks : IsClean gate.history → SpeaksForOrders gate.shape gate.history
   pub notes : Notes Global
   pub are_notes : AreNotes (lines text) notes
   pub verdict : List ℕ

@@ -5,3 +5,4 @@ pub mod Drawings
 pub mod Traced
 pub mod Explanations
 pub mod Sorts
+pub mod Together

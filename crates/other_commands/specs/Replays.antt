@@ -21,6 +21,7 @@ use Rattle.command_streams.specs.declared.fault.CliFault.TheVariants.{Shape as S
 use Rattle.command_streams.specs.declared.outcome.Outcome.{Outcome}
 use Rattle.other_commands.specs.Declarations.{DeclareSame}
 use Rattle.command_streams.specs.Readings.{IsFaultyProgram}
+use Rattle.run_command.specs.Runs.{IsProgramRead}
 use Rattle.command_streams.specs.Outcomes.{IsSo, line_of_outcome, status_of}
 use Rattle.command_streams.specs.Streams.{declared_shape, requests_of, IsJudgedBy, JudgesTrace, IsFaulty, IsRead}
 use Rattle.command_streams.specs.Readings.{Reading, StopsReader, shape_of_program}
@@ -120,13 +121,17 @@ pub record IsReplayStopped (program trace : Reading) (fault : CliFault) : Type 0
   pub read : AreRead program trace contents trace_contents
   pub stops : StopsReplay contents trace_contents fault
 
--- Why a replay is not written, or not wholly: each fault has its cause.
+-- A program was read.
+abbrev pub HasProgram : Reading → Type 0
+HasProgram program = (contents : Contents) × IsProgramRead program contents
+
+-- Why a replay is not written, or not wholly: each fault has its cause. The trace is told to be at fault only behind a program that is none.
 abbrev pub HasReplayCause : (program trace : Reading) → (wrote writes : Option (List ℕ)) → CliFault → Type 0
 HasReplayCause program trace wrote writes (Usage text) = ⊥
 HasReplayCause program trace wrote writes Read = Unit {0}
 HasReplayCause program trace wrote writes Write = IsReplayCut program trace wrote writes
-HasReplayCause program trace wrote writes TooLong = StopsReader program TooLong ⊎ StopsReader trace TooLong
+HasReplayCause program trace wrote writes TooLong = StopsReader program TooLong ⊎ (HasProgram program × StopsReader trace TooLong)
 HasReplayCause program trace wrote writes (Program fault) = IsFaultyProgram program.before program.behind (Program fault)
-HasReplayCause program trace wrote writes (Trace fault) = IsFaulty trace.before trace.behind (Trace fault)
+HasReplayCause program trace wrote writes (Trace fault) = HasProgram program × IsFaulty trace.before trace.behind (Trace fault)
 HasReplayCause program trace wrote writes Memory = Unit {0}
 HasReplayCause program trace wrote writes fault = IsReplayStopped program trace fault

@@ -2,6 +2,8 @@
 
 ghost use Rattle.std.specs.Prelude.{◌≡◌, ◌↔◌, ◌≢◌, ◌⊎◌, true, false, reverse, IfOk, IfErr, OnOk, IsErrOf, IsTrue};
 ghost use Rattle.trace_text.specs.Traces.{contents};
+ghost use Rattle.text_words.specs.Text.{lines};
+ghost use Rattle.trace_notes.specs.Notes.{AreNotes};
 ghost use Rattle.dag_drawing.specs.Walks.{IsLegalHistory};
 ghost use Rattle.dag_drawing.specs.Drawn.{IsDrawing};
 ghost use Rattle.command_streams.specs.Watched.{held, has_failed, is_delivered, calls_of, IsCalledAtMost};
@@ -10,12 +12,14 @@ ghost use Rattle.command_streams.specs.Readings.{reading};
 ghost use Rattle.other_commands.specs.Replays.{AnswersAll, StopsGate};
 ghost use Rattle.other_commands.specs.Drawings.{StopsEntries, DrawsContents, StopsDrawing, IsDrawn, HasDrawingCause};
 
+use crate::explain_trace::notes_of;
 use crate::replay::answered;
 use command_streams::{CliFault, Watched, parse_trace, read_text, refusal_status, write_text};
-use dag_drawing::{Drawing, draw, text_of};
+use dag_drawing::{Drawing, Form, Names, draw, write_drawing};
 use race_gate::Entry;
 use std::alloc::Global;
 use std::io::{Read, Write};
+use trace_notes::Notes;
 use trace_text::Trace;
 
 /// The drawing of entries, given from the oldest on.
@@ -32,8 +36,13 @@ fn drawing_of(alloc: Global, entries: &[Entry]) -> Result<Drawing, CliFault>
 }
 
 /// The text of a trace's drawing, and the exit status.
-fn drawn(alloc: Global, trace: &Trace<Global>) -> Result<(Vec<u8>, u8), CliFault>
-    ensures ok { IfOk result (λ told. DrawsContents (contents trace.now) told.0.items told.1) }
+fn drawn(
+    alloc: Global,
+    form: Form,
+    notes: &Notes<Global>,
+    trace: &Trace<Global>,
+) -> Result<(Vec<u8>, u8), CliFault>
+    ensures ok { IfOk result (λ told. DrawsContents form notes.now (contents trace.now) told.0.items told.1) }
     ensures fault { IfErr result (StopsDrawing (contents trace.now)) }
 {
     let gate = answered(alloc, trace)?;
@@ -41,13 +50,19 @@ fn drawn(alloc: Global, trace: &Trace<Global>) -> Result<(Vec<u8>, u8), CliFault
     let drawing = drawing_of(alloc, entries)?;
     let mems = trace.mems.as_slice();
     let reducers = trace.reducers.as_slice();
-    let text = text_of(alloc, mems, reducers, &drawing)?;
+    let names = Names {
+        mems,
+        reducers,
+        notes,
+    };
+    let text = write_drawing(alloc, form, &names, &drawing)?;
     Ok((text, refusal_status(entries)))
 }
 
 /// Reads a trace to its end, has a gate judge its requests in their order, and writes the drawing of the gate's history in Graphviz's
-/// language: a node for each strand that has begun, with its accesses, an edge for each edge of the dag, and a red edge for each refusal
-/// that has a witness. It answers the exit status: 1 where an entry is refused or unset, else 0.
+/// language or as SVG: a node for each strand that has begun, with its accesses, an edge for each edge of the dag, and a red edge for each
+/// refusal that has a witness. What the notes of the trace say of marks and names is told in their place. It answers the exit status: 1
+/// where an entry is refused or unset, else 0.
 ///
 /// It answers [`CliFault::Read`] or [`CliFault::Write`] exactly where the reader or the writer has failed, [`CliFault::TooLong`] for
 /// more than 67,108,864 bytes, [`CliFault::Trace`] with the first fault of a text that means no trace, by the first request that the gate
@@ -57,14 +72,15 @@ fn drawn(alloc: Global, trace: &Trace<Global>) -> Result<(Vec<u8>, u8), CliFault
 /// these.
 pub fn draw_text<R: Read, W: Write>(
     alloc: Global,
+    form: Form,
     input: &mut Watched<R>,
     output: &mut Watched<W>,
 ) -> Result<u8, CliFault>
     requires reader { has_failed input.old ≡ false }
     requires writer { has_failed output.old ≡ false }
-    ensures answered { IfOk result (IsDrawn (reading (R.remaining (held input.old)) (R.remaining (held input.new)))
+    ensures answered { IfOk result (IsDrawn form (reading (R.remaining (held input.old)) (R.remaining (held input.new)))
         (W.contents (held output.old)) (W.contents (held output.new))) }
-    ensures fault { IfErr result (HasDrawingCause (reading (R.remaining (held input.old)) (R.remaining (held input.new)))
+    ensures fault { IfErr result (HasDrawingCause form (reading (R.remaining (held input.old)) (R.remaining (held input.new)))
         (W.contents (held output.old)) (W.contents (held output.new))) }
     ensures read_failed { IsErrOf result CliFault.Read ↔ IsTrue (has_failed input.new) }
     ensures delivered { OnOk result (is_delivered output.new ≡ true) }
@@ -73,8 +89,9 @@ pub fn draw_text<R: Read, W: Write>(
     ensures unwritten { IfErr result (λ fault. fault ≢ CliFault.Write → output.new ≡ output.old) }
 {
     let bytes = read_text(alloc, input)?;
+    let notes = notes_of(alloc, bytes.as_slice())?;
     let trace = parse_trace(alloc, bytes)?;
-    let (text, status) = drawn(alloc, &trace)?;
+    let (text, status) = drawn(alloc, form, &notes, &trace)?;
     write_text(output, text.as_slice())?;
     Ok(status)
 }

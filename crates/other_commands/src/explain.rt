@@ -21,12 +21,14 @@ ghost use Rattle.other_commands.specs.Explanations.{TellsEnd, status_of_end, Exp
 use crate::elide::push_memory;
 use crate::explain_trace::trace_text_told;
 use crate::sort::is_program;
-use command_streams::{CliFault, Outcome, Watched, outcome_of, read_text, write_text};
+use command_streams::{
+    CliFault, Outcome, Watched, outcome_of, read_text, refusal_status, write_text,
+};
 use locked_replay::{RunFault, Whole};
 use program_text::Program;
 use race_explanations::explanation;
 use race_gate::{Entry, ShortGate};
-use run_command::{Door, PARTS, fault_of, some_run};
+use run_command::{Door, PARTS, fault_of, serial_run, some_run};
 use source_quotes::{Meant, fault_message};
 use std::alloc::{AllocError, Global};
 use std::io::{Read, Write};
@@ -61,18 +63,20 @@ pub enum End {
     Clean,
     /// It came to its end, and something was refused.
     Raced,
-    /// The limit ended it.
+    /// The limit ended it, and nothing was refused until then.
     Cut,
+    /// The limit ended it, and something was refused until then.
+    CutRaced,
 }
 
 impl End {
-    /// The exit status: 0, 1 or 4.
+    /// The exit status: 1 where something was refused, 4 where the limit ended a run before that, else 0.
     pub fn status(self) -> u8
         ensures { result ≡ status_of_end self }
     {
         match self {
             End::Clean => 0,
-            End::Raced => 1,
+            End::Raced | End::CutRaced => 1,
             End::Cut => 4,
         }
     }
@@ -162,7 +166,7 @@ fn unfinished_told(
     limit: u32,
 ) -> Result<(Vec<u8>, End), AllocError>
     requires run { IsUnfinishedRun program.now.functions (shape_in program.now) (reverse entries.now) }
-    requires full { limit ≤ length entries.now }
+    requires full { length entries.now ≡ limit }
     ensures { IfOk result (λ told. TellsEnd manner.now text.now (contents program.now) limit told.0.items told.1) }
 {
     let mut told = explanation(
@@ -174,7 +178,10 @@ fn unfinished_told(
         entries,
     )?;
     push_cut(&mut told, entries.len())?;
-    Ok((told, End::Cut))
+    if refusal_status(entries) == 0 {
+        return Ok((told, End::Cut));
+    }
+    Ok((told, End::CutRaced))
 }
 
 /// What is told of a run that wants more entries than the limit, from the gate that it left.
@@ -192,7 +199,7 @@ fn cut_told(
 {
     let entries = gate.history().to_vec(alloc)?;
     let entries = entries.as_slice();
-    if entries.len() < limit as usize {
+    if entries.len() != limit as usize {
         return Err(CliFault::Limit);
     }
     match outcome_of(alloc, program, entries)? {
@@ -201,7 +208,7 @@ fn cut_told(
     }
 }
 
-/// What is told of some run of a program by so many workers.
+/// What is told of some run of a program by so many workers, or by one in the serial order.
 fn run_told<D: Door + Sync, R: Threads + Wait + Sync>(
     rt: &R,
     alloc: Global,
@@ -209,6 +216,7 @@ fn run_told<D: Door + Sync, R: Threads + Wait + Sync>(
     text: &[u8],
     program: &Program<Global>,
     workers: usize,
+    is_serial: bool,
     door: &D,
     limit: u32,
 ) -> Result<(Vec<u8>, End), CliFault>
@@ -217,15 +225,12 @@ fn run_told<D: Door + Sync, R: Threads + Wait + Sync>(
     ensures ok { IfOk result (λ told. TellsEnd manner.now text.now (contents program.now) limit told.0.items told.1) }
     ensures fault { IfErr result (IsRunFault (contents program.now) limit) }
 {
-    let cut = match some_run::<Brand, D, R>(
-        rt,
-        alloc,
-        program,
-        workers,
-        door,
-        limit,
-        Blank::new(PARTS),
-    ) {
+    let ran = if is_serial {
+        serial_run(alloc, program, limit)
+    } else {
+        some_run::<Brand, D, R>(rt, alloc, program, workers, door, limit, Blank::new(PARTS))
+    };
+    let cut = match ran {
         Ok(whole) => return Ok(whole_told(alloc, manner, text, program, &whole, limit)?),
         Err(cut) => cut,
     };
@@ -242,6 +247,7 @@ fn program_text_told<D: Door + Sync, R: Threads + Wait + Sync>(
     manner: &Manner<'_>,
     text: &[u8],
     workers: usize,
+    is_serial: bool,
     door: &D,
     limit: u32,
 ) -> Result<(Vec<u8>, u8), CliFault>
@@ -266,7 +272,9 @@ fn program_text_told<D: Door + Sync, R: Threads + Wait + Sync>(
             return Ok((told, 2));
         }
     };
-    let (told, end) = run_told(rt, alloc, manner, text, &program, workers, door, limit)?;
+    let (told, end) = run_told(
+        rt, alloc, manner, text, &program, workers, is_serial, door, limit,
+    )?;
     Ok((told, end.status()))
 }
 
@@ -277,6 +285,7 @@ fn told_of<D: Door + Sync, R: Threads + Wait + Sync>(
     manner: &Manner<'_>,
     text: &[u8],
     workers: usize,
+    is_serial: bool,
     door: &D,
     limit: u32,
 ) -> Result<(Vec<u8>, u8), CliFault>
@@ -286,18 +295,19 @@ fn told_of<D: Door + Sync, R: Threads + Wait + Sync>(
     ensures fault { IfErr result (StopsTelling text.now limit) }
 {
     if is_program(text) {
-        program_text_told(rt, alloc, manner, text, workers, door, limit)
+        program_text_told(rt, alloc, manner, text, workers, is_serial, door, limit)
     } else {
         trace_text_told(alloc, manner, text)
     }
 }
 
-/// Reads a program to its end, runs it by so many workers as [`run_text`](run_command::run_text) does, and tells a person of the run, in lines of
-/// text: each pair of lines that raced, with both lines, the spawns and calls that led there, the spawn where the two part, and what would
+/// Reads a program to its end, runs it by so many workers as [`run_text`](run_command::run_text) does, or by one that runs each child before
+/// what follows its spawn, and tells a person of the run, in lines of text: each pair of lines that raced, with both lines, the spawns and calls that led there, the spawn where the two part, and what would
 /// order them. Where nothing was refused it tells that this is so for every schedule, and the memory. Where the limit ended the run it
 /// tells the races until then, and that it is no whole run. A text whose first word behind its declarations is not `func` is a trace: its
 /// requests are judged in their order, and the pairs that raced are told by its notes. Of a text that means neither it tells the fault. The
-/// exit status is 0 where nothing was refused, 1 where something was, 2 for a fault of the text, and 4 where the limit ended the run.
+/// exit status is 0 where nothing was refused, 1 where something was, 2 for a fault of the text, and 4 where the limit ended
+/// the run and nothing was refused until then.
 ///
 /// It answers [`CliFault::Read`] or [`CliFault::Write`] exactly where the reader or the writer has failed, [`CliFault::TooLong`] for more
 /// than 67,108,864 bytes, [`CliFault::Stopped`], [`CliFault::Torn`] or [`CliFault::Strange`] where the workers brought no finished run, and
@@ -309,6 +319,7 @@ pub fn explain_text<D: Door + Sync, P: Read, W: Write, R: Threads + Wait + Sync>
     manner: &Manner<'_>,
     program: &mut Watched<P>,
     workers: usize,
+    is_serial: bool,
     door: &D,
     output: &mut Watched<W>,
     limit: u32,
@@ -328,7 +339,16 @@ pub fn explain_text<D: Door + Sync, P: Read, W: Write, R: Threads + Wait + Sync>
     ensures unwritten { IfErr result (λ fault. fault ≢ CliFault.Write → output.new ≡ output.old) }
 {
     let text = read_text(alloc, program)?;
-    let (told, status) = told_of(rt, alloc, manner, text.as_slice(), workers, door, limit)?;
+    let (told, status) = told_of(
+        rt,
+        alloc,
+        manner,
+        text.as_slice(),
+        workers,
+        is_serial,
+        door,
+        limit,
+    )?;
     write_text(output, told.as_slice())?;
     Ok(status)
 }

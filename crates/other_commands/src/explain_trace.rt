@@ -61,7 +61,7 @@ fn entries_told(
 }
 
 /// Adds what was recorded by one note.
-fn push_run(told: &mut Vec<u8>, run: &str) -> Result<(), AllocError>
+pub(crate) fn push_run(told: &mut Vec<u8>, run: &str) -> Result<(), AllocError>
     ensures { OnOk result (told.new.items ≡ told.old.items ++ recorded_line run.now) }
 {
     push_words(told, "recorded: ")?;
@@ -80,7 +80,7 @@ fn push_recorded(told: &mut Vec<u8>, notes: &Notes<Global>) -> Result<(), AllocE
 }
 
 /// The notes of a text.
-fn notes_of(alloc: Global, text: &[u8]) -> Result<Notes<Global>, AllocError>
+pub(crate) fn notes_of(alloc: Global, text: &[u8]) -> Result<Notes<Global>, AllocError>
     ensures { IfOk result (AreNotes (lines text.now)) }
 {
     let mut notes = Notes::new(alloc);

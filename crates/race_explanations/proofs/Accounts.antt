@@ -47,7 +47,7 @@ pub then_adds : (old new : Option (List ℕ)) (test : Bool) (a b : List ℕ) →
 then_adds old new test a b is adds = rw is adds
 
 -- one item more of those that are told one by one
-pub one_more : (f : ℕ → List ℕ) (items : List ℕ) (index d : ℕ) (old one two : Option (List ℕ)) → index < length items →
+pub one_more : {X : Type 0} (f : X → List ℕ) (items : List X) (index : ℕ) (d : X) (old one two : Option (List ℕ)) → index < length items →
     Adds old (flat_map f (take index items)) one → Adds one (f (get_or items index d)) two → Adds old (flat_map f (take (index + 1) items)) two
 one_more f items index d old one two below before adds =
     let item : List ℕ = f (get_or items index d) in

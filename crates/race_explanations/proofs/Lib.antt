@@ -1,2 +1,4 @@
 pub mod Telling
 pub mod Accounts
+pub mod Merging
+pub mod FindingTexts

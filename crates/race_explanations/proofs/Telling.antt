@@ -47,7 +47,7 @@ told_text setting pairs a b None (Some whole) text told adds is = absurd (never 
 told_text setting pairs a b (Some front) (Some whole) text told adds is =
     (front, told, sym (some_is is) ∙ sym (some_is adds.adds) ∙ sym (append_assoc front a b))
 
-first_of_all : (pairs : List Pair) (most : ℕ) → take (min (length pairs) most) pairs ≡ take most pairs
+pub first_of_all : {X : Type 0} (pairs : List X) (most : ℕ) → take (min (length pairs) most) pairs ≡ take most pairs
 first_of_all pairs most =
     let on : min (length pairs) most ≡ min most (length pairs) = omega arith in
     ap (λ k. take k pairs) on ∙ take_min most pairs

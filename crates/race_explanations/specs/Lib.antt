@@ -7,3 +7,4 @@ pub mod Paths
 pub mod Advice
 pub mod Messages
 pub mod Explained
+pub mod Findings

@@ -1,5 +1,4 @@
 -- A scene as a setting.
-use Rattle.std.specs.Global.{Global}
 use Rattle.program_text.specs.Programs.{contents}
 use Rattle.race_explanations.specs.declared.scene.Origin.{Origin as SceneOrigin}
 use Rattle.race_explanations.specs.declared.scene.Origin.TheVariants.{Program, Trace}

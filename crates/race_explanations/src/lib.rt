@@ -8,6 +8,9 @@
 
 mod account;
 mod advice;
+mod finding;
+mod findings;
+mod merge;
 mod message;
 mod paths;
 mod scene;
@@ -15,5 +18,7 @@ mod title;
 mod told;
 mod words;
 
+pub use finding::Finding;
+pub use findings::Findings;
 pub use scene::{Origin, Scene};
 pub use told::{explanation, trace_explanation};

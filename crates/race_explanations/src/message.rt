@@ -42,7 +42,7 @@ fn push_witness(
 }
 
 /// Adds what is told of the earlier access, where there is one.
-fn push_earlier(
+pub(crate) fn push_earlier(
     account: &mut Account,
     scene: &Scene<'_, '_>,
     pair: &Pair,
@@ -57,7 +57,7 @@ fn push_earlier(
 }
 
 /// Adds the refused access, and what led there.
-fn push_refused(
+pub(crate) fn push_refused(
     account: &mut Account,
     scene: &Scene<'_, '_>,
     pair: &Pair,
@@ -71,7 +71,7 @@ fn push_refused(
 }
 
 /// Adds what would order the two.
-fn push_advice(
+pub(crate) fn push_advice(
     account: &mut Account,
     scene: &Scene<'_, '_>,
     pair: &Pair,

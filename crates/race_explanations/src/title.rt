@@ -18,7 +18,7 @@ use trace_notes::Notes;
 use trace_text::{put_cell, put_word};
 
 /// The sort of a refusal.
-fn sort_word(reason: Reason) -> &'static str
+pub(crate) fn sort_word(reason: Reason) -> &'static str
     ensures { result.now ≡ sort_word reason }
 {
     match reason {
@@ -29,7 +29,7 @@ fn sort_word(reason: Reason) -> &'static str
 }
 
 /// Adds what was wrong.
-fn push_reason(account: &mut Account, reason: Reason)
+pub(crate) fn push_reason(account: &mut Account, reason: Reason)
     ensures { Adds account.old (reason_words reason) account.new }
 {
     match reason {
@@ -130,7 +130,7 @@ fn push_others(
 }
 
 /// Adds names.
-fn push_list(
+pub(crate) fn push_list(
     alloc: Global,
     account: &mut Account,
     scene: &Scene<'_, '_>,
@@ -158,7 +158,7 @@ fn most_names(scene: &Scene<'_, '_>) -> usize
 }
 
 /// Adds how many names are left out.
-fn push_left_out(account: &mut Account, most: usize, count: usize)
+pub(crate) fn push_left_out(account: &mut Account, most: usize, count: usize)
     ensures { Adds account.old (left_out most count) account.new }
 {
     if count <= most {

@@ -9,7 +9,7 @@ ghost use Rattle.spawn_chains.specs.Makers.{IsLineage};
 ghost use Rattle.race_explanations.specs.Accounts.{Adds};
 ghost use Rattle.race_explanations.specs.Scenes.{setting_of};
 ghost use Rattle.trace_text.specs.Traces.{contents as trace_contents};
-ghost use Rattle.race_explanations.specs.Explained.{TellsMore, AreTold, pairs_words, pairs_left_out, among, summary, refusals_among};
+ghost use Rattle.race_explanations.specs.Explained.{TellsMore, AreTold, pairs_words, pairs_left_out, among, summary, refusals_among, trace_setting};
 ghost use Rattle.race_explanations.specs.Explained.{TellsEntries, IsExplanation, IsTraceExplanation};
 
 use crate::account::Account;
@@ -25,7 +25,7 @@ use trace_notes::Notes;
 use trace_text::Trace;
 
 /// How many pairs of lines are told of at most.
-const PAIRS: usize = 20;
+pub(crate) const PAIRS: usize = 20;
 
 /// Tells of a pair of lines.
 fn push_pair(
@@ -90,7 +90,7 @@ fn push_left_out(account: &mut Account, scene: &Scene<'_, '_>, count: usize)
 }
 
 /// How many entries are refusals.
-fn refusal_count(entries: &[Entry]) -> usize
+pub(crate) fn refusal_count(entries: &[Entry]) -> usize
     ensures { result ≡ refusals_among entries.now }
 {
     entries
@@ -168,6 +168,28 @@ pub fn explanation<'s>(
 /// How wide the column at the left is where no line of a program is quoted.
 const WIDTH: usize = 2;
 
+/// The scene of a trace with these notes.
+pub(crate) fn trace_scene<'s>(
+    is_painted: bool,
+    notes: &'s Notes<Global>,
+    trace: &'s Trace<Global>,
+    entries: &'s [Entry],
+) -> Scene<'s, 's>
+    ensures { setting_of result ≡ trace_setting is_painted notes.now (trace_contents trace.now).known entries.now }
+{
+    let look = Look {
+        is_painted,
+        width: WIDTH,
+    };
+    Scene {
+        look,
+        origin: Origin::Trace { notes },
+        mems: trace.mems.as_slice(),
+        reducers: trace.reducers.as_slice(),
+        entries,
+    }
+}
+
 /// Explains the entries of a trace with these notes to a person, the oldest first, as [`explanation`] does those of a run: each place is
 /// told as its note says, with the function and the code there, or by its number where no note says it, and each cell and reducer as its
 /// note says, or by its name. Errors where there is no memory.
@@ -181,16 +203,6 @@ pub fn trace_explanation<'s>(
     requires legal { (shape : Shape) × IsLegal shape (reverse entries.now) }
     ensures { IfOk result (λ told. IsTraceExplanation is_painted notes.now (trace_contents trace.now).known entries.now told.items) }
 {
-    let look = Look {
-        is_painted,
-        width: WIDTH,
-    };
-    let scene = Scene {
-        look,
-        origin: Origin::Trace { notes },
-        mems: trace.mems.as_slice(),
-        reducers: trace.reducers.as_slice(),
-        entries,
-    };
+    let scene = trace_scene(is_painted, notes, trace, entries);
     entries_told(alloc, &scene)
 }

@@ -19,6 +19,6 @@ returns-clause-ok c = record {
   history = c.history-entries.ensures.entries;
   drawing = c.in_ok-drawing.drawing;
   drawn = c.in_ok-drawing.ensures.ok;
-  text_is = text_named (contents c.args.trace.now) _ _ c.in_ok-drawing.drawing _ c.as_slice-mems.ensures c.as_slice-reducers.ensures c.in_ok-text.ensures;
+  text_is = text_named c.args.form c.args.notes.now (contents c.args.trace.now) _ _ c.in_ok-drawing.drawing _ c.as_slice-mems.ensures c.as_slice-reducers.ensures c.in_ok-text.ensures;
   status_is = c.refusal_status.ensures;
 }

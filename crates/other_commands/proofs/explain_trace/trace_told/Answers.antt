@@ -2,6 +2,7 @@ use Rattle.std.proofs.Common.{List, sym, subst}
 use Rattle.trace_text.specs.Traces.{contents as trace_contents}
 use Rattle.model_histories.specs.declared.answer.Entry.{Entry}
 use Rattle.model_histories.specs.Legal.{IsLegal}
+use Rattle.law_traces.proofs.CleanTraces.{clean_trace_law}
 use Rattle.other_commands.proofs.explain_trace.trace_told.Goals as goal
 
 pub entries_told-requires : goal.entries_told-requires
@@ -20,6 +21,7 @@ returns-clause-ok c = record {
   answers = c.in_ok-gate.ensures.ok;
   entries = c.history-entries.result.now;
   history = c.history-entries.ensures.entries;
+  speaks = clean_trace_law c.in_ok-gate.gate.shape c.in_ok-gate.gate.history c.in_ok-gate.ensures.ok.judges.judged;
   notes = c.in_ok-notes.notes;
   are_notes = c.in_ok-notes.ensures;
   verdict = c.in_ok-told.told.items;

@@ -1,0 +1,27 @@
+use Rattle.std.proofs.Common.{rules, sym, ◌∙◌}
+use Rattle.other_commands.proofs.ExplanationCauses.{some_refused}
+use Rattle.other_commands.proofs.explain.unfinished_told.Goals as goal
+
+pub returns-then-refusal_status-eq0 : goal.returns-then-refusal_status-eq0
+returns-then-refusal_status-eq0 c = record {
+  entries = c.args.entries.now;
+  run = c.requires.run.0;
+  full = c.requires.full;
+  unfinished = c.requires.run.1;
+  explanation = c.in_ok-told.told.items;
+  explains = search rules;
+  told_is = c.in_ok-push_cut.ensures;
+  refused_is = sym c.if-refusal_status-eq0.true ∙ c.refusal_status.ensures;
+}
+
+pub returns : goal.returns
+returns c = record {
+  entries = c.args.entries.now;
+  run = c.requires.run.0;
+  full = c.requires.full;
+  unfinished = c.requires.run.1;
+  explanation = c.in_ok-told.told.items;
+  explains = search rules;
+  told_is = c.in_ok-push_cut.ensures;
+  refused_is = some_refused c.args.entries.now (λ none. c.if-refusal_status-eq0.false (c.refusal_status.ensures ∙ none));
+}

@@ -1,0 +1,196 @@
+//! Explaining several traces together.
+
+ghost use Rattle.std.specs.Prelude.{◌≡◌, ◌↔◌, ◌⊎◌, ◌==◌, ◌++◌, [], true, false, IfOk, IfErr, OnOk, IsErrOf, IsTrue, List, ℕ, map, flat_map, string_bytes};
+ghost use Rattle.std.specs.List.{list_any};
+ghost use Rattle.std.specs.Str.{bytes_eq};
+ghost use Rattle.trace_text.specs.Traces.{contents as trace_contents};
+ghost use Rattle.trace_text.specs.Grammar.{TextMeans as TraceMeans};
+ghost use Rattle.trace_notes.specs.Notes.{kept_runs};
+ghost use Rattle.command_streams.specs.Watched.{held, has_failed};
+ghost use Rattle.command_streams.specs.Readings.{reading};
+ghost use Rattle.other_commands.specs.Replays.{StopsGate};
+ghost use Rattle.other_commands.specs.Explanations.{IsUntoldTrace, recorded_line};
+ghost use Rattle.other_commands.specs.Together.{together_of, none_together, with_run, with_runs, together_text, together_status};
+ghost use Rattle.other_commands.specs.Together.{AddsText, TakesText, TakesReading, StopsTaking};
+
+use crate::explain::Manner;
+use crate::explain_trace::{notes_of, push_run};
+use crate::replay::answered;
+use command_streams::{CliFault, Watched, read_text};
+use race_explanations::Findings;
+use source_quotes::{Meant, fault_message};
+use std::alloc::{AllocError, Global};
+use std::io::Read;
+use text_words::TextFault;
+use trace_notes::Notes;
+use trace_text::Trace;
+
+/// What is found in several traces, and what was recorded. The traces are not kept.
+pub struct Traces {
+    findings: Findings,
+    runs: Vec<String>,
+}
+
+/// Written out, so that what lets it go calls one function.
+impl Drop for Traces {
+    fn drop(self) {
+        let Traces {
+            findings: _,
+            runs: _,
+        } = self;
+    }
+}
+
+/// Whether a kept run is this one.
+fn is_run(one: &String, run: &str) -> bool
+    ensures { result ≡ bytes_eq run.now (string_bytes one.now) }
+{
+    run == one.as_str()
+}
+
+/// Whether a run is among others.
+fn is_among(runs: &[String], run: &str) -> bool
+    ensures { result ≡ list_any (bytes_eq run.now) (map string_bytes runs.now) }
+{
+    for one in runs {
+        if is_run(one, run) {
+            return true;
+        }
+    }
+    false
+}
+
+/// Keeps a note of a run, unless it is kept.
+fn keep_run(alloc: Global, runs: &mut Vec<String>, run: &str) -> Result<(), AllocError>
+    ensures { OnOk result (map string_bytes runs.new.items ≡ with_run (map string_bytes runs.old.items) run.now) }
+{
+    if is_among(runs.as_slice(), run) {
+        return Ok(());
+    }
+    runs.push(String::from_str(alloc, run)?)?;
+    Ok(())
+}
+
+/// Keeps what was recorded by some notes.
+fn keep_runs(alloc: Global, runs: &mut Vec<String>, notes: &Notes<Global>) -> Result<(), AllocError>
+    ensures { OnOk result (map string_bytes runs.new.items ≡ with_runs (map string_bytes runs.old.items) (kept_runs notes.now)) }
+{
+    for run in notes.runs() {
+        keep_run(alloc, runs, run.as_str())?;
+    }
+    Ok(())
+}
+
+/// Adds what was recorded.
+fn push_kept(told: &mut Vec<u8>, runs: &[String]) -> Result<(), AllocError>
+    ensures { OnOk result (told.new.items ≡ told.old.items ++ flat_map recorded_line (map string_bytes runs.now)) }
+{
+    for run in runs {
+        push_run(told, run.as_str())?;
+    }
+    Ok(())
+}
+
+impl Traces {
+    /// No trace yet.
+    pub fn new(alloc: Global) -> Traces
+        ensures { together_of result ≡ none_together }
+    {
+        Traces {
+            findings: Findings::new(alloc),
+            runs: Vec::new(alloc),
+        }
+    }
+
+    /// Adds a trace that a text means.
+    fn add(
+        &mut self,
+        alloc: Global,
+        manner: &Manner<'_>,
+        text: &[u8],
+        trace: &Trace<Global>,
+    ) -> Result<(), CliFault>
+        requires { TraceMeans text.now (trace_contents trace.now) }
+        ensures ok { OnOk result (AddsText manner.now text.now (together_of self.old) (together_of self.new)) }
+        ensures fault { IfErr result (λ fault. (fault ≡ CliFault.Memory) ⊎ StopsGate (trace_contents trace.now) fault) }
+    {
+        let gate = answered(alloc, trace)?;
+        let notes = notes_of(alloc, text)?;
+        let entries = gate.history();
+        self.findings.add(
+            alloc,
+            manner.is_painted,
+            manner.file,
+            &notes,
+            trace,
+            entries,
+        )?;
+        keep_runs(alloc, &mut self.runs, &notes)?;
+        Ok(())
+    }
+
+    /// Adds the trace that a text means, or tells the first fault of a text that means none.
+    fn take_text(
+        &mut self,
+        alloc: Global,
+        manner: &Manner<'_>,
+        text: &[u8],
+    ) -> Result<Option<Vec<u8>>, CliFault>
+        ensures ok { IfOk result (TakesText manner.now text.now (together_of self.old) (together_of self.new)) }
+        ensures fault { IfErr result (λ fault. (fault ≡ CliFault.Memory) ⊎ IsUntoldTrace text.now fault) }
+    {
+        match Trace::parse(alloc, text) {
+            Ok(trace) => {
+                self.add(alloc, manner, text, &trace)?;
+                Ok(None)
+            }
+            Err(TextFault::Memory) => Err(CliFault::Memory),
+            Err(TextFault::At { line, why }) => Ok(Some(fault_message(
+                alloc,
+                manner.is_painted,
+                manner.file,
+                text,
+                line,
+                why,
+                Meant::Trace,
+            )?)),
+        }
+    }
+
+    /// Reads a text to its end, and adds the trace that it means, by the name of its file. The first fault of a text that means none is told,
+    /// which is the answer then.
+    ///
+    /// It answers [`CliFault::Read`] exactly where the reader has failed, [`CliFault::TooLong`] for more than 67,108,864 bytes, by the first
+    /// request that a gate does not answer [`CliFault::Limit`] or [`CliFault::Illegal`], and [`CliFault::Memory`] where a growth was refused.
+    pub fn read<T: Read>(
+        &mut self,
+        alloc: Global,
+        manner: &Manner<'_>,
+        trace: &mut Watched<T>,
+    ) -> Result<Option<Vec<u8>>, CliFault>
+        requires { has_failed trace.old ≡ false }
+        ensures ok { IfOk result (TakesReading manner.now (reading (T.remaining (held trace.old)) (T.remaining (held trace.new))) (together_of self.old) (together_of self.new)) }
+        ensures fault { IfErr result (StopsTaking (reading (T.remaining (held trace.old)) (T.remaining (held trace.new)))) }
+        ensures read_failed { IsErrOf result CliFault.Read ↔ IsTrue (has_failed trace.new) }
+        ensures not_write { IsErrOf result CliFault.Write → ⊥ }
+    {
+        let text = read_text(alloc, trace)?;
+        self.take_text(alloc, manner, text.as_slice())
+    }
+
+    /// The exit status: 0 where nothing was refused, else 1.
+    pub fn status(&self) -> u8
+        ensures { result ≡ together_status (together_of self.now) }
+    {
+        if self.findings.is_clean() { 0 } else { 1 }
+    }
+
+    /// What is told of the traces together: each pair of places that raced, or that nothing was refused, and what was recorded.
+    pub fn told(&self, alloc: Global) -> Result<Vec<u8>, AllocError>
+        ensures { IfOk result (λ told. told.items ≡ together_text (together_of self.now)) }
+    {
+        let mut told = self.findings.told(alloc)?;
+        push_kept(&mut told, self.runs.as_slice())?;
+        Ok(told)
+    }
+}

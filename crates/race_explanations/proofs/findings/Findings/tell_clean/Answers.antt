@@ -1,0 +1,6 @@
+use Rattle.race_explanations.proofs.Accounts.{four_adds}
+use Rattle.race_explanations.proofs.findings.Findings.tell_clean.Goals as goal
+
+pub returns : goal.returns
+returns c =
+    four_adds _ _ _ _ _ _ _ _ _ c.words.ensures c.count.ensures c.words-2.ensures c.tell_requests.ensures

@@ -1,0 +1,195 @@
+-- What is told of a pair of places that raced in a trace, in pieces, so that pairs of several traces that are told alike are told once.
+use Rattle.std.specs.Prelude.{ℕ, ◌≡◌, ◌<◌, Option, Some, None, slice_set, slice_index_or, ◌+◌, ◌-◌, ◌^◌, ◌==◌, ◌&&◌, min, nat_lt, Bool, List, [], ◌∷◌, ◌++◌, codes, flat_map, length, take, cond, if◌then◌else◌}
+use Rattle.std.specs.Str.{bytes_eq}
+use Rattle.std.specs.Global.{Global}
+use Rattle.source_quotes.specs.declared.look.Paint.TheVariants.{Red}
+use Rattle.source_quotes.specs.Quotes.{painted, counted}
+use Rattle.race_pairs.specs.declared.refusal.Reason.{Reason}
+use Rattle.race_pairs.specs.declared.tally.Pair.{Pair}
+use Rattle.race_pairs.specs.declared.encounter.Encounter.{Encounter}
+use Rattle.race_pairs.specs.Pairs.{ArePairs}
+use Rattle.race_pairs.specs.Places.{ArePlaces}
+use Rattle.race_explanations.specs.declared.finding.Finding.{Finding}
+use Rattle.race_explanations.specs.declared.findings.Findings.{Findings}
+use Rattle.race_explanations.specs.Settings.{Origin, in_program, in_trace, Setting}
+use Rattle.race_explanations.specs.Titles.{sort_word, reason_words, listed_names, left_out}
+use Rattle.race_explanations.specs.Messages.{earlier_text, refused_text, advice_text, message}
+use Rattle.race_explanations.specs.Explained.{IsEncounter, refusals_among}
+
+-- ---- one pair
+
+-- the kind of the race, and what was wrong
+abbrev pub kind_text : Setting → Reason → List ℕ
+kind_text setting reason = painted setting.look Red (sort_word reason) ++ codes ": " ++ reason_words reason
+
+-- the first of the cells or reducers on which it was
+abbrev pub name_text : Setting → Reason → List ℕ → List ℕ
+name_text setting reason places = listed_names setting reason (take 1 places)
+
+-- the two accesses with what led there, and what would order them
+abbrev pub body_text : Setting → Pair → Encounter Global → List ℕ
+body_text setting pair encounter =
+    earlier_text pair.lines.reason setting pair encounter ++ refused_text setting pair encounter ++
+    advice_text pair.lines.reason setting pair encounter ++ codes "\n"
+
+abbrev pub finding_text : Finding → List ℕ
+finding_text finding =
+    finding.kind.items ++ finding.name.items ++ left_out 1 finding.cells ++ codes ", " ++ counted finding.times (codes "time") ++ codes "\n" ++
+    finding.body.items
+
+abbrev pub IsOfTrace : Origin → Type 0
+IsOfTrace (in_program file source functions) = ⊥
+IsOfTrace (in_trace notes) = Unit {0}
+
+-- The finding is that of the pair, and its text is what is told of the pair where its trace is told alone.
+pub record IsFinding (setting : Setting) (pair : Pair) (finding : Finding) : Type 0 where
+  pub places : List ℕ
+  pub encounter : Encounter Global
+  pub are_places : ArePlaces setting.entries pair.lines places
+  pub is_encounter : IsEncounter setting.entries pair encounter
+  pub kind_is : finding.kind.items ≡ kind_text setting pair.lines.reason
+  pub name_is : finding.name.items ≡ name_text setting pair.lines.reason places
+  pub body_is : finding.body.items ≡ body_text setting pair encounter
+  pub cells_is : finding.cells ≡ length places
+  pub times_is : finding.times ≡ pair.times
+  pub text_is : finding_text finding ≡ message setting pair places encounter
+
+-- The findings are those of the pairs, in their order.
+pub data AllFound (setting : Setting) : List Pair → List Finding → Type 0 where
+  none : AllFound setting [] []
+  more : {pairs : List Pair} {findings : List Finding} (pair : Pair) (finding : Finding) → AllFound setting pairs findings →
+      IsFinding setting pair finding → AllFound setting (pairs ++ pair ∷ []) (findings ++ finding ∷ [])
+
+-- ---- findings that are told alike
+
+-- both are told alike but for the name of the first cell and the counts
+abbrev pub is_alike : Finding → Finding → Bool
+is_alike one other = bytes_eq one.kind.items other.kind.items && bytes_eq one.body.items other.body.items
+
+-- the sum, or the largest number that is kept
+abbrev pub added_up : ℕ → ℕ → ℕ
+added_up a b = min (a + b) (2 ^ 64 - 1)
+
+-- the first of two that are told alike, with the counts of both
+abbrev pub joined : Finding → Finding → Finding
+joined one other = record one { cells = added_up one.cells other.cells; times = added_up one.times other.times }
+
+-- one finding more: joined to the first that is told alike, or behind all
+abbrev pub with_finding : List Finding → Finding → List Finding
+with_finding [] other = other ∷ []
+with_finding (one ∷ findings) other = cond (is_alike one other) (joined one other ∷ findings) (one ∷ with_finding findings other)
+
+-- the place is that of the first finding that is told as another one
+abbrev pub IsPlaceAmong : List Finding → Finding → Option ℕ → Type 0
+IsPlaceAmong findings other (Some place) =
+    (place < length findings) × ((one : Finding) → with_finding findings other ≡ slice_set findings place (joined (slice_index_or findings place one) other))
+IsPlaceAmong findings other None = with_finding findings other ≡ findings ++ other ∷ []
+
+-- more findings, one after another
+abbrev pub with_findings : List Finding → List Finding → List Finding
+with_findings findings [] = findings
+with_findings findings (one ∷ others) = with_findings (with_finding findings one) others
+
+-- ---- several traces
+
+-- What is found in several traces: the findings, which traces had more than are kept, and how many refusals, requests and traces there were.
+pub record Found : Type 0 where
+  pub findings : List Finding
+  pub untold : List ℕ
+  pub refusals : ℕ
+  pub requests : ℕ
+  pub traces : ℕ
+
+abbrev pub found_of : Findings → Found
+found_of findings = record {
+  findings = findings.list.items;
+  untold = findings.untold.items;
+  refusals = findings.refusals;
+  requests = findings.requests;
+  traces = findings.traces;
+}
+
+abbrev pub nothing_found : Found
+nothing_found = record { findings = []; untold = []; refusals = 0; requests = 0; traces = 0 }
+
+-- how many pairs of a trace are not kept, behind the first twenty
+abbrev pub untold_in : (file : List ℕ) → ℕ → List ℕ
+untold_in file count =
+    if nat_lt 20 count then codes "and " ++ counted (count - 20) (codes "more pair") ++ codes " of places in " ++ file ++ codes "\n" else []
+
+-- with one trace more: the findings of its first twenty pairs, and how many pairs there are
+abbrev pub with_trace : (file : List ℕ) → (setting : Setting) → List Finding → (count : ℕ) → Found → Found
+with_trace file setting findings count found = record {
+  findings = with_findings found.findings findings;
+  untold = found.untold ++ untold_in file count;
+  refusals = added_up found.refusals (refusals_among setting.entries);
+  requests = added_up found.requests (length setting.entries);
+  traces = added_up found.traces 1;
+}
+
+-- Findings of the first twenty of so many pairs were added.
+pub record AddsPairs (setting : Setting) (old new : List Finding) (count : ℕ) : Type 0 where
+  pub pairs : List Pair
+  pub are_pairs : ArePairs setting.entries pairs
+  pub count_is : count ≡ length pairs
+  pub findings : List Finding
+  pub all_found : AllFound setting (take 20 pairs) findings
+  pub new_is : new ≡ with_findings old findings
+
+-- Findings of all these pairs were added.
+pub record AddsAll (setting : Setting) (pairs : List Pair) (old new : List Finding) : Type 0 where
+  pub findings : List Finding
+  pub all_found : AllFound setting pairs findings
+  pub new_is : new ≡ with_findings old findings
+
+-- A trace was added.
+pub record AddsTrace (file : List ℕ) (setting : Setting) (old new : Found) : Type 0 where
+  pub count : ℕ
+  pub pairs : List Pair
+  pub are_pairs : ArePairs setting.entries pairs
+  pub count_is : count ≡ length pairs
+  pub findings : List Finding
+  pub all_found : AllFound setting (take 20 pairs) findings
+  pub new_is : new ≡ with_trace file setting findings count old
+
+-- ---- what is told of them
+
+abbrev pub traces_text : ℕ → List ℕ
+traces_text count = counted count (codes "trace")
+
+-- how many requests there were, in how many traces
+abbrev pub requests_text : Found → List ℕ
+requests_text found = counted found.requests (codes "request") ++ codes " in " ++ traces_text found.traces ++ codes "\n"
+
+-- what is told where nothing was refused
+abbrev pub clean_found_text : Found → List ℕ
+clean_found_text found =
+    codes "clean: in none of these " ++ traces_text found.traces ++
+    codes " do two of the accesses race, in whatever order its strands run\njudged: " ++ requests_text found
+
+-- how many findings are not told, behind the first twenty
+abbrev pub findings_left_out : ℕ → List ℕ
+findings_left_out count =
+    if nat_lt 20 count then codes "and " ++ counted (count - 20) (codes "more pair") ++ codes " of places\n" else []
+
+-- at how many pairs of places, where all are kept
+abbrev pub at_pairs : (untold : List ℕ) → ℕ → List ℕ
+at_pairs [] count = codes " at " ++ counted count (codes "pair") ++ codes " of places"
+at_pairs (byte ∷ untold) count = []
+
+-- how many refusals there were
+abbrev pub found_summary : Found → List ℕ
+found_summary found =
+    counted found.refusals (codes "refusal") ++ at_pairs found.untold (length found.findings) ++ codes ", among " ++ requests_text found
+
+abbrev pub findings_text : List Finding → List ℕ
+findings_text findings = flat_map finding_text findings
+
+-- the first twenty findings, how many there are more, and how many refusals there were
+abbrev pub races_found_text : Found → List ℕ
+races_found_text found =
+    findings_text (take 20 found.findings) ++ findings_left_out (length found.findings) ++ found.untold ++ found_summary found
+
+-- what is told of what is found in several traces
+abbrev pub found_text : Found → List ℕ
+found_text found = if found.refusals == 0 then clean_found_text found else races_found_text found

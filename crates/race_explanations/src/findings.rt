@@ -1,0 +1,212 @@
+//! What is found in several traces, told together.
+
+ghost use Rattle.std.specs.Prelude.{◌≡◌, ◌++◌, ◌==◌, IfOk, OnOk, length, take, reverse};
+ghost use Rattle.model_histories.specs.Shapes.{Shape};
+ghost use Rattle.model_histories.specs.Legal.{IsLegal};
+ghost use Rattle.trace_text.specs.Traces.{contents as trace_contents};
+ghost use Rattle.race_explanations.specs.Accounts.{Adds};
+ghost use Rattle.race_explanations.specs.Explained.{trace_setting};
+ghost use Rattle.race_explanations.specs.Findings.{found_of, nothing_found, untold_in, AddsTrace, finding_text, findings_text, findings_left_out};
+ghost use Rattle.race_explanations.specs.Findings.{requests_text, at_pairs, found_summary, clean_found_text, races_found_text, found_text};
+
+use crate::account::Account;
+use crate::finding::{Finding, add_pairs};
+use crate::title::push_left_out;
+use crate::told::{PAIRS, refusal_count, trace_scene};
+use race_gate::Entry;
+use source_quotes::push_count;
+use std::alloc::{AllocError, Global};
+use text_buffers::push_words;
+use trace_notes::Notes;
+use trace_text::Trace;
+
+/// What is found in several traces: pairs of places that raced, each of those that are told alike once. Neither the traces nor their
+/// entries are kept.
+pub struct Findings {
+    list: Vec<Finding>,
+    /// Which traces had more pairs than are kept.
+    untold: Vec<u8>,
+    refusals: usize,
+    requests: usize,
+    traces: usize,
+}
+
+/// Written out, so that what lets it go calls one function.
+impl Drop for Findings {
+    fn drop(self) {
+        let Findings {
+            list: _,
+            untold: _,
+            refusals: _,
+            requests: _,
+            traces: _,
+        } = self;
+    }
+}
+
+/// Adds how many pairs of a trace are not kept.
+fn push_untold(text: &mut Vec<u8>, file: &str, count: usize) -> Result<(), AllocError>
+    ensures { OnOk result (text.new.items ≡ text.old.items ++ untold_in file.now count) }
+{
+    if count <= PAIRS {
+        return Ok(());
+    }
+    push_words(text, "and ")?;
+    push_count(text, count - PAIRS, "more pair")?;
+    push_words(text, " of places in ")?;
+    push_words(text, file)?;
+    push_words(text, "\n")
+}
+
+/// Tells of a pair of places.
+fn tell_finding(account: &mut Account, finding: &Finding)
+    ensures { Adds account.old (finding_text finding.now) account.new }
+{
+    account.bytes(finding.kind.as_slice());
+    account.bytes(finding.name.as_slice());
+    push_left_out(account, 1, finding.cells);
+    account.words(", ");
+    account.count(finding.times, "time");
+    account.words("\n");
+    account.bytes(finding.body.as_slice());
+}
+
+/// Tells of pairs of places.
+fn tell_findings(account: &mut Account, findings: &[Finding])
+    ensures { Adds account.old (findings_text findings.now) account.new }
+{
+    for finding in findings {
+        tell_finding(account, finding);
+    }
+}
+
+/// Tells how many pairs are kept, and not told.
+fn tell_left_out(account: &mut Account, count: usize)
+    ensures { Adds account.old (findings_left_out count) account.new }
+{
+    if count <= PAIRS {
+        return;
+    }
+    account.words("and ");
+    account.count(count - PAIRS, "more pair");
+    account.words(" of places\n");
+}
+
+/// Tells at how many pairs, where all are kept.
+fn tell_pairs(account: &mut Account, untold: &[u8], count: usize)
+    ensures { Adds account.old (at_pairs untold.now count) account.new }
+{
+    if !untold.is_empty() {
+        return;
+    }
+    account.words(" at ");
+    account.count(count, "pair");
+    account.words(" of places");
+}
+
+impl Findings {
+    /// Nothing is found.
+    pub fn new(alloc: Global) -> Findings
+        ensures { found_of result ≡ nothing_found }
+    {
+        Findings {
+            list: Vec::new(alloc),
+            untold: Vec::new(alloc),
+            refusals: 0,
+            requests: 0,
+            traces: 0,
+        }
+    }
+
+    /// Adds what is found in a trace, whose entries are given from the oldest on: its first twenty pairs of places. Errors where there is
+    /// no memory.
+    pub fn add<'s>(
+        &mut self,
+        alloc: Global,
+        is_painted: bool,
+        file: &str,
+        notes: &'s Notes<Global>,
+        trace: &'s Trace<Global>,
+        entries: &'s [Entry],
+    ) -> Result<(), AllocError>
+        requires legal { (shape : Shape) × IsLegal shape (reverse entries.now) }
+        ensures { OnOk result (AddsTrace file.now (trace_setting is_painted notes.now (trace_contents trace.now).known entries.now) (found_of self.old) (found_of self.new)) }
+    {
+        let scene = trace_scene(is_painted, notes, trace, entries);
+        let count = add_pairs(alloc, &scene, &mut self.list)?;
+        push_untold(&mut self.untold, file, count)?;
+        self.refusals = self.refusals.saturating_add(refusal_count(entries));
+        self.requests = self.requests.saturating_add(entries.len());
+        self.traces = self.traces.saturating_add(1);
+        Ok(())
+    }
+
+    /// Whether nothing was refused.
+    pub fn is_clean(&self) -> bool
+        ensures { result ≡ ((found_of self.now).refusals == 0) }
+    {
+        self.refusals == 0
+    }
+
+    /// Tells how many requests there were, in how many traces.
+    fn tell_requests(&self, account: &mut Account)
+        ensures { Adds account.old (requests_text (found_of self.now)) account.new }
+    {
+        account.count(self.requests, "request");
+        account.words(" in ");
+        account.count(self.traces, "trace");
+        account.words("\n");
+    }
+
+    /// Tells that nothing was refused.
+    fn tell_clean(&self, account: &mut Account)
+        ensures { Adds account.old (clean_found_text (found_of self.now)) account.new }
+    {
+        account.words("clean: in none of these ");
+        account.count(self.traces, "trace");
+        account.words(" do two of the accesses race, in whatever order its strands run\njudged: ");
+        self.tell_requests(account);
+    }
+
+    /// Tells how many refusals there were.
+    fn tell_summary(&self, account: &mut Account)
+        ensures { Adds account.old (found_summary (found_of self.now)) account.new }
+    {
+        account.count(self.refusals, "refusal");
+        tell_pairs(account, self.untold.as_slice(), self.list.len());
+        account.words(", among ");
+        self.tell_requests(account);
+    }
+
+    /// Tells what raced.
+    fn tell_races(&self, account: &mut Account)
+        ensures { Adds account.old (races_found_text (found_of self.now)) account.new }
+    {
+        let (first, _) = self.list.as_slice().split_at(self.list.len().min(PAIRS));
+        tell_findings(account, first);
+        tell_left_out(account, self.list.len());
+        account.bytes(self.untold.as_slice());
+        self.tell_summary(account);
+    }
+
+    /// Tells what raced, or that nothing was refused.
+    fn tell(&self, account: &mut Account)
+        ensures { Adds account.old (found_text (found_of self.now)) account.new }
+    {
+        if self.is_clean() {
+            self.tell_clean(account);
+        } else {
+            self.tell_races(account);
+        }
+    }
+
+    /// What is told of all traces: each of the first twenty pairs of places as where its trace is told alone, with the counts of all that
+    /// are told alike, how many more there are, and how many refusals; or that nothing was refused. Errors where there is no memory.
+    pub fn told(&self, alloc: Global) -> Result<Vec<u8>, AllocError>
+        ensures { IfOk result (λ text. text.items ≡ found_text (found_of self.now)) }
+    {
+        let mut account = Account::new(alloc);
+        self.tell(&mut account);
+        account.end()
+    }
+}

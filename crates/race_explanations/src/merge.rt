@@ -1,0 +1,46 @@
+//! Findings that are told alike, joined.
+
+ghost use Rattle.std.specs.Prelude.{◌≡◌, ◌<◌, ◌++◌, ◌∷◌, [], OnOk, MatchOption, length};
+ghost use Rattle.race_explanations.specs.Findings.{is_alike, joined, with_finding, IsPlaceAmong};
+
+use crate::finding::Finding;
+use std::alloc::AllocError;
+
+/// Whether both are told alike but for the name of the first cell and the counts.
+fn is_alike(one: &Finding, other: &Finding) -> bool
+    ensures { result ≡ is_alike one.now other.now }
+{
+    one.kind.as_slice() == other.kind.as_slice() && one.body.as_slice() == other.body.as_slice()
+}
+
+/// The place of the first finding that is told as another one.
+fn place_among(findings: &[Finding], other: &Finding) -> Option<usize>
+    ensures { IsPlaceAmong findings.now other.now result }
+{
+    for place in 0..findings.len() {
+        if is_alike(&findings[place], other) {
+            return Some(place);
+        }
+    }
+    None
+}
+
+/// Adds the counts of another finding.
+fn join(one: &mut Finding, other: &Finding)
+    ensures { one.new ≡ joined one.old other.now }
+{
+    one.cells = one.cells.saturating_add(other.cells);
+    one.times = one.times.saturating_add(other.times);
+}
+
+/// Adds a finding: to the first that is told alike, or behind all.
+pub(crate) fn merge(findings: &mut Vec<Finding>, other: Finding) -> Result<(), AllocError>
+    ensures { OnOk result (findings.new.items ≡ with_finding findings.old.items other) }
+{
+    if let Some(place) = place_among(findings.as_slice(), &other) {
+        join(&mut findings[place], &other);
+        return Ok(());
+    }
+    findings.push(other)?;
+    Ok(())
+}
