@@ -14,7 +14,7 @@ ghost use Rattle.command_streams.specs.Sources.{unknown_sources};
 ghost use Rattle.command_streams.specs.Watched.{has_failed};
 
 use std::fs::{self, File};
-use std::io::{self, IsTerminal};
+use std::io::{self, IsTerminal, Read};
 use std::os::unix::fs::MetadataExt;
 use std::process::ExitCode;
 use std::sync::Wait;
@@ -27,6 +27,8 @@ use tool_commands::{
 #[derive(Drop)]
 struct System<'a> {
     rt: &'a HostRuntime,
+    /// Why the file that was last to be created is not.
+    uncreated: Option<io::Error>,
 }
 
 impl<'a> Host for System<'a> {
@@ -57,7 +59,9 @@ impl<'a> Host for System<'a> {
     }
 
     fn create(&mut self, name: &str) -> io::Result<File> {
-        fs::create(self.rt, name)
+        let created = fs::create(self.rt, name);
+        self.uncreated = created.as_ref().err().copied();
+        created
     }
 
     /// By the device and the number that the system gives a file. Where it tells nothing of a name, the two are not known to be one, and
@@ -79,9 +83,57 @@ impl<'a> Host for System<'a> {
 }
 
 /// Tells a fault in one line on standard error.
-fn tell(rt: &HostRuntime, answer: &Result<u8, CliFault>) {
-    if let Err(fault) = answer {
-        let _ = eprintln!(rt; "cilkcheck: {fault}");
+fn tell_fault(rt: &HostRuntime, fault: &CliFault) {
+    let _ = eprintln!(rt; "cilkcheck: {fault}");
+}
+
+/// Tells in one line what could not be done with a file, and why, where the system says so.
+fn tell_file(rt: &HostRuntime, verb: &str, name: &str, reason: Option<io::Error>) {
+    let _ = match reason {
+        Some(reason) => eprintln!(rt; "cilkcheck: cannot {verb} {name}: {reason}"),
+        None => eprintln!(rt; "cilkcheck: cannot {verb} {name}"),
+    };
+}
+
+/// Why a file can't be read, if it is so still.
+fn reason_unread(rt: &HostRuntime, name: &str) -> Option<io::Error> {
+    match fs::open(rt, name) {
+        Ok(mut file) => file.read(&mut [0]).err(),
+        Err(reason) => Some(reason),
+    }
+}
+
+/// Tells which of some files can't be read. They are read in their order, up to that one.
+fn tell_unread(rt: &HostRuntime, files: &[String]) {
+    for file in files {
+        let reason = reason_unread(rt, file.as_str());
+        if reason.is_some() {
+            return tell_file(rt, "read", file.as_str(), reason);
+        }
+    }
+    tell_fault(rt, &CliFault::Read);
+}
+
+/// Tells why a job is not done. Of what `judge`, `elide`, `run` and `replay` read their one word tells.
+fn tell_failure(rt: &HostRuntime, system: &System<'_>, job: &Job, fault: &CliFault) {
+    match (job, fault) {
+        (Job::Explain { file, .. } | Job::Draw { file, .. }, CliFault::Read) => {
+            tell_file(rt, "read", file.as_str(), reason_unread(rt, file.as_str()));
+        }
+        (Job::ExplainTraces { files, .. }, CliFault::Read) => tell_unread(rt, files.as_slice()),
+        (Job::Record { trace, .. }, CliFault::Unwritten) => {
+            tell_file(rt, "write", trace.as_str(), system.uncreated);
+        }
+        _ => tell_fault(rt, fault),
+    }
+}
+
+/// Tells somebody at a terminal who names no file what is waited for.
+fn tell_input(rt: &HostRuntime, job: &Job) {
+    if matches!(job, Job::Judge { file: None, .. }) && rt.stdin().is_terminal() {
+        let _ = eprintln!(rt;
+            "cilkcheck: reading a trace from standard input (end it with Ctrl-D, or name a file)"
+        );
     }
 }
 
@@ -108,7 +160,7 @@ fn done<R: Threads + Wait + Sync>(
 {
     let mut output = Watched::new(io::writer(rt));
     match job {
-        Job::Run { .. } | Job::Record { .. } | Job::Explain { .. } => {
+        Job::Run { .. } | Job::Record { .. } | Job::Explain { .. } | Job::ExplainInput { .. } => {
             perform(threads, rt.alloc(), host, job, &mut output)
         }
         job => perform_alone(rt.alloc(), host, job, &mut output),
@@ -119,13 +171,25 @@ fn done<R: Threads + Wait + Sync>(
 fn answer_of<R: Threads + Wait + Sync>(threads: &R, rt: &HostRuntime) -> Result<u8, CliFault>
     ensures { IfOk result (λ status. status ≤ 4) }
 {
-    let mut host = Watched::new(System { rt });
-    let job = job_of(rt, &host)?;
-    done(threads, rt, &mut host, &job)
+    let mut host = Watched::new(System {
+        rt,
+        uncreated: None,
+    });
+    let job = match job_of(rt, &host) {
+        Ok(job) => job,
+        Err(fault) => {
+            tell_fault(rt, &fault);
+            return Err(fault);
+        }
+    };
+    tell_input(rt, &job);
+    let answer = done(threads, rt, &mut host, &job);
+    if let Err(fault) = &answer {
+        tell_failure(rt, &host.into_inner(), &job, fault);
+    }
+    answer
 }
 
 fn main(rt: HostRuntime) -> ExitCode {
-    let answer = answer_of(&rt, &rt);
-    tell(&rt, &answer);
-    ExitCode::from(exit_of(&answer))
+    ExitCode::from(exit_of(&answer_of(&rt, &rt)))
 }

@@ -2,7 +2,7 @@
 use Rattle.std.specs.Prelude.{◌<◌, ◌≤◌}
 use Rattle.model_histories.specs.Shapes.{most_entries}
 use Rattle.command_words.specs.declared.words.Job.{Job}
-use Rattle.command_words.specs.declared.words.Job.TheVariants.{Judge, Elide, Run, Record, Explain, Replay, Draw, Show}
+use Rattle.command_words.specs.declared.words.Job.TheVariants.{Judge, Elide, Run, Record, Explain, ExplainInput, ExplainTraces, Replay, Draw, Show}
 
 -- the numbers of the job are in their ranges
 abbrev pub IsInRange : Job → Type 0
@@ -10,7 +10,9 @@ IsInRange (Judge file limit) = limit ≤ most_entries
 IsInRange (Elide file limit) = limit ≤ most_entries
 IsInRange (Run file workers limit) = (0 < workers) × (workers ≤ 64) × (limit ≤ most_entries)
 IsInRange (Record file workers limit trace) = (0 < workers) × (workers ≤ 64) × (limit ≤ most_entries)
-IsInRange (Explain file workers limit color) = (0 < workers) × (workers ≤ 64) × (limit ≤ most_entries)
+IsInRange (Explain file workers is_serial limit color) = (0 < workers) × (workers ≤ 64) × (limit ≤ most_entries)
+IsInRange (ExplainInput workers is_serial limit color) = (0 < workers) × (workers ≤ 64) × (limit ≤ most_entries)
+IsInRange (ExplainTraces files color) = Unit {0}
 IsInRange (Replay file trace) = Unit {0}
-IsInRange (Draw file) = Unit {0}
+IsInRange (Draw file language) = Unit {0}
 IsInRange (Show text) = Unit {0}

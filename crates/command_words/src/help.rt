@@ -13,7 +13,8 @@ pub const PROGRAM: &str =
     "`run` and `elide` take a program in a small language of spawn and sync: 'cilkcheck run --help' has the language.
 `judge` takes a trace, the requests of a program's strands in some order: 'cilkcheck judge --help' has its lines.
 `replay` takes both. `run --trace OUT` writes the trace of a run, so that it can be kept, judged again and replayed.
-`explain` takes a program or a trace, and tells a person of its races: both lines, what led there, and what would order them.
+`explain` takes a program, or one or more traces, and tells a person of the races: both lines, what led there, and what would
+order them.
 `draw` takes a trace, and draws its strands and their races.
 
 A trace in which a function spawns a child, and both write the cell x:
@@ -157,10 +158,10 @@ Output: `replayed N` where the N entries are a finished run, `unfinished` where 
 Exit status: 0 where nothing was refused, 1 where an access was, 2 for a fault of the input, declarations that differ or an
 illegal request, 3 for want of memory, 4 where the entries are no finished run or the limit was passed.";
 
-pub const EXPLAIN: &str = "Explains the races of a run of a program, or of a trace, to a person";
+pub const EXPLAIN: &str = "Explains the races of a run of a program, or of traces, to a person";
 
 /// What stands before the help of `explain`.
-pub const EXPLANATION: &str = "Explains the races of a run of a program, or of a trace, to a person
+pub const EXPLANATION: &str = "Explains the races of a run of a program, or of traces, to a person
 
 For example:
 
@@ -190,16 +191,18 @@ A text whose first word behind the declarations is not `func` is a trace. Its pl
   #at K FILE:LINE, FUNCTION | CODE   what the mark @K stands for
   #of CELL TEXT                      what a cell stands for
   #run TEXT                          what was recorded
+Several files are traces, the parts of one recording, which are told together: places that race in several parts are told
+once, with the counts of all. `-` is standard input.
 
 Exit status: 0 where nothing was refused, 1 where an access was, 2 for a fault of the input, 3 for want of memory, 4 where
-the limit was passed.";
+the limit was passed and nothing was refused until then.";
 
 pub const DRAW: &str =
-    "Judges the requests of a trace, and draws the dag of its strands with their races, for Graphviz";
+    "Judges the requests of a trace, and draws the dag of its strands with their races, for Graphviz or as SVG";
 
 /// What stands before the help of `draw`.
 pub const DRAWING: &str =
-    "Judges the requests of a trace, and draws the dag of its strands with their races, for Graphviz.
+    "Judges the requests of a trace, and draws the dag of its strands with their races, for Graphviz or as SVG.
 
 For example, with a trace in which a function spawns a child, and both write the cell x:
 
@@ -215,15 +218,19 @@ For example, with a trace in which a function spawns a child, and both write the
       1 -> 2 [label=\"write-write on x\", color=red, fontcolor=red, constraint=false];
     }
 
-Graphviz makes a picture of it:
+With --svg it writes the picture itself, which a browser shows:
 
-    cilkcheck draw both.trace | dot -Tsvg > dag.svg
+    cilkcheck draw both.trace --svg > dag.svg
 
 Output, in Graphviz's language:
-  a node for each strand that has begun: its number, and then its accesses, each with the number of its entry
+  a node for each strand that has begun: its number, and then its accesses, each with the number of its entry, 12 at
+  most, and how many more there are
   a black edge for each edge of the dag: `child` and `next` from a strand that spawns, `join` to the strand behind a sync
   a red edge for each race, from the strand of the earlier access to that of the refused one, with its rule and name
-Of a race on a cell no path of black edges leads from one strand to the other, so the two may run at the same time.";
+Of a race on a cell no path of black edges leads from one strand to the other, so the two may run at the same time.
+What the notes of the trace say is told in place of numbers and names: the line and the function of an access, what a
+cell stands for, and above the graph what was recorded.
+With --svg the nodes are boxes, each below those that lead to it, and the races are red arcs.";
 
 /// What stands behind the help of `draw`.
 pub const STRANDS: &str =

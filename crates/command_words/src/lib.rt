@@ -9,4 +9,4 @@ mod names;
 mod words;
 
 pub use names::check_names;
-pub use words::{Color, Job, read_args, read_words, usage};
+pub use words::{Color, Job, Language, read_args, read_words, usage};

@@ -7,7 +7,7 @@ ghost use Rattle.command_streams.specs.Faults.{IsUsageFault, TellsUsage};
 
 use crate::help;
 use clap::error::ErrorKind;
-use clap::{Arg, ArgMatches, Command};
+use clap::{Arg, ArgAction, ArgMatches, Command};
 use command_streams::{CliFault, MOST_ENTRIES};
 use std::alloc::{AllocError, Global};
 use std::convert::AsStr;
@@ -18,6 +18,9 @@ use std::io;
 const MOST_WORKERS: usize = 64;
 
 const WORKERS: usize = 2;
+
+/// The word for standard input in place of a file.
+const INPUT: &str = "-";
 
 /// A trace and its program have one name.
 pub const OVER_PROGRAM: &str =
@@ -32,6 +35,15 @@ pub enum Color {
     Always,
     /// In none.
     Never,
+}
+
+/// The language of a drawing.
+#[derive(Clone, Copy, Debug, PartialEq, Eq)]
+pub enum Language {
+    /// That of Graphviz.
+    Dot,
+    /// SVG.
+    Svg,
 }
 
 /// What the words of the command line ask for.
@@ -64,7 +76,20 @@ pub enum Job {
     Explain {
         file: String,
         workers: usize,
+        is_serial: bool,
         limit: u32,
+        color: Color,
+    },
+    /// To do so with what standard input gives.
+    ExplainInput {
+        workers: usize,
+        is_serial: bool,
+        limit: u32,
+        color: Color,
+    },
+    /// To judge the traces in these files, and to tell a person of them together.
+    ExplainTraces {
+        files: Vec<String>,
         color: Color,
     },
     /// To replay the trace in the second file as a run of the program in the first.
@@ -72,9 +97,10 @@ pub enum Job {
         file: String,
         trace: String,
     },
-    /// To draw the trace in this file.
+    /// To draw the trace in this file, in this language.
     Draw {
         file: String,
+        language: Language,
     },
     /// To show a text: the help or the version.
     Show {
@@ -102,11 +128,22 @@ impl Drop for Job {
             Job::Explain {
                 file: _,
                 workers: _,
+                is_serial: _,
                 limit: _,
                 color: _,
             } => {}
+            Job::ExplainInput {
+                workers: _,
+                is_serial: _,
+                limit: _,
+                color: _,
+            } => {}
+            Job::ExplainTraces { files: _, color: _ } => {}
             Job::Replay { file: _, trace: _ } => {}
-            Job::Draw { file: _ } => {}
+            Job::Draw {
+                file: _,
+                language: _,
+            } => {}
             Job::Show { text: _ } => {}
         }
     }
@@ -114,10 +151,14 @@ impl Drop for Job {
 
 /// Where a word of a command stands.
 enum Place {
+    /// Behind `--`, with nothing behind it, or nowhere.
+    Flag,
     /// Behind `--` and its name, or nowhere.
     Named,
     /// Among the words, where it must stand.
     Wanted,
+    /// Among the words, where one or more must stand.
+    Several,
     /// Among the words, or nowhere.
     Free,
 }
@@ -146,6 +187,13 @@ const FILE: Word = Word {
     name: "file",
     value: "FILE",
     help: "The program",
+};
+
+const EXPLAINED: Word = Word {
+    place: Place::Several,
+    name: "file",
+    value: "FILE",
+    help: "A program, or one or more traces; '-' is standard input",
 };
 
 const TRACE: Word = Word {
@@ -183,6 +231,13 @@ const STEALING: Word = Word {
     help: "The workers, from 1 to 64 [default: 2]",
 };
 
+const SERIAL: Word = Word {
+    place: Place::Flag,
+    name: "serial",
+    value: "",
+    help: "Run each child before what follows its spawn, by one worker: the same run each time",
+};
+
 const PAINTING: Word = Word {
     place: Place::Named,
     name: "color",
@@ -195,6 +250,13 @@ const OUT: Word = Word {
     name: "trace",
     value: "OUT",
     help: "A file, made or emptied, that the trace of the run is written into",
+};
+
+const PICTURE: Word = Word {
+    place: Place::Flag,
+    name: "svg",
+    value: "",
+    help: "Writes a picture, as SVG, in place of a text for Graphviz",
 };
 
 /// The program's commands.
@@ -225,7 +287,7 @@ const FORMS: &[CommandForm] = &[
         about: help::EXPLAIN,
         before: Some(help::EXPLANATION),
         behind: help::LANGUAGE,
-        words: &[FILE, STEALING, ENTRIES, PAINTING],
+        words: &[EXPLAINED, STEALING, SERIAL, ENTRIES, PAINTING],
     },
     CommandForm {
         name: "replay",
@@ -239,19 +301,23 @@ const FORMS: &[CommandForm] = &[
         about: help::DRAW,
         before: Some(help::DRAWING),
         behind: help::STRANDS,
-        words: &[TRACE],
+        words: &[TRACE, PICTURE],
     },
 ];
 
 /// The parser's argument for a word.
 fn argument<'a>(alloc: Global, word: &'a Word) -> Arg<'a> {
-    let arg = Arg::new(alloc, word.name)
-        .value_name(word.value)
-        .help(word.help);
+    let arg = Arg::new(alloc, word.name).help(word.help);
     match word.place {
-        Place::Named => arg.long(word.name),
-        Place::Wanted => arg.required(true),
-        Place::Free => arg,
+        Place::Flag => arg.long(word.name).action(ArgAction::SetTrue),
+        Place::Named => arg.value_name(word.value).long(word.name),
+        Place::Wanted => arg.value_name(word.value).required(true),
+        Place::Several => arg
+            .value_name(word.value)
+            .required(true)
+            .num_args(1..)
+            .action(ArgAction::Append),
+        Place::Free => arg.value_name(word.value),
     }
 }
 
@@ -468,20 +534,95 @@ fn color_of(alloc: Global, matches: &ArgMatches<'_>) -> Result<Color, CliFault>
     }
 }
 
+/// Whether the words of a command want one worker in the serial order, which is no number of workers that steal.
+fn is_serial(alloc: Global, matches: &ArgMatches<'_>) -> Result<bool, CliFault>
+    ensures fault { IfErr result IsUsageFault }
+{
+    let is_serial = matches.get_flag("serial");
+    if is_serial && matches.get_str("workers").is_some() {
+        return Err(usage(
+            alloc,
+            "the argument '--serial' cannot be used with '--workers <N>'",
+        ));
+    }
+    Ok(is_serial)
+}
+
+/// A program, or a single trace, is to be explained.
+fn explain_one(alloc: Global, matches: &ArgMatches<'_>, name: &str) -> Result<Job, CliFault>
+    ensures job { IfOk result IsInRange }
+    ensures fault { IfErr result IsUsageFault }
+{
+    let workers = workers_of(alloc, matches)?;
+    let limit = limit_of(alloc, matches)?;
+    let is_serial = is_serial(alloc, matches)?;
+    let color = color_of(alloc, matches)?;
+    if name == INPUT {
+        return Ok(Job::ExplainInput {
+            workers,
+            is_serial,
+            limit,
+            color,
+        });
+    }
+    let file = String::from_str(alloc, name)?;
+    Ok(Job::Explain {
+        file,
+        workers,
+        is_serial,
+        limit,
+        color,
+    })
+}
+
+/// The names of several files, each a file's own.
+fn several_files(alloc: Global, names: &[&str]) -> Result<Vec<String>, CliFault>
+    ensures fault { IfErr result IsUsageFault }
+{
+    let mut files = Vec::new(alloc);
+    for name in names {
+        if *name == INPUT {
+            return Err(usage(
+                alloc,
+                "'-' is given among several files: standard input is explained alone",
+            ));
+        }
+        files.push(String::from_str(alloc, name)?)?;
+    }
+    Ok(files)
+}
+
+/// Several traces are to be explained, which are judged and not run.
+fn explain_several(alloc: Global, matches: &ArgMatches<'_>, names: &[&str]) -> Result<Job, CliFault>
+    ensures job { IfOk result IsInRange }
+    ensures fault { IfErr result IsUsageFault }
+{
+    if matches.contains_id("workers")
+        || matches.contains_id("limit")
+        || matches.get_flag("serial")
+    {
+        return Err(usage(
+            alloc,
+            "'--workers <N>', '--serial' and '--limit <N>' are for one file: several are traces, which are not run",
+        ));
+    }
+    let files = several_files(alloc, names)?;
+    let color = color_of(alloc, matches)?;
+    Ok(Job::ExplainTraces { files, color })
+}
+
 fn explain_job(alloc: Global, matches: &ArgMatches<'_>) -> Result<Job, CliFault>
     ensures job { IfOk result IsInRange }
     ensures fault { IfErr result IsUsageFault }
 {
-    let file = file_of(alloc, matches, "file")?;
-    let workers = workers_of(alloc, matches)?;
-    let limit = limit_of(alloc, matches)?;
-    let color = color_of(alloc, matches)?;
-    Ok(Job::Explain {
-        file,
-        workers,
-        limit,
-        color,
-    })
+    let Some(names) = matches.get_strs("file") else {
+        return Err(no_file(alloc));
+    };
+    match names.split_first() {
+        None => Err(no_file(alloc)),
+        Some((name, others)) if others.is_empty() => explain_one(alloc, matches, name),
+        Some(_) => explain_several(alloc, matches, names),
+    }
 }
 
 fn replay_job(alloc: Global, matches: &ArgMatches<'_>) -> Result<Job, CliFault>
@@ -498,7 +639,12 @@ fn draw_job(alloc: Global, matches: &ArgMatches<'_>) -> Result<Job, CliFault>
     ensures fault { IfErr result IsUsageFault }
 {
     let file = file_of(alloc, matches, "trace")?;
-    Ok(Job::Draw { file })
+    let language = if matches.get_flag("svg") {
+        Language::Svg
+    } else {
+        Language::Dot
+    };
+    Ok(Job::Draw { file, language })
 }
 
 /// What the words that were matched ask for.

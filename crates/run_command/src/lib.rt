@@ -3,10 +3,13 @@
 //! [`run_text`] carries the theorem of `run` in its contract: at a status the bytes that were read mean a program, and what was written is
 //! the report of some finished run of it within the limit, which is its serial elision and speaks for every schedule where nothing was
 //! refused; [`laws::clean_report_law`] draws from this alone what status 0 means. A fault comes where there was no such run, by its cause.
-//! [`some_run`] and [`whole_run`] are the same run without its texts, for other commands that tell of one.
+//! [`some_run`] and [`whole_run`] are the same run without its texts, for other commands that tell of one; [`serial_run`] is a run by one
+//! worker in the serial order.
 #![tactic(auto)]
 
 pub mod laws;
 mod run;
 
-pub use run::{Cut, Door, OpenDoor, PARTS, fault_of, report_line, run_text, some_run, whole_run};
+pub use run::{
+    Cut, Door, OpenDoor, PARTS, fault_of, report_line, run_text, serial_run, some_run, whole_run,
+};

@@ -1,6 +1,6 @@
 //! Running the program that a reader gives by many workers.
 
-ghost use Rattle.std.specs.Prelude.{◌≡◌, ◌↔◌, ◌<◌, ◌≤◌, ◌≢◌, ◌+◌, [], true, false, length, reverse, IfOk, IfErr, OnOk, IsErrOf, IsTrue};
+ghost use Rattle.std.specs.Prelude.{◌≡◌, ◌↔◌, ◌<◌, ◌≤◌, ◌≢◌, ◌+◌, [], true, false, length, reverse, IfOk, IfErr, OnOk, IsErrOf, IsTrue, MatchResult};
 ghost use Rattle.program_text.specs.Programs.{contents};
 ghost use Rattle.model_histories.specs.Shapes.{most_entries};
 ghost use Rattle.model_races.specs.Memory.{IsMemory};
@@ -14,7 +14,8 @@ ghost use Rattle.command_streams.specs.Readings.{reading};
 ghost use Rattle.run_command.specs.Runs.{fault_of_run, run_line, IsRunFault, TellsRun, IsRan, HasRunCause};
 
 use command_streams::{
-    CliFault, Outcome, Watched, outcome_of, parse_program, read_text, whole_status, write_text,
+    CliFault, Outcome, Watched, outcome_of, parse_program, read_text, refusal_status, whole_status,
+    write_text,
 };
 use locked_replay::{
     Ask, LockedGate, RunFault, Seat, Whole, WorkerLog, check_run, gate_for, gather,
@@ -31,6 +32,7 @@ use std::thread::Threads;
 use steal_workers::run;
 use text_buffers::push_words;
 use text_words::Request;
+use worker_steps::run_serially;
 
 /// The parts of a seat, one for each worker that there may be.
 pub const PARTS: u64 = 64;
@@ -39,6 +41,22 @@ pub const PARTS: u64 = 64;
 pub trait Door {
     /// A request of this strand comes.
     fn before<R: Wait>(&self, rt: &R, strand: u32);
+
+    /// Lets a request in: `before`, and then the gate answers. A door that cheats its workers has one of its own. At Ok one more was asked
+    /// on the seat, and at Err as much as before.
+    fn let_in<L: Ledger, R: Wait>(
+        &self,
+        rt: &R,
+        locked: &LockedGate<L>,
+        seat: &mut Seat<L>,
+        request: Request,
+    ) -> Result<Receipt, GateFault>
+        ensures parts { seat.new.parts ≡ seat.old.parts }
+        ensures asked { MatchResult result (λ _. seat.new.asked ≡ seat.old.asked + 1) (λ _. seat.new.asked ≡ seat.old.asked) }
+    {
+        self.before(rt, request.strand);
+        locked.ask(rt, seat, request)
+    }
 }
 
 /// A door that lets each request pass at once.
@@ -63,8 +81,7 @@ impl<'a, D: Door, L: Ledger> Ask<L> for Behind<'a, D, L> {
         seat: &mut Seat<L>,
         request: Request,
     ) -> Result<Receipt, GateFault> {
-        self.door.before(rt, request.strand);
-        self.locked.ask(rt, seat, request)
+        self.door.let_in(rt, self.locked, seat, request)
     }
 
     fn stop<R: Wait>(&self, rt: &R) {
@@ -242,6 +259,66 @@ pub fn some_run<L: Ledger + Send + Sync, D: Door + Sync, R: Threads + Wait + Syn
         }
     };
     match gathered(alloc, program, locked, logs, limit) {
+        Ok(whole) => Ok(whole),
+        Err(fault) => Err(Cut { fault, gate: None }),
+    }
+}
+
+/// The finished run whose history the gate has.
+fn whole_alone(
+    alloc: Global,
+    program: &Program<Global>,
+    gate: ShortGate,
+    limit: u32,
+) -> Result<Whole, RunFault>
+    requires { IsRight gate }
+    ensures run { IfOk result (λ whole. IsFinishedRun program.now.functions (shape_in program.now) (reverse whole.entries.items)) }
+    ensures memory { IfOk result (λ whole. IsMemory (shape_in program.now).cells (reverse whole.entries.items) whole.memory.items) }
+    ensures clean { IfOk result (λ whole. IsTrue whole.clean ↔ IsClean (reverse whole.entries.items)) }
+    ensures within { IfOk result (λ whole. length whole.entries.items ≤ limit) }
+    ensures fault { IfErr result (λ fault. IsRunFault (contents program.now) limit (fault_of_run fault)) }
+{
+    check_run(alloc, program, &gate)?;
+    let (entries, memory) = gate.into_parts();
+    let told = entries.to_vec(alloc)?;
+    if told.len() > limit as usize {
+        return Err(RunFault::Limit);
+    }
+    let clean = refusal_status(told.as_slice()) == 0;
+    Ok(Whole {
+        entries,
+        memory,
+        clean,
+    })
+}
+
+/// As [`some_run`], by one worker that runs each child before what follows its spawn, so that it is the same run each time.
+pub fn serial_run(alloc: Global, program: &Program<Global>, limit: u32) -> Result<Whole, Cut>
+    requires limit { limit ≤ most_entries }
+    ensures run { IfOk result (λ whole. IsFinishedRun program.now.functions (shape_in program.now) (reverse whole.entries.items)) }
+    ensures memory { IfOk result (λ whole. IsMemory (shape_in program.now).cells (reverse whole.entries.items) whole.memory.items) }
+    ensures clean { IfOk result (λ whole. IsTrue whole.clean ↔ IsClean (reverse whole.entries.items)) }
+    ensures within { IfOk result (λ whole. length whole.entries.items ≤ limit) }
+    ensures fault { IfErr result (λ cut. IsRunFault (contents program.now) limit (fault_of_run cut.fault)) }
+{
+    let Ok(mut gate) = gate_for(alloc, program, limit) else {
+        return Err(Cut {
+            fault: RunFault::Memory,
+            gate: None,
+        });
+    };
+    let ran = run_serially(alloc, program, &mut gate);
+    // What is known of each gate is known of this one from here on.
+    let _entries = gate.history();
+    let _cells = gate.memory();
+    if let Err(fault) = ran {
+        let fault = met(alloc, program, &gate, limit, fault);
+        return Err(Cut {
+            fault,
+            gate: Some(gate),
+        });
+    }
+    match whole_alone(alloc, program, gate, limit) {
         Ok(whole) => Ok(whole),
         Err(fault) => Err(Cut { fault, gate: None }),
     }

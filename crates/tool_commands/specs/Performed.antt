@@ -1,13 +1,17 @@
 -- What a job does: from what standard input and files hold to what is written, and the status.
-use Rattle.std.specs.Prelude.{ℕ, Bool, true, false, ◌≡◌, ◌⊎◌, Option, Some, Result, Ok, Err, List}
+use Rattle.std.specs.Prelude.{ℕ, Bool, true, false, ◌≡◌, ◌⊎◌, Option, Some, Result, Ok, Err, List, [], ◌∷◌, codes, map}
 use Rattle.std.specs.String.{string_bytes}
 use Rattle.std.specs.Io.KnownBytes.{Appends}
 use Rattle.model_histories.specs.declared.reply.Reply.{Reply}
 use Rattle.command_streams.specs.declared.fault.CliFault.{CliFault}
 use Rattle.command_words.specs.declared.words.Job.{Job}
-use Rattle.command_words.specs.declared.words.Job.TheVariants.{Judge, Elide, Run, Record, Explain, Replay, Draw, Show}
+use Rattle.command_words.specs.declared.words.Job.TheVariants.{Judge, Elide, Run, Record, Explain, ExplainInput, ExplainTraces, Replay, Draw, Show}
 use Rattle.command_words.specs.declared.words.Color.{Color}
 use Rattle.command_words.specs.declared.words.Color.TheVariants.{Auto, Always, Never}
+use Rattle.command_words.specs.declared.words.Language.{Language}
+use Rattle.command_words.specs.declared.words.Language.TheVariants.{Dot, Svg}
+use Rattle.dag_drawing.specs.declared.form.Form.{Form}
+use Rattle.dag_drawing.specs.declared.form.Form.TheVariants.{Dot as InDot, Svg as InSvg}
 use Rattle.other_commands.specs.Explanations.{Manner, IsExplained, HasExplanationCause}
 use Rattle.other_commands.specs.Drawings.{IsDrawn, HasDrawingCause}
 use Rattle.other_commands.specs.Elided.{IsElided, HasElisionCause}
@@ -19,6 +23,12 @@ use Rattle.command_streams.specs.Sources.{Sources, source_of}
 use Rattle.judge_command.specs.Statuses.{status_of_replies}
 use Rattle.command_streams.specs.Streams.{IsAnswered, HasCause, StopsWriting}
 use Rattle.other_commands.specs.Traced.{IsTraced, IsReportCut, HasTracedCause}
+use Rattle.tool_commands.specs.Several.{AreExplained, HasSeveralCause}
+
+-- the language of a drawing, as the words of the command line name it
+abbrev pub form_of : Language → Form
+form_of Dot = InDot
+form_of Svg = InSvg
 
 -- whether words are painted, as these words ask for: on a terminal, of which nothing is said here, always, or never
 abbrev pub IsPaintedBy : Color → Bool → Type 0
@@ -29,6 +39,10 @@ IsPaintedBy Never is_painted = is_painted ≡ false
 -- it is told by the name of the file
 abbrev pub IsMannerOf : (file : List ℕ) → Color → Manner → Type 0
 IsMannerOf file color manner = (manner.file ≡ file) × IsPaintedBy color manner.is_painted
+
+-- what standard input is called where a file's name would stand
+abbrev pub input_name : List ℕ
+input_name = codes "<stdin>"
 
 -- The job was done at this status. What a reader leaves behind is the end of what its source holds, where that is known.
 abbrev pub IsPerformed : Sources → Job → (wrote writes : Option (List ℕ)) → (status : ℕ) → Type 0
@@ -41,14 +55,19 @@ IsPerformed sources (Run file workers limit) wrote writes status = (behind : Opt
     IsRan (reading (sources.file (string_bytes file)) behind) wrote writes limit status
 IsPerformed sources (Record file workers limit trace) wrote writes status = (behind : Option (List ℕ)) ×
     IsRan (reading (sources.file (string_bytes file)) behind) wrote writes limit status
-IsPerformed sources (Explain file workers limit color) wrote writes status = (behind : Option (List ℕ)) × (manner : Manner) ×
+IsPerformed sources (Explain file workers is_serial limit color) wrote writes status = (behind : Option (List ℕ)) × (manner : Manner) ×
     IsMannerOf (string_bytes file) color manner ×
     IsExplained manner (reading (sources.file (string_bytes file)) behind) wrote writes limit status
+IsPerformed sources (ExplainInput workers is_serial limit color) wrote writes status = (behind : Option (List ℕ)) × (manner : Manner) ×
+    IsMannerOf input_name color manner ×
+    IsExplained manner (reading sources.input behind) wrote writes limit status
+IsPerformed sources (ExplainTraces files color) wrote writes status = (is_painted : Bool) × IsPaintedBy color is_painted ×
+    AreExplained is_painted sources.file (map string_bytes files.items) wrote writes status
 IsPerformed sources (Replay file trace) wrote writes status = (program_behind : Option (List ℕ)) × (trace_behind : Option (List ℕ)) ×
     IsReplayed (reading (sources.file (string_bytes file)) program_behind) (reading (sources.file (string_bytes trace)) trace_behind)
     wrote writes status
-IsPerformed sources (Draw file) wrote writes status = (behind : Option (List ℕ)) ×
-    IsDrawn (reading (sources.file (string_bytes file)) behind) wrote writes status
+IsPerformed sources (Draw file language) wrote writes status = (behind : Option (List ℕ)) ×
+    IsDrawn (form_of language) (reading (sources.file (string_bytes file)) behind) wrote writes status
 IsPerformed sources (Show text) wrote writes status = (status ≡ 0) × Appends wrote writes (string_bytes text)
 
 -- Why the job was not done, or not wholly: each fault has the cause that it has in the job's own call.
@@ -62,14 +81,19 @@ HasJobCause sources (Run file workers limit) wrote writes fault = (behind : Opti
 HasJobCause sources (Record file workers limit trace) wrote writes fault =
     (behind : Option (List ℕ)) × (traced : Option (List ℕ)) × (traces : Option (List ℕ)) ×
     HasTracedCause (reading (sources.file (string_bytes file)) behind) traced traces wrote writes limit fault
-HasJobCause sources (Explain file workers limit color) wrote writes fault = (behind : Option (List ℕ)) × (manner : Manner) ×
+HasJobCause sources (Explain file workers is_serial limit color) wrote writes fault = (behind : Option (List ℕ)) × (manner : Manner) ×
     IsMannerOf (string_bytes file) color manner ×
     HasExplanationCause manner (reading (sources.file (string_bytes file)) behind) wrote writes limit fault
+HasJobCause sources (ExplainInput workers is_serial limit color) wrote writes fault = (behind : Option (List ℕ)) × (manner : Manner) ×
+    IsMannerOf input_name color manner ×
+    HasExplanationCause manner (reading sources.input behind) wrote writes limit fault
+HasJobCause sources (ExplainTraces files color) wrote writes fault = (is_painted : Bool) × IsPaintedBy color is_painted ×
+    HasSeveralCause is_painted sources.file (map string_bytes files.items) wrote writes fault
 HasJobCause sources (Replay file trace) wrote writes fault = (program_behind : Option (List ℕ)) × (trace_behind : Option (List ℕ)) ×
     HasReplayCause (reading (sources.file (string_bytes file)) program_behind) (reading (sources.file (string_bytes trace)) trace_behind)
     wrote writes fault
-HasJobCause sources (Draw file) wrote writes fault = (behind : Option (List ℕ)) ×
-    HasDrawingCause (reading (sources.file (string_bytes file)) behind) wrote writes fault
+HasJobCause sources (Draw file language) wrote writes fault = (behind : Option (List ℕ)) ×
+    HasDrawingCause (form_of language) (reading (sources.file (string_bytes file)) behind) wrote writes fault
 HasJobCause sources (Show text) wrote writes fault = StopsWriting wrote writes (string_bytes text) fault
 
 -- Of a job that records: the file of the trace, which held `blank` when it was made, has the trace of the run that is reported.
@@ -91,22 +115,28 @@ abbrev pub BarsTrace : (List ℕ → Type 0) → Job → Type 0
 BarsTrace bars (Record file workers limit trace) = bars (string_bytes trace)
 BarsTrace bars job = ⊥
 
--- One of the job's files can't be opened.
+abbrev pub lacks_first : (List ℕ → Type 0) → List (List ℕ) → Type 0
+lacks_first lacks [] = ⊥
+lacks_first lacks (name ∷ names) = lacks name
+
+-- One of the job's files can't be opened. Of several traces that is the first: a fault in an earlier one is told before the next is opened.
 abbrev pub LacksFile : (List ℕ → Type 0) → Job → Type 0
 LacksFile lacks (Judge (Some file) limit) = lacks (string_bytes file)
 LacksFile lacks (Elide file limit) = lacks (string_bytes file)
 LacksFile lacks (Run file workers limit) = lacks (string_bytes file)
 LacksFile lacks (Record file workers limit trace) = lacks (string_bytes file)
-LacksFile lacks (Explain file workers limit color) = lacks (string_bytes file)
+LacksFile lacks (Explain file workers is_serial limit color) = lacks (string_bytes file)
+LacksFile lacks (ExplainTraces files color) = lacks_first lacks (map string_bytes files.items)
 LacksFile lacks (Replay file trace) = lacks (string_bytes file) ⊎ lacks (string_bytes trace)
-LacksFile lacks (Draw file) = lacks (string_bytes file)
+LacksFile lacks (Draw file language) = lacks (string_bytes file)
 LacksFile lacks job = ⊥
 
 -- the job starts no thread and waits for none
 abbrev pub IsAlone : Job → Type 0
 IsAlone (Run file workers limit) = ⊥
 IsAlone (Record file workers limit trace) = ⊥
-IsAlone (Explain file workers limit color) = ⊥
+IsAlone (Explain file workers is_serial limit color) = ⊥
+IsAlone (ExplainInput workers is_serial limit color) = ⊥
 IsAlone job = Unit {0}
 
 -- the exit status of the process: that of the job, or that of the fault

@@ -7,11 +7,13 @@ ghost use Rattle.std.specs.Io.KnownBytes.{Appends};
 ghost use Rattle.command_words.specs.Jobs.{IsInRange};
 ghost use Rattle.command_streams.specs.Streams.{StopsWriting};
 ghost use Rattle.command_streams.specs.Watched.{held, has_failed, is_delivered};
-ghost use Rattle.tool_commands.specs.Performed.{IsPerformed, IsPaintedBy, HasJobCause, IsRecorded};
+ghost use Rattle.tool_commands.specs.Performed.{form_of, IsPerformed, IsPaintedBy, HasJobCause, IsRecorded};
 ghost use Rattle.tool_commands.specs.Performed.{IsRecordedFirst, BarsTrace, LacksFile, IsAlone, status_of_answer};
 
+use crate::several::explain_files;
 use command_streams::{CliFault, Host, Watched, write_text};
-use command_words::{Color, Job};
+use command_words::{Color, Job, Language};
+use dag_drawing::Form;
 use judge_command::judge_stream;
 use other_commands::{
     Manner, draw_text, elide_text, explain_text, replay_text, traced_text, write_traced,
@@ -21,6 +23,9 @@ use std::alloc::Global;
 use std::io::Write;
 use std::sync::Wait;
 use std::thread::Threads;
+
+/// What standard input is called where a file's name would stand.
+const INPUT_NAME: &str = "<stdin>";
 
 /// Judges the trace on standard input.
 fn judge_input<H: Host, W: Write>(
@@ -157,6 +162,7 @@ fn explain_file<H: Host, W: Write, R: Threads + Wait + Sync>(
     host: &mut Watched<H>,
     file: &String,
     workers: usize,
+    is_serial: bool,
     limit: u32,
     color: Color,
     output: &mut Watched<W>,
@@ -165,15 +171,15 @@ fn explain_file<H: Host, W: Write, R: Threads + Wait + Sync>(
     requires writer { has_failed output.old ≡ false }
     requires workers { (0 < workers) × (workers ≤ 64) }
     requires limit { limit ≤ most_entries }
-    ensures done { IfOk result (IsPerformed (H.sources (held host.old)) (Job.Explain file.now workers limit color)
+    ensures done { IfOk result (IsPerformed (H.sources (held host.old)) (Job.Explain file.now workers is_serial limit color)
         (W.contents (held output.old)) (W.contents (held output.new))) }
-    ensures fault { IfErr result (HasJobCause (H.sources (held host.old)) (Job.Explain file.now workers limit color)
+    ensures fault { IfErr result (HasJobCause (H.sources (held host.old)) (Job.Explain file.now workers is_serial limit color)
         (W.contents (held output.old)) (W.contents (held output.new))) }
     ensures delivered { OnOk result (is_delivered output.new ≡ true) }
     ensures read_failed { IsErrOf result CliFault.Read ↔ IsTrue (has_failed host.new) }
     ensures write_failed { IsErrOf result CliFault.Write ↔ IsTrue (has_failed output.new) }
     ensures unwritten { IfErr result (λ fault. fault ≢ CliFault.Write → output.new ≡ output.old) }
-    ensures lacking { LacksFile (H.lacks (held host.old)) (Job.Explain file.now workers limit color) → IsErrOf result CliFault.Read }
+    ensures lacking { LacksFile (H.lacks (held host.old)) (Job.Explain file.now workers is_serial limit color) → IsErrOf result CliFault.Read }
 {
     let mut program = host.open(file.as_str())?;
     let manner = Manner {
@@ -186,12 +192,74 @@ fn explain_file<H: Host, W: Write, R: Threads + Wait + Sync>(
         &manner,
         &mut program,
         workers,
+        is_serial,
         &OpenDoor,
         output,
         limit,
     );
     host.note(&program);
     answer
+}
+
+/// Explains what standard input gives, as [`explain_file`] does what a file holds.
+fn explain_input<H: Host, W: Write, R: Threads + Wait + Sync>(
+    threads: &R,
+    alloc: Global,
+    host: &mut Watched<H>,
+    workers: usize,
+    is_serial: bool,
+    limit: u32,
+    color: Color,
+    output: &mut Watched<W>,
+) -> Result<u8, CliFault>
+    requires host { has_failed host.old ≡ false }
+    requires writer { has_failed output.old ≡ false }
+    requires workers { (0 < workers) × (workers ≤ 64) }
+    requires limit { limit ≤ most_entries }
+    ensures done { IfOk result (IsPerformed (H.sources (held host.old)) (Job.ExplainInput workers is_serial limit color)
+        (W.contents (held output.old)) (W.contents (held output.new))) }
+    ensures fault { IfErr result (HasJobCause (H.sources (held host.old)) (Job.ExplainInput workers is_serial limit color)
+        (W.contents (held output.old)) (W.contents (held output.new))) }
+    ensures delivered { OnOk result (is_delivered output.new ≡ true) }
+    ensures read_failed { IsErrOf result CliFault.Read ↔ IsTrue (has_failed host.new) }
+    ensures write_failed { IsErrOf result CliFault.Write ↔ IsTrue (has_failed output.new) }
+    ensures unwritten { IfErr result (λ fault. fault ≢ CliFault.Write → output.new ≡ output.old) }
+{
+    let manner = Manner {
+        is_painted: is_painted(host, color),
+        file: INPUT_NAME,
+    };
+    let mut input = host.input();
+    let answer = explain_text(
+        threads, alloc, &manner, &mut input, workers, is_serial, &OpenDoor, output, limit,
+    );
+    host.note(&input);
+    answer
+}
+
+/// Explains the traces in some files together.
+fn explain_traces<H: Host, W: Write>(
+    alloc: Global,
+    host: &mut Watched<H>,
+    files: &Vec<String>,
+    color: Color,
+    output: &mut Watched<W>,
+) -> Result<u8, CliFault>
+    requires host { has_failed host.old ≡ false }
+    requires writer { has_failed output.old ≡ false }
+    ensures done { IfOk result (IsPerformed (H.sources (held host.old)) (Job.ExplainTraces files.now color)
+        (W.contents (held output.old)) (W.contents (held output.new))) }
+    ensures fault { IfErr result (HasJobCause (H.sources (held host.old)) (Job.ExplainTraces files.now color)
+        (W.contents (held output.old)) (W.contents (held output.new))) }
+    ensures status { IfOk result (λ status. status ≤ 4) }
+    ensures delivered { OnOk result (is_delivered output.new ≡ true) }
+    ensures read_failed { IsErrOf result CliFault.Read ↔ IsTrue (has_failed host.new) }
+    ensures write_failed { IsErrOf result CliFault.Write ↔ IsTrue (has_failed output.new) }
+    ensures unwritten { IfErr result (λ fault. fault ≢ CliFault.Write → output.new ≡ output.old) }
+    ensures lacking { LacksFile (H.lacks (held host.old)) (Job.ExplainTraces files.now color) → IsErrOf result CliFault.Read }
+{
+    let is_painted = is_painted(host, color);
+    explain_files(alloc, host, is_painted, files.as_slice(), output)
 }
 
 /// Runs the program in a file by so many workers, and writes the trace of the run into a file and the report. The trace's file is
@@ -273,27 +341,38 @@ fn replay_files<H: Host, W: Write>(
     answer
 }
 
+/// The language of a drawing, as the words of the command line name it.
+fn form_of(language: Language) -> Form
+    ensures { result ≡ form_of language }
+{
+    match language {
+        Language::Dot => Form::Dot,
+        Language::Svg => Form::Svg,
+    }
+}
+
 /// Draws the trace in a file.
 fn draw_file<H: Host, W: Write>(
     alloc: Global,
     host: &mut Watched<H>,
     file: &String,
+    language: Language,
     output: &mut Watched<W>,
 ) -> Result<u8, CliFault>
     requires host { has_failed host.old ≡ false }
     requires writer { has_failed output.old ≡ false }
-    ensures done { IfOk result (IsPerformed (H.sources (held host.old)) (Job.Draw file.now)
+    ensures done { IfOk result (IsPerformed (H.sources (held host.old)) (Job.Draw file.now language)
         (W.contents (held output.old)) (W.contents (held output.new))) }
-    ensures fault { IfErr result (HasJobCause (H.sources (held host.old)) (Job.Draw file.now)
+    ensures fault { IfErr result (HasJobCause (H.sources (held host.old)) (Job.Draw file.now language)
         (W.contents (held output.old)) (W.contents (held output.new))) }
     ensures delivered { OnOk result (is_delivered output.new ≡ true) }
     ensures read_failed { IsErrOf result CliFault.Read ↔ IsTrue (has_failed host.new) }
     ensures write_failed { IsErrOf result CliFault.Write ↔ IsTrue (has_failed output.new) }
     ensures unwritten { IfErr result (λ fault. fault ≢ CliFault.Write → output.new ≡ output.old) }
-    ensures lacking { LacksFile (H.lacks (held host.old)) (Job.Draw file.now) → IsErrOf result CliFault.Read }
+    ensures lacking { LacksFile (H.lacks (held host.old)) (Job.Draw file.now language) → IsErrOf result CliFault.Read }
 {
     let mut trace = host.open(file.as_str())?;
-    let answer = draw_text(alloc, &mut trace, output);
+    let answer = draw_text(alloc, form_of(language), &mut trace, output);
     host.note(&trace);
     answer
 }
@@ -311,8 +390,8 @@ fn show<W: Write>(text: &String, output: &mut Watched<W>) -> Result<u8, CliFault
     Ok(0)
 }
 
-/// Does a job that starts no thread, and waits for none: all but [`Job::Run`], [`Job::Record`] and [`Job::Explain`]. It is [`perform`] for
-/// these.
+/// Does a job that starts no thread, and waits for none: all but [`Job::Run`], [`Job::Record`], [`Job::Explain`] and
+/// [`Job::ExplainInput`]. It is [`perform`] for these.
 pub fn perform_alone<H: Host, W: Write>(
     alloc: Global,
     host: &mut Watched<H>,
@@ -342,15 +421,19 @@ pub fn perform_alone<H: Host, W: Write>(
         } => judge_file(alloc, host, file, *limit, output),
         Job::Elide { file, limit } => elide_file(alloc, host, file, *limit, output),
         Job::Replay { file, trace } => replay_files(alloc, host, file, trace, output),
-        Job::Draw { file } => draw_file(alloc, host, file, output),
+        Job::Draw { file, language } => draw_file(alloc, host, file, *language, output),
         Job::Show { text } => show(text, output),
-        Job::Run { .. } | Job::Record { .. } | Job::Explain { .. } => unreachable!(),
+        Job::ExplainTraces { files, color } => explain_traces(alloc, host, files, *color, output),
+        Job::Run { .. } | Job::Record { .. } | Job::Explain { .. } | Job::ExplainInput { .. } => {
+            unreachable!()
+        }
     }
 }
 
 /// Does a job, and answers its exit status, which is 0 to 4: what [`judge_stream`], [`elide_text`], [`run_text`],
 /// [`explain_text`], [`replay_text`] or [`draw_text`] does with standard input or the files of its names, or writes the text that is to be
-/// shown. What is written is delivered then. All files of a job that are read are opened before one is read. A run that is recorded is done
+/// shown. What is written is delivered then. All files of a job that are read are opened before one is read, but for those of several traces,
+/// which are read one after another. A run that is recorded is done
 /// as [`run_traced_text`](other_commands::run_traced_text) does it; the file of its trace is created once the run is done, and has the trace before
 /// the report is written.
 ///
@@ -398,9 +481,20 @@ pub fn perform<H: Host, W: Write, R: Threads + Wait + Sync>(
         Job::Explain {
             file,
             workers,
+            is_serial,
             limit,
             color,
-        } => explain_file(threads, alloc, host, file, *workers, *limit, *color, output),
+        } => explain_file(
+            threads, alloc, host, file, *workers, *is_serial, *limit, *color, output,
+        ),
+        Job::ExplainInput {
+            workers,
+            is_serial,
+            limit,
+            color,
+        } => explain_input(
+            threads, alloc, host, *workers, *is_serial, *limit, *color, output,
+        ),
         job => perform_alone(alloc, host, job, output),
     }
 }

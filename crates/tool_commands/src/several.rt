@@ -1,0 +1,91 @@
+//! Several traces explained together.
+
+ghost use Rattle.std.specs.Prelude.{◌≡◌, ◌↔◌, ◌≢◌, ◌≤◌, false, true, IfOk, IfErr, OnOk, IsErrOf, IsTrue, Option, List, ℕ, Bool, map, string_bytes};
+ghost use Rattle.std.specs.Option.{option_map};
+ghost use Rattle.command_streams.specs.Watched.{held, has_failed, is_delivered};
+ghost use Rattle.command_streams.specs.Readings.{reading};
+ghost use Rattle.other_commands.specs.Together.{together_of, TakesReading, StopsTaking};
+ghost use Rattle.tool_commands.specs.Several.{TellsSeveral, StopsSeveral, AreExplained, HasSeveralCause};
+ghost use Rattle.tool_commands.specs.Performed.{lacks_first};
+
+use command_streams::{CliFault, Host, Watched, write_text};
+use other_commands::{Manner, Traces};
+use std::alloc::Global;
+use std::io::Write;
+
+/// Takes the trace in a file, or tells the first fault of its text.
+fn take_file<H: Host>(
+    alloc: Global,
+    host: &mut Watched<H>,
+    manner: &Manner<'_>,
+    traces: &mut Traces,
+) -> Result<Option<Vec<u8>>, CliFault>
+    requires { has_failed host.old ≡ false }
+    ensures ok { IfOk result (λ told. (behind : Option (List ℕ)) ×
+        TakesReading manner.now (reading ((H.sources (held host.old)).file manner.now.file) behind) (together_of traces.old) (together_of traces.new) told) }
+    ensures fault { IfErr result (λ fault. (behind : Option (List ℕ)) ×
+        StopsTaking (reading ((H.sources (held host.old)).file manner.now.file) behind) fault) }
+    ensures read_failed { IsErrOf result CliFault.Read ↔ IsTrue (has_failed host.new) }
+    ensures same { held host.new ≡ held host.old }
+    ensures stands { OnOk result (has_failed host.new ≡ false) }
+    ensures not_write { IsErrOf result CliFault.Write → ⊥ }
+    ensures lacking { H.lacks (held host.old) manner.now.file → IsErrOf result CliFault.Read }
+{
+    let mut trace = host.open(manner.file)?;
+    let taken = traces.read(alloc, manner, &mut trace);
+    host.note(&trace);
+    taken
+}
+
+/// What is told of the traces in some files, and the exit status.
+fn told_of_files<H: Host>(
+    alloc: Global,
+    host: &mut Watched<H>,
+    is_painted: bool,
+    files: &[String],
+) -> Result<(Vec<u8>, u8), CliFault>
+    requires { has_failed host.old ≡ false }
+    ensures ok { IfOk result (λ told. TellsSeveral is_painted (H.sources (held host.old)).file (map string_bytes files.now) told.0.items told.1) }
+    ensures fault { IfErr result (StopsSeveral is_painted (H.sources (held host.old)).file (map string_bytes files.now)) }
+    ensures read_failed { IsErrOf result CliFault.Read ↔ IsTrue (has_failed host.new) }
+    ensures not_write { IsErrOf result CliFault.Write → ⊥ }
+    ensures lacking { lacks_first (H.lacks (held host.old)) (map string_bytes files.now) → IsErrOf result CliFault.Read }
+{
+    let mut traces = Traces::new(alloc);
+    for file in files {
+        let manner = Manner {
+            is_painted,
+            file: file.as_str(),
+        };
+        if let Some(told) = take_file(alloc, host, &manner, &mut traces)? {
+            return Ok((told, 2));
+        }
+    }
+    Ok((traces.told(alloc)?, traces.status()))
+}
+
+/// Explains the traces in some files together.
+pub(crate) fn explain_files<H: Host, W: Write>(
+    alloc: Global,
+    host: &mut Watched<H>,
+    is_painted: bool,
+    files: &[String],
+    output: &mut Watched<W>,
+) -> Result<u8, CliFault>
+    requires host { has_failed host.old ≡ false }
+    requires writer { has_failed output.old ≡ false }
+    ensures done { IfOk result (AreExplained is_painted (H.sources (held host.old)).file (map string_bytes files.now)
+        (W.contents (held output.old)) (W.contents (held output.new))) }
+    ensures fault { IfErr result (HasSeveralCause is_painted (H.sources (held host.old)).file (map string_bytes files.now)
+        (W.contents (held output.old)) (W.contents (held output.new))) }
+    ensures status { IfOk result (λ status. status ≤ 2) }
+    ensures delivered { OnOk result (is_delivered output.new ≡ true) }
+    ensures read_failed { IsErrOf result CliFault.Read ↔ IsTrue (has_failed host.new) }
+    ensures write_failed { IsErrOf result CliFault.Write ↔ IsTrue (has_failed output.new) }
+    ensures unwritten { IfErr result (λ fault. fault ≢ CliFault.Write → output.new ≡ output.old) }
+    ensures lacking { lacks_first (H.lacks (held host.old)) (map string_bytes files.now) → IsErrOf result CliFault.Read }
+{
+    let (told, status) = told_of_files(alloc, host, is_painted, files)?;
+    write_text(output, told.as_slice())?;
+    Ok(status)
+}
