@@ -25,7 +25,7 @@ use std::process::Abort;
 use std::sync::Wait;
 use std::thread::Threads;
 use tool_commands::{
-    CliFault, Manner, OpenDoor, Watched, draw_text, elide_text, explain_text, judge_stream,
+    CliFault, Form, Manner, OpenDoor, Watched, draw_text, elide_text, explain_text, judge_stream,
     replay_text, run_text,
 };
 
@@ -42,15 +42,19 @@ enum Command<'a> {
     Run(usize, u32),
     /// The same, told to a person.
     Explain(usize, u32),
+    /// The same of a run in the serial order, with this limit.
+    ExplainSerially(u32),
     /// Replays this trace as a run of the program that is read.
     Replay(&'a str),
     /// Replays the trace that is read as a run of this program.
     Follow(&'a str),
     /// Draws the trace that is read.
     Draw,
+    /// The same as a picture.
+    Picture,
 }
 
-use Command::{Draw, Elide, Explain, Follow, Judge, Replay, Run};
+use Command::{Draw, Elide, Explain, ExplainSerially, Follow, Judge, Picture, Replay, Run};
 
 /// A limit that commands take.
 fn limited(rt: &impl Abort, limit: u32) -> u32
@@ -109,6 +113,7 @@ fn explained<P: Read, R: Abort + Threads + Wait + Sync>(
     alloc: Global,
     program: &mut Watched<P>,
     workers: usize,
+    is_serial: bool,
     output: &mut Watched<Filling>,
     limit: u32,
 ) -> Result<u8, CliFault>
@@ -121,7 +126,7 @@ fn explained<P: Read, R: Abort + Threads + Wait + Sync>(
         file: "p.cilk",
     };
     explain_text(
-        rt, alloc, &manner, program, workers, &OpenDoor, output, limit,
+        rt, alloc, &manner, program, workers, is_serial, &OpenDoor, output, limit,
     )
 }
 
@@ -149,10 +154,12 @@ fn answered<P: Read, R: Abort + Threads + Wait + Sync>(
             let (workers, limit) = (manned(rt, workers), limited(rt, limit));
             run_text(rt, alloc, input, workers, &OpenDoor, output, limit)
         }
-        Explain(workers, limit) => explained(rt, alloc, input, workers, output, limit),
+        Explain(workers, limit) => explained(rt, alloc, input, workers, false, output, limit),
+        ExplainSerially(limit) => explained(rt, alloc, input, 1, true, output, limit),
         Replay(trace) => replayed(rt, alloc, input, trace, output),
         Follow(program) => followed(rt, alloc, input, program, output),
-        Draw => draw_text(alloc, input, output),
+        Draw => draw_text(alloc, Form::Dot, input, output),
+        Picture => draw_text(alloc, Form::Svg, input, output),
     }
 }
 

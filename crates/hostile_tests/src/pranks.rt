@@ -1,4 +1,6 @@
-//! Gates round a gate behind its lock, which play a prank.
+//! Gates round a gate behind its lock, and doors before it, which play a prank.
+
+ghost use Rattle.std.specs.Prelude.{◌≡◌, ◌+◌, MatchResult};
 
 use locked_replay::{Ask, LockedGate, Seat};
 use race_gate::{GateFault, Receipt};
@@ -7,6 +9,7 @@ use std::sync::atomic::{AtomicU64, Ordering};
 use std::sync::ledger::Ledger;
 use std::{hint, thread};
 use text_words::Request;
+use tool_commands::Door;
 
 /// What a gate does beside its work. A number is that of a request, in the order in which they come.
 #[derive(Clone, Copy, Debug)]
@@ -19,6 +22,8 @@ pub enum Prank {
     Starves(u64),
     /// It answers this request with the receipt of another.
     Swaps(u64),
+    /// It answers this request with a receipt that has the number of the entry behind.
+    Tears(u64),
 }
 
 /// A gate that plays a prank.
@@ -49,6 +54,74 @@ fn turn(number: u64) {
     thread::yield_now();
 }
 
+/// Whether this is the request at which the prank is played, and the gate is not to be asked it.
+fn starves(prank: Prank, number: u64) -> bool {
+    match prank {
+        Prank::Starves(at) => number == at,
+        _ => false,
+    }
+}
+
+/// What is done before a request, and what the gate is asked then.
+fn asked_of<L: Ledger, R: Wait>(
+    rt: &R,
+    locked: &LockedGate<L>,
+    prank: Prank,
+    number: u64,
+    request: Request,
+) -> Request {
+    let mut asked = request;
+    match prank {
+        Prank::Turns => turn(number),
+        Prank::Stops(at) => {
+            if number == at {
+                locked.stop(rt);
+            }
+        }
+        Prank::Swaps(at) => {
+            if number == at {
+                asked.line = 0;
+            }
+        }
+        Prank::Starves(_) | Prank::Tears(_) => {}
+    }
+    asked
+}
+
+/// The receipt that is given in place of one.
+fn given(prank: Prank, number: u64, receipt: Receipt) -> Receipt {
+    let mut given = receipt;
+    if let Prank::Tears(at) = prank {
+        if number == at {
+            given.number = given.number.wrapping_add(1);
+        }
+    }
+    given
+}
+
+/// Asks a gate so that a prank is played. The count is of the requests before.
+fn played<L: Ledger, R: Wait>(
+    rt: &R,
+    locked: &LockedGate<L>,
+    prank: Prank,
+    count: &AtomicU64,
+    seat: &mut Seat<L>,
+    request: Request,
+) -> Result<Receipt, GateFault>
+    ensures parts { seat.new.parts ≡ seat.old.parts }
+    ensures asked { MatchResult result (λ _. seat.new.asked ≡ seat.old.asked + 1) (λ _. seat.new.asked ≡ seat.old.asked) }
+{
+    let number = count.fetch_add(1, Ordering::SeqCst).wrapping_add(1);
+    if starves(prank, number) {
+        return Err(GateFault::Memory);
+    }
+    let asked = asked_of(rt, locked, prank, number, request);
+    match locked.ask(rt, seat, asked) {
+        Ok(receipt) => Ok(given(prank, number, receipt)),
+        Err(fault) => Err(fault),
+    }
+}
+
 impl<'a, L: Ledger> Ask<L> for Prankster<'a, L> {
     fn ask<R: Wait>(
         &self,
@@ -56,30 +129,41 @@ impl<'a, L: Ledger> Ask<L> for Prankster<'a, L> {
         seat: &mut Seat<L>,
         request: Request,
     ) -> Result<Receipt, GateFault> {
-        let number = self.asked.fetch_add(1, Ordering::SeqCst).wrapping_add(1);
-        let mut asked = request;
-        match self.prank {
-            Prank::Turns => turn(number),
-            Prank::Stops(at) => {
-                if number == at {
-                    self.locked.stop(rt);
-                }
-            }
-            Prank::Starves(at) => {
-                if number == at {
-                    return Err(GateFault::Memory);
-                }
-            }
-            Prank::Swaps(at) => {
-                if number == at {
-                    asked.line = 0;
-                }
-            }
-        }
-        self.locked.ask(rt, seat, asked)
+        played(rt, self.locked, self.prank, &self.asked, seat, request)
     }
 
     fn stop<R: Wait>(&self, rt: &R) {
         self.locked.stop(rt);
+    }
+}
+
+/// A door that plays a prank.
+#[derive(Drop)]
+pub struct PrankDoor {
+    prank: Prank,
+    asked: AtomicU64,
+}
+
+impl PrankDoor {
+    /// A door that no request has passed yet.
+    pub fn new(prank: Prank) -> PrankDoor {
+        PrankDoor {
+            prank,
+            asked: AtomicU64::new(0),
+        }
+    }
+}
+
+impl Door for PrankDoor {
+    fn before<R: Wait>(&self, _rt: &R, _strand: u32) {}
+
+    fn let_in<L: Ledger, R: Wait>(
+        &self,
+        rt: &R,
+        locked: &LockedGate<L>,
+        seat: &mut Seat<L>,
+        request: Request,
+    ) -> Result<Receipt, GateFault> {
+        played(rt, locked, self.prank, &self.asked, seat, request)
     }
 }

@@ -30,13 +30,12 @@ this is no whole run: the limit ended it after 6 requests, and there may be more
 /// Two names that are wrong, of which the first is told.
 const NO_PROGRAM: &str = "cilk 1\nfunc main z\nwrite x 1\nwrite y 2\nend\n";
 
-const NO_PROGRAM_TOLD: &str = "error: a name is not declared as what its place wants
+const NO_PROGRAM_TOLD: &str = "error: no cell has this name
  --> p.cilk:3
   |
 3 | write x 1
-  | ^^^^^^^^^
-  = the form of this line is `write CELL VALUE`
-  = `x` is declared nowhere, and no line above assigns it
+  |       ^
+  = help: declare it before the first function, by `mem NAME`
 ";
 
 const FIB_TOLD: &str =
@@ -104,13 +103,12 @@ const CLEAN_TRACE_TOLD: &str =
 
 const NO_TRACE: &str = "cilk 1\nmem x\nread 0 y\n";
 
-const NO_TRACE_TOLD: &str = "error: a name is not declared as what its place wants
+const NO_TRACE_TOLD: &str = "error: no cell has this name
  --> p.cilk:3
   |
 3 | read 0 y
-  | ^^^^^^^^
-  = the form of this line is `read STRAND CELL`
-  = `y` is declared nowhere
+  |        ^
+  = help: declare it before the first request, by `mem NAME`
 ";
 
 /// Traces and what is told of them.
@@ -128,7 +126,7 @@ const EXPLAINED: &[Case<'static>] = &[
     (Explain(2, 713), FIB, Text(0, FIB_TOLD)),
     (Explain(8, 713), FIB, Text(0, FIB_TOLD)),
     (Explain(64, 713), FIB, Text(0, FIB_TOLD)),
-    (Explain(1, 6), RACE_AND_NO_END, Text(4, RACE_TOLD)),
+    (Explain(1, 6), RACE_AND_NO_END, Text(1, RACE_TOLD)),
     (Explain(2, 9), ENDLESS, Text(4, CUT_TOLD)),
     (Explain(2, 9), NO_PROGRAM, Text(2, NO_PROGRAM_TOLD)),
 ];

@@ -5,7 +5,7 @@ ghost use Rattle.command_words.specs.Jobs.{IsInRange};
 ghost use Rattle.tool_commands.specs.Performed.{IsAlone};
 ghost use Rattle.command_streams.specs.Sources.{unknown_sources};
 
-use super::Wanted::{Lacking, Text};
+use super::Wanted::{Fault, Lacking, Text};
 use super::worked::{FIB, PAIR};
 use super::{MOST, Outcome, Wanted, manned, meets, outcome_of};
 use crate::devices::{Breaking, Filling};
@@ -15,7 +15,7 @@ use std::process::Abort;
 use std::sync::Wait;
 use std::test::Fail;
 use std::thread::Threads;
-use tool_commands::{Host, Job, Watched, perform, perform_alone};
+use tool_commands::{Color, Host, Job, Language, Watched, perform, perform_alone};
 
 /// A trace in which a join begins, and its verdict lines.
 const JOINED: &str = "cilk 1\nmem x\nspawn 0\nread 1 x\nsync 2\nreturn 1\nwrite 3 x 4\n";
@@ -99,6 +99,8 @@ enum Deed {
     Elide(&'static str),
     Replay(&'static str, &'static str),
     Draw(&'static str),
+    /// To explain the traces in these files together.
+    Explain(&'static [&'static str]),
     /// To show this text.
     Show(&'static str),
 }
@@ -107,11 +109,26 @@ impl Deed {
     /// The one or two names, or the text.
     fn names(self) -> (&'static str, &'static str) {
         match self {
-            Deed::JudgeInput => ("", ""),
+            Deed::JudgeInput | Deed::Explain(_) => ("", ""),
             Deed::Elide(name) | Deed::Draw(name) | Deed::Show(name) => (name, ""),
             Deed::Replay(program, trace) => (program, trace),
         }
     }
+}
+
+/// The job that explains the traces in these files together.
+fn explain_job(alloc: Global, names: &[&str]) -> Result<Job, AllocError>
+    ensures ranges { IfOk result IsInRange }
+    ensures alone { IfOk result IsAlone }
+{
+    let mut files = Vec::new(alloc);
+    for name in names {
+        files.push(String::from_str(alloc, name)?)?;
+    }
+    Ok(Job::ExplainTraces {
+        files,
+        color: Color::Never,
+    })
 }
 
 /// The job that starts no thread and does this.
@@ -129,7 +146,11 @@ fn job_alone(alloc: Global, deed: Deed) -> Result<Job, AllocError>
         }),
         Deed::Elide(_) => Ok(Job::Elide { file, limit: MOST }),
         Deed::Replay(..) => Ok(Job::Replay { file, trace }),
-        Deed::Draw(_) => Ok(Job::Draw { file }),
+        Deed::Draw(_) => Ok(Job::Draw {
+            file,
+            language: Language::Dot,
+        }),
+        Deed::Explain(names) => explain_job(alloc, names),
         Deed::Show(_) => Ok(Job::Show { text: file }),
     }
 }
@@ -245,6 +266,116 @@ const THERE: Texts<'static> = Texts {
     input: "cilk 1\n",
     files: &[("there", "cilk 1\nfunc main z\nend\n")],
 };
+
+/// The parts in files.
+const PARTED: Texts<'static> = Texts {
+    input: "",
+    files: PARTS,
+};
+
+/// Parts of a recording: two in which the same two places race, each on a cell of its own, one in which nothing races, and one in which a
+/// get finds nothing.
+const PARTS: &[(&str, &str)] = &[
+    (
+        "one",
+        "cilk 1\nmem x\n#run one write\nspawn 0 @5\nwrite 1 x 7 @9\nread 2 x @6\n",
+    ),
+    (
+        "two",
+        "cilk 1\nmem y\n#run one write\nspawn 0 @5\nwrite 1 y 3 @9\nread 2 y @6\n",
+    ),
+    (
+        "three",
+        "cilk 1\nmem x\n#run one write\n#run again\nwrite 0 x 1\nreturn 0\n",
+    ),
+    ("unset", "cilk 1\nreducer h sum\nget 0 h @3\n"),
+    ("bad", "cilk 1\nmem x\nread 0 y\n"),
+    ("program", "cilk 1\nfunc main z\nend\n"),
+    ("ended", "cilk 1\nmem x\nreturn 0\nread 0 x\n"),
+];
+
+/// What is told of the parts where the first two race.
+const RACED: &str = "race: write-read on x and 1 more, 2 times
+  --> line 9
+   = this write
+   = spawned at line 5
+  --> line 6
+   = this read, may run before it or after it
+  --> line 5
+   = here they part: what is spawned comes to line 9, while the spawner goes on to line 6
+   = help: a `sync` in the spawner before line 6 would order them
+
+2 refusals at 1 pair of places, among 8 requests in 3 traces
+recorded: one write
+recorded: again
+";
+
+/// What is told of two kinds of refusals, in the order of the parts.
+const UNSET_AND_RACED: &str = "unset get: nothing was put before into h, 1 time
+  --> line 3
+   = this get, finds nothing
+   = help: a `put` into it has to come first in the serial order
+
+race: write-read on y, 1 time
+  --> line 9
+   = this write
+   = spawned at line 5
+  --> line 6
+   = this read, may run before it or after it
+  --> line 5
+   = here they part: what is spawned comes to line 9, while the spawner goes on to line 6
+   = help: a `sync` in the spawner before line 6 would order them
+
+2 refusals at 2 pairs of places, among 4 requests in 2 traces
+recorded: one write
+";
+
+const CLEAN: &str =
+    "clean: in none of these 2 traces do two of the accesses race, in whatever order its strands run
+judged: 4 requests in 2 traces
+recorded: one write
+recorded: again
+";
+
+const BAD: &str = "error: no cell has this name
+ --> bad:3
+  |
+3 | read 0 y
+  |        ^
+  = help: declare it before the first request, by `mem NAME`
+";
+
+/// What is done with several parts of a recording.
+const EXPLAINED: &[(Texts<'static>, Deed, Wanted<'static>)] = &[
+    (
+        PARTED,
+        Deed::Explain(&["one", "two", "three"]),
+        Text(1, RACED),
+    ),
+    (
+        PARTED,
+        Deed::Explain(&["unset", "two"]),
+        Text(1, UNSET_AND_RACED),
+    ),
+    (PARTED, Deed::Explain(&["three", "three"]), Text(0, CLEAN)),
+    (PARTED, Deed::Explain(&["one", "bad", "gone"]), Text(2, BAD)),
+    (PARTED, Deed::Explain(&["gone", "bad"]), Lacking),
+    (PARTED, Deed::Explain(&["three", "gone"]), Lacking),
+    (
+        PARTED,
+        Deed::Explain(&["one", "ended"]),
+        Fault(2, "illegal request 2"),
+    ),
+];
+
+/// Pairs that are told alike are told once, with the counts of all parts; a part with a fault is told by its name.
+#[test]
+fn parts_of_a_recording_are_explained_together(rt: HostRuntime) -> Result<(), Fail> {
+    for case in EXPLAINED {
+        check_either(&rt, rt.alloc(), case)?;
+    }
+    Ok(())
+}
 
 /// What is done with texts.
 const DEEDS: &[(Texts<'static>, Deed, Wanted<'static>)] = &[

@@ -6,7 +6,7 @@ ghost use Rattle.command_streams.specs.Sources.{unknown_sources};
 
 use super::Command::{Follow, Judge};
 use super::Wanted::{Status, Text};
-use super::worked::{FIB, LASTS, PAIR, SERIES, TURNS};
+use super::worked::{FIB, LASTS, MANY_TURNS, PAIR, SERIES, TURNS};
 use super::{MOST, Takes, check, has_ended, is_fault, limited, manned};
 use crate::devices::{Breaking, Filling};
 use std::alloc::{AllocError, Global};
@@ -244,6 +244,12 @@ fn each_trace_is_known_or_replays(rt: HostRuntime) {
     for (workers, program, told) in RUNS {
         check_recorded(&rt, rt.alloc(), program, *workers, *told);
     }
+}
+
+#[test]
+fn a_trace_of_more_than_100_000_entries(rt: HostRuntime) {
+    let told = Replays(0, MANY_TURNS, "replayed 100005\n");
+    check_recorded(&rt, rt.alloc(), MANY_TURNS, 2, told);
 }
 
 #[test]

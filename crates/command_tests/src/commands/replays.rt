@@ -17,6 +17,10 @@ const PAIR_TRACE: &str =
 const OTHER_CELL: &str =
     "cilk 1\nmem x\nmem y\nspawn 0 @5\nwrite 1 x 7 @9\nread 2 y @6\nsync 1 @10\nreturn 1 @10\nsync 2 @7\nreturn 3 @7\n";
 
+/// The same as that with the last request, without the line of the other cell.
+const ONE_CELL: &str =
+    "cilk 1\nmem x\nspawn 0 @5\nwrite 1 x 7 @9\nread 2 x @6\nsync 1 @10\nreturn 1 @10\nsync 2 @7\nreturn 3 @7\n";
+
 /// A program of two requests.
 const SHORT: &str = "cilk 1\nfunc main z\nend\n";
 
@@ -51,6 +55,7 @@ const REPLAYED: &[Case<'static>] = &[
         Text(1, "replayed 3\n"),
     ),
     // Traces that differ from their programs or have faults.
+    (Replay(ONE_CELL), PAIR, Fault(2, "shape")),
     (Replay("cilk 1\nmem x\n"), PAIR, Fault(2, "shape")),
     (Replay("cilk 1\nmem y\nmem x\n"), PAIR, Fault(2, "shape")),
     (Replay("cilk 1\nmem x\nmem y 1\n"), PAIR, Fault(2, "shape")),
@@ -85,6 +90,11 @@ const REPLAYED: &[Case<'static>] = &[
         Replay("cilk 1\nmem x\nmem y\nspawn 0\nreturn 3\nwrite 9 x 7\n"),
         PAIR,
         Fault(2, "illegal request 2"),
+    ),
+    (
+        Replay("cilk 1\nmem x\nmem y\nread 9 x\n"),
+        PAIR,
+        Fault(2, "illegal request 1"),
     ),
     (
         Replay("cilk 1\nmem x\nmem y\nwrite 9 x 7\n"),

@@ -2,8 +2,10 @@
 
 use super::Command::Run;
 use super::Wanted::{Fault, Text};
-use super::worked::{ENDLESS, FIB, LASTS, NO_TURNS, SERIES, TURNS};
-use super::{Case, MOST, check_all};
+use super::worked::{ENDLESS, FIB, LASTS, NESTED, NO_TURNS, SERIES, TURNS};
+use super::{Case, MOST, check, check_all};
+use std::alloc::{AllocError, Global};
+use std::test::Fail;
 
 const FIB_REPORT: &str =
     "{\"clean\":true,\"entries\":713,\"memory\":{\"x\":55},\"refusals\":[],\"schedules\":\"clean for every schedule\"}\n";
@@ -19,6 +21,9 @@ const TURNS_REPORT: &str =
 
 const NO_TURNS_REPORT: &str =
     "{\"clean\":true,\"entries\":3,\"memory\":{\"a\":[0,0,0,0]},\"refusals\":[],\"schedules\":\"clean for every schedule\"}\n";
+
+const NESTED_REPORT: &str =
+    "{\"clean\":true,\"entries\":4505,\"memory\":{},\"refusals\":[],\"schedules\":\"clean for every schedule\"}\n";
 
 /// A get of a reducer that nobody has put.
 const UNSET: &str = "cilk 1\nreducer h sum\nfunc main z\nget r h\nend\n";
@@ -73,4 +78,38 @@ const RUNS: &[Case<'static>] = &[
 #[test]
 fn any_number_of_workers_leaves_one_report_or_fault(rt: HostRuntime) {
     check_all(&rt, rt.alloc(), RUNS);
+}
+
+/// By one worker each of its functions waits for the one that it spawns before that begins.
+const NESTED_RUNS: &[Case<'static>] = &[
+    (Run(1, MOST), NESTED, Text(0, NESTED_REPORT)),
+    (Run(2, MOST), NESTED, Text(0, NESTED_REPORT)),
+    (Run(8, MOST), NESTED, Text(0, NESTED_REPORT)),
+];
+
+#[test]
+fn more_than_1_024_functions_wait_at_once(rt: HostRuntime) {
+    check_all(&rt, rt.alloc(), NESTED_RUNS);
+}
+
+/// A program that writes the last of 40,000 cells.
+const MANY_CELLS: &str = "cilk 1\nmem a 40000\nfunc main z\nwrite a[39999] 7\nend\n";
+
+/// The report of its run, of some 80,000 bytes.
+fn report_of_many(alloc: Global) -> Result<String, AllocError> {
+    let mut report = String::new(alloc);
+    report.push_str("{\"clean\":true,\"entries\":3,\"memory\":{\"a\":[")?;
+    for _ in 0..39_999 {
+        report.push_str("0,")?;
+    }
+    report.push_str("7]},\"refusals\":[],\"schedules\":\"clean for every schedule\"}\n")?;
+    Ok(report)
+}
+
+#[test]
+fn a_report_of_more_than_64_kib(rt: HostRuntime) -> Result<(), Fail> {
+    let report = report_of_many(rt.alloc())?;
+    let wanted = Text(0, report.as_str());
+    check(&rt, rt.alloc(), Run(2, MOST), MANY_CELLS.as_bytes(), wanted);
+    Ok(())
 }

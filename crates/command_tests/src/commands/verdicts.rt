@@ -85,6 +85,14 @@ fn control_and_values(rt: HostRuntime) {
 const RACES: &[Case<'static>] = &[
     (
         Judge(MOST),
+        "cilk 1\nmem x\nmem y\nspawn 0 @5\nwrite 1 x 7 @9\nread 2 x @6\nsync 1 @10\nreturn 1 @10\nsync 2 @7\nreturn 3 @7\n",
+        Text(
+            1,
+            "1 split 1 2 3\n2 granted\n3 refused write-read 2\n4 same\n5 ended\n6 joined 3\n7 finished\n",
+        ),
+    ),
+    (
+        Judge(MOST),
         "cilk 1\nmem x\nspawn 0\nread 1 x\nread 2 x\nwrite 2 x 9\n",
         Text(
             1,

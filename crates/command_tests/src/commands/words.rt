@@ -16,6 +16,12 @@ const NO_FILE: &str = "no file is given; see 'cilkcheck --help'";
 const OVER_PROGRAM: &str =
     "the trace would be written over the program: name another file with '--trace <OUT>'";
 
+const INPUT_AMONG_FILES: &str =
+    "'-' is given among several files: standard input is explained alone";
+
+const RUN_OF_SEVERAL: &str =
+    "'--workers <N>', '--serial' and '--limit <N>' are for one file: several are traces, which are not run";
+
 /// What words are to ask for.
 #[derive(Clone, Copy)]
 enum Asks<'a> {
@@ -106,6 +112,19 @@ const LINES: &[(&str, Asks<'static>)] = &[
         "judge --limit=0 f",
         Does("Judge { file: Some(\"f\"), limit: 0 }"),
     ),
+    // The name of a file has any length.
+    (
+        "run a_name_that_is_longer_than_the_names_of_a_text_may_be_and_than_64_bytes_as_well.cilk",
+        Does(
+            "Run { file: \"a_name_that_is_longer_than_the_names_of_a_text_may_be_and_than_64_bytes_as_well.cilk\", workers: 2, limit: 1000000 }",
+        ),
+    ),
+    (
+        "run f --trace a_name_that_is_longer_than_the_names_of_a_text_may_be_and_than_64_bytes_as_well.trace",
+        Does(
+            "Record { file: \"f\", workers: 2, limit: 1000000, trace: \"a_name_that_is_longer_than_the_names_of_a_text_may_be_and_than_64_bytes_as_well.trace\" }",
+        ),
+    ),
     ("elide f", Does("Elide { file: \"f\", limit: 1000000 }")),
     (
         "elide f --limit 713",
@@ -134,18 +153,38 @@ const LINES: &[(&str, Asks<'static>)] = &[
     ),
     (
         "explain f",
-        Does("Explain { file: \"f\", workers: 2, limit: 1000000, color: Auto }"),
+        Does("Explain { file: \"f\", workers: 2, is_serial: false, limit: 1000000, color: Auto }"),
     ),
     (
         "explain f --color always --workers 8",
-        Does("Explain { file: \"f\", workers: 8, limit: 1000000, color: Always }"),
+        Does(
+            "Explain { file: \"f\", workers: 8, is_serial: false, limit: 1000000, color: Always }",
+        ),
     ),
     (
         "explain --color=never f --limit 5",
-        Does("Explain { file: \"f\", workers: 2, limit: 5, color: Never }"),
+        Does("Explain { file: \"f\", workers: 2, is_serial: false, limit: 5, color: Never }"),
+    ),
+    (
+        "explain - --workers 8",
+        Does("ExplainInput { workers: 8, is_serial: false, limit: 1000000, color: Auto }"),
+    ),
+    (
+        "explain f g h --color never",
+        Does("ExplainTraces { files: [\"f\", \"g\", \"h\"], color: Never }"),
+    ),
+    (
+        "explain --color always f g",
+        Does("ExplainTraces { files: [\"f\", \"g\"], color: Always }"),
+    ),
+    (
+        "explain --serial f",
+        Does("Explain { file: \"f\", workers: 2, is_serial: true, limit: 1000000, color: Auto }"),
     ),
     ("replay f g", Does("Replay { file: \"f\", trace: \"g\" }")),
-    ("draw g", Does("Draw { file: \"g\" }")),
+    ("draw g", Does("Draw { file: \"g\", language: Dot }")),
+    ("draw g --svg", Does("Draw { file: \"g\", language: Svg }")),
+    ("draw --svg g", Does("Draw { file: \"g\", language: Svg }")),
     // Words that ask for nothing, and why.
     ("judge --limit 1000001", Refused(NO_LIMIT)),
     ("judge --limit many", Refused(NO_LIMIT)),
@@ -156,9 +195,13 @@ const LINES: &[(&str, Asks<'static>)] = &[
     ("elide", Refused(NO_FILE)),
     ("elide f g", Refused("unexpected argument 'g' found")),
     ("explain", Refused(NO_FILE)),
+    ("explain f - g", Refused(INPUT_AMONG_FILES)),
+    ("explain f g --workers 2", Refused(RUN_OF_SEVERAL)),
+    ("explain --limit 5 f g", Refused(RUN_OF_SEVERAL)),
     ("replay f", Refused(NO_FILE)),
     ("replay f g h", Refused("unexpected argument 'h' found")),
     ("draw", Refused(NO_FILE)),
+    ("draw --svg", Refused(NO_FILE)),
     ("draw g h", Refused("unexpected argument 'h' found")),
     ("judge x y", Refused("unexpected argument 'y' found")),
     ("run --trace f", Refused(NO_FILE)),
@@ -185,13 +228,20 @@ const LINES: &[(&str, Asks<'static>)] = &[
         Shows("Usage: cilkcheck run [OPTIONS] <FILE>\n"),
     ),
     (
+        "explain --help",
+        Shows("Usage: cilkcheck explain [OPTIONS] <FILE>...\n"),
+    ),
+    (
         "replay --help",
         Shows("Usage: cilkcheck replay <FILE> <TRACE>\n"),
     ),
-    ("draw --help", Shows("Usage: cilkcheck draw <TRACE>\n")),
     (
         "draw --help",
-        Shows("cilkcheck draw both.trace | dot -Tsvg > dag.svg\n"),
+        Shows("Usage: cilkcheck draw [OPTIONS] <TRACE>\n"),
+    ),
+    (
+        "draw --help",
+        Shows("cilkcheck draw both.trace --svg > dag.svg\n"),
     ),
     ("--version", Shows("cilkcheck 0.1.0\n")),
 ];

@@ -26,3 +26,10 @@ pub(super) const NO_TURNS: &str =
 
 /// A program that never ends.
 pub(super) const ENDLESS: &str = "cilk 1\nfunc main z\ncall main 0\nend\n";
+
+/// Functions that each spawn the next and wait for it, 1,501 at once, in 4,505 requests.
+pub(super) const NESTED: &str =
+    "cilk 1\nfunc main z\nspawn f 1500\nend\nfunc f n\nif n\nlet m = n - 1\nspawn f m\nend\nend\n";
+
+/// A loop of 33,334 turns, in 100,005 requests.
+pub(super) const MANY_TURNS: &str = "cilk 2\nfunc main z\npfor i 33334 f\nend\nfunc f n\nend\n";

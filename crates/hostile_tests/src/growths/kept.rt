@@ -1,14 +1,20 @@
 //! Growths of what is kept of strands: of branches and views, and of the first reads and last accesses.
 
-ghost use Rattle.std.specs.Prelude.{◌<◌, length};
+ghost use Rattle.std.specs.Prelude.{◌≡◌, ◌<◌, [], length, IfSome};
+ghost use Rattle.model_strands.specs.History.{History};
+ghost use Rattle.sp_labels.specs.Roster.{Follows};
+ghost use Rattle.shadow_history.specs.Shadow.{Remembers, Runs, StandsOn};
+ghost use Rattle.view_read_rule.specs.Reads.{StandsOn as PeersStandOn};
 
 use super::Heap;
 use branch_names::Branches;
+use model_accesses::{Kind, Witness};
 use reducer_views::Views;
 use shadow_history::Shadow;
+use sp_labels::Strands;
 use std::alloc::AllocError;
 use text_words::Monoid;
-use view_read_rule::ReadPeers;
+use view_read_rule::{ReadPeers, ViewVerdict};
 
 /// A call of branches, of views, or of what makes reads and accesses.
 #[derive(Clone, Copy)]
@@ -27,8 +33,8 @@ pub(super) fn is_refused(heap: &Heap, number: u64, call: Call) -> Option<bool> {
         Call::ReserveBranches => branches(heap, number, false),
         Call::NewViews => views(heap, number, true),
         Call::ReserveViews => views(heap, number, false),
-        Call::NewReads => Some(new_reads(heap, number)),
-        Call::NewShadow => Some(new_shadow(heap, number)),
+        Call::NewReads => new_reads(heap, number),
+        Call::NewShadow => new_shadow(heap, number),
     }
 }
 
@@ -129,12 +135,120 @@ fn views(heap: &Heap, number: u64, is_new: bool) -> Option<bool> {
     }
 }
 
-fn new_reads(heap: &Heap, number: u64) -> bool {
-    heap.refuse(number);
-    ReadPeers::new(heap, 3).is_err()
+/// New strands, of which strand 0 has spawned.
+fn spawned(heap: &Heap) -> Option<Strands<&Heap>>
+    ensures { IfSome result (λ strands. (history : History) × Follows strands history) }
+{
+    match Strands::new(heap) {
+        Ok(mut strands) => strands.spawn(0).is_ok().then_some(strands),
+        Err(AllocError) => None,
+    }
 }
 
-fn new_shadow(heap: &Heap, number: u64) -> bool {
+/// Takes in a write by strand 1.
+fn write_by_one(strands: &Strands<&Heap>, shadow: &mut Shadow<&Heap>, location: u32)
+    requires stands { StandsOn shadow.old strands.now }
+    requires runs { Runs strands.now 1 }
+    requires location { location < length shadow.old }
+    ensures stands { StandsOn shadow.new strands.now }
+    ensures locations { length shadow.new ≡ length shadow.old }
+{
+    shadow.add(strands, location, Kind::Write, 1, 2);
+}
+
+/// The accesses of a location are none, and then the one that is taken in is found.
+fn keeps(strands: &Strands<&Heap>, shadow: &mut Shadow<&Heap>, location: u32) -> bool
+    requires stands { StandsOn shadow.old strands.now }
+    requires location { location < length shadow.old }
+    ensures stands { StandsOn shadow.new strands.now }
+    ensures locations { length shadow.new ≡ length shadow.old }
+{
+    if !strands.is_running(1) || !strands.is_running(2) {
+        return false;
+    }
+    if shadow.find(strands, location, Kind::Read, 2).is_some() {
+        return false;
+    }
+    write_by_one(strands, shadow, location);
+    let found = shadow.find(strands, location, Kind::Read, 2);
+    matches!(
+        found,
+        Some(Witness {
+            entry: 2,
+            strand: 1,
+            kind: Kind::Write
+        })
+    )
+}
+
+/// A new shadow history of three locations is as ever.
+fn keeps_three(strands: &Strands<&Heap>, shadow: &mut Shadow<&Heap>) -> bool
+    requires stands { StandsOn shadow.old strands.now }
+    requires three { length shadow.old ≡ 3 }
+{
+    keeps(strands, shadow, 0) && keeps(strands, shadow, 1) && keeps(strands, shadow, 2)
+}
+
+/// The same of one that is empty.
+fn keeps_new(strands: &Strands<&Heap>, shadow: &mut Shadow<&Heap>) -> bool
+    requires follows { (history : History) × Follows strands.now history }
+    requires empty { (history : History) → Remembers shadow.old history [] }
+    requires three { length shadow.old ≡ 3 }
+{
+    keeps_three(strands, shadow)
+}
+
+/// Whether a growth of a new shadow history is refused. Asked for once more, it is as ever.
+fn new_shadow(heap: &Heap, number: u64) -> Option<bool> {
+    heap.refuse(0);
+    let strands = spawned(heap)?;
     heap.refuse(number);
-    Shadow::new(heap, 3).is_err()
+    match Shadow::new(heap, 3) {
+        Ok(mut shadow) => keeps_new(&strands, &mut shadow).then_some(false),
+        Err(AllocError) => match Shadow::new(heap, 3) {
+            Ok(mut shadow) => keeps_new(&strands, &mut shadow).then_some(true),
+            Err(AllocError) => None,
+        },
+    }
+}
+
+/// The reads of a reducer are none.
+fn is_unread(branches: &Branches<&Heap>, peers: &ReadPeers<&Heap>, reducer: u32) -> bool
+    requires stands { PeersStandOn peers.now branches.now }
+    requires reducer { reducer < length peers.now }
+{
+    branches.is_named(0)
+        && matches!(
+            peers.judge(branches, reducer, Kind::Get, 0),
+            ViewVerdict::Unset
+        )
+        && matches!(
+            peers.judge(branches, reducer, Kind::Put, 0),
+            ViewVerdict::Granted
+        )
+}
+
+/// New reads of three reducers are as ever.
+fn are_unread(branches: &Branches<&Heap>, peers: &ReadPeers<&Heap>) -> bool
+    requires stands { PeersStandOn peers.now branches.now }
+    requires three { length peers.now ≡ 3 }
+{
+    is_unread(branches, peers, 0) && is_unread(branches, peers, 1) && is_unread(branches, peers, 2)
+}
+
+/// Whether a growth of new reads is refused. Asked for once more, they are as ever.
+fn new_reads(heap: &Heap, number: u64) -> Option<bool> {
+    heap.refuse(0);
+    let Ok(branches) = Branches::new(heap) else {
+        return None;
+    };
+    heap.refuse(number);
+    let (peers, is_refused) = match ReadPeers::new(heap, 3) {
+        Ok(peers) => (Ok(peers), false),
+        Err(AllocError) => (ReadPeers::new(heap, 3), true),
+    };
+    match peers {
+        Ok(peers) => are_unread(&branches, &peers).then_some(is_refused),
+        Err(AllocError) => None,
+    }
 }

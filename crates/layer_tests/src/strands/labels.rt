@@ -174,6 +174,17 @@ const RUNS: &[&[Step]] = &[
         Stands(20_001, [true, false, false]),
         Stands(20_002, [false, false, false]),
     ],
+    // Then 20,002 items stand in the orders, strand 0 among them: the next that is placed has number 20,002.
+    &[
+        SpawnsLong,
+        Stands(20_002, [false, false, false]),
+        Spawns(20_001, split!(20_002, 20_003, 3, false)),
+        Relates(20_002, 20_003, Some(PARALLEL)),
+        Relates(1, 20_002, Some(PARALLEL)),
+        Relates(20_001, 20_002, Some(PATH)),
+        Stands(20_003, [true, true, false]),
+        Stands(20_004, [false, false, false]),
+    ],
     // Room is kept until the next event.
     &[
         Stands(0, [true, true, false]),

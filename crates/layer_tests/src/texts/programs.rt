@@ -69,6 +69,49 @@ const FIRST_LINES: &[Text] = &[
     ),
 ];
 
+/// One register that is named sixteen times beside a parameter is one.
+const ONE_REGISTER: &[Text] = &[(
+    b"cilk 1\nfunc main z\nlet r = 0\nlet r = 0\nlet r = 0\nlet r = 0\nlet r = 0\nlet r = 0\nlet r = 0\nlet r = 0\nlet r = 0\nlet r = 0\nlet r = 0\nlet r = 0\nlet r = 0\nlet r = 0\nlet r = 0\nlet r = 0\nend\n",
+    Ok(()),
+)];
+
+/// The words of the second version name what there is in a text of it too, and `ok` is no register that is assigned.
+const SECOND_VERSION: &[Text] = &[
+    (
+        b"cilk 2\nmem bump\nreducer digits digits\nfunc main pfor\n  let digits = pfor\n  bump bump digits\n  pfor bump 2 pfor\n  update digits bump\nend\nfunc pfor digits\nend\n",
+        Ok(()),
+    ),
+    (
+        b"cilk 2\nmem pfor 2\nreducer bump digits\nfunc main z\n  read bump pfor[1]\n  bump pfor[bump] bump\nend\n",
+        Ok(()),
+    ),
+    (b"cilk 2\nmem bump\nmem bump\n", Err((3, Cause::TwiceNamed))),
+    (
+        b"cilk 2\nmem pfor\nfunc main z\nend\nfunc pfor z\nend\n",
+        Err((5, Cause::TwiceNamed)),
+    ),
+    (
+        b"cilk 2\nfunc main z\n  pfor ok 3 main\nend\n",
+        Err((3, Cause::BadWord)),
+    ),
+    (
+        b"cilk 2\nmem x\nfunc main z\n  read ok x\nend\n",
+        Err((4, Cause::BadWord)),
+    ),
+    (
+        b"cilk 2\nreducer h sum\nfunc main z\n  get ok h\nend\n",
+        Err((4, Cause::BadWord)),
+    ),
+    (
+        b"cilk 1\nmem x\nfunc main z\n  read ok x\nend\n",
+        Err((4, Cause::BadWord)),
+    ),
+    (
+        b"cilk 1\nreducer h sum\nfunc main z\n  get ok h\nend\n",
+        Err((4, Cause::BadWord)),
+    ),
+];
+
 /// What stands in one another.
 const NESTING: &[Text] = &[
     (b"cilk 1\nend\n", Err((2, Cause::BadNesting))),
@@ -146,6 +189,8 @@ const LONG: &[Text] = &[
 fn texts(rt: HostRuntime) {
     check_texts(&rt, rt.alloc(), Form::Program, CAUSES);
     check_texts(&rt, rt.alloc(), Form::Program, FIRST_LINES);
+    check_texts(&rt, rt.alloc(), Form::Program, ONE_REGISTER);
+    check_texts(&rt, rt.alloc(), Form::Program, SECOND_VERSION);
     check_texts(&rt, rt.alloc(), Form::Program, NESTING);
     check_texts(&rt, rt.alloc(), Form::Program, LONG);
 }
@@ -385,6 +430,17 @@ const LIMITS: &[Limit] = &[
             form: Form::Program,
             head: "cilk 1\nfunc main z\n",
             line: ("let r", Some(" = z\n")),
+            closing: "",
+            tail: "end\n",
+        },
+        15,
+        18,
+    ),
+    (
+        Much {
+            form: Form::Program,
+            head: "cilk 1\nfunc main z\n",
+            line: ("let r", Some(" = 0\n")),
             closing: "",
             tail: "end\n",
         },

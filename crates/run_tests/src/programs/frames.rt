@@ -52,12 +52,14 @@ enum Step {
     Refuses(Answer),
     /// It takes room for a call.
     Reserves,
+    /// It has room for a call, or has none.
+    HasRoom(bool),
     /// Its open block has this join, or it has no open block.
     HasJoin(Option<u32>),
     IsOver,
 }
 
-use Step::{Asks, HasJoin, IsOver, Refuses, Reserves, Spawns, Takes};
+use Step::{Asks, HasJoin, HasRoom, IsOver, Refuses, Reserves, Spawns, Takes};
 
 /// Whether a frame goes on, and asks this next.
 fn asks(program: &Program<Global>, frame: &mut Frame<Global>, act: Act, line: u32) -> bool
@@ -95,6 +97,7 @@ fn does(program: &Program<Global>, frame: &mut Frame<Global>, step: &Step) -> bo
             Ok(()) => frame.has_room(),
             Err(_) => false,
         },
+        HasRoom(wanted) => frame.has_room() == *wanted,
         HasJoin(join) => frame.block_join() == *join,
         IsOver => frame.is_over(),
     }
@@ -188,6 +191,56 @@ const CASES: &[(&[u8], &[Step])] = &[
             Takes(Answer::Resumed),
             Asks(Act::Write(0, 4), 6),
             Takes(Answer::Granted),
+        ],
+    ),
+    // An answer is taken once: then nothing is wanted until it is asked again.
+    (
+        PAIR,
+        &[
+            Refuses(SPLIT),
+            Asks(Act::Spawn, 5),
+            Takes(SPLIT),
+            Refuses(SPLIT),
+            Asks(Act::Read(0), 6),
+            Takes(Answer::Value(7)),
+            Refuses(Answer::Value(7)),
+            Asks(Act::Sync, 7),
+            Takes(Answer::Joined(3)),
+            Refuses(Answer::Joined(3)),
+            Asks(Act::Return, 7),
+            Takes(Answer::Finished),
+            Refuses(Answer::Finished),
+            IsOver,
+        ],
+    ),
+    // So it is at calls and returns. Room for a call is kept until there is one.
+    (
+        CALLS,
+        &[
+            HasRoom(false),
+            Reserves,
+            Asks(Act::Call, 5),
+            HasRoom(true),
+            Takes(Answer::Same),
+            Refuses(Answer::Same),
+            HasRoom(false),
+            Reserves,
+            Asks(Act::Write(0, 10), 10),
+            Takes(Answer::Granted),
+            Refuses(Answer::Granted),
+            HasRoom(true),
+            Asks(Act::Sync, 11),
+            Takes(Answer::Same),
+            Refuses(Answer::Same),
+            HasRoom(true),
+            Asks(Act::Return, 11),
+            Takes(Answer::Resumed),
+            Refuses(Answer::Resumed),
+            HasRoom(true),
+            Asks(Act::Write(0, 4), 6),
+            Takes(REFUSED),
+            Refuses(REFUSED),
+            HasRoom(true),
         ],
     ),
     // A `pfor` spawns once for each number, and then syncs; its register keeps the last number. With no number it syncs alone.

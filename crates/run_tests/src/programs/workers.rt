@@ -23,6 +23,10 @@ const FIB: &[u8] =
 const PAIR: &[u8] =
     b"cilk 1\nmem x\nmem y\nfunc main z\n  spawn f 7\n  read r x\nend\nfunc f v\n  write x v\nend\n";
 
+// The same behind 3,001 calls, while which other workers find nothing to do.
+const LATE_PAIR: &[u8] =
+    b"cilk 1\nmem x\nmem y\nfunc main z\n  call g 3000\n  spawn f 7\n  read r x\nend\nfunc f v\n  write x v\nend\nfunc g n\n  if n\n    let m = n - 1\n    call g m\n  end\nend\n";
+
 // The parts of a seat, one for each worker that there may be.
 const PARTS: u64 = 64;
 
@@ -103,7 +107,7 @@ fn do_alike<L: Ledger + Send + Sync, R: Threads + Wait + Sync>(
     requires parts { blank.parts ≡ 64 }
     requires workers { (0 < workers) × (workers ≤ 64) }
 {
-    let Ok(gate) = gate_of_cells(alloc, program, 2, 1000) else {
+    let Ok(gate) = gate_of_cells(alloc, program, 2, 10_000) else {
         return false;
     };
     let (locked, seat) = LockedGate::<L>::new(gate, blank, PARTS);
@@ -142,6 +146,11 @@ fn many_workers_finish_one_run(rt: HostRuntime) {
 #[test]
 fn two_at_once(rt: HostRuntime) {
     assert!(rt; do_of_text(&rt, rt.alloc(), PAIR, 2, Does::Meet));
+}
+
+#[test]
+fn an_idle_worker_stays(rt: HostRuntime) {
+    assert!(rt; do_of_text(&rt, rt.alloc(), LATE_PAIR, 2, Does::Meet));
 }
 
 // The task of `main`.
@@ -230,6 +239,11 @@ const ROW: &[(Comes, Finds)] = &[
     (Comes::Child(4), Finds::TaskOf(4)),
     (Comes::Task(5), Finds::Nobody),
     (Comes::Task(5), Finds::Torn),
+    // Joins with greater numbers than a gate gives.
+    (Comes::Task(4_194_304), Finds::Nobody),
+    (Comes::Child(4_194_304), Finds::TaskOf(4_194_304)),
+    (Comes::Child(4_200_000), Finds::Nobody),
+    (Comes::Task(4_200_000), Finds::TaskOf(4_200_000)),
 ];
 
 // Whether the row of a lot of the program is so, and the lot is closed at last.

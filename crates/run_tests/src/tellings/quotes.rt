@@ -37,49 +37,80 @@ const FAULTS: &[Case<'static>] = &[
         "cilk 1\nfunc main z\n  spwan f 1  # a child\nend\n",
         3,
         Cause::BadWord,
-        "error: a word is missing, is too much, or is none that may stand in its place\n \
-         --> p.cilk:3\n  |\n3 |   spwan f 1  # a child\n  |   ^^^^^^^^^\n  = no line begins with `spwan`\n",
+        "error: no line of a program begins with this word
+ --> p.cilk:3
+  |
+3 |   spwan f 1  # a child
+  |   ^^^^^
+  = help: did you mean `spawn`?
+",
     ),
-    // A name that is nowhere.
+    // A name that is nowhere, behind a tab.
     (
         "cilk 1\nmem x\nfunc main z\n\tread a x\n\twrite y[a] a\nend\n",
         5,
         Cause::UnknownName,
-        "error: a name is not declared as what its place wants\n \
-         --> p.cilk:5\n  |\n5 | \twrite y[a] a\n  | \t^^^^^^^^^^^^\n  = the form of this line is `write CELL VALUE`\n  \
-         = `y` is declared nowhere, and no line above assigns it\n",
+        "error: no cell has this name
+ --> p.cilk:5
+  |
+5 | \twrite y[a] a
+  | \t      ^^^^
+  = help: declare it before the first function, by `mem NAME`
+",
     ),
     // A name of two things.
     (
         "cilk 1\nmem x\nreducer x sum\n",
         3,
         Cause::TwiceNamed,
-        "error: a name is declared already; memories, reducers and functions share one space of names\n \
-         --> p.cilk:3\n  |\n3 | reducer x sum\n  | ^^^^^^^^^^^^^\n  = `x` is declared at line 2\n",
+        "error: a name is declared already; memories, reducers and functions share one space of names
+ --> p.cilk:3
+  |
+3 | reducer x sum
+  |         ^
+  = `x` is declared at line 2
+  = help: take another name for one of them
+",
     ),
     // An if without its end.
     (
         "cilk 1\nfunc main z\nif z\nend\n",
         5,
         Cause::BadNesting,
-        "error: this may not stand here, or a function or an `if` above has no `end`\n \
-         --> p.cilk:5\n  |\n5 | \n  | \n  = the `func` that is open here begins at line 2\n",
+        "error: a function has no `end`
+ --> p.cilk:5
+  |
+5 | 
+  | 
+  = the `func` that is open here begins at line 2
+  = help: add a line `end`
+",
     ),
     // A limit is passed.
     (
         "cilk 1\nmem a 1000000\nmem b",
         3,
         Cause::TooMany,
-        "error: a limit is passed here\n \
-         --> p.cilk:3\n  |\n3 | mem b\n  | ^^^^^\n  = a program has at most 1000000 cells in all\n",
+        "error: all memories have at most 1000000 cells together
+ --> p.cilk:3
+  |
+3 | mem b
+  | ^^^^^
+  = help: declare smaller arrays, or fewer
+",
     ),
     // No header.
     (
         "# a comment\ncilk 1\n",
         1,
         Cause::BadHeader,
-        "error: the first line has to be `cilk 1`, or `cilk 2` for `bump`, `pfor` and `digits`\n \
-         --> p.cilk:1\n  |\n1 | # a comment\n  | \n",
+        "error: a comment stands before the header
+ --> p.cilk:1
+  |
+1 | # a comment
+  | ^
+  = help: put the comment below the line `cilk 1`
+",
     ),
 ];
 
@@ -98,7 +129,7 @@ fn a_painted_message(rt: HostRuntime) {
         11,
         Cause::NoMain,
         "\u{1b}[1;31merror\u{1b}[0m: there is no function `main`\n  \u{1b}[1;34m-->\u{1b}[0m p.cilk:11\n  \u{1b}[1;34m |\u{1b}[0m\n\
-         \u{1b}[1;34m11 |\u{1b}[0m \n  \u{1b}[1;34m |\u{1b}[0m \u{1b}[1;31m\u{1b}[0m\n",
+         \u{1b}[1;34m11 |\u{1b}[0m \n  \u{1b}[1;34m |\u{1b}[0m \u{1b}[1;31m\u{1b}[0m\n  \u{1b}[1;34m =\u{1b}[0m help: add the function with which the program begins: `func main z`\n",
     );
     assert!(rt; is_told(&rt, rt.alloc(), true, &PAINTED).is_ok());
 }
@@ -123,67 +154,96 @@ macro_rules! name {
 const OF_CELLS: &[Case<'static>] = &[
     name!(
         "read r xx",
-        "error: a name is not declared as what its place wants\n \
-              --> p.cilk:8\n  |\n8 | read r xx\n  | ^^^^^^^^^\n  \
-              = the form of this line is `read r CELL`\n  \
-              = `xx` is declared nowhere, and no line above assigns it\n"
+        "error: no cell has this name
+ --> p.cilk:8
+  |
+8 | read r xx
+  |        ^^
+  = help: did you mean `x`?
+"
     ),
     name!(
         "read r b[i]",
-        "error: a name is not declared as what its place wants\n \
-              --> p.cilk:8\n  |\n8 | read r b[i]\n  | ^^^^^^^^^^^\n  \
-              = the form of this line is `read r CELL`\n  \
-              = `b` is declared nowhere, and no line above assigns it\n  \
-              = `i` is declared nowhere, and no line above assigns it\n"
+        "error: no cell has this name
+ --> p.cilk:8
+  |
+8 | read r b[i]
+  |        ^^^^
+  = help: declare it before the first function, by `mem NAME`
+"
     ),
     name!(
         "read r a[r]",
-        "error: a name is not declared as what its place wants\n \
-              --> p.cilk:8\n  |\n8 | read r a[r]\n  | ^^^^^^^^^^^\n  \
-              = the form of this line is `read r CELL`\n  \
-              = `r` is declared nowhere, and no line above assigns it\n"
+        "error: no line above assigns this register
+ --> p.cilk:8
+  |
+8 | read r a[r]
+  |          ^
+  = help: assign it on a line above, as by `let r = 0`
+"
     ),
     name!(
         "write xx 1",
-        "error: a name is not declared as what its place wants\n \
-              --> p.cilk:8\n  |\n8 | write xx 1\n  | ^^^^^^^^^^\n  \
-              = the form of this line is `write CELL VALUE`\n  \
-              = `xx` is declared nowhere, and no line above assigns it\n"
+        "error: no cell has this name
+ --> p.cilk:8
+  |
+8 | write xx 1
+  |       ^^
+  = help: did you mean `x`?
+"
     ),
     name!(
         "write a[i] w",
-        "error: a name is not declared as what its place wants\n \
-              --> p.cilk:8\n  |\n8 | write a[i] w\n  | ^^^^^^^^^^^^\n  \
-              = the form of this line is `write CELL VALUE`\n  \
-              = `i` is declared nowhere, and no line above assigns it\n  \
-              = `w` is declared nowhere, and no line above assigns it\n"
+        "error: no line above assigns this register
+ --> p.cilk:8
+  |
+8 | write a[i] w
+  |         ^
+  = help: assign it on a line above, as by `let i = 0`
+"
     ),
     name!(
         "write x v",
-        "error: a name is not declared as what its place wants\n \
-              --> p.cilk:8\n  |\n8 | write x v\n  | ^^^^^^^^^\n  \
-              = the form of this line is `write CELL VALUE`\n  \
-              = `v` is declared nowhere, and no line above assigns it\n"
+        "error: no line above assigns this register
+ --> p.cilk:8
+  |
+8 | write x v
+  |         ^
+  = help: assign it on a line above, as by `let v = 0`
+"
     ),
     name!(
         "bump xx[z] ok",
-        "error: a name is not declared as what its place wants\n \
-              --> p.cilk:8\n  |\n8 | bump xx[z] ok\n  | ^^^^^^^^^^^^^\n  \
-              = the form of this line is `bump CELL VALUE, in version 2`\n  \
-              = `xx` is declared nowhere, and no line above assigns it\n"
+        "error: no cell has this name
+ --> p.cilk:8
+  |
+8 | bump xx[z] ok
+  |      ^^^^^
+  = help: did you mean `x`?
+"
     ),
     // A name of something else.
     name!(
         "write h 1",
-        "error: a name is not declared as what its place wants\n \
-              --> p.cilk:8\n  |\n8 | write h 1\n  | ^^^^^^^^^\n  \
-              = the form of this line is `write CELL VALUE`\n"
+        "error: a reducer stands where a cell is wanted
+ --> p.cilk:8
+  |
+8 | write h 1
+  |       ^
+  = `h` is a reducer, declared at line 4
+  = help: a reducer is used by `update`, `put` and `get`
+"
     ),
     name!(
         "let r = x",
-        "error: a name is not declared as what its place wants\n \
-              --> p.cilk:8\n  |\n8 | let r = x\n  | ^^^^^^^^^\n  \
-              = the form of this line is `let r = VALUE, or let r = VALUE + VALUE, also with -, * and <`\n"
+        "error: a cell cannot be an operand
+ --> p.cilk:8
+  |
+8 | let r = x
+  |         ^
+  = `x` is one cell, declared at line 2
+  = help: read it into a register first: `read r x`, and use `r`
+"
     ),
 ];
 
@@ -191,99 +251,136 @@ const OF_OTHERS: &[Case<'static>] = &[
     // In a `let`.
     name!(
         "let r = q",
-        "error: a name is not declared as what its place wants\n \
-              --> p.cilk:8\n  |\n8 | let r = q\n  | ^^^^^^^^^\n  \
-              = the form of this line is `let r = VALUE, or let r = VALUE + VALUE, also with -, * and <`\n  \
-              = `q` is declared nowhere, and no line above assigns it\n"
+        "error: no line above assigns this register
+ --> p.cilk:8
+  |
+8 | let r = q
+  |         ^
+  = help: assign it on a line above, as by `let q = 0`
+"
     ),
     name!(
         "let r = q + p",
-        "error: a name is not declared as what its place wants\n \
-              --> p.cilk:8\n  |\n8 | let r = q + p\n  | ^^^^^^^^^^^^^\n  \
-              = the form of this line is `let r = VALUE, or let r = VALUE + VALUE, also with -, * and <`\n  \
-              = `q` is declared nowhere, and no line above assigns it\n  \
-              = `p` is declared nowhere, and no line above assigns it\n"
+        "error: no line above assigns this register
+ --> p.cilk:8
+  |
+8 | let r = q + p
+  |         ^
+  = help: assign it on a line above, as by `let q = 0`
+"
     ),
     name!(
         "let r = r - 1",
-        "error: a name is not declared as what its place wants\n \
-              --> p.cilk:8\n  |\n8 | let r = r - 1\n  | ^^^^^^^^^^^^^\n  \
-              = the form of this line is `let r = VALUE, or let r = VALUE + VALUE, also with -, * and <`\n  \
-              = `r` is declared nowhere, and no line above assigns it\n"
+        "error: no line above assigns this register
+ --> p.cilk:8
+  |
+8 | let r = r - 1
+  |         ^
+  = help: assign it on a line above, as by `let r = 0`
+"
     ),
     name!(
         "let r = q * q",
-        "error: a name is not declared as what its place wants\n \
-              --> p.cilk:8\n  |\n8 | let r = q * q\n  | ^^^^^^^^^^^^^\n  \
-              = the form of this line is `let r = VALUE, or let r = VALUE + VALUE, also with -, * and <`\n  \
-              = `q` is declared nowhere, and no line above assigns it\n"
+        "error: no line above assigns this register
+ --> p.cilk:8
+  |
+8 | let r = q * q
+  |         ^
+  = help: assign it on a line above, as by `let q = 0`
+"
     ),
     name!(
         "let r = 7 < q  # of p",
-        "error: a name is not declared as what its place wants\n \
-              --> p.cilk:8\n  |\n8 | let r = 7 < q  # of p\n  | ^^^^^^^^^^^^^\n  \
-              = the form of this line is `let r = VALUE, or let r = VALUE + VALUE, also with -, * and <`\n  \
-              = `q` is declared nowhere, and no line above assigns it\n"
+        "error: no line above assigns this register
+ --> p.cilk:8
+  |
+8 | let r = 7 < q  # of p
+  |             ^
+  = help: assign it on a line above, as by `let q = 0`
+"
     ),
     // Behind `if`.
     name!(
         "if t",
-        "error: a name is not declared as what its place wants\n \
-              --> p.cilk:8\n  |\n8 | if t\n  | ^^^^\n  \
-              = the form of this line is `if r`\n  \
-              = `t` is declared nowhere, and no line above assigns it\n"
+        "error: no line above assigns this register
+ --> p.cilk:8
+  |
+8 | if t
+  |    ^
+  = help: assign it on a line above, as by `let t = 0`
+"
     ),
     // That no reducer has.
     name!(
         "update hh z",
-        "error: a name is not declared as what its place wants\n \
-              --> p.cilk:8\n  |\n8 | update hh z\n  | ^^^^^^^^^^^\n  \
-              = the form of this line is `update REDUCER VALUE`\n  \
-              = `hh` is declared nowhere, and no line above assigns it\n"
+        "error: no reducer has this name
+ --> p.cilk:8
+  |
+8 | update hh z
+  |        ^^
+  = help: did you mean `h`?
+"
     ),
     name!(
         "put h w",
-        "error: a name is not declared as what its place wants\n \
-              --> p.cilk:8\n  |\n8 | put h w\n  | ^^^^^^^\n  \
-              = the form of this line is `put REDUCER VALUE`\n  \
-              = `w` is declared nowhere, and no line above assigns it\n"
+        "error: no line above assigns this register
+ --> p.cilk:8
+  |
+8 | put h w
+  |       ^
+  = help: assign it on a line above, as by `let w = 0`
+"
     ),
     name!(
         "get r hh",
-        "error: a name is not declared as what its place wants\n \
-              --> p.cilk:8\n  |\n8 | get r hh\n  | ^^^^^^^^\n  \
-              = the form of this line is `get r REDUCER`\n  \
-              = `hh` is declared nowhere, and no line above assigns it\n"
+        "error: no reducer has this name
+ --> p.cilk:8
+  |
+8 | get r hh
+  |       ^^
+  = help: did you mean `h`?
+"
     ),
     // That no function has.
     name!(
         "spawn g 1",
-        "error: a name is not declared as what its place wants\n \
-              --> p.cilk:8\n  |\n8 | spawn g 1\n  | ^^^^^^^^^\n  \
-              = the form of this line is `spawn FUNCTION VALUE`\n  \
-              = `g` is declared nowhere, and no line above assigns it\n"
+        "error: no function has this name
+ --> p.cilk:8
+  |
+8 | spawn g 1
+  |       ^
+  = help: add it: `func NAME PARAMETER`, statements, and `end`
+"
     ),
     name!(
         "call f w",
-        "error: a name is not declared as what its place wants\n \
-              --> p.cilk:8\n  |\n8 | call f w\n  | ^^^^^^^^\n  \
-              = the form of this line is `call FUNCTION VALUE`\n  \
-              = `w` is declared nowhere, and no line above assigns it\n"
+        "error: no line above assigns this register
+ --> p.cilk:8
+  |
+8 | call f w
+  |        ^
+  = help: assign it on a line above, as by `let w = 0`
+"
     ),
     name!(
         "pfor i n g",
-        "error: a name is not declared as what its place wants\n \
-              --> p.cilk:8\n  |\n8 | pfor i n g\n  | ^^^^^^^^^^\n  \
-              = the form of this line is `pfor r COUNT FUNCTION, in version 2`\n  \
-              = `n` is declared nowhere, and no line above assigns it\n  \
-              = `g` is declared nowhere, and no line above assigns it\n"
+        "error: no line above assigns this register
+ --> p.cilk:8
+  |
+8 | pfor i n g
+  |        ^
+  = help: assign it on a line above, as by `let n = 0`
+"
     ),
     name!(
         "pfor i i f",
-        "error: a name is not declared as what its place wants\n \
-              --> p.cilk:8\n  |\n8 | pfor i i f\n  | ^^^^^^^^^^\n  \
-              = the form of this line is `pfor r COUNT FUNCTION, in version 2`\n  \
-              = `i` is declared nowhere, and no line above assigns it\n"
+        "error: no line above assigns this register
+ --> p.cilk:8
+  |
+8 | pfor i i f
+  |        ^
+  = help: assign it on a line above, as by `let i = 0`
+"
     ),
 ];
 

@@ -1,0 +1,192 @@
+//! The faults of the commands: their texts and statuses, and those of a run whose gate stops, tears or answers strangely, which writes
+//! nothing.
+
+use crate::checks::equal;
+use crate::pranks::{Prank, PrankDoor};
+use crate::worked::FIB;
+use std::alloc::Global;
+use std::process::Abort;
+use std::sync::Wait;
+use std::test::Fail;
+use std::thread::Threads;
+use text_words::{Cause, TextFault};
+use tool_commands::{CliFault, Watched, run_text};
+
+/// A fault has this text behind the program's name, and this status.
+fn check_told<A: Abort>(
+    rt: &A,
+    alloc: Global,
+    fault: &CliFault,
+    text: &str,
+    status: u8,
+) -> Result<(), Fail> {
+    let told = format!(in alloc; "{fault}")?;
+    equal(rt, &text, &told.as_str(), &text);
+    equal(rt, &text, &fault.status(), &status);
+    Ok(())
+}
+
+/// A fault of a text at its third line.
+fn third(why: Cause) -> TextFault {
+    TextFault::At { line: 3, why }
+}
+
+/// Each fault with its text and status, as docs/FORMATS.md has them.
+macro_rules! told {
+    ($rt:ident; $($fault:expr => $text:literal, $status:literal;)*) => {
+        $(check_told(&$rt, $rt.alloc(), &$fault, $text, $status)?;)*
+    };
+}
+
+#[test]
+fn each_fault_has_its_text_and_status(rt: HostRuntime) -> Result<(), Fail> {
+    let words = "no such option".to_string(rt.alloc())?;
+    told! { rt;
+        CliFault::Usage(words) => "no such option", 2;
+        CliFault::Read => "read", 2;
+        CliFault::Write => "write", 2;
+        CliFault::Unwritten => "cannot write OUT", 2;
+        CliFault::TooLong => "too long", 2;
+        CliFault::Trace(third(Cause::BadWord)) => "trace line 3: BadWord", 2;
+        CliFault::Trace(TextFault::Memory) => "trace memory", 3;
+        CliFault::Program(third(Cause::BadNesting)) => "program line 3: BadNesting", 2;
+        CliFault::Program(TextFault::Memory) => "program memory", 3;
+        CliFault::Shape => "shape", 2;
+        CliFault::Illegal(7) => "illegal request 7", 2;
+        CliFault::Limit => "limit", 4;
+        CliFault::TooManyStrands => "too many strands to draw: 10000 at most", 4;
+        CliFault::Stopped => "stopped", 4;
+        CliFault::Torn => "torn", 4;
+        CliFault::Strange => "strange", 4;
+        CliFault::Memory => "memory", 3;
+    }
+    Ok(())
+}
+
+/// A prank that a door plays to the workers of `run_text`, and the fault that is told.
+#[derive(Clone, Copy)]
+struct Case {
+    prank: Prank,
+    text: &'static str,
+    status: u8,
+}
+
+const CASES: &[Case] = &[
+    Case {
+        prank: Prank::Stops(1),
+        text: "stopped",
+        status: 4,
+    },
+    Case {
+        prank: Prank::Stops(100),
+        text: "stopped",
+        status: 4,
+    },
+    Case {
+        prank: Prank::Stops(713),
+        text: "stopped",
+        status: 4,
+    },
+    Case {
+        prank: Prank::Tears(1),
+        text: "torn",
+        status: 4,
+    },
+    Case {
+        prank: Prank::Tears(100),
+        text: "torn",
+        status: 4,
+    },
+    Case {
+        prank: Prank::Tears(713),
+        text: "torn",
+        status: 4,
+    },
+    Case {
+        prank: Prank::Swaps(1),
+        text: "strange",
+        status: 4,
+    },
+    Case {
+        prank: Prank::Swaps(100),
+        text: "strange",
+        status: 4,
+    },
+    Case {
+        prank: Prank::Swaps(713),
+        text: "strange",
+        status: 4,
+    },
+    Case {
+        prank: Prank::Starves(1),
+        text: "memory",
+        status: 3,
+    },
+    Case {
+        prank: Prank::Starves(713),
+        text: "memory",
+        status: 3,
+    },
+];
+
+/// A run by so many workers tells the fault, and nothing is written.
+fn check_case<R: Abort + Threads + Wait + Sync>(
+    rt: &R,
+    alloc: Global,
+    workers: usize,
+    case: Case,
+) -> Result<(), Fail> {
+    assert!(rt; 0 < workers);
+    assert!(rt; workers <= 64);
+    let mut program = Watched::new(FIB);
+    let mut output = Watched::new(Vec::new(alloc));
+    let door = PrankDoor::new(case.prank);
+    match run_text(
+        rt,
+        alloc,
+        &mut program,
+        workers,
+        &door,
+        &mut output,
+        1_000_000,
+    ) {
+        Ok(status) => equal(rt, &(case.prank, workers), &Some(status), &None),
+        Err(fault) => check_told(rt, alloc, &fault, case.text, case.status)?,
+    }
+    equal(rt, &(case.prank, workers), &output.calls(), &0);
+    Ok(())
+}
+
+#[test]
+fn a_run_whose_gate_is_cheated_tells_it_and_writes_nothing(rt: HostRuntime) -> Result<(), Fail> {
+    for case in CASES {
+        for workers in &[1usize, 2, 8, 64] {
+            check_case(&rt, rt.alloc(), *workers, *case)?;
+        }
+    }
+    Ok(())
+}
+
+/// A door that lets each request in as others do, in its own way, changes nothing.
+#[test]
+fn a_run_whose_gate_is_turned_round_is_told(rt: HostRuntime) -> Result<(), Fail> {
+    let mut program = Watched::new(FIB);
+    let mut output = Watched::new(Vec::new(rt.alloc()));
+    let door = PrankDoor::new(Prank::Turns);
+    let status = run_text(
+        &rt,
+        rt.alloc(),
+        &mut program,
+        8,
+        &door,
+        &mut output,
+        1_000_000,
+    )
+    .ok();
+    equal(&rt, &"status", &status, &Some(0));
+    let told = output.into_inner();
+    let wanted =
+        "{\"clean\":true,\"entries\":713,\"memory\":{\"x\":55},\"refusals\":[],\"schedules\":\"clean for every schedule\"}\n";
+    equal(&rt, &"report", &told.as_slice(), &wanted.as_bytes());
+    Ok(())
+}
