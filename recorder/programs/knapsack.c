@@ -17,15 +17,15 @@ static int try(const struct item *item, int items, int room, int value) {
   if (items == 0 || room == 0) {
 #ifdef RACE
     if (value > best) /* race: a */
-      best = value;   /* race: a, may: b b c */
+      best = value;   /* race: a a b */
 #endif
     return value;
   }
 #ifdef RACE
-  if (value + (double)room * item->value / item->weight < best) /* may: c */
+  if (value + (double)room * item->value / item->weight < best) /* race: b */
     return -1;
 #endif
-  int without = cilk_spawn try(item + 1, items - 1, room, value); /* spawn: a b c */
+  int without = cilk_spawn try(item + 1, items - 1, room, value); /* spawn: a */
   int with = try(item + 1, items - 1, room - item->weight, value + item->value);
   cilk_sync;
   return with > without ? with : without;

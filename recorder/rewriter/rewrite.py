@@ -28,8 +28,8 @@ class Context:
 
 
 class Rewriter:
-    def __init__(self, source, cxx, tells_all_locals):
-        self.source, self.cxx, self.tells_all_locals = source, cxx, tells_all_locals
+    def __init__(self, source, cxx, tells_all_locals, copies_into_tasks):
+        self.source, self.cxx, self.tells_all_locals, self.copies_into_tasks = source, cxx, tells_all_locals, copies_into_tasks
         self.before_cxx14 = False                           # lambdas then have no decltype(auto)
 
     # ---- declarations ----
@@ -364,7 +364,7 @@ class Rewriter:
         while at < end:
             token, kind = source.tokens[at], source.kinds[at]
             if kind == "name" and token in KEYWORDS:
-                source.refuse(at, f"{KEYWORDS[token]}: {PLACES[token]}" if token == "_Cilk_reducer" else f"{KEYWORDS[token]} stands where it may not: {PLACES[token]}")
+                source.refuse(at, f"{KEYWORDS[token]}: {OPENCILK}" if token not in PLACES else f"{KEYWORDS[token]} stands where it may not: {PLACES[token]}")
             if kind == "operator" and token == "[" and self.begins_lambda(at):
                 opening = self.lambda_body(at, end)
                 if opening is not None:
@@ -425,31 +425,36 @@ PLACES = {
     "_Cilk_sync": "it is a statement of its own",
     "_Cilk_for": "it begins a statement in a function",
     "_Cilk_scope": "it begins a statement in a function",
-    "_Cilk_reducer": "a variable that OpenCilk makes a reducer is not recorded; take one of <cilk/reducer.h>",
 }
+OPENCILK = "a reducer of OpenCilk, which gcc and clang do not compile; take one of Cilk Plus (<cilk/reducer_opadd.h> and others)"
 
 
-def rewrite(text, cxx, openmp_on=False, tells_all_locals=False):
+def rewrite(text, cxx, openmp_on=False, tells_all_locals=False, copies_into_tasks=False):
     """The text with calls of the recorder in place of the keywords. Raises Refused. `openmp_on`: the user gave -fopenmp; `tells_all_locals`: the
-    compiler tells the accesses of locals that nobody can share, too."""
-    has_keywords = re.search(r"\b_Cilk_(?:spawn|sync|for|scope|reducer)\b", text) is not None
+    compiler tells the accesses of locals that nobody can share, too; `copies_into_tasks`: it hands a variable that a task only reads to the
+    task by value, so that nobody tells a write beside the task, unless the task has a `depend` clause."""
+    has_keywords = re.search(r"\b(?:_Cilk_(?:spawn|sync|for|scope|reducer)|_Hyperobject)\b", text) is not None
     if cxx:
         text = STRINGS.sub(lambda found: "\n" * found.group().count("\n"), text)
     has_views = not cxx and reducers.USE in text
-    if not has_keywords and not has_views and not re.search(r"^[ \t]*#[ \t]*pragma[ \t]+(?:omp|cilk)\b", text, re.M):
+    has_directives = re.search(r"^[ \t]*#[ \t]*pragma[ \t]+(?:omp|cilk)\b", text, re.M) or openmp_on and openmp.ATTRIBUTE.search(text)
+    if not has_keywords and not has_views and not has_directives:
         return text
     source = Source(text)
-    openmp.check(source, openmp_on)
+    openmp.check(source, openmp_on, copies_into_tasks)
+    if copies_into_tasks and openmp_on:
+        openmp.share(source)
     if has_views:
         reducers.classify(source)
+    main = MAIN.match(text)
+    file = main.group(1) if main else "<stdin>"
     if not has_keywords:
-        return source.text(0, len(source.tokens))
-    rewriter = Rewriter(source, cxx, tells_all_locals)
+        told = source.text(0, len(source.tokens))
+        return openmp.declaration(file, cxx) + told if openmp.SHARES in told else told
+    rewriter = Rewriter(source, cxx, tells_all_locals, copies_into_tasks)
     standard = re.search(r"__cilkcheck_cplusplus = (\d+)", text)
     rewriter.before_cxx14 = standard is not None and int(standard.group(1)) < 201402
     prelude = PRELUDE / ("calls.hpp" if cxx else "calls.h")
-    main = MAIN.match(text)
-    file = main.group(1) if main else "<stdin>"
     begin = f'# 0 "{file}"\n# 1 "{prelude}" 1 3\n{prelude.read_text()}\n# 0 "{file}" 2\n'
     return begin + rewriter.declarations(0, len(source.tokens) - 1)
 

@@ -14,7 +14,8 @@ TOKEN = re.compile(r'''
 ''', re.X | re.S | re.M)
 MARK = re.compile(r'[ \t]*#(?:line)?[ \t]+(\d+)[ \t]+"((?:[^"\\]|\\.)*)"([ \d]*)$')
 OPEN = {"(": ")", "[": "]", "{": "}"}
-KEYWORDS = {"_Cilk_spawn": "cilk_spawn", "_Cilk_sync": "cilk_sync", "_Cilk_for": "cilk_for", "_Cilk_scope": "cilk_scope", "_Cilk_reducer": "cilk_reducer"}
+KEYWORDS = {"_Cilk_spawn": "cilk_spawn", "_Cilk_sync": "cilk_sync", "_Cilk_for": "cilk_for", "_Cilk_scope": "cilk_scope", "_Cilk_reducer": "cilk_reducer",
+            "_Hyperobject": "_Hyperobject"}
 JUMPS = {"return", "break", "continue", "goto", "co_return", "co_yield", "co_await"}
 
 

@@ -248,6 +248,7 @@ def block(rewriter, keyword, opening):
 def outlined(rewriter, keyword, begin, end, what, variable):
     """The statement as a child: in C an OpenMP task, in C++ a lambda. `variable` is the loop's: each round has its own. The spawn's place is the
     keyword's."""
+    from . import openmp
     from .rewrite import Context
     source = rewriter.source
     labels = frozenset(source.tokens[at] for at in range(begin, end) if source.kinds[at] == "name" and source.tokens[source.solid(at + 1)] == ":")
@@ -263,5 +264,6 @@ def outlined(rewriter, keyword, begin, end, what, variable):
         captured = f"&, {variable}" if variable else "&"
         use = f"(void){variable}; " if variable else ""
         return f"{source.mark(keyword)}__cilkcheck_child(0, 0) % [{captured}]() mutable -> void {{{source.mark(begin)}{use}{body} }};"
-    private = f" firstprivate({variable})" if variable else ""
-    return f"{{ __cilkcheck_outlined();{source.mark(keyword)}#pragma omp task default(shared){private}{source.mark(begin)}{body}{source.mark(keyword)}}}"
+    clauses = f" firstprivate({variable})" if variable else ""
+    clauses += openmp.SHARES if rewriter.copies_into_tasks else ""
+    return f"{{ __cilkcheck_outlined();{source.mark(keyword)}#pragma omp task default(shared){clauses}{source.mark(begin)}{body}{source.mark(keyword)}}}"

@@ -4,6 +4,7 @@
 #include "stack.h"
 
 static bool outlined;
+char __cilkcheck_task;
 
 void __cilkcheck_child_begin(const void *shared, ...) { (void)shared; scope_spawn(stack_now.depth, PLACE); }
 void __cilkcheck_child_end(void) {
@@ -17,7 +18,7 @@ void __cilkcheck_argument_bytes(size_t bytes) { stack_next_arguments(bytes); }
 void __cilkcheck_wrote(void *at, size_t bytes) { record_access((uintptr_t)at, bytes, ACCESS_WRITE, PLACE); }
 void __cilkcheck_read(const void *at, size_t bytes) { record_access((uintptr_t)at, bytes, ACCESS_READ, PLACE); }
 void __cilkcheck_end_life(const volatile void *at, size_t bytes) {
-  end_lives((uintptr_t)at, (uintptr_t)at + bytes, (struct origin){ORIGIN_STACK, stack_now.depth ? stack_now.frames[stack_now.depth - 1].function : 0, (uintptr_t)at, 0});
+  end_lives((uintptr_t)at, (uintptr_t)at + bytes);
 }
 void __cilkcheck_outlined(void) { outlined = true; }
 bool outlined_next(void) {

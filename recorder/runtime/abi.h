@@ -42,6 +42,9 @@ void __cilkcheck_read(const void *at, size_t bytes);
 void __cilkcheck_end_life(const volatile void *at, size_t bytes);
 /* The next OpenMP task stands for a round of a cilk_for or for a spawned block. */
 void __cilkcheck_outlined(void);
+/* Nothing: what a task that the rewriter has seen depends on. gcc hands over by value what a task only reads, and does not tell a write of the
+   spawner beside the task, unless the task has a `depend` clause. */
+extern char __cilkcheck_task;
 /* A reducer, named by KEY, was made (0), updated (1), put (2), got (3) or unmade (4). Its view is no memory. */
 void __cilkcheck_reducer(void *key, int operation, void *view, size_t bytes);
 /* From a call with 1 to the call with 0 (nested) accesses are not looked at. */
@@ -55,12 +58,14 @@ void __cilkcheck_hide(int on);
    not loaded (objcopy --add-section .cilkcheck=FILE); the runtime reads the sites from /proc/self/exe at the begin of the run, the rest
    at its end, and tells code offsets where there is none. It is text, one item a line, fields parted by a tab, in ascending order of the offsets within a kind:
 
-       at OFFSET SITE FILE LINE FUNCTION CODE    a call of a hook returns to OFFSET; SITE: the number of its line
+       at OFFSET SITE FILE LINE FUNCTION CODE    a call of a hook, or of a function in a header of the system's, returns to OFFSET; SITE: the
+                                                 number of its line
        in OFFSET SIZE FUNCTION FILE LINE         a function of the program, to name whose local a location is
        of OFFSET SIZE NAME                       a data symbol of the program: a global or static object
        enter OFFSET NAME                         the entry hook of a function of this unqualified name returns to OFFSET; `-`: a constructor,
                                                  a destructor, a conversion, or an operator other than () (only where C++ spawns)
        library 0 NAME                            the unqualified name of a function that is called and was compiled elsewhere (as enter)
+       plain 0 NAME                              the unqualified name of a function of the program that has no entry hook (as enter)
        inside OFFSET -                           the call of a hook at OFFSET stands in a header of the system's
        no 0 NAME, NAME, ..                       functions that are called and were neither recorded nor are known
        unseen 0 TEXT                             a note: what else of the program is not seen

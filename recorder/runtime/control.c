@@ -1,7 +1,8 @@
 /* A trace's requests. control.h states what they are. */
 #include "control.h"
-#include "classes.h"
+#include "histories.h"
 #include "log.h"
+#include "pairs.h"
 #include "raw.h"
 #include <string.h>
 
@@ -70,7 +71,6 @@ static inline void put_access(char request, uint32_t cell, const struct endings 
   text_piece(text, request == 'r' ? &reads : request == 'w' ? &writes : &bumps);
   text_number(text, cell);
   end_request(request == 'r' ? &end->read : &end->write);
-  trace->accesses++;
 }
 
 static void begin(struct trace *of) {
@@ -80,7 +80,7 @@ static void begin(struct trace *of) {
   }
   trace = of;
   text = of->text;
-  trace->requests = trace->accesses = 0;
+  trace->requests = 0;
   strand = 0;
   next_strand = 1;
   top = scopes;
@@ -125,128 +125,10 @@ static void sync(uint32_t site) {
   top->open = false;
 }
 
-/* ---- memory ---- */
-
-static uint64_t *used; static uint32_t *used_before;               /* a bit for each step that the trace tells; and of each 64, how many before */
-
-static inline uint32_t count_bits(uint64_t bits) {                 /* (a library call where the processor may have no instruction for it) */
-  bits -= bits >> 1 & 0x5555555555555555u;
-  bits = (bits & 0x3333333333333333u) + (bits >> 2 & 0x3333333333333333u);
-  return (uint32_t)(((bits + (bits >> 4)) & 0x0F0F0F0F0F0F0F0Fu) * 0x0101010101010101u >> 56);
-}
-
-/* Of each 64 steps, the cells from the first to the last of any interval: most are none of the trace's. */
-static struct span { uint32_t first, end; } *spans;
-static void find_spans(uint32_t words) {
-  const struct step *steps = histories.steps;
-  spans = reserve(sizeof *spans * (words + 1));
-  for (uint32_t word = 0; word < words; word++) spans[word].first = UINT32_MAX;
-  for (uint32_t step = FIRST_STEP; step < histories.step_count; step++) {
-    struct span *span = &spans[step / 64];
-    if (steps[step].before >= steps[step].class) continue;
-    if (steps[step].before < span->first) span->first = steps[step].before;
-    if (steps[step].class > span->end) span->end = steps[step].class;
-  }
-}
-
-static uint64_t used_of(uint32_t word) {
-  const struct step *steps = histories.steps + (size_t)word * 64;
-  uint32_t from = trace->first_cell, to = trace->end_cell;
-  uint64_t bits = 0;
-  if (spans[word].first >= to || spans[word].end <= from) return 0;
-  for (uint32_t bit = 0; bit < 64; bit++) {
-    uint64_t is_used = steps[bit].before < to && steps[bit].class > from && steps[bit].before < steps[bit].class;
-    bits |= is_used << bit;
-  }
-  return bits;
-}
-
-static void find_used(void) {
-  uint32_t words = histories.step_count / 64 + 1, sum = 0, seen = 0;
-  if (!used) {
-    used = reserve(sizeof *used * (words + 1));
-    used_before = reserve(sizeof *used_before * (words + 1));
-    find_spans(words);
-  }
-  for (uint32_t word = 0; word < words; word++) {
-    uint64_t bits = used_of(word);
-    if (trace->group) {
-      for (uint64_t left = bits; left; left &= left - 1) {
-        uint32_t group = seen++ / trace->group;
-        if (group != trace->first_group && group != trace->second_group) bits &= ~(left & -left);
-      }
-    }
-    used[word] = bits;
-    used_before[word] = sum;
-    sum += count_bits(bits);
-  }
-}
-static uint32_t count_used(uint32_t step) {                        /* of the steps before that one */
-  return used_before[step / 64] + count_bits(used[step / 64] & (((uint64_t)1 << step % 64) - 1));
-}
-
-static void put_step(const struct step *step) {
-  uint32_t cell = step->before > trace->first_cell ? step->before : trace->first_cell;
-  uint32_t last = step->class < trace->end_cell ? step->class : trace->end_cell;
-  const struct endings *end = ending(step->what >> STEP_SITE_SHIFT);
-  for (; cell < last; cell++) {
-    char request = cell_request((enum access)(step->what & STEP_KIND), cell);
-    if (request) put_access(request, cell - trace->first_cell, end);
-  }
-}
-static void put_steps(uint32_t from, uint32_t to) {
-  bool begun = false;
-  for (uint32_t word = from / 64; word <= to / 64; word++) {
-    uint64_t bits = used[word];
-    if (word == from / 64) bits &= ~(uint64_t)0 << from % 64;
-    if (word == to / 64) bits &= ((uint64_t)1 << to % 64) - 1;
-    for (; bits; bits &= bits - 1) {
-      if (!begun) make_beginnings();
-      begun = true;
-      put_step(&histories.steps[word * 64 + (uint32_t)__builtin_ctzll(bits)]);
-      if (is_full()) return;
-    }
-  }
-}
-
-bool control_memory(struct trace *of) {
-  begin(of);
-  find_used();
-  uint32_t step = FIRST_STEP;
-  for (uint32_t at = 0;;) {
-    struct log_item item;
-    at = log_read(at, &item);
-    if (item.steps) put_steps(step, step + item.steps);
-    step += item.steps;
-    switch (item.event) {
-    case LOG_ENTER: push((struct told){.site = item.site}); break;
-    case LOG_LEAVE: leave(item.site); break;
-    case LOG_SPAWN:
-      if (count_used(step) == count_used(step + item.skip_steps)) {
-        /* Law `an_empty_spawn`: a spawn of a function in which nothing is accessed is left out, with its return and what only they
-           need; the strands that remain are parallel exactly where they were. */
-        at += item.skip_bytes;
-        step += item.skip_steps;
-        break;
-      }
-      uint32_t child = spawn(top, item.site);
-      push((struct told){.child = true, .next = child + 1});
-      strand = child;
-      break;
-    case LOG_CHILD_END: end_child(item.site); break;
-    case LOG_SYNC: sync(item.site); break;
-    case LOG_END: PUT("return", item.site); return !is_full();
-    case LOG_REDUCER: case LOG_ACCESS: break;
-    }
-    if (is_full()) return false;
-  }
-}
-
-/* ---- reducers ---- */
-
 /* A view-read race depends on the peers of the strands with a put or get. To them all strands of a child without any are alike: each of
-   them is a peer of all, or of none. So such a child is told as one strand without requests. Several of them in a row, with no put or
-   get between, are peers of the same strands, so one stands for all. An update is always granted and no get sees it, so it is left out. */
+   them is a peer of all, or of none. So such a child is told as one strand without requests.
+   Several of them in a row, with no request between, are peers of the same strands, so one stands for all; and where a sync follows, none
+   is needed. An update is always granted and no get sees it, so it is left out. */
 static void put_idle(struct told *scope) {
   if (!scope->idle) return;
   scope->idle = false;
@@ -255,13 +137,13 @@ static void put_idle(struct told *scope) {
   PUT("return", scope->idle_site);
   strand = child + 1;
 }
-/* The scopes from the first that is not told yet on are told, outermost first: a put or get comes inside of them. Of those that are told
-   already, only the innermost may have had such a child since. */
+/* The scopes from the first that is not told yet on are told, outermost first: a request comes inside of them. Of those that are told
+   already, only the innermost may have had an idle child since. */
 static struct told *first_untold;
 static void tell_scopes(void) {
   put_idle(first_untold - 1);
   for (struct told *scope = first_untold; scope <= top; scope++) {
-    if (scope->child && scope > scopes) {
+    if (scope->child) {
       uint32_t child = spawn(scope - 1, scope->site);
       scope->next = child + 1;
       strand = child;
@@ -272,10 +154,108 @@ static void tell_scopes(void) {
 }
 static bool is_told(const struct told *scope) { return scope < first_untold; }
 
-bool control_reducers(struct trace *of) {
+/* ---- pairs ---- */
+
+/* Of a way: the first of those behind it and the next one beside it that are told, and the first cell of an access that stands there, of which
+   each names the next. (A cell is told by its number and 1.) */
+static struct told_way { uint32_t inner, beside, cell; bool is_told; } *ways;
+static uint32_t *next_cell;
+
+/* Whether the trace tells the pair among those of strands that part at a spawn, or among the others. */
+static bool is_told_pair(uint32_t cell, bool parts) { return (pairs.list[cell].part != 0) == parts; }
+static uint32_t way_to(uint32_t cell, bool second) { return second ? pairs.list[cell].right : pairs.list[cell].left; }
+
+static void tell_ways(bool parts, bool second) {
+  for (uint32_t cell = trace->end_cell; cell-- > trace->first_cell;) {
+    if (!is_told_pair(cell, parts)) continue;
+    uint32_t way = way_to(cell, second);
+    next_cell[cell - trace->first_cell] = ways[way].cell;
+    ways[way].cell = cell - trace->first_cell + 1;
+    for (; way && !ways[way].is_told; way = pairs.ways[way].outer) {
+      ways[way].is_told = true;
+      ways[way].beside = ways[pairs.ways[way].outer].inner;
+      ways[pairs.ways[way].outer].inner = way;
+    }
+  }
+}
+static void forget_ways(bool parts, bool second) {
+  for (uint32_t cell = trace->first_cell; cell < trace->end_cell; cell++) {
+    if (!is_told_pair(cell, parts)) continue;
+    uint32_t way = way_to(cell, second);
+    for (ways[way].cell = 0; way && ways[way].is_told; way = pairs.ways[way].outer) ways[way] = (struct told_way){0};
+  }
+  ways[0] = (struct told_way){0};
+}
+
+static void put_cells(uint32_t way, bool second) {
+  if (ways[way].cell) make_beginnings();
+  for (uint32_t cell = ways[way].cell; cell && !is_full(); cell = next_cell[cell - 1]) {
+    const struct pair *pair = &pairs.list[trace->first_cell + cell - 1];
+    uint32_t access = second ? pair->second : pair->first;
+    put_access(pair_word((enum access)(access & 3)), cell - 1, ending(access >> 2));
+  }
+}
+static void enter_way(uint32_t way, bool second) {
+  uint32_t site = pairs.ways[way].site, child = spawn(top, site);
+  push((struct told){.child = true, .next = child + 1, .site = site});
+  strand = child;
+  put_cells(way, second);
+}
+static void leave_way(uint32_t way) {
+  sync(0);
+  end_child(pairs.ways[way].site);
+}
+/* The ways to the first accesses of pairs, or to the second ones: each a child of the one around it, in which its accesses stand. */
+static void put_ways(bool parts, bool second) {
+  tell_ways(parts, second);
+  put_cells(0, second);
+  for (uint32_t way = 0, next = ways[0].inner; next && !is_full();) {
+    enter_way(way = next, second);
+    for (next = ways[way].inner; !next && way; way = pairs.ways[way].outer) {
+      leave_way(way);
+      next = ways[way].beside;
+    }
+  }
+  forget_ways(parts, second);
+}
+/* Each pair is a cell of two accesses; nothing else is told of it. So all pairs whose strands part at a spawn stand in one block, the first
+   accesses in children and the second ones behind them; and all others with a sync between. */
+static void put_pairs(void) {
+  if (!ways) {
+    ways = reserve(sizeof *ways * ((size_t)pairs.way_count + 1));
+    next_cell = reserve(sizeof *next_cell * ((size_t)pairs.count + 1));
+  }
+  for (int parts = 0; parts < 2; parts++) {
+    put_ways(parts, false);
+    if (!parts) sync(0);
+    put_ways(parts, true);
+    sync(0);
+  }
+}
+
+/* ---- reducers ---- */
+
+static void put_reducer(const struct log_item *item) {
+  if (item->kind == REDUCER_GET) text_word(text, "get "); else text_word(text, "put ");
+  text_number(text, strand);
+  text_word(text, " r");
+  text_number(text, item->of - trace->first_reducer);
+  if (item->kind != REDUCER_GET) text_word(text, " 0");
+  mark(item->site);
+}
+static bool has_reducers(void) { return trace->first_reducer < trace->end_reducer; }
+static bool is_told_reducer(const struct log_item *item) {
+  return item->kind != REDUCER_UPDATE && item->of >= trace->first_reducer && item->of < trace->end_reducer;
+}
+
+/* ---- the requests of a trace ---- */
+
+bool control_requests(struct trace *of) {
   begin(of);
+  if (trace->first_cell < trace->end_cell) put_pairs();
   first_untold = scopes + 1;
-  for (uint32_t at = 0;;) {
+  if (!has_reducers()) PUT("return", 0);
+  for (uint32_t at = 0; has_reducers() && !is_full();) {
     struct log_item item;
     at = log_read(at, &item);
     switch (item.event) {
@@ -300,24 +280,25 @@ bool control_reducers(struct trace *of) {
       break;
     case LOG_END: PUT("return", item.site); return !is_full();
     case LOG_REDUCER:
-      if (item.kind == REDUCER_UPDATE || item.of < trace->first_reducer || item.of >= trace->end_reducer) break;
+      if (!is_told_reducer(&item)) break;
       tell_scopes();
-      if (item.kind == REDUCER_GET) text_word(text, "get "); else text_word(text, "put ");
-      text_number(text, strand);
-      text_word(text, " r");
-      text_number(text, item.of - trace->first_reducer);
-      if (item.kind != REDUCER_GET) text_word(text, " 0");
-      mark(item.site);
+      put_reducer(&item);
       break;
     case LOG_ACCESS: break;
     }
-    if (is_full()) return false;
   }
+  return !is_full();
 }
 
 /* ---- a raw recording ---- */
 
-/* A location is two cells where atomic loads occur: number 2 n - 2 is its cell a, 2 n - 1 its cell b (classes.h). */
+/* A location is two cells where atomic loads occur. Cell a, number 2 n - 2, has its plain reads, its writes, and its atomic stores (as bumps);
+   cell b, number 2 n - 1, its writes, and its atomic loads as reads. By the access table two requests conflict on a or b exactly where the
+   two accesses conflict. */
+static char cell_word(enum access kind, bool second) {
+  static const char words[2][4] = {{[ACCESS_READ] = 'r', [ACCESS_BUMP] = 'b', [ACCESS_WRITE] = 'w'}, {[ACCESS_LOAD] = 'r', [ACCESS_WRITE] = 'w'}};
+  return words[second][kind];
+}
 static void put_raw(const struct log_item *item) {
   make_beginnings();
   for (uint32_t second = 0; second < (raw_has_loads() ? 2 : 1); second++) {

@@ -2,6 +2,7 @@
 #define _GNU_SOURCE
 #include "heap.h"
 #include "histories.h"
+#include "places.h"
 #include <errno.h>
 #include <malloc.h>
 #include <stdlib.h>
@@ -57,24 +58,24 @@ static void *made(void *at, size_t bytes, uintptr_t place) {
   if (used * 2 > mask) more_slots();
   struct block *slot = slot_of((uintptr_t)at);
   if (!slot->base) used++;
-  *slot = (struct block){(uintptr_t)at, bytes, place};
+  *slot = (struct block){(uintptr_t)at, bytes, place_in_source(place)};
   changes++;
   return at;
 }
-static struct origin origin_of(const struct block *block) { return (struct origin){ORIGIN_HEAP, block->place, block->base, block->bytes}; }
-
 static void release(const struct block *block) {
-  end_lives(block->base, block->base + block->bytes, origin_of(block));
+  end_lives(block->base, block->base + block->bytes);
   __libc_free((void *)block->base);
 }
 static void freed(void *at, uintptr_t place) {
+  if (__builtin_expect(spawn_awaited, 0)) spawn_called(place);
   struct block *slot = recording ? known(at) : NULL;
   if (!slot) { __libc_free(at); return; }
   struct block block = *slot;
+  histories_tell_reads();
+  if (histories.looking) record_access(block.base, block.bytes, ACCESS_WRITE, place);
   slot->bytes = GONE;
   changes++;
   if (!histories.looking) { release(&block); return; }
-  record_access(block.base, block.bytes, ACCESS_WRITE, place);
   if (block.bytes > QUARANTINE_BYTES) { release(&block); return; }
   quarantine[quarantine_in++ % QUARANTINE_BLOCKS] = block;
   quarantine_bytes += block.bytes;
@@ -115,6 +116,7 @@ void cfree(void *at);
 void cfree(void *at) { freed(at, PLACE); }
 
 static void *moved(void *at, size_t bytes, uintptr_t place) {
+  if (__builtin_expect(spawn_awaited, 0)) spawn_called(place);
   if (!at) return made(__libc_malloc(bytes), bytes, place);
   if (!bytes) { freed(at, place); return NULL; }
   const struct block *old = known(at);
@@ -214,14 +216,4 @@ bool heap_block_of(uintptr_t address, struct block *block) {
   }
   *block = *last;
   return true;
-}
-
-void heap_end_all(void) {
-  for (; quarantine_out < quarantine_in; quarantine_out++) {
-    const struct block *block = &quarantine[quarantine_out % QUARANTINE_BLOCKS];
-    end_lives(block->base, block->base + block->bytes, origin_of(block));
-  }
-  sorting = 0;
-  if (!sort_blocks()) return;
-  for (size_t i = 0; i < sorted_count; i++) end_lives(sorted[i].base, sorted[i].base + sorted[i].bytes, origin_of(&sorted[i]));
 }

@@ -11,8 +11,6 @@
 
 struct block { uintptr_t base; size_t bytes; uintptr_t place; };
 void heap_begin(void);
-/* Ends the lives of all locations in blocks, at the end of the run. */
-void heap_end_all(void);
 /* The block in which an address lies. False where there is none, or it would take too long to find. */
 bool heap_block_of(uintptr_t address, struct block *block);
 

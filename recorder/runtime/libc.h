@@ -16,7 +16,9 @@
   __attribute__((weak)) result TELLS(name)(__VA_ARGS__)
 
 static inline void tell(const volatile void *at, size_t bytes, enum access kind, uintptr_t place) {
-  if (bytes) record_access((uintptr_t)at, bytes, kind, place);
+  if (!bytes) return;
+  if (__builtin_expect(spawn_awaited, 0)) spawn_called(place);
+  record_access((uintptr_t)at, bytes, kind, place);
 }
 #define READ(at, bytes) tell(at, bytes, ACCESS_READ, PLACE)
 #define WRITE(at, bytes) tell(at, bytes, ACCESS_WRITE, PLACE)

@@ -219,7 +219,7 @@ TEMPLATE(char *, mkdtemp)
 
 static void new_lives(void *at, size_t bytes) {
   uintptr_t from = (uintptr_t)at;
-  if (at != MAP_FAILED) end_lives(from, from + bytes, (struct origin){ORIGIN_GLOBAL, 0, from, bytes});
+  if (at != MAP_FAILED) end_lives(from, from + bytes);
 }
 WRAPPER(void *, mmap, void *wanted, size_t bytes, int protection, int flags, int file, off_t offset) {
   void *at = mmap(wanted, bytes, protection, flags, file, offset);

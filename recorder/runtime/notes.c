@@ -1,7 +1,7 @@
 /* The notes of a trace. */
 #include "notes.h"
-#include "classes.h"
 #include "origins.h"
+#include "pairs.h"
 #include "places.h"
 #include "start.h"
 #include <stdio.h>
@@ -23,59 +23,60 @@ static void put_places(const struct trace *trace) {
   }
 }
 
-/* What a class's location is, and how many bytes have that history. Origins and their texts come again and again. */
-static void put_class(struct text *text, const struct class *class) {
+/* What a location is that had such a pair, and how many bytes had one. Origins and their texts come again and again. */
+static void put_pair(struct text *text, const struct pair *pair) {
   static uint32_t last;
   static char name[LONGEST_LINE / 4];
   static size_t length;
   static bool byte_follows;
-  if (class->origin != last || !byte_follows) {
-    byte_follows = origin_name(class->origin, class->offset, name, sizeof name);
+  if (pair->origin != last || !byte_follows) {
+    byte_follows = origin_name(pair->origin, pair->offset, name, sizeof name);
     length = strlen(name);
-    last = class->origin;
+    last = pair->origin;
   }
   text_bytes(text, name, length);
   if (byte_follows) {
     text_word(text, ", byte ");
-    text_number(text, class->offset);
+    text_number(text, pair->offset);
   }
-  bool many = class->bytes > 16;
+  bool many = pair->bytes > 16;
   if (many) text_word(text, ", and "); else text_word(text, ", ");
-  text_number(text, many ? class->bytes - 1 : class->bytes);
-  if (many) text_word(text, " more bytes"); else if (class->bytes == 1) text_word(text, " byte"); else text_word(text, " bytes");
+  uint64_t bytes = many ? pair->bytes - 1 : pair->bytes;
+  text_number(text, bytes < UINT32_MAX ? (uint32_t)bytes : UINT32_MAX);
+  if (many) text_word(text, " more bytes"); else if (pair->bytes == 1) text_word(text, " byte"); else text_word(text, " bytes");
   text_end_line(text);
 }
 
 /* Most cells of a trace are often told alike: `#of c[*]` says that of all that have no note of their own. */
-static const struct class *class_of_most(const struct trace *trace) {
-  const struct class *most = NULL;
+static const struct pair *pair_of_most(const struct trace *trace) {
+  const struct pair *most = NULL;
   uint32_t votes = 0, count = 0;
   for (uint32_t cell = trace->first_cell; cell < trace->end_cell; cell++) {
-    const struct class *class = &histories.classes[cells.class[cell]];
-    bool alike = most && class->origin == most->origin && class->offset == most->offset && class->bytes == most->bytes;
-    if (alike) votes++; else if (votes) votes--; else { most = class; votes = 1; }
+    const struct pair *pair = &pairs.list[cell];
+    bool alike = most && pair->origin == most->origin && pair->offset == most->offset && pair->bytes == most->bytes;
+    if (alike) votes++; else if (votes) votes--; else { most = pair; votes = 1; }
   }
   for (uint32_t cell = trace->first_cell; most && cell < trace->end_cell; cell++) {
-    const struct class *class = &histories.classes[cells.class[cell]];
-    count += class->origin == most->origin && class->offset == most->offset && class->bytes == most->bytes;
+    const struct pair *pair = &pairs.list[cell];
+    count += pair->origin == most->origin && pair->offset == most->offset && pair->bytes == most->bytes;
   }
   return count > 1 ? most : NULL;
 }
 
 static void put_cells(const struct trace *trace) {
-  const struct class *most = class_of_most(trace);
+  const struct pair *most = pair_of_most(trace);
   for (uint32_t cell = trace->first_cell; cell < trace->end_cell; cell++) {
-    const struct class *class = &histories.classes[cells.class[cell]];
-    if (most && class->origin == most->origin && class->offset == most->offset && class->bytes == most->bytes) continue;
+    const struct pair *pair = &pairs.list[cell];
+    if (most && pair->origin == most->origin && pair->offset == most->offset && pair->bytes == most->bytes) continue;
     if (text_length(trace->text) > trace->most_bytes + (8u << 20)) break;       /* the file's limit comes before a name */
     text_word(trace->text, "#of c[");
     text_number(trace->text, cell - trace->first_cell);
     text_word(trace->text, "] ");
-    put_class(trace->text, class);
+    put_pair(trace->text, pair);
   }
   if (!most) return;
   text_line(trace->text, "#of c[*] ");
-  put_class(trace->text, most);
+  put_pair(trace->text, most);
 }
 
 void notes_write(const struct trace *trace, const char *title) {

@@ -44,8 +44,10 @@ void task_group_end(uintptr_t place);
 /* Memory for a task's own copy of what it is given; nothing of its former use is left. Once it is handed to the task its spawner is done
    with it: what that wrote comes before all that the task does, so its locations begin anew. */
 void *task_memory(size_t bytes, size_t alignment, uintptr_t place);
-void task_memory_handed(void *memory, size_t bytes, uintptr_t place);
-void task_memory_free(void *memory, size_t bytes, uintptr_t place);
+void task_memory_handed(void *memory, size_t bytes);
+void task_memory_free(void *memory, size_t bytes);
+/* Whether an address lies in such memory, where that begins, and what task_memory was asked for. */
+bool task_memory_of(uintptr_t address, uintptr_t *base, size_t *bytes, uintptr_t *place);
 
 /* How the rounds of a taskloop are divided: how many tasks, and the rounds of number `task` from `*first` on. */
 struct division { uint64_t rounds, tasks; };

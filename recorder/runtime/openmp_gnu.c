@@ -1,4 +1,5 @@
 /* What gcc calls for OpenMP: GOMP_*. See openmp.h. */
+#include "abi.h"
 #include "openmp.h"
 #include <string.h>
 
@@ -11,23 +12,25 @@ static void *copied(void *data, void copy(void *, void *), size_t bytes, size_t 
   void *own = task_memory(bytes, alignment, place);
   if (!copy) return bytes ? memcpy(own, data, bytes) : own;
   copy(own, data);
-  task_memory_handed(own, bytes, place);
+  task_memory_handed(own, bytes);
   return own;
 }
+
+/* Whether the one thing that a task depends on is that of the rewriter: how many there are, how many of them it writes, and where they lie. */
+static bool is_of_rewriter(void *const *depend) { return (uintptr_t)depend[0] == 1 && (uintptr_t)depend[1] == 1 && depend[2] == &__cilkcheck_task; }
 
 void GOMP_task(void (*run)(void *), void *data, void (*copy)(void *, void *), long bytes, long alignment, bool condition, unsigned flags, void **depend,
                int priority, void *detach);
 void GOMP_task(void (*run)(void *), void *data, void (*copy)(void *, void *), long bytes, long alignment, bool condition, unsigned flags, void **depend,
                int priority, void *detach) {
-  (void)depend;
   (void)priority;
   (void)detach;
-  if (flags & FLAG_DEPEND) refuse(PLACE, "a task with depend is not spawn and sync");
+  if (flags & FLAG_DEPEND && !is_of_rewriter(depend)) refuse(PLACE, "a task with depend is not spawn and sync");
   if (flags & FLAG_DETACH) refuse(PLACE, "a task with detach is not spawn and sync");
   enum task_kind kind = task_kind(condition);
   void *own = copied(data, copy, (size_t)bytes, (size_t)alignment, PLACE);
   task_run(kind, flags & FLAG_FINAL, run, own, PLACE);
-  task_memory_free(own, (size_t)bytes, PLACE);
+  task_memory_free(own, (size_t)bytes);
 }
 
 /* The bounds stand first in the task's data: `first` and the one behind the last, of eight bytes each. */
@@ -42,7 +45,7 @@ static void task_loop(void run(void *), void *data, void copy(void *, void *), s
     own[0] = start + first * step;
     own[1] = start + (first + count) * step;
     task_run(task_kind(flags & FLAG_IF), flags & FLAG_FINAL, run, own, place);
-    task_memory_free(own, bytes, place);
+    task_memory_free(own, bytes);
   }
   if (!(flags & FLAG_NOGROUP)) task_group_end(place);
 }

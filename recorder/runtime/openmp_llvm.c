@@ -38,7 +38,7 @@ static struct task *new_task(size_t task_bytes, size_t shared_bytes, int flags, 
   task->shared = (char *)task + task_bytes;
   return task;
 }
-static void free_task(struct task *task, uintptr_t place) { task_memory_free(HEAD(task), HEAD(task)->bytes, place); }
+static void free_task(struct task *task) { task_memory_free(HEAD(task), HEAD(task)->bytes); }
 
 /* The parts of an untied task that are left, and the destructors of its data. */
 static void finish_task(struct task *task) {
@@ -61,9 +61,9 @@ static void start_task(struct task *task, bool condition, uintptr_t place) {
     HEAD(task)->again = true;
     return;
   }
-  task_memory_handed(HEAD(task), HEAD(task)->bytes, place);
+  task_memory_handed(HEAD(task), HEAD(task)->bytes);
   task_run(task_kind(condition), HEAD(task)->flags & FLAG_FINAL, run_task, task, place);
-  free_task(task, place);
+  free_task(task);
 }
 
 CALLED(struct task *, __kmpc_omp_task_alloc, struct ident *where, int thread, int flags, size_t task_bytes, size_t shared_bytes, int (*run)(int, struct task *)) {
@@ -94,7 +94,7 @@ CALLED(void, __kmpc_omp_task_complete_if0, struct ident *where, int thread, stru
   (void)thread;
   finish_task(task);
   task_end(HEAD(task)->kind, PLACE);
-  free_task(task, PLACE);
+  free_task(task);
 }
 
 /* The bounds of a taskloop lie in the task; the last round belongs to it. Each part is a copy of the task. */
@@ -121,7 +121,7 @@ static void task_loop(struct task *task, bool condition, uint64_t *lower, uint64
     *(uint64_t *)(void *)((char *)part + ((char *)upper - (char *)task)) = from + (first + count - 1) * (uint64_t)step;
     start_task(part, condition, place);
   }
-  free_task(task, place);
+  free_task(task);
   if (!group) task_group_end(place);
 }
 CALLED(void, __kmpc_taskloop, struct ident *where, int thread, struct task *task, int condition, uint64_t *lower, uint64_t *upper, int64_t step, int no_group,

@@ -75,23 +75,36 @@ void openmp_function_end(uintptr_t from, uintptr_t to, uintptr_t place) {
 
 /* ---- a task's own data ---- */
 
-struct memory { void *block; size_t unused; };   /* stands before the memory; 16 bytes */
-
-static void new_lives(uintptr_t at, size_t bytes, uintptr_t place) { end_lives(at, at + bytes, (struct origin){ORIGIN_TASK, place, at, bytes}); }
+struct memory { void *block; struct memory *older; size_t bytes; uintptr_t place; };   /* stands before the memory */
+static struct memory *newest;
 
 void *task_memory(size_t bytes, size_t alignment, uintptr_t place) {
   if (alignment < sizeof(struct memory)) alignment = sizeof(struct memory);
   char *block = plain_malloc(bytes + alignment + sizeof(struct memory));
   if (!block) refuse(place, "no memory for a task's data");
   uintptr_t at = ((uintptr_t)block + sizeof(struct memory) + alignment - 1) & ~(uintptr_t)(alignment - 1);
-  ((struct memory *)at)[-1].block = block;
-  new_lives(at, bytes, place);
+  struct memory *memory = (struct memory *)at - 1;
+  *memory = (struct memory){block, newest, bytes, place};
+  newest = memory;
+  end_lives(at, at + bytes);
   return (void *)at;
 }
-void task_memory_handed(void *memory, size_t bytes, uintptr_t place) { new_lives((uintptr_t)memory, bytes, place); }
-void task_memory_free(void *memory, size_t bytes, uintptr_t place) {
-  new_lives((uintptr_t)memory, bytes, place);
-  plain_free(((struct memory *)memory)[-1].block);
+void task_memory_handed(void *memory, size_t bytes) { end_lives((uintptr_t)memory, (uintptr_t)memory + bytes); }
+void task_memory_free(void *memory, size_t bytes) {
+  end_lives((uintptr_t)memory, (uintptr_t)memory + bytes);
+  struct memory *freed = (struct memory *)memory - 1, **at = &newest;
+  while (*at != freed) at = &(*at)->older;
+  *at = freed->older;
+  plain_free(freed->block);
+}
+bool task_memory_of(uintptr_t address, uintptr_t *base, size_t *bytes, uintptr_t *place) {
+  for (const struct memory *memory = newest; memory; memory = memory->older) {
+    *base = (uintptr_t)(memory + 1);
+    *bytes = memory->bytes;
+    *place = memory->place;
+    if (address - *base < *bytes) return true;
+  }
+  return false;
 }
 
 /* ---- taskloops ---- */

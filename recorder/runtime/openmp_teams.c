@@ -122,7 +122,7 @@ static void thread_make(struct team *mine, struct thread *thread) {
 }
 static void thread_free(struct thread *thread) {
   uintptr_t low = (uintptr_t)thread->memory;
-  end_lives(low, low + THREAD_STACK, (struct origin){ORIGIN_STACK, 0, low, 0});
+  end_lives(low, low + THREAD_STACK);
   stack_free(thread->stack);
   unreserve(thread->memory, THREAD_STACK);
 }

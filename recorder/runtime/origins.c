@@ -1,7 +1,9 @@
 /* What a location is. */
 #include "origins.h"
 #include "heap.h"
+#include "openmp.h"
 #include "places.h"
+#include "scopes.h"
 #include "stack.h"
 #include <stdio.h>
 #include <string.h>
@@ -15,6 +17,11 @@ static uint32_t origin_count, *slots, mask;
 struct origin origin_of_address(uintptr_t address) {
   struct block block;
   struct frame frame;
+  uintptr_t base, place;
+  size_t bytes;
+  for (const struct scope *scope = scope_innermost; scope > scope_outermost; scope--)
+    if (address - scope->arguments < scope->argument_bytes && scope->arguments) return (struct origin){ORIGIN_ARGUMENTS, 0, scope->arguments, 0};
+  if (task_memory_of(address, &base, &bytes, &place)) return (struct origin){ORIGIN_TASK, place, base, bytes};
   if (stack_frame_of(address, &frame)) return (struct origin){ORIGIN_STACK, frame.function, frame.top, 0};
   if (heap_block_of(address, &block)) return (struct origin){ORIGIN_HEAP, block.place, block.base, block.bytes};
   return (struct origin){ORIGIN_GLOBAL, 0, address & ~(GLOBAL_PART - 1), 0};

@@ -17,6 +17,7 @@ extern const char program_code_end[] __asm__("etext");
 
 static uintptr_t moved;                                           /* where the program was loaded, less where it was linked */
 static uint32_t site_count, first_new;
+static uint32_t *inside;                                          /* of places in headers of the system their own sites, which `sites` has not */
 static uintptr_t *new_places;                                     /* of the sites that are not in the table, from first_new on */
 static const char *table; static size_t table_bytes;
 static struct { uintptr_t offset; struct line line; } *calls, *functions, *objects;
@@ -82,6 +83,15 @@ static void take_site(uintptr_t offset, struct line rest) {
   if (site > site_count) site_count = (uint32_t)site;
 }
 
+static void take_inside(uintptr_t offset, struct line rest) {
+  (void)rest;
+  uintptr_t at = offset + moved - places.code_low;
+  if (at >= places.code_bytes) return;
+  if (!inside) inside = reserve(sizeof *inside * places.code_bytes);
+  inside[at] = places.sites[at];
+  places.sites[at] = 0;
+}
+
 void places_begin(void) {
   places.code_low = (uintptr_t)&program_head;
   places.code_bytes = (uintptr_t)program_code_end - places.code_low;
@@ -91,14 +101,29 @@ void places_begin(void) {
   table = map_table(&table_bytes);
   if (table) {
     places_each_line("at", take_site);
+    places_each_line("inside", take_inside);
     madvise((void *)((uintptr_t)table & ~(uintptr_t)4095), table_bytes, MADV_DONTNEED);
   }
   first_new = site_count + 1;
 }
 
+uintptr_t place_in_source(uintptr_t place) {
+  uintptr_t offset = place - places.code_low, caller;
+  if (!inside || offset >= places.code_bytes || !inside[offset]) return place;
+  for (uint32_t above = 0; (caller = stack_caller(above)) != 0; above++) {
+    offset = caller - places.code_low;
+    if (offset < places.code_bytes && places.sites[offset]) return caller;
+  }
+  return place;
+}
+
 uint32_t place_new_site(uintptr_t place) {
   if (!place) return 0;
   uintptr_t offset = place - places.code_low;
+  if (inside && offset < places.code_bytes && inside[offset]) {
+    uintptr_t caller = place_in_source(place);
+    return caller == place ? inside[offset] : places.sites[caller - places.code_low];
+  }
   if (offset >= places.code_bytes)                                /* code of another library: few calls come from there */
     for (uint32_t site = first_new; site <= site_count; site++) if (new_places[site - first_new] == place) return site;
   if (site_count == MOST_SITES - 1) refuse(0, "more than %u places in the program", site_count);
@@ -108,22 +133,6 @@ uint32_t place_new_site(uintptr_t place) {
 }
 uintptr_t places_moved(void) { return moved; }
 uint32_t place_sites(void) { return site_count; }
-
-/* ---- a read and the write behind it, as one site ---- */
-
-static struct pair { uint32_t write, read; } *pairs;               /* of the sites from first_pair on */
-static uint32_t first_pair;
-
-uint32_t site_behind(uint32_t write, uint32_t read) {
-  if (!pairs) {
-    pairs = reserve(sizeof *pairs * MOST_SITES);
-    first_pair = site_count + 1;
-  }
-  for (uint32_t i = site_count + 1; i-- > first_pair;) if (pairs[i - first_pair].write == write && pairs[i - first_pair].read == read) return i;
-  if (site_count == MOST_SITES - 1) refuse(0, "more than %u places in the program", site_count);
-  pairs[++site_count - first_pair] = (struct pair){write, read};
-  return site_count;
-}
 
 /* ---- names ---- */
 
@@ -169,17 +178,6 @@ static void unknown(uintptr_t place, char *text, size_t room) {
 void site_name(uint32_t site, char *text, size_t room) {
   text[0] = 0;
   if (!site) return;
-  if (pairs && site >= first_pair) {
-    struct pair pair = pairs[site - first_pair];
-    char read[400];
-    site_name(pair.write, text, room);
-    site_name(pair.read, read, sizeof read);
-    char *end = strstr(read, ", ");
-    if (end) *end = 0;
-    size_t used = add(text, room, strlen(text), word("   (behind a read at "));
-    add(text, room, add(text, room, used, word(read)), word(")"));
-    return;
-  }
   if (site >= first_new || !site_lines || !site_lines[site].text) {
     if (site >= first_new) unknown(new_places[site - first_new], text, room);
     return;

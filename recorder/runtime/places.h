@@ -3,8 +3,10 @@
    A site is what is told as one place: a line of the program. The table that the wrapper puts into the linked program (abi.h) gives the
    sites of its calls; a place that is not in it becomes a site of its own when it is first met. Site 0 is no place.
 
-   Invariants: `sites` has an entry for each byte of the program's code, 0 where the place is not known yet. Sites from the table come
-   first, then those that were met, then pairs (site_behind). */
+   A place in a header of the system's stands for the call in the program's own source that led there, on the running stack.
+
+   Invariants: `sites` has an entry for each byte of the program's code, 0 where the place is not known yet or in such a header. Sites from
+   the table come first, then those that were met. */
 #ifndef CILKCHECK_PLACES_H
 #define CILKCHECK_PLACES_H
 #include "recorder.h"
@@ -22,16 +24,14 @@ static inline uint32_t place_site(uintptr_t place) {
   }
   return place_new_site(place);
 }
+/* The place itself; where it is in a header of the system's, that of the innermost call that is not, if there is one. */
+uintptr_t place_in_source(uintptr_t place);
 /* The sites there are: numbers from 1 to this. */
 uint32_t place_sites(void);
 
 /* Calls `take` for each line `WORD\tOFFSET\tREST` of the table, in its order. The offset is one of the linked file. */
 struct line { const char *text, *end; };
 void places_each_line(const char *word, void (*take)(uintptr_t offset, struct line rest));
-
-/* The site of a write that stands for the same strand's read before it as well: its name tells both. No site is met behind the first
-   such call. */
-uint32_t site_behind(uint32_t write, uint32_t read);
 
 /* Reads the whole table again, for names. To be called before the functions below; it is released with the program. */
 void places_read(void);

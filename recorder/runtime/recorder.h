@@ -2,15 +2,16 @@
 
    Modules and their states, one owner each:
      start.c      options, start and end of the recording, messages
-     histories.c  the histories of locations; raw.c keeps each byte's accesses instead (CILKCHECK_RAW)
+     histories.c  the state of each location; raw.c keeps each byte's accesses instead (CILKCHECK_RAW)
      stack.c      the frames of the running stack
      heap.c       the blocks of the heap, and those in quarantine
      scopes.c     functions, children and blocks that are open; the running strand
+     states.c     what of a location's accesses a later one may race with
+     pairs.c      the classes of pairs that are told, each as a cell
      log.c        the events of the run: spawns, ends, syncs, reducers, accesses of a raw recording
      accesses.c, atomics.c, abi.c   what the compilers and the rewriter call
-     classes.c    which histories are told, as which cells
-     control.c    a trace's requests, in the order of the run
-     traces.c     the cells of each trace, and their files; text.c writes them
+     control.c    a trace's requests
+     traces.c     the pairs of each trace, and their files; text.c writes them
      places.c, notes.c   what a code address and a location are called */
 #ifndef CILKCHECK_RECORDER_H
 #define CILKCHECK_RECORDER_H
@@ -48,12 +49,8 @@ enum access { ACCESS_READ, ACCESS_LOAD, ACCESS_BUMP, ACCESS_WRITE };
 /* The running strand accesses [address, address + bytes). */
 void record_access(uintptr_t address, size_t bytes, enum access kind, uintptr_t place);
 
-/* What a location is, for notes: a local of the function at `place` whose frame's top is `base`, a block of the heap that was given
-   at `place` and begins at `base`, arguments on the stack of a call, a task's own data, or a global (found by its address). */
-enum origin_kind { ORIGIN_GLOBAL, ORIGIN_STACK, ORIGIN_HEAP, ORIGIN_ARGUMENTS, ORIGIN_TASK };
-struct origin { enum origin_kind kind; uintptr_t place, base; size_t bytes; };     /* bytes: of the whole block, or 0 */
 /* The lives of the locations in [from, to) end: what is there next is something else. */
-void end_lives(uintptr_t from, uintptr_t to, struct origin origin);
+void end_lives(uintptr_t from, uintptr_t to);
 /* [from, to) is no memory, as the view of a reducer: until its lives end its accesses are not looked at. */
 void hide_memory(uintptr_t from, uintptr_t to);
 /* Accesses are not looked at while more calls with true were made than with false. */
@@ -77,8 +74,17 @@ uintptr_t stack_caller(uint32_t above);
 
 enum scope_kind { SCOPE_ROOT, SCOPE_FUNCTION, SCOPE_CHILD, SCOPE_BLOCK, SCOPE_TASKGROUP, SCOPE_PARALLEL };
 /* Something with a block of children of its own. `depth` is the number of running functions when it was entered, `open` says that
-   children are outstanding. `marks` belongs to OpenMP: a new scope has those of the one around it that SCOPE_INHERITED covers. */
-struct scope { uint32_t depth, spawned_at, steps_before; uint8_t kind, marks; bool open; uint32_t argument_bytes; uintptr_t arguments; };
+   children are outstanding, `ended` that one of them has ended: the site of its spawn, else 0. `marks` belongs to OpenMP: a new scope has those
+   of the one around it that SCOPE_INHERITED covers. In the log, `began` is the place before its own event, and `block_began` that before the
+   first spawn of its block. */
+struct log_place { uint32_t bytes; };                   /* log.h */
+struct level { uint32_t node, block, path, first; };    /* states.h */
+struct scope {
+  uint32_t depth, ended; uint8_t kind, marks; bool open;
+  uint32_t argument_bytes; uintptr_t arguments;
+  struct log_place began, block_began;
+  struct level level;
+};
 #define SCOPE_INHERITED 0x0F
 /* The innermost scope; the one around it lies before it. The outermost has kind SCOPE_ROOT. */
 struct scope *scope_top(void);
@@ -107,9 +113,13 @@ void scope_reducer(enum reducer_operation operation, uint32_t reducer, uintptr_t
 /* ---- children of C++ (spawns.c) ---- */
 
 /* True while the innermost spawn of C++ waits for its function to be entered. Then __tsan_func_entry calls spawn_entered before the
-   new frame is there: `function` is its own place. */
+   new frame is there: `function` is its own place, `caller` the call's. */
 extern bool spawn_awaited;
-void spawn_entered(uintptr_t function);
+void spawn_entered(uintptr_t function, uintptr_t caller);
+/* The same for a library's function, called at `place`, before its first access is told. */
+void spawn_called(uintptr_t place);
+/* An exception leaves a function whose code begins at `start`. None of its locals' destructors has run yet. */
+void function_unwound(uintptr_t start);
 
 /* ---- the heap (heap.c) ---- */
 

@@ -31,7 +31,7 @@ static void grow(void) {
   if (old) unreserve(old, count * sizeof *old);
 }
 static void end_view(struct slot *slot) {
-  if (slot->bytes) end_lives(slot->view, slot->view + slot->bytes, (struct origin){ORIGIN_GLOBAL, 0, 0, 0});
+  if (slot->bytes) end_lives(slot->view, slot->view + slot->bytes);
   slot->number = NO_NUMBER;
 }
 static void make(struct slot *slot, uintptr_t key, uintptr_t view, size_t bytes, uintptr_t place) {

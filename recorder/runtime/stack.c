@@ -34,17 +34,17 @@ void stack_next_arguments(size_t bytes) { next_arguments = bytes; }
 static void arguments_begin(uintptr_t top) {
   struct scope *child = scope_top();
   if (child->kind != SCOPE_CHILD || child->arguments || child->depth != stack_now.depth) return;
-  end_lives(top, top + next_arguments, (struct origin){ORIGIN_ARGUMENTS, 0, top, 0});
+  end_lives(top, top + next_arguments);
   child->arguments = top;
   child->argument_bytes = (uint32_t)next_arguments;
   next_arguments = 0;
 }
 
-static inline void end_below(const struct frame *frame, uintptr_t top) {
+static inline void end_below(uintptr_t top) {
   if (stack_now.touched >= top) return;
   uintptr_t from = stack_now.touched;
   stack_now.touched = top;
-  end_lives(from, top, (struct origin){ORIGIN_STACK, frame->function, frame->top, 0});
+  end_lives(from, top);
 }
 
 void __tsan_func_entry(void *caller);
@@ -55,18 +55,20 @@ void __tsan_func_entry(void *caller) {
   /* Recorded code keeps frame pointers: the caller's saved one and the return address lie below what its own callers have. */
   uintptr_t top = ((uintptr_t *)__builtin_frame_address(0))[0] + 2 * sizeof(void *);
   struct frame *frame = &stack_now.frames[stack_now.depth];
-  end_below(frame, top);
-  if (__builtin_expect(spawn_awaited, 0)) spawn_entered(PLACE);
+  end_below(top);
+  if (__builtin_expect(spawn_awaited, 0)) spawn_entered(PLACE, (uintptr_t)caller);
   if (__builtin_expect(next_arguments != 0, 0)) arguments_begin(top);
   *frame = (struct frame){top, PLACE, (uintptr_t)caller};
   stack_now.depth++;
 }
 void __tsan_func_exit(void) {
-  if (scope_innermost->depth == stack_now.depth) scope_function_end(stack_now.depth, PLACE);
-  if (!stack_now.depth) return;
+  bool is_left = scope_innermost->depth == stack_now.depth && scope_function_end(stack_now.depth, PLACE);
+  if (!stack_now.depth) { if (is_left) scope_leave(PLACE); return; }
+  const struct scope *around = scope_innermost - is_left;
   struct frame *frame = &stack_now.frames[--stack_now.depth];
-  if (__builtin_expect(scope_innermost->open && scope_innermost->marks & SCOPE_OF_TASKS, 0)) openmp_function_end(stack_now.touched, frame->top, PLACE);
-  end_below(frame, frame->top);
+  if (__builtin_expect(around->open && around->marks & SCOPE_OF_TASKS, 0)) openmp_function_end(stack_now.touched, frame->top, PLACE);
+  end_below(frame->top);
+  if (is_left) scope_leave(PLACE);
 }
 
 bool stack_frame_of(uintptr_t address, struct frame *frame) {
@@ -76,11 +78,4 @@ bool stack_frame_of(uintptr_t address, struct frame *frame) {
   if (!low) return false;
   *frame = stack_now.frames[low - 1];
   return true;
-}
-void stack_end_all(void) {
-  for (uint32_t i = stack_now.depth; i-- > 0;) {
-    const struct frame *frame = &stack_now.frames[i];
-    end_lives(stack_now.touched, frame->top, (struct origin){ORIGIN_STACK, frame->function, frame->top, 0});
-    if (stack_now.touched < frame->top) stack_now.touched = frame->top;
-  }
 }

@@ -9,8 +9,6 @@
 
 extern struct stack stack_now;
 void stack_begin(void);
-/* Ends the lives of all that lies on the stack, at the end of the run. */
-void stack_end_all(void);
 /* The frame in which an address of the stack lies. False where there is none. */
 bool stack_frame_of(uintptr_t address, struct frame *frame);
 

@@ -24,7 +24,7 @@ static char words[400];
 static void say_at(uintptr_t place, const char *what, const char *format, va_list values) {
   char text[1200], where[400];
   vsnprintf(text, sizeof text, format, values);
-  place_name(place, where, sizeof where);
+  place_name(place_in_source(place), where, sizeof where);
   say("%s: %s%s%s", what, where, where[0] ? ": " : "", text);
 }
 
@@ -124,8 +124,5 @@ __attribute__((destructor(101))) void finish_recording(void) {
   scope_close_all(PLACE);
   recording = false;
   histories_stop_looking();
-  heap_end_all();
-  stack_end_all();
-  histories_end_all();
   traces_write();
 }

@@ -1,11 +1,11 @@
 /* The files of a recording: which cells stand in which, and their names. traces.h states the invariant. */
 #define _GNU_SOURCE
 #include "traces.h"
-#include "classes.h"
 #include "histories.h"
 #include "log.h"
 #include "members.h"
 #include "notes.h"
+#include "pairs.h"
 #include "places.h"
 #include "raw.h"
 #include "scopes.h"
@@ -20,7 +20,6 @@
 
 #define MOST_CELLS 1000000u
 #define MOST_BYTES ((uint64_t)52 << 20)        /* of requests, so that notes fit into a trace's 64 MiB */
-#define MOST_ACCESSES 64000000u
 #define MOST_REDUCERS 256u
 
 static char folder[4096], name[256];           /* of the traces, without ending */
@@ -127,7 +126,8 @@ static void open_trace(uint32_t declared_cells, uint32_t declared_reducers) {
 }
 static void close_trace(void) {
   char title[700];
-  snprintf(title, sizeof title, "%s: %lu accesses, %lu requests", command_words(), histories.accesses, trace.requests);
+  snprintf(title, sizeof title, "%s: %lu access%s, %lu request%s", command_words(), histories.accesses, histories.accesses == 1 ? "" : "es", trace.requests,
+           trace.requests == 1 ? "" : "s");
   notes_write(&trace, title);
   text_close(&text);
   written++;
@@ -144,72 +144,44 @@ static void write_raw(void) {
   open_trace(declared, scope_reducers());
   if (!control_raw(&trace)) refuse(0, "CILKCHECK_RAW is for small runs: more than %lu requests", trace.most_requests);
   close_trace();
-  for (uint32_t i = 0; i < declared; i++) members_byte(written, i, raw_has_loads() && i % 2, raw_address(raw_has_loads() ? i / 2 + 1 : i + 1));
+  for (uint32_t i = 0; i < declared; i++) members_byte(written, i, raw_has_loads() ? i / 2 + 1 : i + 1, raw_address(raw_has_loads() ? i / 2 + 1 : i + 1));
+}
+
+static bool write_requests(uint32_t from, uint32_t to, uint32_t first_reducer, uint32_t end_reducer) {
+  trace.first_cell = from;
+  trace.end_cell = to;
+  trace.first_reducer = first_reducer;
+  trace.end_reducer = end_reducer;
+  open_trace(to - from, end_reducer - first_reducer);
+  if (!control_requests(&trace)) { drop_trace(); return false; }
+  close_trace();
+  for (uint32_t cell = from; cell < to; cell++) members_cell(written, cell - from, cell);
+  return true;
 }
 
 static void write_reducers(void) {
   uint32_t count = scope_reducers(), step = MOST_REDUCERS;
   for (uint32_t from = 0; from < count;) {
     uint32_t to = count - from < step ? count : from + step;
-    trace.first_cell = trace.end_cell = 0;
-    trace.first_reducer = from;
-    trace.end_reducer = to;
-    open_trace(0, to - from);
-    if (control_reducers(&trace)) { close_trace(); from = to; continue; }
-    drop_trace();
+    if (write_requests(0, 0, from, to)) { from = to; continue; }
     if (to - from == 1) refuse(0, "more than %lu requests for one reducer: take a smaller input", options.limit);
     step = (to - from) / 2;
   }
 }
-
-static bool write_cells(uint32_t from, uint32_t to) {
-  trace.first_cell = from;
-  trace.end_cell = to;
-  open_trace(to - from, 0);
-  if (!control_memory(&trace)) { drop_trace(); return false; }
-  close_trace();
-  for (uint32_t cell = from; cell < to; cell++) members_cell(written, cell - from, cell_is_second(cell), cells.class[cell]);
-  return true;
-}
-
-/* The accesses of one location in groups: a trace for each pair of groups, so that each pair of accesses is in one. */
-static void write_by_groups(uint32_t from, uint32_t to) {
-  uint32_t steps = cells.length[from], before = written;
-  uint64_t requests_before = requests;
-  for (trace.group = steps / 2 + 1; trace.group; trace.group = trace.group * 2 / 3) {
-    uint32_t groups = (steps + trace.group - 1) / trace.group;
-    bool fits = true;
-    for (uint32_t i = 0; fits && i < groups; i++)
-      for (uint32_t k = i + 1; fits && k < groups; k++) {
-        trace.first_group = i;
-        trace.second_group = k;
-        fits = write_cells(from, to);
-      }
-    if (fits) { trace.group = 0; return; }
-    for (; written > before; written--) { file_name(part, sizeof part, written, ".part"); unlink(part); }
-    requests = requests_before;
+static void write_pairs(void) {
+  uint32_t step = MOST_CELLS;
+  for (uint32_t from = 0; from < pairs.count;) {
+    if (step > options.limit / 2) step = (uint32_t)(options.limit / 2);
+    uint32_t to = pairs.count - from < step ? pairs.count : from + step;
+    if (write_requests(from, to, 0, 0)) { from = to; step += step / 4 + 1; continue; }
+    if (to - from == 1) refuse(0, "more than %lu requests for two accesses of one location: take a smaller input", options.limit);
+    step = (to - from) / 2;
   }
-  refuse(0, "more than %lu requests for two accesses of one location: take a smaller input", options.limit);
 }
-
-static void write_memory(void) {
-  /* Requests for each access: at first as if all spawns were told, then as the trace before had. */
-  double per_access = 1 + 5 * (double)log_spawns() / ((double)cells.accesses + 1);
-  for (uint32_t from = 0; from < cells.count;) {
-    uint64_t room = (uint64_t)(0.95 * (double)options.limit / per_access), sum = 0;
-    uint32_t to = from;
-    while (to < cells.count && to - from < MOST_CELLS - 1 && (to == from || sum + cells.length[to] <= room)) sum += cells.length[to++];
-    if (to < cells.count && cell_is_second(to)) to++;
-    if (write_cells(from, to)) {
-      if (trace.accesses) per_access = (double)trace.requests / (double)trace.accesses;
-      from = to;
-    } else if (to - from == 1 || (to - from == 2 && cell_is_second(from + 1))) {
-      write_by_groups(from, to);
-      from = to;
-    } else {
-      per_access *= 1.25;
-    }
-  }
+/* Pairs and reducers in one trace, where it holds them. */
+static bool write_all(void) {
+  uint32_t reducers = scope_reducers();
+  return reducers <= MOST_REDUCERS && pairs.count <= MOST_CELLS && pairs.count * 2 <= options.limit && write_requests(0, pairs.count, 0, reducers);
 }
 
 void traces_write(void) {
@@ -218,16 +190,13 @@ void traces_write(void) {
   text_begin();
   if (options.raw) {
     write_raw();
-  } else {
-    classes_number();
-    if (cells.accesses > MOST_ACCESSES) refuse(0, "%lu accesses of shared locations, and %u can be told: take a smaller input", cells.accesses, MOST_ACCESSES);
+  } else if (!write_all()) {
     write_reducers();
-    write_memory();
-    if (!written) write_cells(0, 0);
+    write_pairs();
   }
   members_write();
   rename_all();
   snprintf(first, sizeof first, written > 1 ? "%s.1.trace" : "%s.trace", name);
   if (written > 1) snprintf(last, sizeof last, " to %s.%u.trace", name, written);
-  say("recorded %lu accesses as %lu requests in %s%s", histories.accesses, requests, first, last);
+  say("recorded %lu access%s as %lu request%s in %s%s", histories.accesses, histories.accesses == 1 ? "" : "es", requests, requests == 1 ? "" : "s", first, last);
 }

@@ -1,18 +1,16 @@
 #!/usr/bin/env python3
 """Small programs with what is expected of them, by both compilers and three levels.
 
-    cases.py [--cilkcheck PATH] [--jobs N] [--expect N] [--spread] [--levels LEVEL..] [NAME..]
+    cases.py [--cilkcheck PATH] [--jobs N] [--expect N] [--chosen | --spread | --levels LEVEL..] [NAME..]
 
 The first line of a case is a comment of parts between semicolons, the last one for the reader:
 
-    expect: clean     no race, and nothing that was not seen inside
-    expect: race      the races that the comments of its lines tell (expected.py), and no others
+    expect: clean     no race, and nothing that was not seen
+    expect: race      the races that the comments of its lines tell (expected.py), one at least, and no others
     expect: refused   by the wrapper or by the run: exit status 70, the line that says `refused`, no trace
-    expect: race or refused, race or unseen    one of the two
-    unseen: NAME      "not seen inside" names it, when the program is linked and in the trace
+    unseen: NAME      what is not seen is named, when the program is linked or run, and in the trace
     says: TEXT        is in the refusal
-    flags: ..         for the compiler; only: gcc | clang; level: -O0 (alone); from: -O1; plain: no (the elision's output is not compared)
-    library: yes      places in headers of the C++ library are as good as those that the comments tell
+    flags: ..         for the compiler; only: gcc | clang; levels: all (with --chosen too); from: -O1; plain: no (the elision's output is not compared)
 
 A refusal must say `cilkcheck: refused: FILE:LINE: why`. Else the run's output and status must be those of the serial elision.
 """
@@ -51,30 +49,35 @@ def refusal(source, wanted, ran, traces):
 
 
 def check(job):
-    """What is wrong with a case by one compiler, for each level."""
-    given, room, source, compiler, levels = job
+    """What is wrong with a case, by each compiler and level."""
+    given, room, source, ways = job
     wanted = header(source)
-    folder = Path(room) / f"{source.name}-{compiler}"
+    folder = Path(room) / source.name
     folder.mkdir()
     plain = None
     if wanted.get("plain") != "no":
-        plain = harness.compile_plain(given.wrappers, [source], "plain", compiler, "-O0", wanted.get("flags", "").split(), folder)
+        # (by one compiler: its output is that of both)
+        plain = harness.compile_plain(given.wrappers, [source], "plain", ways[0][0], "-O0", wanted.get("flags", "").split(), folder)
         if not plain.status:
             plain = harness.run([folder / "plain"], folder)
-    return [it for level in levels if (it := compare(given, folder, source, compiler, level, wanted, plain))]
+    return [it for way in ways if (it := compare(given, folder, source, *way, wanted, plain))]
 
 
-def compare(given, folder, source, compiler, level, wanted, plain):
+def compare(given, room, source, compiler, level, wanted, plain):
+    folder = room / f"{compiler}{level}"
+    folder.mkdir()
     name = f"{source.name} {compiler} {level}"
-    kinds, flags = wanted["expect"].split(" or "), wanted.get("flags", "").split()
+    kind, flags = wanted["expect"], wanted.get("flags", "").split()
     ran, traces = harness.compile(given.wrappers, [source], "program", compiler, level, flags, folder), []
     compiled = ran
     if not ran.status:
         ran, traces = harness.record("program", [], folder)
     told = compiled.errors + ran.errors
-    if ran.status == 70 or "refused" in kinds and len(kinds) == 1:
-        said = refusal(source, wanted, ran, traces) if "refused" in kinds else told[-300:]
+    if kind == "refused":
+        said = refusal(source, wanted, ran, traces)
         return said and f"{name}: {said}"
+    if ran.status == 70:
+        return f"{name}: {told[-300:]}"
     if compiled.status:
         return f"{name}: not compiled: {compiled.errors[-500:]}"
     if plain and (ran.status, ran.output) != (plain.status, plain.output):
@@ -84,20 +87,29 @@ def compare(given, folder, source, compiler, level, wanted, plain):
     except verdicts.Fault as fault:
         return f"{name}: {fault} {ran.errors[-300:]}"
     notes = "\n".join(note for it in judged for note in it.notes)
-    unseen = "not seen" in notes
-    if unseen and "unseen" in kinds:
-        return None
     if "unseen" in wanted and not (wanted["unseen"] in told and wanted["unseen"] in notes):
-        return f"{name}: {wanted['unseen']} is not named as not seen inside: {told[-300:]} {notes[-300:]}"
-    if unseen and "unseen" not in wanted:
+        return f"{name}: {wanted['unseen']} is not named as not seen: {told[-300:]} {notes[-300:]}"
+    if "not seen" in notes and "unseen" not in wanted:
         return f"{name}: {notes[-300:]}"
-    said = Expected(source).differences(verdicts.races(judged), "library" in wanted)
+    expected = Expected(source, compiler)
+    if kind not in ("clean", "race") or bool(expected.race) != (kind == "race"):
+        return f"{name}: expects {kind}, and its lines tell of {len(expected.race)} races"
+    said = expected.differences(verdicts.races(judged))
     return f"{name}: {'; '.join(said)}" if said else None
+
+
+def levels_of(given, wanted, k):
+    if given.chosen:
+        levels = harness.LEVELS if wanted.get("levels") == "all" else ["-O0"]
+    else:
+        levels = ["-O0", ("-O1", "-O2")[k % 2]] if given.spread else given.levels
+    return [it for it in levels if it >= wanted.get("from", it)]
 
 
 def main():
     parser = harness.parser(__doc__)
     parser.add_argument("--levels", nargs="*", default=harness.LEVELS)
+    parser.add_argument("--chosen", action="store_true", help="-O0, and for cases at which optimization is aimed -O1 and -O2 too")
     parser.add_argument("--spread", action="store_true", help="-O0, and -O1 or -O2 in turns")
     parser.add_argument("--compilers", nargs="*", default=harness.COMPILERS)
     parser.add_argument("names", nargs="*", help="cases, by the beginning of their names")
@@ -105,11 +117,12 @@ def main():
     sources = [it for it in sorted(CASES.iterdir()) if not given.names or it.name.startswith(tuple(given.names))]
     with tempfile.TemporaryDirectory(prefix="cilkcheck-cases-") as room:
         jobs = []
-        for k, (source, compiler) in enumerate(itertools.product(sources, given.compilers)):
-            levels = given.levels if not given.spread else ["-O0", "-O1" if (k + k // 2) % 2 else "-O2"]
-            levels = [it for it in levels if it == header(source).get("level", it) and it >= header(source).get("from", it)]
-            if header(source).get("only", compiler) == compiler:
-                jobs.append((given, room, source, compiler, levels))
+        for k, source in enumerate(sources):
+            wanted = header(source)
+            compilers = [it for it in given.compilers if wanted.get("only", it) == it]
+            ways = list(itertools.product(compilers, levels_of(given, wanted, k)))
+            if ways:
+                jobs.append((given, room, source, ways))
         failures = harness.shown(it for found in harness.in_parallel(check, jobs, given.jobs) for it in found)
     harness.finish("cases", sum(len(it[-1]) for it in jobs), failures, given.expect)
 

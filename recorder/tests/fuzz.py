@@ -5,7 +5,7 @@
 
 A program has globals of 1, 2, 4, 8 and 16 bytes, functions that call, spawn and call themselves, locals and elements and fields whose addresses
 are handed on, blocks of the heap, results of spawns, spawned blocks, loops of spawns, cilk_for, cilk_scope, atomics, copies, reducers, early
-returns; in C++ references, lambdas, methods and exceptions besides. The oracle (oracle.py) interprets the same tree. Each program is recorded
+returns; in C++ references, lambdas, methods and exceptions besides; and a function with many frames that are alike, few of them racy. The oracle (oracle.py) interprets the same tree. Each program is recorded
 four times: compressed, compressed with the judge deciding epochs, compressed in traces of 60 requests (which the recorder may refuse), and with
 every access of every byte. Each recording has to show a race
 at exactly the bytes of globals at which the oracle finds one, and at as many bytes of locals and of the heap; at -O0 the lines of each report and
@@ -17,6 +17,7 @@ Programs are spread over both compilers, three levels and both languages, 25 of 
 import concurrent.futures
 import itertools
 import shutil
+import subprocess
 import sys
 import tempfile
 from collections import Counter
@@ -51,8 +52,8 @@ def drawn(seed, cxx):
 class Group:
     """Programs of one source, by one compiler and level."""
 
-    def __init__(self, given, room, seeds, compiler, level, cxx):
-        self.given, self.compiler, self.level, self.cxx = given, compiler, level, cxx
+    def __init__(self, given, room, seeds, compiler, level, cxx, runtime):
+        self.given, self.compiler, self.level, self.cxx, self.runtime = given, compiler, level, cxx, runtime
         self.name = f"{compiler}{level}{'-c++' * cxx}-{seeds[0]}"
         self.folder = Path(given.keep or room) / self.name
         self.folder.mkdir(parents=True, exist_ok=True)
@@ -70,7 +71,7 @@ class Group:
             program.found = Oracle(program).run()
         (self.folder / "sink.c").write_text(SINK)
         harness.run(["gcc", "-c", "sink.c", "-o", "sink.o"], self.folder)
-        compiled = harness.compile(self.given.wrappers, [source, "sink.o"], "p", self.compiler, self.level, [], self.folder)
+        compiled = harness.compile(self.given.wrappers, [source, "sink.o"], "p", self.compiler, self.level, [], self.folder, self.runtime)
         plain = harness.compile_plain(self.given.wrappers, [source, "sink.o"], "plain", self.compiler, self.level, [], self.folder)
         for ran in compiled, plain:
             if ran.status:
@@ -118,37 +119,35 @@ class Group:
                     reducers.add(it.rule)
                 else:
                     refusals.setdefault((number, it.cell), []).append(it)
-        said, bytes_of_globals, bytes_of_lives, used = [], set(), 0, set()
+        # Each refused cell's members race, by lines and a spawn that the oracle knows there; and each byte that races is among some cell's.
+        said, bytes_of_globals, bytes_of_lives, used = [], set(), set(), set()
         for line in members.read_text().splitlines():
-            number, cell, address, size, first = line.split()
-            cell, address, size, first = (int(number), f"c[{cell}]"), int(address, 16), int(size), (int(number), f"c[{first}]")
+            number, cell, address, life = line.split()
+            cell, address = (int(number), f"c[{cell}]"), int(address, 16)
             if cell not in refusals:
                 continue
             used.add(cell)
-            places = []
-            for k in range(size):
-                name = next((name for name, (first, bytes_) in at.items() if first <= address + k < first + bytes_), None)
-                places.append((name, address + k - at[name][0]) if name else None)
-            bytes_of_globals |= {it for it in places if it}
-            if cell == first or first not in refusals:              # a location with atomic loads is two cells
-                bytes_of_lives += places.count(None)
-            for place in dict.fromkeys(places):
-                known = found.racy.get(place, {}) if place else found.pairs_of_lives
-                for it in refusals[cell] if self.level == "-O0" else []:
-                    pair = (it.earlier.line, it.later.line)
-                    spawns = known.get(pair) or known.get(pair[::-1])
-                    if spawns is None:
-                        said.append(f"{it.rule} of lines {pair} at {place[0] if place else 'a local or block'}, which the oracle does not know")
-                    elif it.spawn.line not in spawns:
-                        said.append(f"lines {pair} at {place[0] if place else 'a local or block'} part at {it.spawn.line}, by the oracle at {sorted(spawns)}")
+            place = next(((name, address - first) for name, (first, size) in at.items() if first <= address < first + size), None)
+            if place:
+                bytes_of_globals.add(place)
+            else:
+                bytes_of_lives.add((address, int(life)))
+            known = found.racy.get(place, {}) if place else found.pairs_of_lives
+            for it in refusals[cell] if self.level == "-O0" else []:
+                pair = (it.earlier.line, it.later.line)
+                spawns = known.get(pair) or known.get(pair[::-1])
+                if spawns is None:
+                    said.append(f"{it.rule} of lines {pair} at {place[0] if place else 'a local or block'}, which the oracle does not know")
+                elif it.spawn.line not in spawns:
+                    said.append(f"lines {pair} at {place[0] if place else 'a local or block'} part at {it.spawn.line}, by the oracle at {sorted(spawns)}")
         if lost := set(refusals) - used:
             said.append(f"no members of {sorted(lost)}")
         wanted = {it for it in found.racy if isinstance(it[0], str)}
         lives = len(found.racy) - len(wanted)
         if bytes_of_globals != wanted:
             said.append(f"races lost: {told(wanted - bytes_of_globals)}; races that are none: {told(bytes_of_globals - wanted)}")
-        if bytes_of_lives != lives and (mode not in ("compressed", "in parts") or bytes_of_lives < lives or not lives):
-            said.append(f"{bytes_of_lives} bytes of locals and blocks, by the oracle {lives} ({told(it for it in found.racy if it not in wanted)})")
+        if len(bytes_of_lives) != lives:
+            said.append(f"{len(bytes_of_lives)} bytes of locals and blocks, by the oracle {lives} ({told(it for it in found.racy if it not in wanted)})")
         if bool(reducers) != bool(found.reducers):
             said.append(f"reducers: {reducers or 'no race'}, by the oracle {found.reducers or 'none'}")
         return list(dict.fromkeys(said))[:4]
@@ -175,14 +174,18 @@ def main():
     if given.keep:
         shutil.rmtree(given.keep, ignore_errors=True)
     combinations = list(itertools.product(harness.LEVELS, harness.COMPILERS, (False, True)))
+    runtime = harness.RECORDER / "runtime"
     failures, counts = [], Counter()
     with tempfile.TemporaryDirectory(prefix="cilkcheck-fuzz-") as room:
+        # (These programs are small: a runtime that tells the states in use from the others after each strand is built for half of them.)
+        subprocess.run(["make", "-s", "-j2", "-C", runtime, f"OUT={room}/often", "CFLAGS=-O2 -g -DCOLLECT_AFTER=1", f"{room}/often/cilkcheck-runtime.o"], env=harness.ENVIRONMENT, check=True)
         jobs = []
         for k, first in enumerate(range(given.seed, given.seed + given.count, EACH)):
             level, compiler, cxx = combinations[k % len(combinations)]
             seeds = list(range(first, min(first + EACH, given.seed + given.count)))
             if not given.only or f"{compiler}{level}{'-c++' * cxx}".startswith(tuple(given.only)):
-                jobs.append((given, room, seeds, compiler, level, cxx))
+                often = (k // 2 + k // len(combinations)) % 2
+                jobs.append((given, room, seeds, compiler, level, cxx, f"{room}/often/cilkcheck-runtime.o" if often else None))
         with concurrent.futures.ProcessPoolExecutor(given.jobs) as pool:
             for found, counted in pool.map(check, jobs):
                 failures += found

@@ -98,6 +98,7 @@ class Program:
         for function in self.functions:
             self.fill(function)
         self.start = Place(next(it for it in self.bases if it.type is self.functions[0].parameter.type), 0)
+        Frames(self, random.Random(f"frames {seed} {draw}")).add()
 
     # drawing
     def name(self, letter):
@@ -337,6 +338,18 @@ class Program:
             self.write_all(it.otherwise)
         self.line("}")
 
+    def write_either(self, it):
+        held, texts = self.lines, []
+        for branch in it.body, it.otherwise:
+            self.lines = []
+            self.write_all(branch)
+            texts.append(" ".join(self.lines))
+        self.lines = held
+        it.line = self.line(f"if ({it.text}) {{ {texts[0]} }} else {{ {texts[1]} }}")
+        for inner in [*it.body, *it.otherwise]:
+            for one in [inner, *getattr(inner, "body", [])]:
+                one.line = it.line
+
     def write_heap(self, it):
         size = f"{it.count} * sizeof({it.type.name})"
         self.line("{")
@@ -352,6 +365,89 @@ class Program:
     def write_reduce(self, it):
         texts = (f"*{it.name} += 2;", f"sink({it.name}.get_value());", f"{it.name}.set_value(5);") if self.cxx else (f"REDUCER_VIEW({it.name}) += 2;", f"sink(REDUCER_GET({it.name}));", f"REDUCER_PUT({it.name}, 5);")
         it.line = self.line(texts[("update", "get", "put").index(it.operation)])
+
+
+class Frames:
+    """Adds to a program a function that calls and spawns itself, so that there are many frames alike but for where they lie; and at one depth a
+    statement does something else on the same line: it syncs or not, reads or writes, spawns or calls. So a race may be in few of the frames."""
+
+    def __init__(self, program, drawn):
+        self.program, self.random = program, drawn
+        self.function = Function(f"{program.prefix}frames", len(program.functions), INT, 1, False)
+        self.own = [Base(program.name("x"), INT, 2), Base(program.name("x"), LONG, 1)]
+        self.function.locals = [[it.name, it.type, it.count, 0] for it in self.own]
+        self.calls = 0
+
+    def add(self):
+        function, program = self.function, self.program
+        function.body = [self.access(self.random.choice(["read", "write", "modify"]), Place(function.parameter, 0))]
+        for _ in range(self.random.randint(2, 4)):
+            function.body += self.statements()
+        program.functions.append(function)
+        n = {0: 3, 1: 6, 2: 4}.get(self.calls, 3)
+        call = Statement("call", callee=function.number, callee_n=n, place=Place(next(it for it in program.bases if it.type is INT), 0))
+        body = program.functions[0].body
+        body.insert(self.random.choice([0, len(body)]), call)
+
+    def place(self):
+        base = self.random.choice([self.own[0], self.own[0], self.own[1], self.function.parameter])
+        return Place(base, self.random.randint(0, base.count - 1))
+
+    def access(self, kind, place):
+        return Statement(kind, place=place, value=self.random.randint(1, 9), way="add")
+
+    def block(self, *body):
+        return Statement("block", index=None, count=0, own=None, own_type=INT, own_size=4, body=list(body), lambda_=False)
+
+    def again(self, spawned, argument, result):
+        parts = dict(callee=self.function.number, callee_n=None, place=argument, other=result)
+        return Statement("spawn", result_size=result.size if result else 0, **parts) if spawned else Statement("call", **parts)
+
+    def guarded(self, *body):
+        return Statement("choose", text="n > 0", holds=CONDITIONS["n > 0"], body=list(body), otherwise=[])
+
+    def statements(self):
+        kind = self.random.choice(["again", "sync", "access", "block", "idle", "either", "either", "either", "either", *(["reduce"] if self.program.reducers else [])])
+        if kind == "either":
+            # what comes before and behind it is mostly there, so that what differs is a race or none
+            before, one, behind = self.either()
+            return [*(before if self.random.random() < 0.8 else []), one, *(behind if self.random.random() < 0.8 else []), *([Statement("sync")] if self.random.random() < 0.7 else [])]
+        if kind == "again":
+            self.calls += 1
+            result = Place(self.own[0], self.random.randint(0, 1)) if self.random.random() < 0.6 else None
+            return [self.guarded(self.again(self.random.random() < 0.7, Place(self.own[0], self.random.randint(0, 1)), result))]
+        if kind == "sync":
+            return [Statement("sync")]
+        if kind == "idle":
+            return [self.block()]
+        if kind == "reduce":
+            return [Statement("reduce", name=self.random.choice(self.program.reducers), operation=self.random.choice(["get", "put", "update"]))]
+        one = self.access(self.random.choice(["read", "write", "modify", "load", "update"]), self.place())
+        return [self.block(one) if kind == "block" else one]
+
+    def either(self):
+        place, k = self.place(), self.random.randint(1, 3)
+        read, write = self.access("read", place), self.access(self.random.choice(["write", "modify", "update"]), place)
+        draw = self.random.choice(["sync", "kind", "kind of a child", "child", "call", "call", "place"])
+        before, behind = [], []
+        if draw == "sync":
+            before, pair, behind = [self.block(write)], [[Statement("sync")], []], [read]
+        elif draw == "kind":
+            before, pair = [self.block(self.access("read", place))], [[read], [write]]
+        elif draw == "kind of a child":
+            pair, behind = [[self.block(read)], [self.block(write)]], [self.access("read", place)]
+        elif draw == "child":
+            pair, behind = [[self.block(write)], [self.access(write.kind, place)]], [read]
+        elif draw == "call":
+            self.calls += 1
+            argument = Place(self.own[0], 0)
+            pair, behind = [[self.again(it, argument, None)] for it in (True, False)], [self.access(self.random.choice(["read", "write"]), argument)]
+        else:
+            places = [Place(self.own[0], it) for it in (0, 1)]
+            before, pair = [self.block(self.access("write", places[0]))], [[self.access("read", it)] for it in places]
+        self.random.shuffle(pair)
+        it = Statement("either", text=f"n == {k}", holds=lambda n: n == k, body=pair[0], otherwise=pair[1])
+        return before, self.guarded(it) if draw == "call" else it, behind
 
 
 def main_of(programs):

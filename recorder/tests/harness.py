@@ -5,6 +5,7 @@ import os
 import re
 import subprocess
 import sys
+import tempfile
 from dataclasses import dataclass
 from pathlib import Path
 
@@ -15,8 +16,14 @@ RECORDER = HERE.parent
 COMPILERS, LEVELS = ("gcc", "clang"), ("-O0", "-O1", "-O2")
 PLAIN = {("gcc", False): "gcc", ("gcc", True): "g++", ("clang", False): "clang", ("clang", True): "clang++"}
 CXX = (".cpp", ".cc", ".cxx")
-SECONDS = 120
-ENVIRONMENT = {name: value for name, value in os.environ.items() if not name.startswith("CILKCHECK_")}
+SECONDS = 300
+# The wrappers run by the Python that runs this, without a version manager's detour, and their modules are compiled once.
+MODULES = tempfile.TemporaryDirectory(prefix="cilkcheck-modules-")
+ENVIRONMENT = {
+    **{name: value for name, value in os.environ.items() if not name.startswith("CILKCHECK_") and name != "PYTHONDONTWRITEBYTECODE"},
+    "PATH": f"{os.path.dirname(sys.executable)}:{os.environ['PATH']}",
+    "PYTHONPYCACHEPREFIX": MODULES.name,
+}
 
 
 def parser(text):
@@ -48,10 +55,10 @@ def is_cxx(sources):
     return any(Path(it).suffix in CXX for it in sources)
 
 
-def compile(wrappers, sources, output, compiler, level, flags=(), cwd="."):
-    """Compiles and links for a recording."""
+def compile(wrappers, sources, output, compiler, level, flags=(), cwd=".", runtime=None):
+    """Compiles and links for a recording, with another build of the runtime where one is given."""
     tool = wrappers / ("cilkcheck-c++" if is_cxx(sources) else "cilkcheck-cc")
-    return run([tool, *sources, *flags, "-o", output], cwd, {"CILKCHECK_CC": compiler, **({"CILKCHECK_OPT": level} if level else {})})
+    return run([tool, *sources, *flags, "-o", output], cwd, {"CILKCHECK_CC": compiler, **({"CILKCHECK_OPT": level} if level else {}), **({"CILKCHECK_RUNTIME": str(runtime)} if runtime else {})})
 
 
 def compile_plain(wrappers, sources, output, compiler, level, flags=(), cwd="."):

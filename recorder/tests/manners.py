@@ -121,7 +121,7 @@ class Manners:
         self.check("what was cut off leaves nothing that could be judged", not any(it.endswith(".trace") for it in self.traces()), self.traces())
 
     def large(self):
-        ran = self.run("many", env={"CILKCHECK_EPOCHS": "no"})
+        ran = self.run("many", env={"CILKCHECK_EPOCHS": "no", "CILKCHECK_LIMIT": "20"})
         paths = verdicts.traces_of(self.room / "program")
         self.check("what does not fit into one trace comes into several", len(paths) > 1 and [it.name for it in paths] == [f"program.{k}.trace" for k in range(1, len(paths) + 1)], (ran.stderr, self.traces()))
         found = verdicts.races(verdicts.judged(paths, self.given.cilkcheck))

@@ -246,6 +246,8 @@ class Oracle:
     def do_choose(self, it, frame):
         self.statements(it.body if it.holds(frame.names["n"]) else it.otherwise, frame)
 
+    do_either = do_choose
+
     def do_heap(self, it, frame):
         frame.names[it.name] = self.life()
         self.statements(it.body, frame)

@@ -22,8 +22,6 @@ LIBRARIES = ["-Wl,--no-as-needed", "-lasan", "-lubsan", "-lm"]
 FINDING = re.compile(r"AddressSanitizer|runtime error|UndefinedBehaviorSanitizer")
 SEEDS = range(1, 13)
 REFUSED = 70
-# AddressSanitizer puts itself before a function of this case's library, and does not find it.
-NO_LIBRARY = "unseen.c"
 
 
 def warnings(room):
@@ -51,22 +49,24 @@ def check(job):
     folder = room / f"{source.stem}{''.join(flags)}{''.join(words)}".replace("/", "")
     folder.mkdir()
     name = f"sanitized: {source.name} {' '.join([*flags, *words])}"
+    is_refused = source.parent == cases.CASES and cases.header(source)["expect"] == "refused"
     env = {"CILKCHECK_CC": "gcc", "CILKCHECK_RUNTIME": str(runtime), "CILKCHECK_UNSEEN": "note"}
     for command in (
         [given.wrappers / "cilkcheck-cc", *flags, "-c", source, "-o", "program.o"],
         ["objcopy", f"--redefine-syms={renamed}", "program.o"],
-        [given.wrappers / "cilkcheck-cc", *flags, "program.o", *others, *LIBRARIES, "-o", "program"],
+        # (AddressSanitizer finds the functions that it stands before only in libraries behind its own)
+        [given.wrappers / "cilkcheck-cc", "program.o", *others, *LIBRARIES, *flags, "-o", "program"],
     ):
         ran = harness.run(command, folder, env)
-        if ran.status == REFUSED and source.parent == cases.CASES and "refused" in cases.header(source)["expect"]:
+        if ran.status == REFUSED and is_refused:
             return None
         if ran.status:
             return f"{name}: {ran.errors[-300:]}"
     ran = harness.run([folder / "program", *words], folder, {"ASAN_OPTIONS": "detect_leaks=0:exitcode=99", **({"CILKCHECK_RAW": "1"} if words else {})})
     if FINDING.search(ran.errors) or ran.status < 0 or ran.status == 99:
         return f"{name}: status {ran.status}: {ran.errors[:1500]}"
-    if "cilkcheck: recorded" not in ran.errors and not harness.refused(ran):
-        return f"{name}: status {ran.status}, and nothing recorded: {ran.errors[-300:]}"
+    if ("cilkcheck: recorded" in ran.errors) == is_refused or bool(harness.refused(ran)) != is_refused:
+        return f"{name}: status {ran.status}, and {'no refusal' if is_refused else 'nothing recorded'}: {ran.errors[-300:]}"
     return None
 
 
@@ -89,8 +89,7 @@ def main():
         jobs = [(given, room, runtime, renamed, it, flags, [], []) for it in sorted(PROGRAMS.glob("*.c")) for flags in (["-lm"], ["-DRACE", "-lm"])]
         for it in sorted(cases.CASES.glob("*.c")):
             wanted = cases.header(it)
-            if not it.name.startswith(("refused_", "omp_refused")) and wanted["expect"] != "refused" and it.name != NO_LIBRARY:
-                jobs.append((given, room, runtime, renamed, it, wanted.get("flags", "").split(), [], []))
+            jobs.append((given, room, runtime, renamed, it, wanted.get("flags", "").split(), [], []))
         jobs += [(given, room, runtime, renamed, fuzz, [], [str(it)], [room / "sink.o"]) for it in SEEDS]
         jobs = [it for it in jobs if not given.names or it[4].stem.startswith(tuple(given.names))]
         failures += harness.shown(it for it in harness.in_parallel(check, jobs, given.jobs) if it)

@@ -1,6 +1,7 @@
 """Compiles, rewrites and links as the command line asks."""
 import fcntl
 import os
+import re
 import shutil
 import subprocess
 import sys
@@ -17,17 +18,20 @@ INCLUDE = ROOT / "include"
 RUNTIME = ROOT / "runtime"
 NAMES = ROOT / "names"
 # Each access that the compiler leaves is recorded. No function may be put into another, since a call's frame and the sync at its end are told by the
-# function's entry and exit; no library call may be expanded, since calls are what is seen of them.
-RECORDED = ["-g", "-fno-inline", "-fno-builtin", "-fno-omit-frame-pointer", "-fno-optimize-sibling-calls", "-fsanitize=thread"]
-# gcc puts no two variables into one place of the frame, and learns nothing of a function from its body
-GCC = ["-fno-ipa-icf", "-fno-ipa-modref", "-fno-ipa-pure-const", "-fno-ipa-sra", "-fno-ipa-cp", "-fno-ipa-ra", "-fno-partial-inlining", "-fstack-reuse=none", "-mno-accumulate-outgoing-args"]
+# function's entry and exit; no library call may be expanded, since calls are what is seen of them. addr2line before binutils 2.42 takes the first
+# header of DWARF 5 for the source.
+RECORDED = ["-g", "-gdwarf-4", "-fno-inline", "-fno-builtin", "-fno-omit-frame-pointer", "-fno-optimize-sibling-calls", "-fsanitize=thread"]
+# gcc puts no two variables into one place of the frame, learns nothing of a function from its body, and leaves a function in one piece
+GCC = ["-fno-reorder-blocks-and-partition", "-fno-ipa-icf", "-fno-ipa-modref", "-fno-ipa-pure-const", "-fno-ipa-sra", "-fno-ipa-cp", "-fno-ipa-ra", "-fno-partial-inlining", "-fstack-reuse=none", "-mno-accumulate-outgoing-args"]
 # clang 14's thread sanitizer leaves out the fields and elements of shared locals; its coverage hooks tell every load and store
-CLANG = ["-gdwarf-4", "-mllvm", "-tsan-instrument-memory-accesses=0", "-fsanitize-coverage=func,trace-loads,trace-stores", "-Wno-unused-command-line-argument"]
+CLANG = ["-mllvm", "-tsan-instrument-memory-accesses=0", "-fsanitize-coverage=func,trace-loads,trace-stores", "-Wno-unused-command-line-argument"]
 # the columns of rewritten text are not the user's
 QUIET = {"gcc": ["-fno-diagnostics-show-caret", "-fno-show-column", "-Wno-misleading-indentation"],
          "clang": ["-fno-caret-diagnostics", "-fno-show-column", "-Wno-misleading-indentation"]}
 
 
+# clang 14 crashes on some untied tasks; to a serial run the clause means nothing
+UNTIED = re.compile(r"^([ \t]*#[ \t]*pragma[ \t]+omp[ \t]+task(?:loop)?\b.*?)\buntied\b,?", re.M)
 REFUSED = 70                                                # the status of a program or a run that is refused
 
 
@@ -105,10 +109,12 @@ class Driver:
         text = self.preprocess(source, language, target)
         self.notes = [f"{file}:{line}: inline assembly" for file, line in assembly(text)]
         try:
-            text = rewrite(text, is_cxx, self.commands.openmp, self.kind == "clang")
+            text = rewrite(text, is_cxx, self.commands.openmp, self.kind == "clang", self.kind == "gcc")
         except Refused as fault:
             say(f"refused: {fault}")
             raise Failed(REFUSED) from None
+        if self.kind == "clang" and self.commands.openmp:
+            text = UNTIED.sub(r"\1", text)
         rewritten = self.folder / f"{self.count}.{'ii' if is_cxx else 'i'}"
         rewritten.write_text(text, encoding="utf-8", errors="surrogateescape")
         stage = "-S" if self.commands.mode == "-S" else "-c"
@@ -173,7 +179,7 @@ class Driver:
             return []
         found = gcc_structures.parse(dump.read_text(encoding="utf-8", errors="surrogateescape"))
         if found and stage == "-c":
-            functions = gcc_structures.functions_of(target)
+            functions = gcc_structures.functions_of(target) | program.listed(NAMES)
             found = [it for it in found if it.expression not in functions]
         return [it for it in found if not it.file.startswith(str(INCLUDE))]
 
@@ -208,6 +214,13 @@ class Driver:
         found = [os.path.join(folder, f"lib{library}.a") for folder in folders_of(self.commands.link)]
         return [it for it in found if os.path.isfile(it)][:1]
 
+    def needed(self):
+        """An object that needs the library of C++. What the runtime calls of it are weak symbols, for which the linker takes no library."""
+        source, target = self.folder / "needed.s", str(self.folder / "needed.o")
+        source.write_text('.data\n.balign 8\n.quad __gxx_personality_v0\n.section .note.GNU-stack, "", @progbits\n', encoding="ascii")
+        run([self.c_compiler, "-c", str(source), "-o", target])
+        return target
+
     def link(self, sources):
         commands, inputs, objects = self.commands, [], []
         for it in commands.inputs:
@@ -230,6 +243,8 @@ class Driver:
             return 0
         runtime = runtime_object()
         options = [it for it in commands.link if it != "-g"]
+        if (cxx or {"-lstdc++", "-lc++"} & set(inputs)) and not {"-nostdlib", "-nodefaultlibs", "-nostdlib++"} & set(commands.link):
+            inputs.insert(0, self.needed())
         run([linker, *options, *inputs, str(runtime), "-lm", "-o", output])
         program.finish(output, objects, runtime, NAMES, INCLUDE, self.folder)
         return 0
@@ -242,18 +257,26 @@ def folders_of(options):
 
 
 def runtime_object():
-    """The runtime, which is built on first use. Several makes may come here at once."""
+    """The runtime: installed, or built in the checkout on first use. Several makes may come here at once."""
     given = os.environ.get("CILKCHECK_RUNTIME")
     if given:
         return Path(given)
-    out = RUNTIME / "out"
+    installed, out = RUNTIME / "cilkcheck-runtime.o", RUNTIME / "out"
+    if installed.exists():
+        return installed
     built = out / "cilkcheck-runtime.o"
     if not os.access(RUNTIME, os.W_OK) and built.exists():
         return built
-    out.mkdir(exist_ok=True)
-    with open(out / "lock", "w", encoding="ascii") as lock:
+    try:
+        out.mkdir(exist_ok=True)
+        lock = open(out / "lock", "w", encoding="ascii")
+    except OSError as fault:
+        say(f"the runtime cannot be built: {fault.filename}: {fault.strerror}")
+        raise Failed(1) from None
+    with lock:
         fcntl.flock(lock, fcntl.LOCK_EX)
-        ran = subprocess.run(["make", "-s", "-C", str(RUNTIME), f"-j{os.cpu_count() or 1}", f"OUT={out}"], stdout=sys.stderr, env={name: value for name, value in os.environ.items() if name not in ("MAKEFLAGS", "MFLAGS", "CC", "CFLAGS")})
+        compiler = "gcc" if shutil.which("gcc") else "clang"
+        ran = subprocess.run(["make", "-s", "-C", str(RUNTIME), f"-j{os.cpu_count() or 1}", f"OUT={out}", f"CC={compiler}"], stdout=sys.stderr, env={name: value for name, value in os.environ.items() if name not in ("MAKEFLAGS", "MFLAGS", "CC", "CFLAGS")})
         if ran.returncode:
             say("the runtime does not build")
             raise Failed(1)

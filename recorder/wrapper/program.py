@@ -58,30 +58,37 @@ def code_of(path):
     return out
 
 
+INDIRECT = re.compile(rb"\xff(?:[\xd0-\xd7\x10-\x13\x16\x17]|[\x50-\x53\x55-\x57].|[\x90-\x93\x95-\x97]....)", re.S)
+
+
 def calls(path, targets):
-    """The return addresses of direct calls of the targets: {return address: target}. Calls through a pointer are not found."""
-    found = {}
+    """The return addresses of direct calls of the targets: {return address: target}, and those of what may be a call through a pointer."""
+    found, indirect = {}, []
     for base, code in code_of(path):
         for hit in re.finditer(rb"\xe8(?=(....))", code, re.S):
             behind = base + hit.start() + 5
             target = behind + struct.unpack("<i", hit.group(1))[0]
             if target in targets:
                 found[behind] = target
-    return found
+        indirect += [base + hit.end() for hit in INDIRECT.finditer(code)]
+    return found, indirect
 
 
+@functools.cache
 def runtime_names(runtime):
     return {line.split()[2] for line in output_of(["nm", "-g", "--defined-only", str(runtime)]).splitlines() if len(line.split()) == 3}
 
 
 def symbolize(path, addresses, own):
-    """{address: (file, line)} by one call of addr2line; the first place outside the recorder's own headers counts."""
+    """{address: (file, line)} by one call of addr2line. Of inlined code the first place outside of the system's headers counts, else the first
+    outside of the recorder's own."""
     given = "".join(f"{address:#x}\n" for address in addresses)
     found, address, pairs, function = {}, None, [], True
     for line in output_of(["addr2line", "-a", "-i", "-f", "-e", path], given).splitlines() + ["0x0"]:
         if line.startswith("0x") and function:
             if address is not None:
-                found[address] = next((it for it in pairs if not it[0].startswith(own)), pairs[0] if pairs else ("??", 0))
+                users = [it for it in pairs if not it[0].startswith(own)]
+                found[address] = next((it for it in users if not it[0].startswith((*system_folders(), "??"))), (users or pairs or [("??", 0)])[0])
             address, pairs = int(line, 16), []
         elif function:
             function = False
@@ -125,11 +132,20 @@ def table(path, runtime, include, called, compiled):
     hooks = runtime_names(runtime) - compiled
     targets = {symbols.address[name]: name for name in hooks if name in symbols.address}
     entry = symbols.address.get("__tsan_func_entry")
-    sites = {behind: (target, function) for behind, target in calls(path, targets).items()
+    direct, indirect = calls(path, targets)
+    sites = {behind: (target, function) for behind, target in direct.items()
              if (function := symbols.function_at(behind - 1)) is not None and function[2] not in hooks}
     functions = sorted({it[1] for it in sites.values()})
+    recorded = set(functions)
+    sites |= {behind: (None, function) for behind in indirect if behind not in sites and (function := symbols.function_at(behind - 1)) in recorded}
     wanted = sorted({behind - 1 for behind in sites} | {function[0] for function in functions})
     places = symbolize(path, wanted, own)
+    headers = {function[0] for function in functions if places.get(function[0], ("??", 0))[0].startswith(system_folders())}
+    calling = {behind: (None, function) for behind in (calls(path, headers)[0] if headers else ())
+               if (function := symbols.function_at(behind - 1)) in recorded and function[0] not in headers}
+    if calling:
+        sites |= calling
+        places |= symbolize(path, sorted(behind - 1 for behind in calling), own)
     plain = names.demangle([function[2] for function in functions])
     shorts = {function: names.short(plain[function[2]]) for function in functions}
     by_line = {}                                            # functions that are not made by the compiler for a part of another
@@ -158,11 +174,11 @@ def table(path, runtime, include, called, compiled):
         if line == 0:
             continue
         before = function, file, line
-        key = file, line
-        site = numbers.setdefault(key, len(numbers) + 1)
+        name = clean(function_name(function, file, line))
+        site = numbers.setdefault((file, line, name), len(numbers) + 1)
         if file.startswith(system):
             out.append(f"inside\t{behind:x}\t-")
-        out.append(f"at\t{behind:x}\t{site}\t{shown(file)}\t{line}\t{clean(function_name(function, file, line))}\t{code.line(file, line)}")
+        out.append(f"at\t{behind:x}\t{site}\t{shown(file)}\t{line}\t{name}\t{code.line(file, line)}")
     for function in functions:
         file, line = places.get(function[0], ("??", 0))
         out.append(f"in\t{function[0]:x}\t{function[1]:x}\t{clean(function_name(function, file, line))}\t{shown(file)}\t{line}")
@@ -171,10 +187,15 @@ def table(path, runtime, include, called, compiled):
         told = "the state of " + name[len(STATE):] if name.startswith(STATE) else objects[name]
         out.append(f"of\t{address:x}\t{size:x}\t{clean(told)}")
     if "__cilkcheck_child_awaited" in hooks and symbols.address.get("__cilkcheck_child_awaited") in {it[0] for it in sites.values()}:
+        entered = set()
         for behind in sorted(sites):
             target, function = sites[behind]
             if target == entry:
+                entered.add(function[2])
                 out.append(f"enter\t{behind:x}\t{names.called(plain[function[2]])}")
+        others = {it[2] for it in symbols.functions} - entered
+        others -= {line.split()[-1] for line in output_of(["nm", "--defined-only", str(runtime)]).splitlines()} - compiled
+        out += sorted({f"plain\t0\t{name}" for it in names.demangle(others).values() if (name := names.called(it)) != "-"})
         out += sorted({f"library\t0\t{names.called(name)}" for name in names.demangle(called).values()})
     return out
 
@@ -184,6 +205,7 @@ def system_folders():
 
 
 STATE = "__cilkcheck_state_of_"
+VTABLE = "vtable for "
 UNSEEN = ".cilkcheck.unseen"                                # a section of objects: what the compiler does not tell, a line each
 
 
@@ -197,32 +219,32 @@ def notes(path, folder):
     return sorted(set(line for line in lines if line))
 
 
-def compiled_elsewhere(objects):
-    """What the user's objects call that no wrapper compiled."""
-    called, defined = set(), set()
-    for line in output_of(["nm", "-A", "-g", *objects]).splitlines():
+def compiled_elsewhere(symbols, defined):
+    """What the user's objects call that no wrapper compiled. A virtual table that is elsewhere stands for the functions in it."""
+    called = set()
+    for line in symbols:
         words = line.rpartition(":")[2].split()
         if len(words) == 2 and words[0] in "Uwv":
             called.add(words[1].partition("@")[0])
-    for symbols in instrumented(objects).values():
-        defined |= symbols
-    return {name for name in called - defined if not re.match(r"_ZT[VTISH]|_ZGV|_GLOBAL_OFFSET_TABLE_|__start_|__stop_|__tsan_|__sanitizer_|__cilkcheck_(?!libc)|_ZN\d+__cilkcheck_", name)}
+    return {name for name in called - defined if not re.match(r"_ZT[TISH]|_ZGV|_GLOBAL_OFFSET_TABLE_|__start_|__stop_|__tsan_|__sanitizer_|__cilkcheck_(?!libc)|_ZN\d+__cilkcheck_", name)}
+
+
+@functools.cache
+def listed(lists):
+    """The functions of libraries that the lists know."""
+    paths = [path for name in ("redirected", "harmless") if (path := lists / name).exists()]
+    return {word for path in paths for line in path.read_text(encoding="utf-8").splitlines() if not line.startswith("#") for word in line.split()}
 
 
 def unseen(called, runtime, lists):
     """What of it no list knows."""
-    known = runtime_names(runtime)
-    for name in ("redirected", "harmless"):
-        path = lists / name
-        if path.exists():
-            known |= {word for line in path.read_text(encoding="utf-8").splitlines() if not line.startswith("#") for word in line.split()}
-    return sorted(called - known)
+    return sorted(called - runtime_names(runtime) - listed(lists))
 
 
-def instrumented(objects):
+def instrumented(symbols):
     """The symbols that each object, or member of an archive, defines, where it was compiled by the wrapper or holds data alone."""
     members = {}
-    for line in output_of(["nm", "-A", "-g", *objects]).splitlines():
+    for line in symbols:
         file, _, rest = line.rpartition(":")
         words = rest.split()
         member = members.setdefault(file, [False, False, set()])
@@ -231,18 +253,20 @@ def instrumented(objects):
         elif len(words) == 3:
             member[1] |= words[1] in "TtWi"
             member[2].add(words[2])
-    return {file: symbols for file, (recorded, has_code, symbols) in members.items() if recorded or not has_code}
+    return {file: defined for file, (recorded, has_code, defined) in members.items() if recorded or not has_code}
 
 
 def finish(output, objects, runtime, lists, include, folder):
     """Puts the table into the program, and says what is not seen."""
-    called = compiled_elsewhere(objects)
-    lines = table(output, runtime, include, {name.removeprefix("__cilkcheck_libc_") for name in called}, set().union(*instrumented(objects).values()))
+    symbols = output_of(["nm", "-A", "-g", *objects]).splitlines()
+    compiled = set().union(*instrumented(symbols).values())
+    called = compiled_elsewhere(symbols, compiled)
+    lines = table(output, runtime, include, {name.removeprefix("__cilkcheck_libc_") for name in called}, compiled)
     linked = {words[-1].partition("@")[0] for line in output_of(["nm", output]).splitlines() if (words := line.split())}
     missing = [name for name in unseen(called, runtime, lists) if name in linked]       # not what an archive's other members call
     if missing:
         plain = names.demangle(missing)
-        told = [names.short(plain[name]) for name in missing]
+        told = [f"virtual functions of {names.short(it[len(VTABLE):])}" if (it := plain[name]).startswith(VTABLE) else names.short(it) for name in missing]
         text = ", ".join(told[:12]) + (f", .. ({len(told)} in all)" if len(told) > 12 else "")
         print(f"cilkcheck: not seen inside: {text}", file=sys.stderr)
         lines.append(f"no\t0\t{clean(text)}")

@@ -9,3 +9,4 @@ extern void __cilkcheck_argument_bytes(unsigned long);
 extern void __cilkcheck_wrote(void *, unsigned long);
 extern void __cilkcheck_end_life(const volatile void *, unsigned long);
 extern void __cilkcheck_outlined(void);
+extern char __cilkcheck_task;

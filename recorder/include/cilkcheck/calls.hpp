@@ -5,6 +5,7 @@ void __cilkcheck_child_closure(void *, const void *, unsigned long);
 void __cilkcheck_child_called(void);
 void __cilkcheck_sync(void);
 void __cilkcheck_share(int, ...);
+extern char __cilkcheck_task;
 }
 /* A child, from the entry of its function to the end of the object, or to `left`. */
 struct __cilkcheck_child {

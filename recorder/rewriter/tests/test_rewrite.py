@@ -103,6 +103,10 @@ class SpawnsInC(unittest.TestCase):
         self.assertEqual(out_of("void g(void) { _Cilk_spawn { a = 1; } }"),
                          "void g(void) { { __cilkcheck_outlined(); #pragma omp task default(shared) { a = 1; } } __cilkcheck_sync(); }")
 
+    def test_a_block_by_gcc(self):
+        self.assertEqual(out_of("void g(void) { _Cilk_spawn { a = b; } }", copies_into_tasks=True),
+                         "void g(void) { { __cilkcheck_outlined(); #pragma omp task default(shared) depend(inout: __cilkcheck_task) { a = b; } } __cilkcheck_sync(); }")
+
     def test_as_a_part_of_a_statement(self):
         text = out_of("void g(int n) { if (n) _Cilk_spawn f(1); else y = _Cilk_spawn f(2); while (n) _Cilk_spawn f(3); }")
         self.assertRegex(text, r"if \(n\) \{ .*? \} else \{ .*? \} while \(n\) \{ ")
@@ -201,8 +205,10 @@ class Refusals(unittest.TestCase):
         ("void g() { _Cilk_spawn (*p)(h(1)); }", True, 1, "arguments contain a call"),
         ("void g(void) { _Cilk_sync + 1; }", False, 1, "cilk_sync stands alone"),
         ("int x = _Cilk_spawn f(1);", False, 1, "stands where it may not"),
-        ("long _Cilk_reducer(zero, add) sum = 0;", False, 1, "a variable that OpenCilk makes a reducer is not recorded"),
-        ("void g(void) {\n  long _Cilk_reducer(zero, add) sum = 0; }", False, 2, "a variable that OpenCilk makes a reducer is not recorded"),
+        ("long _Cilk_reducer(zero, add) sum = 0;", False, 1, "cilk_reducer: a reducer of OpenCilk"),
+        ("void g(void) {\n  long _Cilk_reducer(zero, add) sum = 0; }", False, 2, "cilk_reducer: a reducer of OpenCilk"),
+        ("void g(long _Hyperobject *sum) {\n  *sum = 0; }", False, 1, "_Hyperobject: a reducer of OpenCilk"),
+        ("struct s {\n  long _Cilk_reducer(zero, add) sum; };", True, 2, "cilk_reducer: a reducer of OpenCilk"),
         ("void g(void) { _Cilk_scope f(); }", False, 1, "without a block"),
     ]
 
@@ -221,7 +227,32 @@ class Refusals(unittest.TestCase):
             self.assertEqual(refused.exception.line, 2)
         fine = '# 0 "t.c"\nvoid g(void) {\n#pragma omp task\n  h(); }\n'
         self.assertEqual(rewrite(fine, False, openmp_on=True), fine)
+        shared = rewrite(fine, False, openmp_on=True, copies_into_tasks=True)
+        self.assertTrue(shared.endswith('\n' + fine.replace("omp task", "omp task depend(inout: __cilkcheck_task)")), shared)
+        self.assertIn("extern char __cilkcheck_task;", shared)
         self.assertEqual(rewrite(fine, False), '# 0 "t.c"\nvoid g(void) {\n\n  h(); }\n')
+
+    def test_directives_as_attributes(self):
+        for attribute in ("[[omp::directive(task)]]", "[[ omp :: directive(parallel) ]]", "[[using omp: sequence(directive(single), directive(task))]]"):
+            text = f'# 0 "t.c"\n# 1 "t.c"\nvoid g() {{\n  {attribute} h(); }}\n'
+            self.assertEqual(rewrite(text, True), text)
+            with self.subTest(attribute=attribute), self.assertRaises(Refused) as refused:
+                rewrite(text, True, openmp_on=True)
+            self.assertEqual(refused.exception.line, 2)
+        text = '# 0 "t.c"\nnamespace omp { int directive; } int g() { return omp::directive; }\n'
+        self.assertEqual(rewrite(text, True), text)
+
+    def test_a_taskloop_whose_rounds_nobody_waits_for(self):
+        def text(directive):
+            return f'# 0 "t.c"\n# 1 "t.c"\nvoid g(int nogroup) {{\n#pragma omp {directive}\n  for (int i = 0; i < 3; i++) h(nogroup); }}\n'
+        for directive in ("taskloop nogroup", "taskloop,nogroup", "taskloop shared(nogroup) grainsize((2) + f(1)) nogroup", "parallel master taskloop nogroup"):
+            rewrite(text(directive), False, openmp_on=True)
+            with self.subTest(directive=directive), self.assertRaises(Refused) as refused:
+                rewrite(text(directive), False, openmp_on=True, copies_into_tasks=True)
+            self.assertEqual(refused.exception.line, 2)
+            self.assertIn("gcc copies what the rounds only read", refused.exception.why)
+        for directive in ("taskloop", "taskloop shared(nogroup)", "taskloop grainsize((1) + f(nogroup))"):
+            rewrite(text(directive), False, openmp_on=True, copies_into_tasks=True)
 
 
 if __name__ == "__main__":

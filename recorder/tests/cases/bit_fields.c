@@ -1,4 +1,4 @@
-/* expect: race; neighbouring bit-fields are one location, as the C standard says */
+/* expect: race; levels: all; neighbouring bit-fields are one location, as the C standard says */
 #include <cilk/cilk.h>
 struct { unsigned a : 3, b : 5; } x;
 static void set(void) { x.a = 1; } /* race: a */

@@ -1,4 +1,4 @@
-/* expect: race; a store to a local that is dead in the serial elision: only the implied sync follows */
+/* expect: race; levels: all; a store to a local that is dead in the serial elision: only the implied sync follows */
 #include <cilk/cilk.h>
 static void set(int *at) { *at = 1; } /* race: a */
 static int call(int x) {

@@ -1,4 +1,4 @@
-/* expect: clean or refused; several names are declared, one of them by a spawn */
+/* expect: refused; several names are declared, one of them by a spawn */
 #include <cilk/cilk.h>
 static long f(long i) { return i; }
 int main(void) {

@@ -1,11 +1,11 @@
-// expect: race; level: -O0; a block's local ends while a child uses it
+// expect: race; levels: all; a block's local ends while a child uses it
 #include <cilk/cilk.h>
 #include <memory>
-struct Box { int x = 1; ~Box() { x = 0; } }; /* race: a */
-int got;
-static void look(Box *box) { got = box->x; } /* race: a */
+int last;
+struct Box { int x = 1; ~Box() { last = x; } }; /* race: a */
+static void change(Box *box) { box->x = 2; } /* race: a */
 int main() {
-  { Box box; cilk_spawn look(&box); } /* spawn: a */
+  { Box box; cilk_spawn change(&box); } /* spawn: a */
   cilk_sync;
-  return got - 1;
+  return last - 2;
 }

@@ -1,4 +1,4 @@
-/* expect: race or refused or unseen; main has one straight line to exit: clang's coverage leaves out functions that cannot return */
+/* expect: race; levels: all; main has one straight line to exit: clang's coverage leaves out functions that cannot return */
 #include <cilk/cilk.h>
 #include <stdlib.h>
 int x;

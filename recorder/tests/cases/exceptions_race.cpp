@@ -1,4 +1,4 @@
-// expect: race; what a catch of the same function does is not behind its children
+// expect: race; levels: all; what a catch of the same function does is not behind its children
 #include <cilk/cilk.h>
 int y;
 static void g() { y = 1; } /* race: a */

@@ -1,4 +1,4 @@
-// expect: race or unseen; library: yes; std::list hooks its nodes out of line
+// expect: race; std::list hooks its nodes out of line
 #include <cilk/cilk.h>
 #include <list>
 static void add(std::list<int> &all) { all.push_back(1); } /* race: a a */

@@ -1,4 +1,4 @@
-/* expect: race; an element of a local array that a child has the address of */
+/* expect: race; levels: all; an element of a local array that a child has the address of */
 #include <cilk/cilk.h>
 static void set(int *all) { all[7] = 1; } /* race: a */
 int main(void) {

@@ -1,4 +1,4 @@
-/* expect: race; fields of a local structure that a child has the address of */
+/* expect: race; levels: all; fields of a local structure that a child has the address of */
 #include <cilk/cilk.h>
 struct walk { int depth, step; };
 static void deepen(struct walk *walk) { walk->depth++; } /* race: a */

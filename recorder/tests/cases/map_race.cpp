@@ -1,4 +1,4 @@
-// expect: race or unseen; library: yes; insertions into one std::map: the library rebalances nodes out of line
+// expect: race; insertions into one std::map: the library rebalances nodes out of line
 #include <cilk/cilk.h>
 #include <map>
 static void add(std::map<int, int> &m, int from) {

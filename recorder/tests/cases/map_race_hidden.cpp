@@ -1,10 +1,10 @@
-// expect: race or unseen; library: yes; the race is on links and colours that only the library's own code writes while another strand walks
+// expect: race; the race is on links and colours that only the library's own code writes while another strand walks
 #include <cilk/cilk.h>
 #include <set>
 static int walk(const std::set<int> &s) {
   int sum = 0;
   for (auto it = s.begin(); it != s.end(); ++it) /* race: a */
-    sum += *it;
+    sum += *it; /* race: a; the element goes with its node */
   return sum;
 }
 int main() {

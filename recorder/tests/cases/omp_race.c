@@ -1,12 +1,12 @@
-/* expect: race; flags: -fopenmp; plain: no; a forgotten taskwait */
+/* expect: race; levels: all; flags: -fopenmp; plain: no; a forgotten taskwait */
 static int fib(int n) {
   int x, y;
   if (n < 2) return n;
 #pragma omp task shared(x)
-  x = fib(n - 1); /* race: a, may: b */
+  x = fib(n - 1); /* race: a, clang: b */
   y = fib(n - 2);
   return x + y; /* race: a */
-} /* may: b; the function gives up x while its task may write it */
+} /* clang: b; the function gives up x while its task may write it */
 int main(void) {
   int r;
 #pragma omp parallel

@@ -1,14 +1,15 @@
-/* expect: race or refused; flags: -fopenmp; plain: no; rounds of a taskloop */
+/* expect: race; levels: all; flags: -fopenmp; plain: no; rounds of a taskloop */
 int a[40], n = 40, sum;
+static void add(int k) { sum += k; } /* race: a a */
 int main(void) {
 #pragma omp parallel
 #pragma omp master
   {
-#pragma omp taskloop /* refused, may: a; above -O0 sum is read here */
+#pragma omp taskloop
     for (int i = 0; i < n; i++) {
       int k = i * 2;
       a[i] = k;
-      sum += k; /* race: a a */
+      add(k);
     }
 #pragma omp taskloop
     for (int i = 1; i < n; i++)

@@ -2,7 +2,7 @@
 #include <cilk/cilk.h>
 #include <stdlib.h>
 int all[50], parts[500];
-static int compare(const void *a, const void *b) { return *(const int *)a - *(const int *)b; } /* may: a */
+static int compare(const void *a, const void *b) { return *(const int *)a - *(const int *)b; }
 static void sort_all(void) { qsort(all, 50, 4, compare); } /* race: a */
 static void sort(int *part) { qsort(part, 50, 4, compare); }
 int main(void) {

@@ -1,4 +1,4 @@
-/* expect: race; a strand reads and then writes: both lines race, and the one that reads is where the mistake is */
+/* expect: race; levels: all; a strand reads and then writes: both lines race, and the one that reads is where the mistake is */
 #include <cilk/cilk.h>
 int x, y;
 static void child(void) { x = 1; } /* race: a b */

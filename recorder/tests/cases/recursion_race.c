@@ -1,4 +1,4 @@
-/* expect: race; a node is freed while its left part may be added up; the line of free is named */
+/* expect: race; levels: all; a node is freed while its left part may be added up; the line of free is named */
 #include <cilk/cilk.h>
 #include <stdlib.h>
 struct node { int value; struct node *next; };

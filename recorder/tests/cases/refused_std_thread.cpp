@@ -3,7 +3,7 @@
 #include <thread>
 static int x;
 int main() {
-  std::thread thread([] { x++; });
+  std::thread thread([] { x++; }); // refused
   thread.join();
   return 0;
 }

@@ -1,4 +1,4 @@
-/* expect: clean; locals of children and of calls that have the same addresses one after another */
+/* expect: clean; levels: all; locals of children and of calls that have the same addresses one after another */
 #include <cilk/cilk.h>
 #include <string.h>
 static void use(int *p, char *c) { p[0]++; c[3] = 1; memset(c, 0, 7); }

@@ -1,4 +1,4 @@
-/* expect: race or refused; so is one that fits into registers */
+/* expect: race; so is one that fits into registers */
 #include <cilk/cilk.h>
 struct two { long first, second; } both;
 long got;

@@ -1,4 +1,4 @@
-/* expect: race; structures are read and written where one is assigned to another */
+/* expect: race; levels: all; structures are read and written where one is assigned to another */
 #include <cilk/cilk.h>
 struct nine { int at[9]; } all, other;
 static void child(struct nine *to, struct nine *from) { *to = *from; } /* race: a b */

@@ -1,4 +1,4 @@
-/* expect: race or refused; a structure that a call returns into memory is written there */
+/* expect: race; levels: all; a structure that a call returns into memory is written there */
 #include <cilk/cilk.h>
 struct nine { int at[9]; } all;
 static struct nine make(int i) { struct nine made = {{i}}; return made; }

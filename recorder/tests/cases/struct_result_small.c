@@ -1,4 +1,4 @@
-/* expect: race or refused; so is one that comes in registers */
+/* expect: race; so is one that comes in registers */
 #include <cilk/cilk.h>
 struct two { long first, second; } both;
 static struct two make(long i) { struct two made = {i, i}; return made; }

@@ -1,4 +1,4 @@
-/* expect: race; volatile is no protection */
+/* expect: race; levels: all; volatile is no protection */
 #include <cilk/cilk.h>
 volatile int done;
 static void finish(void) { done = 1; } /* race: a */

@@ -25,6 +25,9 @@ void refuse(uintptr_t, const char *text, ...) { std::puts(text), std::exit(70); 
 void note_unseen(const char *, ...) {}
 void end_lives() {}
 void hide_accesses(bool) {}
+void function_unwound(uintptr_t) {}
+bool spawn_awaited;
+void spawn_called(uintptr_t) {}
 void finish_recording() {}
 void *plain_malloc(size_t bytes) { return std::malloc(bytes); }
 void plain_free(void *at) { std::free(at); }

@@ -1,6 +1,6 @@
 /* What each wrapper of libc tells, against what the manual of the function says that it reads and writes. Linked with the runtime's
    libc_*.o alone; the recorder's part is played by the functions below, which note accesses as `r NAME OFFSET BYTES` and `w ..`.
-   Built and run by libraries.sh; prints the cases that differ, and their number. */
+   Built and run by run.py; prints the cases that differ, and their number. */
 #define _GNU_SOURCE
 #include "../../runtime/libc.h"
 #include <fcntl.h>
@@ -46,8 +46,11 @@ void refuse(uintptr_t place, const char *format, ...) {
   exit(70);
 }
 void note_unseen(const char *format, ...) { (void)format; }
-void end_lives(uintptr_t from, uintptr_t to, struct origin origin) { (void)from; (void)to; (void)origin; }
+void end_lives(uintptr_t from, uintptr_t to) { (void)from; (void)to; }
 void hide_accesses(bool on) { (void)on; }
+void function_unwound(uintptr_t start) { (void)start; }
+bool spawn_awaited;
+void spawn_called(uintptr_t place) { (void)place; }
 void finish_recording(void) {}
 void *plain_malloc(size_t bytes) { return malloc(bytes); }
 void plain_free(void *at) { free(at); }

@@ -27,10 +27,10 @@ EACH, CELLS, FUNCTIONS, MOST_NODES = 20, 12, 3, 400
 
 
 class Program:
-    """Statements are tuples: (kind, ..). A cell is a number, or "l" for the function's local."""
+    """Statements are tuples: (kind, ..). A cell is a number, or "l" for the function's local. A taskloop's own clause is one of `loops`."""
 
-    def __init__(self, seed, draw):
-        self.seed, self.random = seed, random.Random(f"{seed}.{draw}")
+    def __init__(self, seed, draw, loops):
+        self.seed, self.random, self.loops = seed, random.Random(f"{seed}.{draw}"), loops
         self.left = 0
         self.functions = [self.part(12, lambda k=k: self.body(1, (), True, k + 1)) for k in range(FUNCTIONS)]
         self.phases = [self.part(40, self.phase) for _ in range(self.random.randint(1, 3))]
@@ -55,7 +55,7 @@ class Program:
         if draw < 0.85:
             return "group", self.body(depth + 1, cells, local, callee)
         if draw < 0.91:
-            return "loop", self.random.choice(("", "nogroup", "grainsize(2)", "num_tasks(2)")), self.random.choice(cells), self.random.choice("rwa")
+            return "loop", self.random.choice(self.loops), *self.access(cells, local)[1:]
         return ("call", self.random.randrange(callee, FUNCTIONS)) if callee < FUNCTIONS else self.access(cells, local)
 
     def body(self, depth, cells, local, callee):
@@ -103,7 +103,7 @@ class Program:
                 self.write_body(out, it[1])
                 out.append("}")
             elif it[0] == "loop":
-                out.append(f"#pragma omp taskloop {it[1]} private(v)\nfor (int i = 0; i < 4; i++) {{\n  v = i;")
+                out.append(f"#pragma omp taskloop {it[1]} default(shared) private(v)\nfor (int i = 0; i < 4; i++) {{\n  v = i;")
                 self.write_access(out, *it[2:])
                 out.append("  sink(v);\n}")
             else:
@@ -232,7 +232,7 @@ class Oracle:
             elif it[0] == "group":
                 self.group(task, lambda it=it: self.run(task, it[1], local))
             elif it[0] == "loop":
-                self.loop(task, *it[1:])
+                self.loop(task, it[1], local if it[2] == "l" else it[2], it[3])
             else:
                 own = f"local {len(self.locals)}"
                 self.locals.append(own)
@@ -240,10 +240,12 @@ class Oracle:
                 self.access(task, own, "w")
 
 
-def drawn(seed):
-    """The program of a seed: the first of its draws that is not too long, nor refused but where five divides the seed."""
+def drawn(seed, compiler):
+    """The program of a seed: the first of its draws that is not too long, nor refused but where five divides the seed. By gcc each nogroup is refused
+    when the program is compiled."""
+    loops = ("", "grainsize(2)", "num_tasks(2)", *(["nogroup"] if compiler == "clang" else []))
     for draw in itertools.count():
-        program = Program(seed, draw)
+        program = Program(seed, draw, loops)
         try:
             Oracle(program)
         except Refused:
@@ -257,16 +259,11 @@ def drawn(seed):
 HEADER = "#include <stdio.h>\n#include <stdlib.h>\nvoid sink(int value);"
 
 
-# How often programs are drawn anew where the compiler itself crashes on a source, as clang 14 does now and then.
-MOST_DRAWS, NEXT_DRAW = 6, 1_000_000
-CRASHED = re.compile("frontend command failed|Stack dump|PLEASE submit a bug report|InstalledDir")
-
-
 def compiled_group(given, room, seeds, compiler, level):
     """Some programs, the folder of their source, and how that was compiled."""
     folder = Path(given.keep or room) / f"{compiler}{level}-{seeds[0]}"
     folder.mkdir(parents=True, exist_ok=True)
-    programs, lines = [drawn(it) for it in seeds], [HEADER]
+    programs, lines = [drawn(it, compiler) for it in seeds], [HEADER]
     for it in programs:
         it.write(lines)
     lines += ["int main(int count, char **words) {", "  switch (atoi(words[count - 1])) {", *(f"  case {it}: p{it}(); break;" for it in seeds), "  }\n  return 0;\n}"]
@@ -278,11 +275,7 @@ def compiled_group(given, room, seeds, compiler, level):
 
 def group_of(given, room, seeds, compiler, level):
     """The failures of some programs in one source, and how many were what."""
-    for draw in range(MOST_DRAWS):
-        drawn_seeds = [it + draw * NEXT_DRAW for it in seeds]
-        programs, folder, compiled = compiled_group(given, room, drawn_seeds, compiler, level)
-        if not CRASHED.search(compiled.errors):
-            break
+    programs, folder, compiled = compiled_group(given, room, seeds, compiler, level)
     counts = Counter()
     if compiled.status:
         return [f"{folder.name}: not compiled: {compiled.errors[-500:]}"], counts
@@ -314,9 +307,9 @@ def compare(program, folder, given, counts):
     refused = {(number, it.cell) for number, trace in enumerate(verdicts.judged(traces, given.cilkcheck), 1) for it in trace.refusals}
     found = set()
     for line in members.read_text().splitlines():
-        number, cell, address, size, *_ = line.split()
+        number, cell, address, _ = line.split()
         if (int(number), f"c[{cell}]") in refused:
-            found |= {it & ~3 for it in range(int(address, 16), int(address, 16) + int(size))}
+            found.add(int(address, 16) & ~3)
     known = {it for it in globals_at if globals_at[it] in oracle.racy}
     known |= {at for at, name in zip(locals_at, oracle.locals) if name in oracle.racy}
     if len(locals_at) != len(oracle.locals):

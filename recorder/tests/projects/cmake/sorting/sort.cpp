@@ -14,9 +14,9 @@ void sort(Numbers::iterator first, Numbers::iterator last) {
   }
   auto middle = first + (last - first) / 2;
   std::nth_element(first, middle, last);
-  scratch = *middle; /* race: a a */
-  cilk_spawn sort(first, middle); /* spawn: a */
+  scratch = *middle; /* race: a a b */
+  cilk_spawn sort(first, middle); /* spawn: a b */
   sort(middle + 1, last);
   cilk_sync;
-  *middle = scratch; /* may: a */
+  *middle = scratch; /* race: b */
 }
