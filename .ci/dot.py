@@ -1,5 +1,5 @@
 #!/usr/bin/env python3
-"""A small strict reader of Graphviz's language: one digraph of node and edge statements, each with attributes.
+"""A small strict reader of Graphviz's language: one digraph of node and edge statements, each with attributes, and attributes of its own.
 
 `read(text)` gives the nodes, as a dict from names to attributes, and the edges, as a list of (from, to, attributes). ValueError
 tells of anything else: a word that is out of place, a string that does not end, an attribute or a node that is given twice, an
@@ -70,13 +70,18 @@ def read(text):
         raise ValueError("no digraph")
     reader.name()
     reader.mark("{")
-    nodes, edges = {}, []
+    nodes, edges, own = {}, [], {}
     while not reader.is_mark("}"):
         first = reader.name()
         if reader.is_mark("->"):
             reader.mark("->")
             second = reader.name()
             edges.append((first, second, reader.attributes()))
+        elif reader.is_mark("="):
+            reader.mark("=")
+            if first in own:
+                raise ValueError(f"{first} is given twice")
+            own[first] = reader.name()
         else:
             if first in nodes:
                 raise ValueError(f"node {first} is given twice")
