@@ -8,8 +8,8 @@ use std::fmt::Write;
 use std::test::Fail;
 use tool_commands::{CliFault, Form, Watched, draw_text};
 
-/// Notes of which each fills its line: `0 in` and the function, and `f.c:1 read` and the name of `x`, have 64 characters, and the first line
-/// of the title has 120. `f.c:10 read` and the name have one too many, and the second line of the title has.
+/// Notes of which each fills its line: `0 in` and the function, and `f.c:1 read` and the name of `x`, have 64 characters, and the first
+/// line of the title has 120. `f.c:10 read` and the name have one too many, and the second line of the title has.
 const NOTES: &str =
     "cilk 1\nmem x\n#at 1 f.c:1, abcdefghijabcdefghijabcdefghijabcdefghijabcdefghijabcdefghi\n#at 2 f.c:10, g\n#of x 0123456789012345678901234567890123456789012345678&end\n#run 012345678901234567890123456789012345678901234567890123456789012345678901234567890123456789012345678901234567890123456789\n#run 012345678901234567890123456789012345678901234567890123456789012345678901234567890123456789012345678901234567890123456789!\n";
 
