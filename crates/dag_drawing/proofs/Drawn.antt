@@ -1,11 +1,14 @@
 -- What is drawn is what the walk over the entries found.
 -- h: a history; s, o: strands, from which and to which an edge goes; t: a status; n: the number of a list's first mark; i, k: places in
 -- lists
-use Rattle.std.proofs.Common.{◌≡◌, ◌⊎◌, inl, inr, ℕ, zero, suc, ◌+◌, ◌<◌, ◌≤◌, Bool, true, false, cond, List, [], ◌∷◌, length, get_or, filter, Option, refl, sym, ap, ◌∙◌, subst, arith}
+use Rattle.std.proofs.Common.{◌≡◌, ◌⊎◌, inl, inr, ℕ, zero, suc, ◌+◌, ◌<◌, ◌≤◌, Bool, true, false, cond, List, [], ◌∷◌, length, get_or, filter, AllPairs, Option, refl, sym, ap, ◌∙◌, subst, arith}
+use Rattle.std.proofs.lemmas.List.{get_or_past}
+use Rattle.std.proofs.lemmas.List.Kept.{AllPairs-filter}
 use Rattle.model_strands.specs.History.{History}
 use Rattle.model_strands.specs.Strands.{Status, absent, reserved, running, over, status, Begun, unused}
 use Rattle.law_strands.proofs.Members.{Present, contains_present}
 use Rattle.law_strands.proofs.Law.{begun_below}
+use Rattle.law_strands.proofs.Places.{below_or_beyond}
 use Rattle.law_strands.proofs.Range.{ranges}
 use Rattle.law_strands.proofs.Sinks.{forked_begun}
 use Rattle.dag_drawing.specs.declared.drawing.Edge.{Edge}
@@ -13,10 +16,19 @@ use Rattle.dag_drawing.specs.declared.drawing.EdgeKind.{EdgeKind}
 use Rattle.dag_drawing.specs.declared.drawing.EdgeKind.TheVariants.{Child, Next, Join}
 use Rattle.dag_drawing.specs.Arrows.{EdgeOf, arrows, has_begun}
 use Rattle.dag_drawing.specs.Walks.{IsWalk}
-use Rattle.dag_drawing.specs.Drawn.{marked_from, has_mark, AreStrands, AreEdges}
+use Rattle.dag_drawing.specs.Drawn.{marked_from, has_mark, HaveOtherEnds, leads_to_begun, AreStrands, AreEdges}
 use Rattle.dag_drawing.proofs.EdgesByKind.{ArrowOf, edge_of, child_forks, next_forks, arrow_in, child_in, next_in, join_in}
+use Rattle.dag_drawing.proofs.EdgesOnce.{arrows_once}
 
 -- ---- marked numbers
+
+pub marked_here : (n : ℕ) (mark : Bool) (marks : List Bool) → mark ≡ true → marked_from n (mark ∷ marks) ≡ n ∷ marked_from (n + 1) marks
+marked_here n true marks is = refl
+marked_here n false marks is = absurd (let g : false ≡ true = is in cc)
+
+pub marked_later : (n : ℕ) (mark : Bool) (marks : List Bool) → mark ≡ false → marked_from n (mark ∷ marks) ≡ marked_from (n + 1) marks
+marked_later n true marks is = absurd (let g : true ≡ false = is in cc)
+marked_later n false marks is = refl
 
 marked_at : (n : ℕ) (marks : List Bool) (x : ℕ) → Present x (marked_from n marks) → (i : ℕ) × (x ≡ i + n) × (get_or marks i false ≡ true)
 marked_at n [] x p = absurd p
@@ -123,15 +135,35 @@ arrow_at begun blocks edges h walk Child s o e = (child_in h s o e, forked_begun
 arrow_at begun blocks edges h walk Next s o e = (next_in h s o e, forked_begun walk.legal s o (next_forks h s o e))
 arrow_at begun blocks edges h walk Join s o e = (join_in h s o e.0, e.1)
 
+mark_says : (begun : List Bool) (blocks : List (Option ℕ)) (edges : List Edge) (h : History) → IsWalk begun blocks edges h → (x : ℕ) →
+    get_or begun x false ≡ has_begun (status h x)
+mark_says begun blocks edges h walk x = go (below_or_beyond x (unused h))
+  where
+    go : (x < unused h) ⊎ (unused h ≤ x) → get_or begun x false ≡ has_begun (status h x)
+    go (inl below) = walk.each_mark x below
+    go (inr beyond) =
+        get_or_past begun x false (omega (arith, beyond, walk.marks)) ∙ sym (ap has_begun ((ranges walk.legal).absent_beyond x beyond))
+
+same_kept : (p q : Edge → Bool) → ((edge : Edge) → p edge ≡ q edge) → (xs : List Edge) → filter p xs ≡ filter q xs
+same_kept p q alike [] = refl
+same_kept p q alike (x ∷ xs) =
+    ap (λ (kept : List Edge). cond (p x) (x ∷ kept) kept) (same_kept p q alike xs) ∙
+    ap (λ (test : Bool). cond test (x ∷ filter q xs) (filter q xs)) (alike x)
+
 pub are_edges : (begun : List Bool) (blocks : List (Option ℕ)) (edges : List Edge) (h : History) → IsWalk begun blocks edges h →
     (kept : List Edge) → kept ≡ filter (has_mark begun) edges → AreEdges h kept
-are_edges begun blocks edges h walk kept is = rw is (λ edge. (
-  (λ c.
-      let t = kept_of (has_mark begun) edges edge ((contains_present edge (filter (has_mark begun) edges)).0 c) in
-      edge_at edge.kind h edge.from edge.to (arrow_in h edge (subst (Present edge) walk.arrows_are t.0))
-      (mark_begun begun blocks edges h walk edge.to t.1)),
-  (λ e.
-      let t = arrow_at begun blocks edges h walk edge.kind edge.from edge.to e in
-      (contains_present edge (filter (has_mark begun) edges)).1
-      (of_kept (has_mark begun) edges edge (subst (Present edge) (sym walk.arrows_are) t.0) (begun_mark begun blocks edges h walk edge.to t.1))),
-))
+are_edges begun blocks edges h walk kept is = rw is (record {
+  each_once = AllPairs-filter HaveOtherEnds (has_mark begun) edges (subst (AllPairs HaveOtherEnds) (sym walk.arrows_are) (arrows_once walk.legal));
+  of_dag = λ edge. (
+    (λ c.
+        let t = kept_of (has_mark begun) edges edge ((contains_present edge (filter (has_mark begun) edges)).0 c) in
+        edge_at edge.kind h edge.from edge.to (arrow_in h edge (subst (Present edge) walk.arrows_are t.0))
+        (mark_begun begun blocks edges h walk edge.to t.1)),
+    (λ e.
+        let t = arrow_at begun blocks edges h walk edge.kind edge.from edge.to e in
+        (contains_present edge (filter (has_mark begun) edges)).1
+        (of_kept (has_mark begun) edges edge (subst (Present edge) (sym walk.arrows_are) t.0) (begun_mark begun blocks edges h walk edge.to t.1))),
+  );
+  in_order = same_kept (has_mark begun) (leads_to_begun h) (λ edge. mark_says begun blocks edges h walk edge.to) edges ∙
+      ap (filter (leads_to_begun h)) walk.arrows_are;
+})

@@ -1,4 +1,5 @@
 pub mod EdgesByKind
+pub mod EdgesOnce
 pub mod Places
 pub mod Followed
 pub mod Drawn

@@ -8,11 +8,11 @@ ghost use Rattle.dag_drawing.specs.Dots.{line_text, box_text, boxes_text, arc_te
 
 use crate::drawing::{Access, Drawing, Edge, EdgeKind, Race};
 use crate::labels::{Names, node_lines, own_of, race_label};
-use std::alloc::{AllocError, Global};
+use std::alloc::{AllocError, Allocator};
 use text_buffers::{push_number, push_words};
 
 /// Adds text as it stands between quotation marks.
-fn push_escaped(text: &mut Vec<u8>, name: &str) -> Result<(), AllocError>
+fn push_escaped<A: Allocator>(text: &mut Vec<u8, A>, name: &str) -> Result<(), AllocError>
     ensures { OnOk result (text.new.items ≡ text.old.items ++ escaped name.now) }
 {
     for byte in name.as_bytes() {
@@ -25,7 +25,7 @@ fn push_escaped(text: &mut Vec<u8>, name: &str) -> Result<(), AllocError>
 }
 
 /// Adds a line of a label.
-fn push_line(text: &mut Vec<u8>, line: &str) -> Result<(), AllocError>
+fn push_line<A: Allocator>(text: &mut Vec<u8, A>, line: &str) -> Result<(), AllocError>
     ensures { OnOk result (text.new.items ≡ text.old.items ++ line_text line.now) }
 {
     push_escaped(text, line)?;
@@ -33,7 +33,7 @@ fn push_line(text: &mut Vec<u8>, line: &str) -> Result<(), AllocError>
 }
 
 /// Adds the lines of a label.
-fn push_lines(text: &mut Vec<u8>, lines: &[String]) -> Result<(), AllocError>
+fn push_lines<A: Allocator>(text: &mut Vec<u8, A>, lines: &[String<A>]) -> Result<(), AllocError>
     ensures { OnOk result (text.new.items ≡ text.old.items ++ flat_map line_text (map string_bytes lines.now)) }
 {
     for line in lines {
@@ -43,7 +43,11 @@ fn push_lines(text: &mut Vec<u8>, lines: &[String]) -> Result<(), AllocError>
 }
 
 /// Adds a strand with the lines of its node.
-fn push_box(text: &mut Vec<u8>, strand: usize, lines: &[String]) -> Result<(), AllocError>
+fn push_box<A: Allocator>(
+    text: &mut Vec<u8, A>,
+    strand: usize,
+    lines: &[String<A>],
+) -> Result<(), AllocError>
     ensures { OnOk result (text.new.items ≡ text.old.items ++ box_text strand (map string_bytes lines.now)) }
 {
     push_number(text, "  ", strand as u64)?;
@@ -53,10 +57,10 @@ fn push_box(text: &mut Vec<u8>, strand: usize, lines: &[String]) -> Result<(), A
 }
 
 /// Adds strands, each with its own of the accesses.
-fn push_boxes(
-    alloc: Global,
-    text: &mut Vec<u8>,
-    names: &Names<'_>,
+fn push_boxes<A: Allocator + Copy>(
+    alloc: A,
+    text: &mut Vec<u8, A>,
+    names: &Names<'_, A>,
     strands: &[usize],
     accesses: &[Access],
 ) -> Result<(), AllocError>
@@ -85,7 +89,7 @@ pub fn word_of(kind: EdgeKind) -> &'static str
 }
 
 /// Adds an edge.
-fn push_edge(text: &mut Vec<u8>, edge: &Edge) -> Result<(), AllocError>
+fn push_edge<A: Allocator>(text: &mut Vec<u8, A>, edge: &Edge) -> Result<(), AllocError>
     ensures { OnOk result (text.new.items ≡ text.old.items ++ edge_text edge.now) }
 {
     push_number(text, "  ", u64::from(edge.from))?;
@@ -96,7 +100,7 @@ fn push_edge(text: &mut Vec<u8>, edge: &Edge) -> Result<(), AllocError>
 }
 
 /// Adds edges.
-fn push_edges(text: &mut Vec<u8>, edges: &[Edge]) -> Result<(), AllocError>
+fn push_edges<A: Allocator>(text: &mut Vec<u8, A>, edges: &[Edge]) -> Result<(), AllocError>
     ensures { OnOk result (text.new.items ≡ text.old.items ++ flat_map edge_text edges.now) }
 {
     for edge in edges {
@@ -113,10 +117,10 @@ fn red() -> &'static str
 }
 
 /// Adds a race.
-fn push_arc(
-    alloc: Global,
-    text: &mut Vec<u8>,
-    names: &Names<'_>,
+fn push_arc<A: Allocator + Copy>(
+    alloc: A,
+    text: &mut Vec<u8, A>,
+    names: &Names<'_, A>,
     race: &Race,
 ) -> Result<(), AllocError>
     requires numbered { IsTrue (is_numbered 0 names.now.mems.now) }
@@ -131,10 +135,10 @@ fn push_arc(
 }
 
 /// Adds races.
-fn push_arcs(
-    alloc: Global,
-    text: &mut Vec<u8>,
-    names: &Names<'_>,
+fn push_arcs<A: Allocator + Copy>(
+    alloc: A,
+    text: &mut Vec<u8, A>,
+    names: &Names<'_, A>,
     races: &[Race],
 ) -> Result<(), AllocError>
     requires numbered { IsTrue (is_numbered 0 names.now.mems.now) }
@@ -147,7 +151,7 @@ fn push_arcs(
 }
 
 /// Adds what was recorded.
-fn push_heading(text: &mut Vec<u8>, runs: &[String]) -> Result<(), AllocError>
+fn push_heading<A: Allocator>(text: &mut Vec<u8, A>, runs: &[String<A>]) -> Result<(), AllocError>
     ensures { OnOk result (text.new.items ≡ text.old.items ++ heading_text (map string_bytes runs.now)) }
 {
     if runs.is_empty() {
@@ -161,7 +165,11 @@ fn push_heading(text: &mut Vec<u8>, runs: &[String]) -> Result<(), AllocError>
 
 /// The text of a drawing in Graphviz's language: above the graph what was recorded, a node for each strand, an edge for each edge of the
 /// dag, and a red edge for each race. Errors where there is no memory.
-pub fn dot_text(alloc: Global, names: &Names<'_>, drawing: &Drawing) -> Result<Vec<u8>, AllocError>
+pub fn dot_text<A: Allocator + Copy>(
+    alloc: A,
+    names: &Names<'_, A>,
+    drawing: &Drawing<A>,
+) -> Result<Vec<u8, A>, AllocError>
     requires numbered { IsTrue (is_numbered 0 names.now.mems.now) }
     ensures { IfOk result (λ text. text.items ≡ dot_text (naming_of names.now) drawing.now) }
 {

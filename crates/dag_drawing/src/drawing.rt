@@ -9,7 +9,7 @@ ghost use Rattle.dag_drawing.specs.Drawn.{IsDrawing, HasMoreStrands, marked_from
 use crate::walk::walked;
 use model_accesses::Witness;
 use race_gate::{Answer, Entry};
-use std::alloc::{AllocError, Global};
+use std::alloc::{AllocError, Allocator};
 use text_words::{Request, access_asked};
 
 /// The most strands of a drawing.
@@ -60,18 +60,18 @@ pub struct Race {
 }
 
 /// The dag of a history with its accesses and its races.
-pub struct Drawing {
+pub struct Drawing<A: Allocator> {
     /// The strands that have begun, by their numbers, which rise.
-    pub strands: Vec<usize>,
+    pub strands: Vec<usize, A>,
     /// The edges of the dag, in order of the entries that made them.
-    pub edges: Vec<Edge>,
+    pub edges: Vec<Edge, A>,
     /// The accesses, by the numbers of their strands, and those of one strand in order of entries.
-    pub accesses: Vec<Access>,
+    pub accesses: Vec<Access, A>,
     /// The refused accesses that have a witness, in order of entries.
-    pub races: Vec<Race>,
+    pub races: Vec<Race, A>,
 }
 
-impl Drop for Drawing {
+impl<A: Allocator> Drop for Drawing<A> {
     fn drop(self) {
         let Drawing {
             strands: _,
@@ -111,7 +111,10 @@ fn race_at(entry: usize, told: Entry) -> Option<Race>
 }
 
 /// The accesses in order of entries.
-fn accesses_of(alloc: Global, entries: &[Entry]) -> Result<Vec<Access>, AllocError>
+fn accesses_of<A: Allocator + Copy>(
+    alloc: A,
+    entries: &[Entry],
+) -> Result<Vec<Access, A>, AllocError>
     ensures { IfOk result (λ found. found.items ≡ accesses_told entries.now) }
 {
     let mut found = Vec::new(alloc);
@@ -124,7 +127,7 @@ fn accesses_of(alloc: Global, entries: &[Entry]) -> Result<Vec<Access>, AllocErr
 }
 
 /// The races in order of entries.
-fn races_of(alloc: Global, entries: &[Entry]) -> Result<Vec<Race>, AllocError>
+fn races_of<A: Allocator + Copy>(alloc: A, entries: &[Entry]) -> Result<Vec<Race, A>, AllocError>
     ensures { IfOk result (λ found. found.items ≡ races_told entries.now) }
 {
     let mut found = Vec::new(alloc);
@@ -137,7 +140,7 @@ fn races_of(alloc: Global, entries: &[Entry]) -> Result<Vec<Race>, AllocError>
 }
 
 /// The numbers that are marked, in their order.
-fn marked(alloc: Global, marks: &[bool]) -> Result<Vec<usize>, AllocError>
+fn marked<A: Allocator + Copy>(alloc: A, marks: &[bool]) -> Result<Vec<usize, A>, AllocError>
     ensures { IfOk result (λ strands. strands.items ≡ marked_from 0 marks.now) }
 {
     let mut strands = Vec::new(alloc);
@@ -150,7 +153,11 @@ fn marked(alloc: Global, marks: &[bool]) -> Result<Vec<usize>, AllocError>
 }
 
 /// The edges that lead to marked numbers.
-fn edges_to(alloc: Global, edges: &[Edge], marks: &[bool]) -> Result<Vec<Edge>, AllocError>
+fn edges_to<A: Allocator + Copy>(
+    alloc: A,
+    edges: &[Edge],
+    marks: &[bool],
+) -> Result<Vec<Edge, A>, AllocError>
     ensures { IfOk result (λ kept. kept.items ≡ filter (has_mark marks.now) edges.now) }
 {
     let mut kept = Vec::new(alloc);
@@ -162,11 +169,14 @@ fn edges_to(alloc: Global, edges: &[Edge], marks: &[bool]) -> Result<Vec<Edge>, 
     Ok(kept)
 }
 
-/// The drawing of a history, whose entries are given from the oldest on, or None where more than [`MOST_STRANDS`] strands have begun.
-/// Its time is that of sorting the entries, and its memory is linear in their number. Errors where there is no memory.
-pub fn draw(alloc: Global, entries: &[Entry]) -> Result<Option<Drawing>, AllocError>
+/// The drawing of a history, whose entries are given from the oldest on, or None exactly where more than [`MOST_STRANDS`] strands have
+/// begun. Its time is that of sorting the entries, and its memory is linear in their number. Errors where there is no memory.
+pub fn draw<A: Allocator + Copy>(
+    alloc: A,
+    entries: &[Entry],
+) -> Result<Option<Drawing<A>>, AllocError>
     requires { IsLegalHistory (reverse entries.now) }
-    ensures { IfOk result (λ told. MatchOption told (HasMoreStrands 10_000 (control_part (reverse entries.now))) (IsDrawing entries.now)) }
+    ensures { IfOk result (λ told. MatchOption told (HasMoreStrands (control_part (reverse entries.now))) (IsDrawing entries.now)) }
 {
     let walk = walked(alloc, entries)?;
     let strands = marked(alloc, walk.begun.as_slice())?;

@@ -12,7 +12,7 @@ ghost use Rattle.dag_drawing.specs.Labels.{head_line, most_told, rest_lines, nod
 use crate::drawing::{Access, Race};
 use access_table::{Kind, rule_word, word};
 use race_gate::Answer;
-use std::alloc::{AllocError, Global};
+use std::alloc::{AllocError, Allocator};
 use std::fmt::Write;
 use text_words::{Act, Mem, Reducer, access_asked};
 use trace_notes::{Notes, Place};
@@ -23,24 +23,24 @@ const MOST_TOLD: usize = 12;
 
 /// What a drawing's cells, reducers and marks are told by.
 #[derive(Drop)]
-pub struct Names<'a> {
+pub struct Names<'a, A: Allocator> {
     /// The memories that the trace declares.
     pub mems: &'a [Mem],
     /// The reducers that it declares.
     pub reducers: &'a [Reducer],
     /// Its notes.
-    pub notes: &'a Notes<Global>,
+    pub notes: &'a Notes<A>,
 }
 
 /// Adds a number.
-fn put_number(line: &mut String, number: usize) -> Result<(), AllocError>
+fn put_number<A: Allocator>(line: &mut String<A>, number: usize) -> Result<(), AllocError>
     ensures { OnOk result (string_bytes line.new ≡ string_bytes line.old ++ decimal number) }
 {
     write!(line, "{number}")
 }
 
 /// Adds the name of a memory's cell with this index.
-fn put_element(name: &mut String, mem: &Mem, index: u32) -> Result<(), AllocError>
+fn put_element<A: Allocator>(name: &mut String<A>, mem: &Mem, index: u32) -> Result<(), AllocError>
     ensures { OnOk result (string_bytes name.new ≡ string_bytes name.old ++ name_in mem.now index) }
 {
     name.push_str(mem.name.as_str())?;
@@ -51,7 +51,11 @@ fn put_element(name: &mut String, mem: &Mem, index: u32) -> Result<(), AllocErro
 }
 
 /// Adds the name of the cell with this number.
-fn put_cell(name: &mut String, mems: &[Mem], location: u32) -> Result<(), AllocError>
+fn put_cell<A: Allocator>(
+    name: &mut String<A>,
+    mems: &[Mem],
+    location: u32,
+) -> Result<(), AllocError>
     requires numbered { IsTrue (is_numbered 0 mems.now) }
     ensures { OnOk result (string_bytes name.new ≡ string_bytes name.old ++ name_of_cell mems.now location) }
 {
@@ -72,7 +76,11 @@ fn reducer_name(reducers: &[Reducer], number: u32) -> &str
 }
 
 /// The name that the trace declares for what an act accesses.
-fn plain_name(alloc: Global, names: &Names<'_>, act: Act) -> Result<String, AllocError>
+fn plain_name<A: Allocator + Copy>(
+    alloc: A,
+    names: &Names<'_, A>,
+    act: Act,
+) -> Result<String<A>, AllocError>
     requires numbered { IsTrue (is_numbered 0 names.now.mems.now) }
     ensures { IfOk result (λ name. string_bytes name ≡ plain_name (naming_of names.now) act) }
 {
@@ -90,7 +98,11 @@ fn plain_name(alloc: Global, names: &Names<'_>, act: Act) -> Result<String, Allo
 }
 
 /// Adds what the notes say that a name stands for, or the name.
-fn put_told(line: &mut String, names: &Names<'_>, name: &str) -> Result<(), AllocError>
+fn put_told<A: Allocator + Copy>(
+    line: &mut String<A>,
+    names: &Names<'_, A>,
+    name: &str,
+) -> Result<(), AllocError>
     ensures { OnOk result (string_bytes line.new ≡ string_bytes line.old ++ told_name (naming_of names.now) name.now) }
 {
     match names.notes.text_of(name) {
@@ -100,7 +112,7 @@ fn put_told(line: &mut String, names: &Names<'_>, name: &str) -> Result<(), Allo
 }
 
 /// What is said of an access that was not done.
-pub fn outcome(answer: Answer) -> &'static str
+fn outcome(answer: Answer) -> &'static str
     ensures { result.now ≡ outcome_text answer }
 {
     match answer {
@@ -111,7 +123,7 @@ pub fn outcome(answer: Answer) -> &'static str
 }
 
 /// The word of an access.
-pub fn kind_of_act(act: Act) -> &'static str
+fn kind_of_act(act: Act) -> &'static str
     ensures { result.now ≡ kind_text act }
 {
     match access_asked(act) {
@@ -121,14 +133,18 @@ pub fn kind_of_act(act: Act) -> &'static str
 }
 
 /// The place of an access in a program's source.
-fn place_of<'a>(names: &Names<'a>, access: &Access) -> Option<Place<'a>>
+fn place_of<'a, A: Allocator + Copy>(names: &Names<'a, A>, access: &Access) -> Option<Place<'a>>
     ensures { option_map place_parts result ≡ place_of (naming_of names.now) access.now }
 {
     names.notes.place_of(access.request.line)
 }
 
 /// Adds the place of an access, or the number of its entry.
-fn put_site(line: &mut String, names: &Names<'_>, access: &Access) -> Result<(), AllocError>
+fn put_site<A: Allocator + Copy>(
+    line: &mut String<A>,
+    names: &Names<'_, A>,
+    access: &Access,
+) -> Result<(), AllocError>
     ensures { OnOk result (string_bytes line.new ≡ string_bytes line.old ++ site_text (place_of (naming_of names.now) access.now) access.now.entry) }
 {
     match place_of(names, access) {
@@ -138,12 +154,12 @@ fn put_site(line: &mut String, names: &Names<'_>, access: &Access) -> Result<(),
 }
 
 /// The line of an access, of what has this name.
-fn line_of(
-    alloc: Global,
-    names: &Names<'_>,
+fn line_of<A: Allocator + Copy>(
+    alloc: A,
+    names: &Names<'_, A>,
     access: &Access,
     name: &str,
-) -> Result<String, AllocError>
+) -> Result<String<A>, AllocError>
     requires { name.now ≡ plain_name (naming_of names.now) access.now.request.act }
     ensures { IfOk result (λ line. string_bytes line ≡ access_line (naming_of names.now) access.now) }
 {
@@ -158,7 +174,11 @@ fn line_of(
 }
 
 /// The line of an access.
-fn access_line(alloc: Global, names: &Names<'_>, access: &Access) -> Result<String, AllocError>
+fn access_line<A: Allocator + Copy>(
+    alloc: A,
+    names: &Names<'_, A>,
+    access: &Access,
+) -> Result<String<A>, AllocError>
     requires numbered { IsTrue (is_numbered 0 names.now.mems.now) }
     ensures { IfOk result (λ line. string_bytes line ≡ access_line (naming_of names.now) access.now) }
 {
@@ -167,7 +187,7 @@ fn access_line(alloc: Global, names: &Names<'_>, access: &Access) -> Result<Stri
 }
 
 /// The place of the first access that has one.
-fn first_place<'a>(names: &Names<'a>, own: &[Access]) -> Option<Place<'a>>
+fn first_place<'a, A: Allocator + Copy>(names: &Names<'a, A>, own: &[Access]) -> Option<Place<'a>>
     ensures { option_map place_parts result ≡ first_place (naming_of names.now) own.now }
 {
     for access in own {
@@ -179,7 +199,10 @@ fn first_place<'a>(names: &Names<'a>, own: &[Access]) -> Option<Place<'a>>
 }
 
 /// Adds the function of a place.
-fn put_function(line: &mut String, place: Option<Place<'_>>) -> Result<(), AllocError>
+fn put_function<A: Allocator>(
+    line: &mut String<A>,
+    place: Option<Place<'_>>,
+) -> Result<(), AllocError>
     ensures { OnOk result (string_bytes line.new ≡ string_bytes line.old ++ function_text (option_map place_parts place.entry)) }
 {
     match place {
@@ -197,12 +220,12 @@ fn put_function(line: &mut String, place: Option<Place<'_>>) -> Result<(), Alloc
 }
 
 /// The first line of a strand.
-fn head_line(
-    alloc: Global,
-    names: &Names<'_>,
+fn head_line<A: Allocator + Copy>(
+    alloc: A,
+    names: &Names<'_, A>,
     strand: usize,
     own: &[Access],
-) -> Result<String, AllocError>
+) -> Result<String<A>, AllocError>
     ensures { IfOk result (λ line. string_bytes line ≡ head_line (naming_of names.now) strand own.now) }
 {
     let mut line = String::new(alloc);
@@ -212,10 +235,10 @@ fn head_line(
 }
 
 /// Adds the lines of accesses.
-fn add_accesses(
-    alloc: Global,
-    lines: &mut Vec<String>,
-    names: &Names<'_>,
+fn add_accesses<A: Allocator + Copy>(
+    alloc: A,
+    lines: &mut Vec<String<A>, A>,
+    names: &Names<'_, A>,
     told: &[Access],
 ) -> Result<(), AllocError>
     requires numbered { IsTrue (is_numbered 0 names.now.mems.now) }
@@ -228,7 +251,7 @@ fn add_accesses(
 }
 
 /// The line that says how many accesses are not told.
-fn rest_line(alloc: Global, rest: usize) -> Result<String, AllocError>
+fn rest_line<A: Allocator + Copy>(alloc: A, rest: usize) -> Result<String<A>, AllocError>
     ensures { IfOk result (λ line. string_bytes line ≡ codes "and " ++ decimal rest ++ codes " more") }
 {
     let mut line = String::new(alloc);
@@ -239,7 +262,11 @@ fn rest_line(alloc: Global, rest: usize) -> Result<String, AllocError>
 }
 
 /// Adds how many accesses are not told.
-fn add_rest(alloc: Global, lines: &mut Vec<String>, count: usize) -> Result<(), AllocError>
+fn add_rest<A: Allocator + Copy>(
+    alloc: A,
+    lines: &mut Vec<String<A>, A>,
+    count: usize,
+) -> Result<(), AllocError>
     ensures { OnOk result (map string_bytes lines.new.items ≡ map string_bytes lines.old.items ++ rest_lines count) }
 {
     if count > MOST_TOLD {
@@ -261,12 +288,12 @@ fn told_of(own: &[Access]) -> &[Access]
 }
 
 /// The lines of a strand with its accesses.
-pub fn node_lines(
-    alloc: Global,
-    names: &Names<'_>,
+pub fn node_lines<A: Allocator + Copy>(
+    alloc: A,
+    names: &Names<'_, A>,
     strand: usize,
     own: &[Access],
-) -> Result<Vec<String>, AllocError>
+) -> Result<Vec<String<A>, A>, AllocError>
     requires numbered { IsTrue (is_numbered 0 names.now.mems.now) }
     ensures { IfOk result (λ lines. map string_bytes lines.items ≡ node_lines (naming_of names.now) strand own.now) }
 {
@@ -278,7 +305,7 @@ pub fn node_lines(
 }
 
 /// The word of the rule that an act and an earlier access come under.
-pub fn rule_of(act: Act, earlier: Kind) -> &'static str
+fn rule_of(act: Act, earlier: Kind) -> &'static str
     ensures { result.now ≡ rule_text act earlier }
 {
     match access_asked(act) {
@@ -291,7 +318,11 @@ pub fn rule_of(act: Act, earlier: Kind) -> &'static str
 }
 
 /// What is written beside a race.
-pub fn race_label(alloc: Global, names: &Names<'_>, race: &Race) -> Result<String, AllocError>
+pub fn race_label<A: Allocator + Copy>(
+    alloc: A,
+    names: &Names<'_, A>,
+    race: &Race,
+) -> Result<String<A>, AllocError>
     requires numbered { IsTrue (is_numbered 0 names.now.mems.now) }
     ensures { IfOk result (λ label. string_bytes label ≡ race_label (naming_of names.now) race.now) }
 {

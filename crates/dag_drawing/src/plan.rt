@@ -8,7 +8,7 @@ ghost use Rattle.dag_drawing.specs.Plans.{plan_of, plan, last_of, left_at, middl
 
 use crate::drawing::{Access, Drawing, Edge};
 use crate::labels::{Names, node_lines, own_of};
-use std::alloc::{AllocError, Global};
+use std::alloc::{AllocError, Allocator};
 
 /// The characters of a line that there is room for.
 pub const MOST_CHARACTERS: u16 = 64;
@@ -29,13 +29,13 @@ const MOST_NUMBERS: u16 = 20_000;
 const MOST: u32 = 10_000;
 
 /// Where the boxes of a picture stand.
-pub struct Layout {
+pub struct Layout<A: Allocator> {
     /// The levels of strands, by their numbers.
-    pub depths: Vec<u32>,
+    pub depths: Vec<u32, A>,
     /// Their columns.
-    pub columns: Vec<u32>,
+    pub columns: Vec<u32, A>,
     /// How many strands stand on each level.
-    pub counts: Vec<u32>,
+    pub counts: Vec<u32, A>,
     /// The most strands of a level.
     pub widest: u32,
     /// The last level.
@@ -52,7 +52,7 @@ pub struct Layout {
     pub title: u16,
 }
 
-impl Drop for Layout {
+impl<A: Allocator> Drop for Layout<A> {
     fn drop(self) {
         let Layout {
             depths: _,
@@ -99,7 +99,7 @@ fn number_at(numbers: &[u32], at: usize) -> u32
 }
 
 /// Puts a number in its place, where the list has that.
-fn put(numbers: &mut Vec<u32>, at: usize, number: u32)
+fn put<A: Allocator>(numbers: &mut Vec<u32, A>, at: usize, number: u32)
     ensures { numbers.new.items ≡ slice_set numbers.old.items at number }
 {
     if at < numbers.len() {
@@ -108,7 +108,7 @@ fn put(numbers: &mut Vec<u32>, at: usize, number: u32)
 }
 
 /// Puts what an edge leads to on a level below that which it comes from.
-fn deepen(depths: &mut Vec<u32>, edge: &Edge)
+fn deepen<A: Allocator>(depths: &mut Vec<u32, A>, edge: &Edge)
     ensures { depths.new.items ≡ deepened depths.old.items edge.now }
 {
     let to = number_at(depths.as_slice(), edge.to as usize);
@@ -117,7 +117,11 @@ fn deepen(depths: &mut Vec<u32>, edge: &Edge)
 }
 
 /// The levels of strands, by their numbers.
-fn depths_of(alloc: Global, size: usize, edges: &[Edge]) -> Result<Vec<u32>, AllocError>
+fn depths_of<A: Allocator + Copy>(
+    alloc: A,
+    size: usize,
+    edges: &[Edge],
+) -> Result<Vec<u32, A>, AllocError>
     ensures { IfOk result (λ depths. depths.items ≡ depths_by (replicate size 0) edges.now) }
 {
     let mut depths = vec![in alloc; 0u32; size]?;
@@ -128,7 +132,12 @@ fn depths_of(alloc: Global, size: usize, edges: &[Edge]) -> Result<Vec<u32>, All
 }
 
 /// Puts a strand behind those of its level.
-fn seat(depths: &[u32], counts: &mut Vec<u32>, columns: &mut Vec<u32>, strand: usize)
+fn seat<A: Allocator>(
+    depths: &[u32],
+    counts: &mut Vec<u32, A>,
+    columns: &mut Vec<u32, A>,
+    strand: usize,
+)
     ensures counts { counts.new.items ≡ counted depths.now counts.old.items strand }
     ensures columns { columns.new.items
         ≡ slice_set columns.old.items strand (slice_index_or counts.old.items (slice_index_or depths.now strand 0) 0) }
@@ -140,7 +149,12 @@ fn seat(depths: &[u32], counts: &mut Vec<u32>, columns: &mut Vec<u32>, strand: u
 }
 
 /// Puts strands behind those of their levels.
-fn seat_all(depths: &[u32], counts: &mut Vec<u32>, columns: &mut Vec<u32>, strands: &[usize])
+fn seat_all<A: Allocator>(
+    depths: &[u32],
+    counts: &mut Vec<u32, A>,
+    columns: &mut Vec<u32, A>,
+    strands: &[usize],
+)
     ensures counts { counts.new.items ≡ counts_by depths.now counts.old.items strands.now }
     ensures columns { columns.new.items ≡ columns_by depths.now counts.old.items columns.old.items strands.now }
 {
@@ -161,7 +175,7 @@ fn greatest(numbers: &[u32]) -> u32
 }
 
 /// The length of the longest line, which is not below this.
-fn longest(most: usize, lines: &[String]) -> usize
+fn longest<A: Allocator>(most: usize, lines: &[String<A>]) -> usize
     ensures { result ≡ longest most (map string_bytes lines.now) }
 {
     let mut most = most;
@@ -171,46 +185,40 @@ fn longest(most: usize, lines: &[String]) -> usize
     most
 }
 
-/// The length of the longest line of strands.
-fn longest_line(
-    alloc: Global,
-    names: &Names<'_>,
-    strands: &[usize],
-    accesses: &[Access],
-) -> Result<usize, AllocError>
-    requires numbered { IsTrue (is_numbered 0 names.now.mems.now) }
-    ensures { IfOk result (λ length. length ≡ longest_line (naming_of names.now) 0 strands.now accesses.now) }
-{
-    let mut length = 0;
-    let mut rest = accesses;
-    for strand in strands {
-        let (own, others) = rest.split_at(own_of(*strand, rest));
-        let lines = node_lines(alloc, names, *strand, own)?;
-        length = longest(length, lines.as_slice());
-        rest = others;
-    }
-    Ok(length)
+/// The sizes of what is written in boxes.
+#[derive(Clone, Copy, Debug, PartialEq, Eq)]
+struct Sizes {
+    /// The characters of the longest line.
+    length: usize,
+    /// The most lines of a strand.
+    lines: usize,
 }
 
-/// The most lines of a strand.
-fn most_lines(
-    alloc: Global,
-    names: &Names<'_>,
+/// The sizes of what is written of strands.
+fn sizes_of<A: Allocator + Copy>(
+    alloc: A,
+    names: &Names<'_, A>,
     strands: &[usize],
     accesses: &[Access],
-) -> Result<usize, AllocError>
+) -> Result<Sizes, AllocError>
     requires numbered { IsTrue (is_numbered 0 names.now.mems.now) }
-    ensures { IfOk result (λ most. most ≡ most_lines (naming_of names.now) 0 strands.now accesses.now) }
+    ensures length { IfOk result (λ sizes. sizes.length ≡ longest_line (naming_of names.now) 0 strands.now accesses.now) }
+    ensures lines { IfOk result (λ sizes. sizes.lines ≡ most_lines (naming_of names.now) 0 strands.now accesses.now) }
 {
+    let mut length = 0;
     let mut most = 0;
     let mut rest = accesses;
     for strand in strands {
         let (own, others) = rest.split_at(own_of(*strand, rest));
         let lines = node_lines(alloc, names, *strand, own)?;
+        length = longest(length, lines.as_slice());
         most = most.max(lines.len());
         rest = others;
     }
-    Ok(most)
+    Ok(Sizes {
+        length,
+        lines: most,
+    })
 }
 
 /// The last of some numbers.
@@ -224,20 +232,23 @@ fn last_of(numbers: &[usize]) -> usize
 }
 
 /// Where the boxes of a drawing stand.
-pub fn layout_of(alloc: Global, names: &Names<'_>, drawing: &Drawing) -> Result<Layout, AllocError>
+pub fn layout_of<A: Allocator + Copy>(
+    alloc: A,
+    names: &Names<'_, A>,
+    drawing: &Drawing<A>,
+) -> Result<Layout<A>, AllocError>
     requires numbered { IsTrue (is_numbered 0 names.now.mems.now) }
     ensures { IfOk result (λ layout. plan_of layout ≡ plan (naming_of names.now) drawing.now) }
 {
     let strands = drawing.strands.as_slice();
     let accesses = drawing.accesses.as_slice();
-    let length = longest_line(alloc, names, strands, accesses)?;
-    let lines = most_lines(alloc, names, strands, accesses)?;
+    let sizes = sizes_of(alloc, names, strands, accesses)?;
     let size = usize::from(at_most(MOST_NUMBERS, last_of(strands))) + 1;
     let depths = depths_of(alloc, size, drawing.edges.as_slice())?;
     let mut counts = vec![in alloc; 0u32; size]?;
     let mut columns = vec![in alloc; 0u32; size]?;
     seat_all(depths.as_slice(), &mut counts, &mut columns, strands);
-    let characters = at_most(MOST_CHARACTERS, length);
+    let characters = at_most(MOST_CHARACTERS, sizes.length);
     let runs = names.notes.runs();
     Ok(Layout {
         widest: greatest(counts.as_slice()),
@@ -247,7 +258,7 @@ pub fn layout_of(alloc: Global, names: &Names<'_>, drawing: &Drawing) -> Result<
         counts,
         half: 4 * characters + 8,
         across: 4 * characters + 24,
-        down: 16 * at_most(MOST_BOX_LINES, lines) + 80,
+        down: 16 * at_most(MOST_BOX_LINES, sizes.lines) + 80,
         above: 16 * at_most(MOST_TITLE_LINES, runs.len()) + 96,
         title: 8 * at_most(MOST_TITLE_CHARACTERS, longest(0, runs)) + 32,
     })
@@ -262,7 +273,7 @@ fn scaled(count: u64, way: u16) -> u64
     count * u64::from(way)
 }
 
-impl Layout {
+impl<A: Allocator> Layout<A> {
     /// The left end of a strand's box, with each level in the middle.
     pub fn left(&self, strand: usize) -> u64
         ensures value { result ≡ left_at (plan_of self.now) strand }

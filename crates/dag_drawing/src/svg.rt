@@ -15,11 +15,11 @@ use crate::plan::{
     Layout, MOST_BOX_LINES, MOST_CHARACTERS, MOST_TITLE_CHARACTERS, MOST_TITLE_LINES, at_most,
     layout_of,
 };
-use std::alloc::{AllocError, Global};
+use std::alloc::{AllocError, Allocator};
 use text_buffers::{push_number, push_words};
 
 /// Adds a byte as it stands in XML.
-fn push_xml_byte(text: &mut Vec<u8>, byte: u8) -> Result<(), AllocError>
+fn push_xml_byte<A: Allocator>(text: &mut Vec<u8, A>, byte: u8) -> Result<(), AllocError>
     ensures { OnOk result (text.new.items ≡ text.old.items ++ xml_byte byte) }
 {
     match byte {
@@ -37,7 +37,7 @@ fn push_xml_byte(text: &mut Vec<u8>, byte: u8) -> Result<(), AllocError>
 }
 
 /// Adds bytes as they stand in XML.
-fn push_xml(text: &mut Vec<u8>, bytes: &[u8]) -> Result<(), AllocError>
+fn push_xml<A: Allocator>(text: &mut Vec<u8, A>, bytes: &[u8]) -> Result<(), AllocError>
     ensures { OnOk result (text.new.items ≡ text.old.items ++ xml_text bytes.now) }
 {
     for byte in bytes {
@@ -47,7 +47,7 @@ fn push_xml(text: &mut Vec<u8>, bytes: &[u8]) -> Result<(), AllocError>
 }
 
 /// Adds a line, which is cut where it is longer than this.
-fn push_cut(text: &mut Vec<u8>, most: u16, line: &str) -> Result<(), AllocError>
+fn push_cut<A: Allocator>(text: &mut Vec<u8, A>, most: u16, line: &str) -> Result<(), AllocError>
     ensures { OnOk result (text.new.items ≡ text.old.items ++ cut_text most line.now) }
 {
     let bytes = line.as_bytes();
@@ -61,7 +61,12 @@ fn push_cut(text: &mut Vec<u8>, most: u16, line: &str) -> Result<(), AllocError>
 }
 
 /// Adds a line below the one before it.
-fn push_line(text: &mut Vec<u8>, most: u16, left: u64, line: &str) -> Result<(), AllocError>
+fn push_line<A: Allocator>(
+    text: &mut Vec<u8, A>,
+    most: u16,
+    left: u64,
+    line: &str,
+) -> Result<(), AllocError>
     ensures { OnOk result (text.new.items ≡ text.old.items ++ line_text most left line.now) }
 {
     push_number(text, "<tspan x=\"", left)?;
@@ -71,7 +76,12 @@ fn push_line(text: &mut Vec<u8>, most: u16, left: u64, line: &str) -> Result<(),
 }
 
 /// Adds lines, one below the other.
-fn push_lines(text: &mut Vec<u8>, most: u16, left: u64, lines: &[String]) -> Result<(), AllocError>
+fn push_lines<A: Allocator>(
+    text: &mut Vec<u8, A>,
+    most: u16,
+    left: u64,
+    lines: &[String<A>],
+) -> Result<(), AllocError>
     ensures { OnOk result (text.new.items ≡ text.old.items ++ lines_text most left (map string_bytes lines.now)) }
 {
     for line in lines {
@@ -81,7 +91,11 @@ fn push_lines(text: &mut Vec<u8>, most: u16, left: u64, lines: &[String]) -> Res
 }
 
 /// Adds an edge.
-fn push_edge(text: &mut Vec<u8>, layout: &Layout, edge: &Edge) -> Result<(), AllocError>
+fn push_edge<A: Allocator>(
+    text: &mut Vec<u8, A>,
+    layout: &Layout<A>,
+    edge: &Edge,
+) -> Result<(), AllocError>
     ensures { OnOk result (text.new.items ≡ text.old.items ++ edge_text (plan_of layout.now) edge.now) }
 {
     push_words(text, "<line class=\"")?;
@@ -97,7 +111,11 @@ fn push_edge(text: &mut Vec<u8>, layout: &Layout, edge: &Edge) -> Result<(), All
 }
 
 /// Adds edges.
-fn push_edges(text: &mut Vec<u8>, layout: &Layout, edges: &[Edge]) -> Result<(), AllocError>
+fn push_edges<A: Allocator>(
+    text: &mut Vec<u8, A>,
+    layout: &Layout<A>,
+    edges: &[Edge],
+) -> Result<(), AllocError>
     ensures { OnOk result (text.new.items ≡ text.old.items ++ flat_map (edge_text (plan_of layout.now)) edges.now) }
 {
     for edge in edges {
@@ -114,9 +132,9 @@ fn box_height(lines: usize) -> u64
 }
 
 /// Adds the box of a strand.
-fn push_rect(
-    text: &mut Vec<u8>,
-    layout: &Layout,
+fn push_rect<A: Allocator>(
+    text: &mut Vec<u8, A>,
+    layout: &Layout<A>,
     strand: usize,
     lines: usize,
 ) -> Result<(), AllocError>
@@ -132,11 +150,11 @@ fn push_rect(
 }
 
 /// Adds a strand with the lines of its box.
-fn push_node(
-    text: &mut Vec<u8>,
-    layout: &Layout,
+fn push_node<A: Allocator>(
+    text: &mut Vec<u8, A>,
+    layout: &Layout<A>,
     strand: usize,
-    lines: &[String],
+    lines: &[String<A>],
 ) -> Result<(), AllocError>
     ensures { OnOk result (text.new.items ≡ text.old.items ++ node_text (plan_of layout.now) strand (map string_bytes lines.now)) }
 {
@@ -149,11 +167,11 @@ fn push_node(
 }
 
 /// Adds strands, each with its own of the accesses.
-fn push_nodes(
-    alloc: Global,
-    text: &mut Vec<u8>,
-    layout: &Layout,
-    names: &Names<'_>,
+fn push_nodes<A: Allocator + Copy>(
+    alloc: A,
+    text: &mut Vec<u8, A>,
+    layout: &Layout<A>,
+    names: &Names<'_, A>,
     strands: &[usize],
     accesses: &[Access],
 ) -> Result<(), AllocError>
@@ -179,7 +197,7 @@ fn rise(number: usize) -> u64
 }
 
 /// Adds between which strands a race is.
-fn push_ends(text: &mut Vec<u8>, race: &Race) -> Result<(), AllocError>
+fn push_ends<A: Allocator>(text: &mut Vec<u8, A>, race: &Race) -> Result<(), AllocError>
     ensures { OnOk result (text.new.items ≡ text.old.items ++ ends_text race.now) }
 {
     push_number(
@@ -193,8 +211,8 @@ fn push_ends(text: &mut Vec<u8>, race: &Race) -> Result<(), AllocError>
 }
 
 /// Adds the arc from one place to another, by a height above each.
-fn push_curve(
-    text: &mut Vec<u8>,
+fn push_curve<A: Allocator>(
+    text: &mut Vec<u8, A>,
     from: (u64, u64, u64),
     to: (u64, u64, u64),
 ) -> Result<(), AllocError>
@@ -213,7 +231,7 @@ fn push_curve(
 }
 
 /// The place of an arc's end at a strand, and the height above it.
-fn end_of(layout: &Layout, number: usize, strand: usize) -> (u64, u64, u64)
+fn end_of<A: Allocator>(layout: &Layout<A>, number: usize, strand: usize) -> (u64, u64, u64)
     ensures middle { result.0 ≡ middle_at (plan_of layout.now) strand }
     ensures top { result.1 ≡ top_at (plan_of layout.now) strand }
     ensures above { result.2 ≡ top_at (plan_of layout.now) strand - rise number }
@@ -223,9 +241,9 @@ fn end_of(layout: &Layout, number: usize, strand: usize) -> (u64, u64, u64)
 }
 
 /// Adds the arc from one strand to another.
-fn push_arc(
-    text: &mut Vec<u8>,
-    layout: &Layout,
+fn push_arc<A: Allocator>(
+    text: &mut Vec<u8, A>,
+    layout: &Layout<A>,
     number: usize,
     from: usize,
     to: usize,
@@ -240,9 +258,9 @@ fn push_arc(
 }
 
 /// Adds what is written in the middle of an arc.
-fn push_label(
-    text: &mut Vec<u8>,
-    layout: &Layout,
+fn push_label<A: Allocator>(
+    text: &mut Vec<u8, A>,
+    layout: &Layout<A>,
     number: usize,
     from: usize,
     to: usize,
@@ -261,11 +279,11 @@ fn push_label(
 }
 
 /// Adds a race.
-fn push_race(
-    alloc: Global,
-    text: &mut Vec<u8>,
-    layout: &Layout,
-    names: &Names<'_>,
+fn push_race<A: Allocator + Copy>(
+    alloc: A,
+    text: &mut Vec<u8, A>,
+    layout: &Layout<A>,
+    names: &Names<'_, A>,
     number: usize,
     race: &Race,
 ) -> Result<(), AllocError>
@@ -282,11 +300,11 @@ fn push_race(
 }
 
 /// Adds races.
-fn push_races(
-    alloc: Global,
-    text: &mut Vec<u8>,
-    layout: &Layout,
-    names: &Names<'_>,
+fn push_races<A: Allocator + Copy>(
+    alloc: A,
+    text: &mut Vec<u8, A>,
+    layout: &Layout<A>,
+    names: &Names<'_, A>,
     races: &[Race],
 ) -> Result<(), AllocError>
     requires numbered { IsTrue (is_numbered 0 names.now.mems.now) }
@@ -306,7 +324,7 @@ fn style() -> &'static str
 }
 
 /// Adds the head of a picture of this width and height.
-fn push_head(text: &mut Vec<u8>, width: u64, height: u64) -> Result<(), AllocError>
+fn push_head<A: Allocator>(text: &mut Vec<u8, A>, width: u64, height: u64) -> Result<(), AllocError>
     ensures { OnOk result (text.new.items ≡ text.old.items ++ head_text width height) }
 {
     push_number(
@@ -323,7 +341,7 @@ fn push_head(text: &mut Vec<u8>, width: u64, height: u64) -> Result<(), AllocErr
 }
 
 /// The lines of the title that there is room for.
-fn shown_of(runs: &[String]) -> &[String]
+fn shown_of<A: Allocator>(runs: &[String<A>]) -> &[String<A>]
     ensures { map string_bytes result.now ≡ take most_title_lines (map string_bytes runs.now) }
 {
     if runs.len() > usize::from(MOST_TITLE_LINES) {
@@ -335,7 +353,7 @@ fn shown_of(runs: &[String]) -> &[String]
 }
 
 /// Adds what was recorded.
-fn push_title(text: &mut Vec<u8>, runs: &[String]) -> Result<(), AllocError>
+fn push_title<A: Allocator>(text: &mut Vec<u8, A>, runs: &[String<A>]) -> Result<(), AllocError>
     ensures { OnOk result (text.new.items ≡ text.old.items ++ title_text (map string_bytes runs.now)) }
 {
     if runs.is_empty() {
@@ -348,12 +366,12 @@ fn push_title(text: &mut Vec<u8>, runs: &[String]) -> Result<(), AllocError>
 }
 
 /// Adds a drawing by its layout.
-fn push_picture(
-    alloc: Global,
-    text: &mut Vec<u8>,
-    layout: &Layout,
-    names: &Names<'_>,
-    drawing: &Drawing,
+fn push_picture<A: Allocator + Copy>(
+    alloc: A,
+    text: &mut Vec<u8, A>,
+    layout: &Layout<A>,
+    names: &Names<'_, A>,
+    drawing: &Drawing<A>,
 ) -> Result<(), AllocError>
     requires numbered { IsTrue (is_numbered 0 names.now.mems.now) }
     ensures { OnOk result (text.new.items ≡ text.old.items ++ picture_text (plan_of layout.now) (naming_of names.now) drawing.now) }
@@ -370,7 +388,11 @@ fn push_picture(
 
 /// The text of a drawing in SVG: above it what was recorded, a box for each strand, on a level below those that lead to it, a line for
 /// each edge of the dag, and a red arc for each race. Errors where there is no memory.
-pub fn svg_text(alloc: Global, names: &Names<'_>, drawing: &Drawing) -> Result<Vec<u8>, AllocError>
+pub fn svg_text<A: Allocator + Copy>(
+    alloc: A,
+    names: &Names<'_, A>,
+    drawing: &Drawing<A>,
+) -> Result<Vec<u8, A>, AllocError>
     requires numbered { IsTrue (is_numbered 0 names.now.mems.now) }
     ensures { IfOk result (λ text. text.items ≡ svg_text (naming_of names.now) drawing.now) }
 {

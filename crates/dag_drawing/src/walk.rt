@@ -9,19 +9,19 @@ ghost use Rattle.dag_drawing.specs.Walks.{IsLegalHistory, marks_of, blocks_of, I
 use crate::drawing::{Edge, EdgeKind};
 use model_strands::Spawned;
 use race_gate::{Answer, Entry};
-use std::alloc::{AllocError, Global};
+use std::alloc::{AllocError, Allocator};
 
 /// What is known of strands and edges after some entries.
-pub struct Walk {
+pub struct Walk<A: Allocator> {
     /// By the number of a strand or a reserved join, whether it has begun.
-    pub begun: Vec<bool>,
+    pub begun: Vec<bool, A>,
     /// By that number, the join of the innermost block round the strand.
-    pub blocks: Vec<Option<u32>>,
+    pub blocks: Vec<Option<u32>, A>,
     /// The edges, and those that will lead to joins that have not begun.
-    pub edges: Vec<Edge>,
+    pub edges: Vec<Edge, A>,
 }
 
-impl Drop for Walk {
+impl<A: Allocator> Drop for Walk<A> {
     fn drop(self) {
         let Walk {
             begun: _,
@@ -31,9 +31,9 @@ impl Drop for Walk {
     }
 }
 
-impl Walk {
+impl<A: Allocator + Copy> Walk<A> {
     /// What is known before the first entry.
-    fn new(alloc: Global) -> Result<Walk, AllocError>
+    fn new(alloc: A) -> Result<Walk<A>, AllocError>
         ensures begun { IfOk result (λ walk. walk.begun.items ≡ true ∷ []) }
         ensures blocks { IfOk result (λ walk. walk.blocks.items ≡ None ∷ []) }
         ensures edges { IfOk result (λ walk. walk.edges.items ≡ []) }
@@ -148,7 +148,7 @@ impl Walk {
 }
 
 /// What is known after all entries.
-pub fn walked(alloc: Global, entries: &[Entry]) -> Result<Walk, AllocError>
+pub fn walked<A: Allocator + Copy>(alloc: A, entries: &[Entry]) -> Result<Walk<A>, AllocError>
     requires { IsLegalHistory (reverse entries.now) }
     ensures { IfOk result (λ walk. IsWalk walk.begun.items walk.blocks.items walk.edges.items (control_part (reverse entries.now))) }
 {

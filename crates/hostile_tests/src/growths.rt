@@ -35,6 +35,7 @@ use crate::refusing::Refusing;
 use std::alloc::{AllocError, Global};
 use std::process::Abort;
 use text_words::{Monoid, Shape};
+use tool_commands::Form;
 
 /// A heap of which one growth is refused.
 type Heap = Refusing<Global>;
@@ -188,6 +189,14 @@ const OF_COMMANDS: &[(&str, Call)] = &[
     ("judge_stream", Call::Command(commands::Command::Judge)),
     ("elide_text", Call::Command(commands::Command::Elide)),
     ("replay_text", Call::Command(commands::Command::Replay)),
+    (
+        "draw_text",
+        Call::Command(commands::Command::Draw(Form::Dot)),
+    ),
+    (
+        "draw_text of a picture",
+        Call::Command(commands::Command::Draw(Form::Svg)),
+    ),
 ];
 
 #[test]

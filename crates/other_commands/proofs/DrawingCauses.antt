@@ -1,6 +1,5 @@
 -- What each step of drawing a trace says of the whole.
 use Rattle.std.proofs.Common.{◌≡◌, ◌∙◌, ℕ, List, Option, ap}
-use Rattle.std.specs.Global.{Global}
 use Rattle.text_words.specs.Text.{lines}
 use Rattle.text_words.specs.declared.value.Mem.{Mem}
 use Rattle.text_words.specs.declared.value.Reducer.{Reducer}
@@ -19,11 +18,11 @@ use Rattle.command_streams.specs.Streams.{IsRead, StopsWriting}
 use Rattle.command_streams.specs.Readings.{Reading}
 use Rattle.other_commands.specs.Drawings.{naming_in, DrawsContents, StopsDrawing, IsTraceRead, IsDrawn, HasDrawingCause}
 
-abbrev naming_by : List Mem → List Reducer → Notes Global → Naming
+abbrev naming_by : {A : Type 0} → List Mem → List Reducer → Notes A → Naming A
 naming_by mems reducers notes = record { mems = mems; reducers = reducers; notes = notes }
 
 -- the text is by the names of the trace
-pub text_named : (form : Form) (notes : Notes Global) (trace : Contents) (mems : List Mem) (reducers : List Reducer) (drawing : Drawing) (text : List ℕ) →
+pub text_named : {A : Type 0} (form : Form) (notes : Notes A) (trace : Contents) (mems : List Mem) (reducers : List Reducer) (drawing : Drawing A) (text : List ℕ) →
     mems ≡ trace.known.mems → reducers ≡ trace.known.reducers → text ≡ text_in form (naming_by mems reducers notes) drawing →
     text ≡ text_in form (naming_in notes trace) drawing
 text_named form notes trace mems reducers drawing text same_mems same_reducers is =
@@ -31,18 +30,18 @@ text_named form notes trace mems reducers drawing text same_mems same_reducers i
     ap (λ (l : List Reducer). text_in form (naming_by trace.known.mems l notes) drawing) same_reducers
 
 -- the trace was read, and it is not drawn
-pub drawing_stops : (form : Form) (reader : Reading) (wrote writes : Option (List ℕ)) (trace : Contents) (fault : CliFault) → IsTraceRead reader trace → StopsDrawing trace fault →
-    HasDrawingCause form reader wrote writes fault
-drawing_stops form reader wrote writes trace (Illegal number) read stops = record { trace = trace; read = read; stops = stops }
-drawing_stops form reader wrote writes trace Limit read stops = record { trace = trace; read = read; stops = stops }
-drawing_stops form reader wrote writes trace TooManyStrands read stops = record { trace = trace; read = read; stops = stops }
-drawing_stops form reader wrote writes trace Memory read stops = tt
-drawing_stops form reader wrote writes trace fault read stops = absurd stops
+pub drawing_stops : (A : Type 0) (form : Form) (reader : Reading) (wrote writes : Option (List ℕ)) (trace : Contents) (fault : CliFault) → IsTraceRead reader trace → StopsDrawing trace fault →
+    HasDrawingCause A form reader wrote writes fault
+drawing_stops A form reader wrote writes trace (Illegal number) read stops = record { trace = trace; read = read; stops = stops }
+drawing_stops A form reader wrote writes trace Limit read stops = record { trace = trace; read = read; stops = stops }
+drawing_stops A form reader wrote writes trace TooManyStrands read stops = record { trace = trace; read = read; stops = stops }
+drawing_stops A form reader wrote writes trace Memory read stops = tt
+drawing_stops A form reader wrote writes trace fault read stops = absurd stops
 
 -- its drawing was written, by the notes of the bytes that were read
-pub drawn_whole : (form : Form) (reader : Reading) (wrote writes : Option (List ℕ)) (trace : Contents) (text : List ℕ) (status : ℕ) (bytes : List ℕ)
-    (notes : Notes Global) → IsRead reader.before reader.behind bytes → TextMeans bytes trace → AreNotes (lines bytes) notes →
-    DrawsContents form notes trace text status → Appends wrote writes text → IsDrawn form reader wrote writes status
+pub drawn_whole : {A : Type 0} (form : Form) (reader : Reading) (wrote writes : Option (List ℕ)) (trace : Contents) (text : List ℕ) (status : ℕ) (bytes : List ℕ)
+    (notes : Notes A) → IsRead reader.before reader.behind bytes → TextMeans bytes trace → AreNotes (lines bytes) notes →
+    DrawsContents form notes trace text status → Appends wrote writes text → IsDrawn A form reader wrote writes status
 drawn_whole form reader wrote writes trace text status bytes notes read means noted draws written = record {
   trace = trace;
   text = text;
@@ -54,9 +53,9 @@ drawn_whole form reader wrote writes trace text status bytes notes read means no
 }
 
 -- only a part of it could be written
-pub drawing_cut : (form : Form) (reader : Reading) (wrote writes : Option (List ℕ)) (trace : Contents) (text : List ℕ) (status : ℕ) (bytes : List ℕ)
-    (notes : Notes Global) (fault : CliFault) → IsRead reader.before reader.behind bytes → TextMeans bytes trace → AreNotes (lines bytes) notes →
-    DrawsContents form notes trace text status → StopsWriting wrote writes text fault → HasDrawingCause form reader wrote writes fault
+pub drawing_cut : {A : Type 0} (form : Form) (reader : Reading) (wrote writes : Option (List ℕ)) (trace : Contents) (text : List ℕ) (status : ℕ) (bytes : List ℕ)
+    (notes : Notes A) (fault : CliFault) → IsRead reader.before reader.behind bytes → TextMeans bytes trace → AreNotes (lines bytes) notes →
+    DrawsContents form notes trace text status → StopsWriting wrote writes text fault → HasDrawingCause A form reader wrote writes fault
 drawing_cut form reader wrote writes trace text status bytes notes Write read means noted draws stops = record {
   trace = trace;
   text = text;

@@ -1,6 +1,5 @@
 -- What is read of a trace, and what is drawn of it.
 use Rattle.std.specs.Prelude.{ℕ, ◌≡◌, Option, List, ◌++◌, reverse}
-use Rattle.std.specs.Global.{Global}
 use Rattle.std.specs.Io.KnownBytes.{Appends}
 use Rattle.text_words.specs.Text.{lines}
 use Rattle.text_words.specs.Values.{Contents}
@@ -22,31 +21,27 @@ use Rattle.command_streams.specs.Readings.{Reading, StopsReader}
 use Rattle.other_commands.specs.Replays.{AnswersAll, StopsGate}
 use Rattle.command_streams.specs.Streams.{IsRead, IsFaulty}
 
--- the most strands of a drawing
-abbrev pub most_strands : ℕ
-most_strands = 10_000
-
 -- ---- the drawing of a trace
 
 -- what cells, reducers and marks are told by: what the trace declares, and notes
-abbrev pub naming_in : Notes Global → Contents → Naming
+abbrev pub naming_in : {A : Type 0} → Notes A → Contents → Naming A
 naming_in notes trace = record { mems = trace.known.mems; reducers = trace.known.reducers; notes = notes }
 
 -- A gate answered each request of the trace, and the text is that of the drawing of the gate's history in this language, by the names
 -- that the trace declares and by notes. The status tells whether something was refused in it.
-pub record DrawsContents (form : Form) (notes : Notes Global) (trace : Contents) (text : List ℕ) (status : ℕ) : Type 0 where
+pub record DrawsContents {A : Type 0} (form : Form) (notes : Notes A) (trace : Contents) (text : List ℕ) (status : ℕ) : Type 0 where
   pub gate : State
   pub answers : AnswersAll trace gate
   pub entries : List Entry
   pub history : reverse entries ≡ gate.history
-  pub drawing : Drawing
+  pub drawing : Drawing A
   pub drawn : IsDrawing entries drawing
   pub text_is : text ≡ text_in form (naming_in notes trace) drawing
   pub status_is : status ≡ refusal_status entries
 
 -- why entries, given from the oldest on, are not drawn
 abbrev pub StopsEntries : List Entry → CliFault → Type 0
-StopsEntries entries TooManyStrands = HasMoreStrands most_strands (control_part (reverse entries))
+StopsEntries entries TooManyStrands = HasMoreStrands (control_part (reverse entries))
 StopsEntries entries Memory = Unit {0}
 StopsEntries entries fault = ⊥
 
@@ -54,7 +49,7 @@ StopsEntries entries fault = ⊥
 pub record HasTooManyStrands (trace : Contents) : Type 0 where
   pub gate : State
   pub answers : AnswersAll trace gate
-  pub more : HasMoreStrands most_strands (control_part gate.history)
+  pub more : HasMoreStrands (control_part gate.history)
 
 -- Why a trace is not drawn.
 abbrev pub StopsDrawing : Contents → CliFault → Type 0
@@ -73,24 +68,24 @@ pub record IsTraceRead (reader : Reading) (trace : Contents) : Type 0 where
   pub means : TextMeans text trace
 
 -- A trace was read, and its drawing was written, by the notes of the text that was read.
-pub record IsDrawn (form : Form) (reader : Reading) (wrote writes : Option (List ℕ)) (status : ℕ) : Type 0 where
+pub record IsDrawn (A : Type 0) (form : Form) (reader : Reading) (wrote writes : Option (List ℕ)) (status : ℕ) : Type 0 where
   pub trace : Contents
   pub text : List ℕ
   pub read : IsTraceRead reader trace
-  pub notes : Notes Global
+  pub notes : Notes A
   pub noted : AreNotes (lines read.text) notes
   pub draws : DrawsContents form notes trace text status
   pub written : Appends wrote writes text
 
 -- A trace was read, and only a part of its drawing could be written.
-pub record IsDrawingCut (form : Form) (reader : Reading) (wrote writes : Option (List ℕ)) : Type 0 where
+pub record IsDrawingCut (A : Type 0) (form : Form) (reader : Reading) (wrote writes : Option (List ℕ)) : Type 0 where
   pub trace : Contents
   pub text : List ℕ
   pub status : ℕ
   pub part : List ℕ
   pub rest : List ℕ
   pub read : IsTraceRead reader trace
-  pub notes : Notes Global
+  pub notes : Notes A
   pub noted : AreNotes (lines read.text) notes
   pub draws : DrawsContents form notes trace text status
   pub written : Appends wrote writes part
@@ -103,10 +98,10 @@ pub record IsDrawingStopped (reader : Reading) (fault : CliFault) : Type 0 where
   pub stops : StopsDrawing trace fault
 
 -- Why a drawing is not written, or not wholly: each fault has its cause.
-abbrev pub HasDrawingCause : Form → Reading → (wrote writes : Option (List ℕ)) → CliFault → Type 0
-HasDrawingCause form reader wrote writes Read = Unit {0}
-HasDrawingCause form reader wrote writes Write = IsDrawingCut form reader wrote writes
-HasDrawingCause form reader wrote writes TooLong = StopsReader reader TooLong
-HasDrawingCause form reader wrote writes (Trace fault) = IsFaulty reader.before reader.behind (Trace fault)
-HasDrawingCause form reader wrote writes Memory = Unit {0}
-HasDrawingCause form reader wrote writes fault = IsDrawingStopped reader fault
+abbrev pub HasDrawingCause : (A : Type 0) → Form → Reading → (wrote writes : Option (List ℕ)) → CliFault → Type 0
+HasDrawingCause A form reader wrote writes Read = Unit {0}
+HasDrawingCause A form reader wrote writes Write = IsDrawingCut A form reader wrote writes
+HasDrawingCause A form reader wrote writes TooLong = StopsReader reader TooLong
+HasDrawingCause A form reader wrote writes (Trace fault) = IsFaulty reader.before reader.behind (Trace fault)
+HasDrawingCause A form reader wrote writes Memory = Unit {0}
+HasDrawingCause A form reader wrote writes fault = IsDrawingStopped reader fault

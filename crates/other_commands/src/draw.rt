@@ -17,13 +17,13 @@ use crate::replay::answered;
 use command_streams::{CliFault, Watched, parse_trace, read_text, refusal_status, write_text};
 use dag_drawing::{Drawing, Form, Names, draw, write_drawing};
 use race_gate::Entry;
-use std::alloc::Global;
+use std::alloc::Allocator;
 use std::io::{Read, Write};
 use trace_notes::Notes;
 use trace_text::Trace;
 
 /// The drawing of entries, given from the oldest on.
-fn drawing_of(alloc: Global, entries: &[Entry]) -> Result<Drawing, CliFault>
+fn drawing_of<A: Allocator + Copy>(alloc: A, entries: &[Entry]) -> Result<Drawing<A>, CliFault>
     requires { IsLegalHistory (reverse entries.now) }
     ensures ok { IfOk result (IsDrawing entries.now) }
     ensures fault { IfErr result (StopsEntries entries.now) }
@@ -36,12 +36,12 @@ fn drawing_of(alloc: Global, entries: &[Entry]) -> Result<Drawing, CliFault>
 }
 
 /// The text of a trace's drawing, and the exit status.
-fn drawn(
-    alloc: Global,
+fn drawn<A: Allocator + Copy>(
+    alloc: A,
     form: Form,
-    notes: &Notes<Global>,
-    trace: &Trace<Global>,
-) -> Result<(Vec<u8>, u8), CliFault>
+    notes: &Notes<A>,
+    trace: &Trace<A>,
+) -> Result<(Vec<u8, A>, u8), CliFault>
     ensures ok { IfOk result (λ told. DrawsContents form notes.now (contents trace.now) told.0.items told.1) }
     ensures fault { IfErr result (StopsDrawing (contents trace.now)) }
 {
@@ -66,21 +66,21 @@ fn drawn(
 ///
 /// It answers [`CliFault::Read`] or [`CliFault::Write`] exactly where the reader or the writer has failed, [`CliFault::TooLong`] for
 /// more than 67,108,864 bytes, [`CliFault::Trace`] with the first fault of a text that means no trace, by the first request that the gate
-/// does not answer [`CliFault::Limit`] or [`CliFault::Illegal`] with the number of that request, [`CliFault::TooManyStrands`] only where
-/// more than 10,000 strands have begun, and [`CliFault::Memory`] where a growth was refused. Nothing is written then, but for the part that
-/// a failed write has taken. The reader is asked at most 67,108,865 times, as its `calls` tells where it began with room for more than
-/// these.
-pub fn draw_text<R: Read, W: Write>(
-    alloc: Global,
+/// does not answer [`CliFault::Limit`] or [`CliFault::Illegal`] with the number of that request, [`CliFault::TooManyStrands`] where more
+/// than 10,000 strands have begun, which no drawing has, and [`CliFault::Memory`] where a growth was refused. Nothing is written then, but
+/// for the part that a failed write has taken. The reader is asked at most 67,108,865 times, as its `calls` tells where it began with room
+/// for more than these.
+pub fn draw_text<A: Allocator + Copy, R: Read, W: Write>(
+    alloc: A,
     form: Form,
     input: &mut Watched<R>,
     output: &mut Watched<W>,
 ) -> Result<u8, CliFault>
     requires reader { has_failed input.old ≡ false }
     requires writer { has_failed output.old ≡ false }
-    ensures answered { IfOk result (IsDrawn form (reading (R.remaining (held input.old)) (R.remaining (held input.new)))
+    ensures answered { IfOk result (IsDrawn A form (reading (R.remaining (held input.old)) (R.remaining (held input.new)))
         (W.contents (held output.old)) (W.contents (held output.new))) }
-    ensures fault { IfErr result (HasDrawingCause form (reading (R.remaining (held input.old)) (R.remaining (held input.new)))
+    ensures fault { IfErr result (HasDrawingCause A form (reading (R.remaining (held input.old)) (R.remaining (held input.new)))
         (W.contents (held output.old)) (W.contents (held output.new))) }
     ensures read_failed { IsErrOf result CliFault.Read ↔ IsTrue (has_failed input.new) }
     ensures delivered { OnOk result (is_delivered output.new ≡ true) }

@@ -18,7 +18,7 @@ use command_streams::{CliFault, refusal_status};
 use race_explanations::trace_explanation;
 use race_gate::Entry;
 use source_quotes::{Meant, fault_message, push_count};
-use std::alloc::{AllocError, Global};
+use std::alloc::{AllocError, Allocator, Global};
 use text_buffers::push_words;
 use text_words::TextFault;
 use trace_notes::Notes;
@@ -80,7 +80,7 @@ fn push_recorded(told: &mut Vec<u8>, notes: &Notes<Global>) -> Result<(), AllocE
 }
 
 /// The notes of a text.
-pub(crate) fn notes_of(alloc: Global, text: &[u8]) -> Result<Notes<Global>, AllocError>
+pub(crate) fn notes_of<A: Allocator + Copy>(alloc: A, text: &[u8]) -> Result<Notes<A>, AllocError>
     ensures { IfOk result (AreNotes (lines text.now)) }
 {
     let mut notes = Notes::new(alloc);

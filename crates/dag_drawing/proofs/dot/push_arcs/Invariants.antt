@@ -6,6 +6,6 @@ use Rattle.dag_drawing.proofs.dot.push_arcs.Given as goal
 
 -- what is written so far and what is left are the whole
 abbrev pub invariant-loop-race : goal.invariant-loop-race
-invariant-loop-race l =
+invariant-loop-race g l =
     l.text.items ++ flat_map (arc_text (naming_of l.names)) (drop l.race-index l.races) ≡
     l.initial.text.items ++ flat_map (arc_text (naming_of l.names)) l.races

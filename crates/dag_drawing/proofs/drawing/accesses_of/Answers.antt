@@ -3,4 +3,4 @@ use Rattle.std.proofs.lemmas.Grind.{common_steps}
 use Rattle.dag_drawing.proofs.drawing.accesses_of.Goals as goal
 
 pub loop-before-preserved : goal.loop-before-preserved
-loop-before-preserved c = grind (arith, common_steps)
+loop-before-preserved g c = grind (arith, common_steps)

@@ -5,15 +5,16 @@ use Rattle.dag_drawing.proofs.Drawn.{are_strands, are_edges}
 use Rattle.dag_drawing.proofs.drawing.draw.Goals as goal
 
 pub returns-then-len-gt-MOST_STRANDS : goal.returns-then-len-gt-MOST_STRANDS
-returns-then-len-gt-MOST_STRANDS c = (
+returns-then-len-gt-MOST_STRANDS g c = (
   c.in_ok-strands.strands.items,
   are_strands _ _ _ _ c.in_ok-walk.ensures _ (c.in_ok-strands.ensures ∙ ap (marked_from 0) c.as_slice.ensures.value),
   omega (arith, c.len.ensures, c.if-len-gt-MOST_STRANDS.true),
 )
 
 pub returns : goal.returns
-returns c = record {
+returns g c = record {
   strands = are_strands _ _ _ _ c.in_ok-walk.ensures _ (c.in_ok-strands.ensures ∙ ap (marked_from 0) c.as_slice.ensures.value);
+  few = omega (arith, c.len.ensures, c.if-len-gt-MOST_STRANDS.false);
   edges = are_edges _ _ _ _ c.in_ok-walk.ensures _ (rw (c.as_slice-2.ensures.value, c.as_slice-3.ensures.value) at c.in_ok-edges.ensures);
   accesses = record {
     same = rw c.in_ok-accesses.ensures at c.sort_by_key.ensures.permutation;

@@ -3,4 +3,4 @@ use Rattle.std.proofs.lemmas.Grind.{common_steps}
 use Rattle.dag_drawing.proofs.labels.add_accesses.Goals as goal
 
 pub loop-access-preserved : goal.loop-access-preserved
-loop-access-preserved c = grind (arith, common_steps)
+loop-access-preserved g c = grind (arith, common_steps)

@@ -4,4 +4,4 @@ use Rattle.dag_drawing.proofs.labels.node_lines.Goals as goal
 
 pub returns : goal.returns
 unfolding node_lines
-returns c = search rules
+returns g c = search rules

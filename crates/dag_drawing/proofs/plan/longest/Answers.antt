@@ -3,4 +3,4 @@ use Rattle.std.proofs.lemmas.Grind.{common_steps}
 use Rattle.dag_drawing.proofs.plan.longest.Goals as goal
 
 pub loop-line-preserved : goal.loop-line-preserved
-loop-line-preserved c = grind (arith, common_steps)
+loop-line-preserved g c = grind (arith, common_steps)

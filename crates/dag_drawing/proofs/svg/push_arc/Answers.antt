@@ -4,4 +4,4 @@ use Rattle.dag_drawing.proofs.svg.push_arc.Goals as goal
 
 pub returns : goal.returns
 unfolding arc_text
-returns c = search rules
+returns g c = search rules

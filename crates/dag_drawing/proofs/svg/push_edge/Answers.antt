@@ -4,7 +4,7 @@ use Rattle.dag_drawing.proofs.svg.push_edge.Goals as goal
 
 pub returns : goal.returns
 unfolding edge_text
-returns c =
+returns g c =
     line_pushed _ _ _ _ _ _ _ _ _ _ _ _ _ _ _ _ _ _ _ _ _ _ _ _ _ c.in_ok-push_words.ensures.added
     (rw c.word_of.ensures at c.in_ok-push_words-2.ensures.added) (rw c.from.ensures at c.in_ok-push_number.ensures.added)
     (rw c.from-2.ensures at c.in_ok-push_number-2.ensures.added) (rw c.middle.ensures.value at c.in_ok-push_number-3.ensures.added)

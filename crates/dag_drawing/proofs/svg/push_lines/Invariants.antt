@@ -5,6 +5,6 @@ use Rattle.dag_drawing.proofs.svg.push_lines.Given as goal
 
 -- what is written so far and what is left are the whole
 abbrev pub invariant-loop-line : goal.invariant-loop-line
-invariant-loop-line l =
+invariant-loop-line g l =
     l.text.items ++ lines_text l.most l.left (map string_bytes (drop l.line-index l.lines)) ≡
     l.initial.text.items ++ lines_text l.most l.left (map string_bytes l.lines)

@@ -7,7 +7,7 @@ use Rattle.dag_drawing.proofs.svg.push_node.Goals as goal
 
 pub returns : goal.returns
 unfolding node_text
-returns c =
+returns g c =
     node_pushed _ _ _ _ _ _ _ _ _ _ _ _ (rw (sym (length-map c.args.lines.now string_bytes)) at c.in_ok-push_rect.ensures)
     (rw c.top.ensures.value at c.in_ok-push_number.ensures.added) c.in_ok-push_words.ensures.added
     (rw c.left.ensures.value at c.in_ok-push_lines.ensures) c.in_ok-push_words-2.ensures.added

@@ -3,4 +3,4 @@ use Rattle.std.proofs.lemmas.Grind.{common_steps}
 use Rattle.dag_drawing.proofs.svg.push_nodes.Goals as goal
 
 pub loop-strand-preserved : goal.loop-strand-preserved
-loop-strand-preserved c = grind (arith, common_steps)
+loop-strand-preserved g c = grind (arith, common_steps)

@@ -6,6 +6,6 @@ use Rattle.dag_drawing.proofs.svg.push_nodes.Given as goal
 
 -- what is written so far and what is left are the whole
 abbrev pub invariant-loop-strand : goal.invariant-loop-strand
-invariant-loop-strand l =
+invariant-loop-strand g l =
     l.text.items ++ nodes_text (plan_of l.layout) (naming_of l.names) (drop l.strand-index l.strands) l.rest ≡
     l.initial.text.items ++ nodes_text (plan_of l.layout) (naming_of l.names) l.strands l.initial.rest

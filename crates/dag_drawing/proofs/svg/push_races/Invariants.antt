@@ -6,6 +6,6 @@ use Rattle.dag_drawing.proofs.svg.push_races.Given as goal
 
 -- what is written so far and what is left are the whole
 abbrev pub invariant-loop-number : goal.invariant-loop-number
-invariant-loop-number l =
+invariant-loop-number g l =
     l.text.items ++ races_text (plan_of l.layout) (naming_of l.names) l.number (drop l.number l.races) ≡
     l.initial.text.items ++ races_text (plan_of l.layout) (naming_of l.names) 0 l.races

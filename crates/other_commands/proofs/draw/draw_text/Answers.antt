@@ -10,7 +10,7 @@ use Rattle.other_commands.proofs.draw.draw_text.Goals as goal
 pub returns-in_err-text-clause-fault : goal.returns-in_err-text-clause-fault
 returns-in_err-text-clause-fault g c =
     let gone = err_from_is_err_and c.from_residual-in_err-text.result c.from_residual-in_err-text.ensures.1 in
-    rw (gone.1, gone.2) (drawing_stops _ _ _ _ (contents c.in_ok-trace.trace) c.in_err-text.field-0.0 (search rules) c.in_err-text.ensures.fault)
+    rw (gone.1, gone.2) (drawing_stops _ _ _ _ _ (contents c.in_ok-trace.trace) c.in_err-text.field-0.0 (search rules) c.in_err-text.ensures.fault)
 
 pub returns-in_err-write_text-clause-fault : goal.returns-in_err-write_text-clause-fault
 returns-in_err-write_text-clause-fault g c =

@@ -6,13 +6,13 @@ use Rattle.other_commands.proofs.DrawingCauses.{text_named}
 use Rattle.other_commands.proofs.draw.drawn.Goals as goal
 
 pub drawing_of-requires : goal.drawing_of-requires
-drawing_of-requires c = (
+drawing_of-requires g c = (
   c.in_ok-gate.gate.shape,
   subst (λ (xs : List Entry). IsLegal c.in_ok-gate.gate.shape xs) (sym c.history-entries.ensures.entries) c.history-entries.ensures.judged.legal,
 )
 
 pub returns-clause-ok : goal.returns-clause-ok
-returns-clause-ok c = record {
+returns-clause-ok g c = record {
   gate = c.in_ok-gate.gate;
   answers = c.in_ok-gate.ensures.ok;
   entries = c.history-entries.result.now;

@@ -2,4 +2,4 @@ use Rattle.std.proofs.Common.{[]}
 use Rattle.other_commands.proofs.explain_trace.notes_of.Goals as goal
 
 pub returns : goal.returns
-returns c = c.in_ok-read.ensures [] c.new-notes.ensures
+returns g c = c.in_ok-read.ensures [] c.new-notes.ensures

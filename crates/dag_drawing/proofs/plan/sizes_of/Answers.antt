@@ -1,6 +1,6 @@
 use Rattle.std.proofs.Common.{arith}
 use Rattle.std.proofs.lemmas.Grind.{common_steps}
-use Rattle.dag_drawing.proofs.plan.most_lines.Goals as goal
+use Rattle.dag_drawing.proofs.plan.sizes_of.Goals as goal
 
 pub loop-strand-preserved : goal.loop-strand-preserved
-loop-strand-preserved c = grind (arith, common_steps)
+loop-strand-preserved g c = grind (arith, common_steps)

@@ -1,9 +1,0 @@
-use Rattle.std.proofs.Common.{◌≡◌, drop}
-use Rattle.dag_drawing.specs.Labels.{naming_of}
-use Rattle.dag_drawing.specs.Plans.{most_lines}
-use Rattle.dag_drawing.proofs.plan.most_lines.Given as goal
-
--- the most lines with the strands that are left are those of all
-abbrev pub invariant-loop-strand : goal.invariant-loop-strand
-invariant-loop-strand l =
-    most_lines (naming_of l.names) l.most (drop l.strand-index l.strands) l.rest ≡ most_lines (naming_of l.names) 0 l.strands l.accesses

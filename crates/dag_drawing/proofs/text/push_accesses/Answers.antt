@@ -1,6 +1,0 @@
-use Rattle.std.proofs.Common.{arith}
-use Rattle.std.proofs.lemmas.Grind.{common_steps}
-use Rattle.dag_drawing.proofs.text.push_accesses.Goals as goal
-
-pub loop-access-preserved : goal.loop-access-preserved
-loop-access-preserved c = grind (arith, common_steps)

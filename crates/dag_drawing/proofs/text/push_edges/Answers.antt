@@ -1,6 +1,0 @@
-use Rattle.std.proofs.Common.{arith}
-use Rattle.std.proofs.lemmas.Grind.{common_steps}
-use Rattle.dag_drawing.proofs.text.push_edges.Goals as goal
-
-pub loop-edge-preserved : goal.loop-edge-preserved
-loop-edge-preserved c = grind (arith, common_steps)

@@ -1,6 +1,0 @@
-use Rattle.std.proofs.Common.{arith}
-use Rattle.std.proofs.lemmas.Grind.{common_steps}
-use Rattle.dag_drawing.proofs.text.push_races.Goals as goal
-
-pub loop-race-preserved : goal.loop-race-preserved
-loop-race-preserved c = grind (arith, common_steps)
