@@ -1,6 +1,6 @@
 //! Mistakes that are easily made, and the whole message about each: docs/FORMATS.md lists them.
 
-mod program_lines;
+mod program_forms;
 mod program_names;
 mod program_words;
 mod traces;
@@ -113,7 +113,7 @@ fn names_of_programs(rt: HostRuntime) {
 
 #[test]
 fn lines_of_programs(rt: HostRuntime) {
-    are_told(&rt, rt.alloc(), program_lines::CASES);
+    are_told(&rt, rt.alloc(), program_forms::CASES);
 }
 
 #[test]
