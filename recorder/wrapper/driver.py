@@ -23,8 +23,9 @@ NAMES = ROOT / "names"
 RECORDED = ["-g", "-gdwarf-4", "-fno-inline", "-fno-builtin", "-fno-omit-frame-pointer", "-fno-optimize-sibling-calls", "-fsanitize=thread"]
 # gcc puts no two variables into one place of the frame, learns nothing of a function from its body, and leaves a function in one piece
 GCC = ["-fno-reorder-blocks-and-partition", "-fno-ipa-icf", "-fno-ipa-modref", "-fno-ipa-pure-const", "-fno-ipa-sra", "-fno-ipa-cp", "-fno-ipa-ra", "-fno-partial-inlining", "-fstack-reuse=none", "-mno-accumulate-outgoing-args"]
-# clang 14's thread sanitizer leaves out the fields and elements of shared locals; its coverage hooks tell every load and store
-CLANG = ["-mllvm", "-tsan-instrument-memory-accesses=0", "-fsanitize-coverage=func,trace-loads,trace-stores", "-Wno-unused-command-line-argument"]
+# clang 14's thread sanitizer leaves out the fields and elements of shared locals; its coverage hooks tell every load and store. Without the marks
+# of lifetimes it puts no two variables into one place of the frame: a child may still use the one where the other begins
+CLANG = ["-mllvm", "-tsan-instrument-memory-accesses=0", "-fsanitize-coverage=func,trace-loads,trace-stores", "-Xclang", "-disable-lifetime-markers", "-Wno-unused-command-line-argument"]
 # the columns of rewritten text are not the user's
 QUIET = {"gcc": ["-fno-diagnostics-show-caret", "-fno-show-column", "-Wno-misleading-indentation"],
          "clang": ["-fno-caret-diagnostics", "-fno-show-column", "-Wno-misleading-indentation"]}
