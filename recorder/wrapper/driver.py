@@ -185,9 +185,18 @@ class Driver:
         return [it for it in found if not it.file.startswith(str(INCLUDE))]
 
     def redirect(self, target):
-        """Calls of libc's functions come to those of the runtime, which tell what they read and write."""
-        if (NAMES / "redirected").exists() and os.path.isfile(target):
-            run(["objcopy", f"--redefine-syms={NAMES / 'redirected'}", target])
+        """Calls of libc's functions come to those of the runtime, which tell what they read and write. A static function of such a name is the
+        object's own."""
+        listed = NAMES / "redirected"
+        if not listed.exists() or not os.path.isfile(target):
+            return
+        own = program.static_names(target)
+        lines = listed.read_text(encoding="ascii").splitlines(keepends=True)
+        others = [line for line in lines if line.partition(" ")[0] not in own]
+        if len(others) < len(lines):
+            listed = self.folder / "redirected"
+            listed.write_text("".join(others), encoding="ascii")
+        run(["objcopy", f"--redefine-syms={listed}", target])
 
     def target(self, source):
         if self.commands.output:
