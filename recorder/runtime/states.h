@@ -29,7 +29,9 @@
 
 #define FIRST_STATE 2u
 #define MOST_STATES (1u << 26)
-#define MOST_LOOSE 64u                        /* then they are settled: so each is looked at a few times */
+#ifndef MOST_LOOSE                            /* then they are settled: so each is looked at a few times; tests have few */
+#define MOST_LOOSE 128u
+#endif
 struct state { uint32_t outer, node, block, plain, kids, what, loose; };
 struct states { struct state *list; uint32_t count, used; };     /* used: states and nodes that were made since states_move_all */
 extern struct states states;
