@@ -81,13 +81,39 @@ static void make_pair(uint32_t access, uint32_t path, const struct scope *scope,
   if (edge_pair_count == MOST_EDGES * 16) refuse(0, "a strand with more than %u pairs of accesses: take a smaller input", edge_pair_count);
   edge_pairs[edge_pair_count++] = pair;
 }
+/* The classes of a frame's pairs with one access are decided by its sets and by how many spawns lie around it and around the access (pairs.h).
+   The same come again and again, so they are remembered, where they are few. */
+#define MEMOS 1024u
+#define FEW_PAIRS 3u
+struct frame_pairs { uint32_t plain, kids, key, around, inside; };
+static struct memo { struct frame_pairs of; uint32_t count, pairs[FEW_PAIRS]; } memos[MEMOS];
+static inline struct memo *memo_of(const struct frame_pairs *of) {
+  return &memos[(of->plain * 31 + of->kids * 7 + of->key + of->inside) % MEMOS];
+}
+static inline bool is_memo(const struct memo *memo, const struct frame_pairs *of) {
+  const struct frame_pairs *it = &memo->of;
+  return it->plain == of->plain && it->kids == of->kids && it->key == of->key && it->around == of->around && it->inside == of->inside;
+}
 /* An edge with the address 0 has only those pairs whose classes are known; `all_known` says whether these are all. */
-static void make_pairs(struct edge *edge, const struct settled *settled) {
+static inline void make_pairs(struct edge *edge, const struct settled *settled) {
+  uint32_t kinds = conflicting[edge->key & 3];
+  uint32_t around = path_depth(settled->scope->level.path), inside = path_depth(scope_innermost->level.path);
+  struct frame_pairs of = {settled->plain, settled->kids, edge->key, around, inside};
+  struct memo *memo = memo_of(&of);
+  bool is_one_frame = !settled->outer || !(state_kinds(settled->outer) & kinds);
   making = edge;
   all_known = true;
   edge->first_pair = edge_pair_count;
-  states_each(settled, conflicting[edge->key & 3], make_pair);
+  if (is_one_frame && is_memo(memo, &of) && edge_pair_count < MOST_EDGES * 16 - FEW_PAIRS) {
+    for (uint32_t i = 0; i < memo->count; i++) edge_pairs[edge_pair_count++] = memo->pairs[i];
+    edge->pair_count = memo->count;
+    return;
+  }
+  states_each(settled, kinds, make_pair);
   edge->pair_count = edge_pair_count - edge->first_pair;
+  if (!is_one_frame || !all_known || edge->pair_count > FEW_PAIRS) return;
+  *memo = (struct memo){.of = of, .count = edge->pair_count};
+  for (uint32_t i = 0; i < edge->pair_count; i++) memo->pairs[i] = edge_pairs[edge->first_pair + i];
 }
 
 /* A read's pairs of a new class are made behind the others: where a write by the same strand at the same line follows, as in `count++`, that
@@ -99,7 +125,7 @@ void histories_tell_reads(void) {
   for (uint32_t i = 0; i < edge_count; i++) {
     struct edge *edge = &edges[i];
     if (edge->pair_count != UNREAD || !edge->bytes) continue;
-    struct settled settled = states_settle(edge->from >> 2);
+    struct settled settled = states_settle_all(edge->from >> 2);
     make_pairs(edge, &settled);
     edge->made = true;
   }
@@ -134,7 +160,7 @@ static void fill_slot(uint32_t edge) {
   while (slots[at].generation == generation) at = (at + 1) & slot_mask;
   slots[at] = (struct slot){edge, generation};
 }
-static void fill_slots(void) {
+static __attribute__((noinline)) void fill_slots(void) {
   if (in_slots) {
     slot_mask = slot_mask * 4 + 3;
     memset(slots, 0, sizeof *slots * ((size_t)slot_mask + 1));
@@ -143,15 +169,34 @@ static void fill_slots(void) {
   for (uint32_t i = 0; i < edge_count; i++) fill_slot(i);
 }
 
-static struct edge *find_edge(history from, uint32_t key, uintptr_t address);
-
-/* Makes an edge that there is not. */
-static __attribute__((noinline)) struct edge *add_edge(history from, uint32_t key, uintptr_t address) {
+static inline struct edge *known_edge(history from, uint32_t key) {
+  if (!in_slots) {
+    for (uint32_t i = 0; i < edge_count; i++) if (edges[i].from == from && edges[i].key == key) return &edges[i];
+    return NULL;
+  }
+  for (uint32_t at = slot_of(from, key); slots[at].generation == generation; at = (at + 1) & slot_mask) {
+    struct edge *edge = &edges[slots[at].edge];
+    if (edge->from == from && edge->key == key) return edge;
+  }
+  return NULL;
+}
+static inline uint32_t new_edge(history from, uint32_t key, uintptr_t address) {
   if (edge_count == MOST_EDGES) refuse(0, "a strand with more than %u kinds of accesses: take a smaller input", MOST_EDGES);
-  uint32_t number = edge_count++, kind = key & 3;
+  uint32_t number = edge_count++;
   edges[number] = (struct edge){.from = from, .key = key, .address = address};
   if (in_slots) fill_slot(number);
   if (in_slots ? edge_count * 2 > slot_mask : edge_count > FEW_EDGES) fill_slots();
+  return number;
+}
+/* Makes the edge of an access to a location without any. */
+static inline struct edge *add_first(uint32_t key, uintptr_t address) {
+  uint32_t number = new_edge(0, key, address);
+  edges[number].to = states_first(key, number) << 2 | (key & 3);
+  return &edges[number];
+}
+/* Makes the edge from a state. */
+static inline struct edge *add_next(history from, uint32_t key, uintptr_t address) {
+  uint32_t number = new_edge(from, key, address), kind = key & 3;
   struct edge *edge = &edges[number];
   uint32_t own = from >= histories.states_of_strand ? state_own_kinds(from >> 2) : 0;
   if (own & (1u << kind | 1u << ACCESS_WRITE)) {                   /* law a_repeated_access, a_read_beside_a_write */
@@ -166,12 +211,13 @@ static __attribute__((noinline)) struct edge *add_edge(history from, uint32_t ke
     }
   }
   bool conflicts = from && state_kinds(from >> 2) & conflicting[kind];
-  struct settled settled = {0};
-  if (from && (conflicts || kind != ACCESS_WRITE)) settled = states_settle(from >> 2);
+  struct settled settled;
+  if (conflicts) settled = states_settle_all(from >> 2);
   if (kind == ACCESS_WRITE) {
-    if (edge->from) edge->to = find_edge(0, key, address)->to; else edge->to = states_first(key, number) << 2 | kind;
+    const struct edge *first = known_edge(0, key);
+    edge->to = (first ? first : add_first(key, address))->to;
   } else {
-    edge->to = (from ? states_next(from >> 2, &settled, key, own, number) : states_first(key, number)) << 2 | kind;
+    edge->to = states_next(from >> 2, key, own, number) << 2 | kind;
   }
   if (!conflicts) return edge;
   if (kind == ACCESS_READ) edge->address = 0;
@@ -183,26 +229,16 @@ static __attribute__((noinline)) struct edge *add_edge(history from, uint32_t ke
   return edge;
 }
 
-static inline struct edge *find_edge(history from, uint32_t key, uintptr_t address) {
-  if (!in_slots) {
-    for (uint32_t i = 0; i < edge_count; i++) if (edges[i].from == from && edges[i].key == key) return &edges[i];
-    return add_edge(from, key, address);
-  }
-  for (uint32_t at = slot_of(from, key);; at = (at + 1) & slot_mask) {
-    if (slots[at].generation != generation) return add_edge(from, key, address);
-    struct edge *edge = &edges[slots[at].edge];
-    if (edge->from == from && edge->key == key) return edge;
-  }
-}
-
-static inline history change(history from, uint32_t key, uintptr_t address, uint32_t bytes) {
+/* The history behind an access that the one before it does not cover. */
+static FLAT __attribute__((noinline)) history change(history from, uint32_t key, uintptr_t address, uint32_t bytes) {
   if (from < histories.states_of_epoch && from) {
     if (from == HISTORY_HIDDEN) return from;
     from = 0;
   }
   if (!from) *piece_mark(address) = 1;
   if (history_covers(from, (enum access)(key & 3))) return from;
-  struct edge *edge = find_edge(from, key, address);
+  struct edge *edge = known_edge(from, key);
+  if (!edge) edge = from ? add_next(from, key, address) : add_first(key, address);
   if (edge->pair_count) {
     if (!edge->bytes) { edge->address = address; unread |= edge->pair_count == UNREAD; }
     edge->bytes += bytes;
@@ -248,6 +284,7 @@ static __attribute__((noinline)) void collect(void) {
   each_unit(mark_entry);
   states_move_all();
   each_unit(move_entry);
+  states_mark_end();
   histories.states_of_epoch = FIRST_STATE << 2;
 }
 
@@ -332,10 +369,10 @@ void histories_access(uintptr_t address, size_t bytes, enum access kind, uintptr
   }
 }
 
-void histories_access_one(uint32_t *unit, uintptr_t address, enum access kind, uintptr_t place) {
+__attribute__((noinline)) void histories_access_one(uint32_t *unit, uintptr_t address, enum access kind, uintptr_t place) {
   *unit = change(*unit, key_of(address, kind, place), address, 4);
 }
-void histories_access_two(uint32_t *units, uintptr_t address, enum access kind, uintptr_t place) {
+__attribute__((noinline)) void histories_access_two(uint32_t *units, uintptr_t address, enum access kind, uintptr_t place) {
   uint32_t key = key_of(address, kind, place);
   if (units[0] == units[1]) {
     units[0] = units[1] = change(units[0], key, address, 8);
@@ -345,9 +382,14 @@ void histories_access_two(uint32_t *units, uintptr_t address, enum access kind, 
   }
 }
 
-void record_access(uintptr_t address, size_t bytes, enum access kind, uintptr_t place) {
+static RARE void record_first(uintptr_t address, size_t bytes, enum access kind, uintptr_t place) {
   start_recording();
-  if (bytes == 8 || bytes == 4) { access_memory(address, bytes, kind, place); return; }
+  record_access(address, bytes, kind, place);
+}
+void record_access(uintptr_t address, size_t bytes, enum access kind, uintptr_t place) {
+  if (__builtin_expect(!recording_began, 0)) { record_first(address, bytes, kind, place); return; }
+  if (bytes == 8) { access_memory(address, 8, kind, place); return; }
+  if (bytes == 4) { access_memory(address, 4, kind, place); return; }
   histories.accesses++;
   if (histories.looking && bytes) histories_access(address, bytes, kind, place);
 }
@@ -379,15 +421,16 @@ static inline bool end_few(uintptr_t from, uintptr_t to) {
   if (to - from > 256 || (from | to) & 3 || (from ^ (to - 1)) >> PAGE_SHIFT || from >> PAGE_SHIFT >= PAGES) return false;
   uint32_t *unit = history_unit(from), *end = unit + (to - from) / 4;
   if (!unit) return true;
-  if ((to - from) & 4) {
-    if (*unit & HISTORY_SPLIT) return false;
-    *unit++ = 0;
+  for (; unit + 4 <= end; unit += 4) {
+    uint64_t four[2];
+    memcpy(four, unit, sizeof four);
+    if (!(four[0] | four[1])) continue;
+    if ((four[0] | four[1]) & ((uint64_t)HISTORY_SPLIT << 32 | HISTORY_SPLIT)) return false;
+    memset(unit, 0, sizeof four);
   }
-  for (uint64_t both; unit < end; unit += 2) {
-    memcpy(&both, unit, sizeof both);
-    if (!both) continue;
-    if (both & ((uint64_t)HISTORY_SPLIT << 32 | HISTORY_SPLIT)) return false;
-    unit[0] = unit[1] = 0;
+  for (; unit < end; unit++) {
+    if (*unit & HISTORY_SPLIT) return false;
+    *unit = 0;
   }
   return true;
 }

@@ -21,7 +21,7 @@ static void put_head(enum log_event event, uint32_t high) {
   if (log_end.bytes > MOST_BYTES - LONGEST_EVENT) refuse(0, "more than %u bytes of spawns and syncs: take a smaller input", MOST_BYTES);
   log_bytes[log_end.bytes++] = (uint8_t)((uint32_t)event | high << 4);
 }
-void log_event(enum log_event event, uint32_t site) {
+RARE void log_event(enum log_event event, uint32_t site) {
   put_head(event, 0);
   put_number(site);
 }

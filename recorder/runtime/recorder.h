@@ -21,6 +21,11 @@
 
 /* The address behind the call of the hook that uses it: the place of an access, a spawn or a sync. */
 #define PLACE ((uintptr_t)__builtin_return_address(0))
+/* What runs at each spawn or call: the functions that it calls are compiled into it, but for those that are RARE. */
+#define FLAT __attribute__((flatten))
+#define RARE __attribute__((noinline, cold))
+/* Another name of a function of the same file. */
+#define NAMED(symbol, function) __asm__(".globl " symbol "\n.set " symbol ", " function)
 
 /* ---- messages (start.c) ---- */
 

@@ -9,15 +9,15 @@
 #define MOST_SCOPES (1u << 24)
 
 struct scope *scope_innermost, *scope_outermost;
-static uint32_t open_blocks, strand, last_strand, reducers;
+static uint32_t open_blocks, strand, reducers;
 static bool logging;                           /* the log has been begun */
 static uint32_t idle_begin, idle_end;          /* the log ends in an idle child of the innermost scope where `idle_end` is its end */
 struct scope *scope_top(void) { start_recording(); return scope_innermost; }
 uint32_t scope_strand(void) { return strand; }
 
-static inline void tell(enum log_event event, uint32_t site) { if (logging) log_event(event, site); }
+static inline void tell(enum log_event event, uintptr_t place) { if (logging) log_event(event, place_site(place)); }
 /* The log begins with what it would have kept: the open scopes, and an idle child in each of their blocks in which a child has ended. */
-static void begin_log(void) {
+static RARE void begin_log(void) {
   logging = true;
   log_begin();
   for (struct scope *scope = scope_outermost;; scope++) {
@@ -68,14 +68,13 @@ static bool is_taken_back(void) {
 }
 
 static void begin_strand(void) {
-  if (++last_strand == UINT32_MAX) refuse(0, "more than %u strands: take a smaller input", UINT32_MAX);
-  strand = last_strand;
+  if (++strand == UINT32_MAX) refuse(0, "more than %u strands: take a smaller input", UINT32_MAX);
 }
 
 static void sync_scope(struct scope *scope, uintptr_t place) {
   histories_next_strand();
   if (logging && is_idle() && idle_begin == scope->block_began.bytes) cut(scope->block_began);
-  else tell(LOG_SYNC, place_site(place));
+  else tell(LOG_SYNC, place);
   scope->open = false;
   scope->ended = 0;
   states_sync(&scope->level);
@@ -93,13 +92,13 @@ void scope_enter(enum scope_kind kind, uint32_t depth, uintptr_t place) {
   start_recording();
   struct log_place began = log_here();
   uint32_t site = place_site(place);
-  tell(LOG_ENTER, site);
+  if (logging) log_event(LOG_ENTER, site);
   push_scope(kind, depth, began, site);
 }
 void scope_leave(uintptr_t place) {
   if (scope_innermost->kind == SCOPE_ROOT || scope_innermost->kind == SCOPE_CHILD) refuse(place, "a scope was not left as it was entered");
   scope_sync(place);
-  if (!is_taken_back()) tell(LOG_LEAVE, place_site(place));
+  if (!is_taken_back()) tell(LOG_LEAVE, place);
   scope_innermost--;
 }
 static bool is_of_function(const struct scope *scope, uint32_t depth) {
@@ -119,7 +118,7 @@ void scope_spawn_here(uint32_t depth, uintptr_t place) {
   struct log_place began = log_here();
   uint32_t site = place_site(place);
   histories_next_strand();
-  tell(LOG_SPAWN, site);
+  if (logging) log_event(LOG_SPAWN, site);
   if (!spawner->open) {
     spawner->open = true;
     spawner->block_began = began;

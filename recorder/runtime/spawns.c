@@ -166,10 +166,6 @@ void function_unwound(uintptr_t start) {
   while (blocks--) scope_enter(SCOPE_BLOCK, stack.depth, place);
 }
 
-void __cilkcheck_sync_left(void *nothing) {
-  (void)nothing;
-  scope_sync_at(stack_depth(), PLACE);
-}
 void __cilkcheck_scope_made(void *nothing);
 void __cilkcheck_scope_made(void *nothing) {
   (void)nothing;
@@ -183,16 +179,13 @@ void __cilkcheck_scope_left(void *nothing) {
   scope_leave(PLACE);
 }
 
-/* ---- the classes of include/cilkcheck/calls.hpp: their constructors and destructors, by the names that C++ gives them ---- */
+/* ---- the other classes of include/cilkcheck/calls.hpp: their constructors and destructors, by the names that C++ gives them ---- */
 
-#define NAMED(symbol, function) __asm__(".globl " symbol "\n.set " symbol ", " function)
 NAMED("_ZN17__cilkcheck_childC1EPKci", "__cilkcheck_child_awaited");
 NAMED("_ZN17__cilkcheck_childC2EPKci", "__cilkcheck_child_awaited");
 NAMED("_ZN17__cilkcheck_childD1Ev", "__cilkcheck_child_left");
 NAMED("_ZN17__cilkcheck_childD2Ev", "__cilkcheck_child_left");
 NAMED("_ZN17__cilkcheck_child4leftEv", "__cilkcheck_child_left");
-NAMED("_ZN17__cilkcheck_syncsD1Ev", "__cilkcheck_sync_left");
-NAMED("_ZN17__cilkcheck_syncsD2Ev", "__cilkcheck_sync_left");
 NAMED("_ZN17__cilkcheck_scopeD1Ev", "__cilkcheck_scope_left");
 NAMED("_ZN17__cilkcheck_scopeD2Ev", "__cilkcheck_scope_left");
 NAMED("_ZN17__cilkcheck_scopeC1Ev", "__cilkcheck_scope_made");

@@ -47,28 +47,45 @@ static inline void end_below(uintptr_t top) {
   end_lives(from, top);
 }
 
+static inline void push_frame(uintptr_t top, uintptr_t function, uintptr_t caller) {
+  stack_now.frames[stack_now.depth++] = (struct frame){top, function, caller};
+}
+/* A function is entered where more is to be done than to push its frame. (Before the recording begins, that is so: `touched` is 0.) */
+static RARE void enter_function(uintptr_t top, uintptr_t function, uintptr_t caller) {
+  start_recording();
+  if (stack_now.depth == MOST_FRAMES) refuse(0, "more than %u calls at once", MOST_FRAMES);
+  end_below(top);
+  if (spawn_awaited) spawn_entered(function, caller);
+  if (next_arguments) arguments_begin(top);
+  push_frame(top, function, caller);
+}
+/* A function ends in which a scope begun, or that accessed its frame, or among tasks of OpenMP. */
+static FLAT __attribute__((noinline)) void leave_function(uintptr_t place) {
+  bool is_left = scope_innermost->depth == stack_now.depth && scope_function_end(stack_now.depth, place);
+  if (!stack_now.depth) { if (is_left) scope_leave(place); return; }
+  const struct scope *around = scope_innermost - is_left;
+  struct frame *frame = &stack_now.frames[--stack_now.depth];
+  if (__builtin_expect(around->open && around->marks & SCOPE_OF_TASKS, 0)) openmp_function_end(stack_now.touched, frame->top, place);
+  end_below(frame->top);
+  if (is_left) scope_leave(place);
+}
+
 void __tsan_func_entry(void *caller);
 void __tsan_func_exit(void);
 void __tsan_func_entry(void *caller) {
-  start_recording();
-  if (__builtin_expect(stack_now.depth == MOST_FRAMES, 0)) refuse(0, "more than %u calls at once", MOST_FRAMES);
   /* Recorded code keeps frame pointers: the caller's saved one and the return address lie below what its own callers have. */
   uintptr_t top = ((uintptr_t *)__builtin_frame_address(0))[0] + 2 * sizeof(void *);
-  struct frame *frame = &stack_now.frames[stack_now.depth];
-  end_below(top);
-  if (__builtin_expect(spawn_awaited, 0)) spawn_entered(PLACE, (uintptr_t)caller);
-  if (__builtin_expect(next_arguments != 0, 0)) arguments_begin(top);
-  *frame = (struct frame){top, PLACE, (uintptr_t)caller};
-  stack_now.depth++;
+  if (__builtin_expect(stack_now.touched < top || stack_now.depth == MOST_FRAMES || spawn_awaited || next_arguments, 0))
+    enter_function(top, PLACE, (uintptr_t)caller);
+  else
+    push_frame(top, PLACE, (uintptr_t)caller);
 }
 void __tsan_func_exit(void) {
-  bool is_left = scope_innermost->depth == stack_now.depth && scope_function_end(stack_now.depth, PLACE);
-  if (!stack_now.depth) { if (is_left) scope_leave(PLACE); return; }
-  const struct scope *around = scope_innermost - is_left;
-  struct frame *frame = &stack_now.frames[--stack_now.depth];
-  if (__builtin_expect(around->open && around->marks & SCOPE_OF_TASKS, 0)) openmp_function_end(stack_now.touched, frame->top, PLACE);
-  end_below(frame->top);
-  if (is_left) scope_leave(PLACE);
+  const struct scope *around = scope_innermost;
+  uint32_t depth = stack_now.depth;
+  bool is_used = around->depth == depth || (around->open && around->marks & SCOPE_OF_TASKS);
+  if (depth && !is_used && stack_now.touched >= stack_now.frames[depth - 1].top) stack_now.depth = depth - 1;
+  else leave_function(PLACE);
 }
 
 bool stack_frame_of(uintptr_t address, struct frame *frame) {

@@ -56,7 +56,7 @@ static uint32_t *path_slot(const struct path *path) {
   }
   return &path_slots[at];
 }
-static uint32_t path_of(uint32_t outer, uint32_t site) {
+static RARE uint32_t path_of(uint32_t outer, uint32_t site) {
   struct path path = {outer, site, paths[outer].depth + 1, 0, 0};
   if (outer && paths[outer].outer == NO_PATH) path.outer = NO_PATH;
   uint32_t *slot = path_slot(&path);
@@ -119,7 +119,7 @@ static uint32_t *cell_slot(uint64_t element, uint32_t rest) {
   while (cell_slots[at] && (cells[cell_slots[at]].element != element || cells[cell_slots[at]].rest != rest)) at = (at + 1) & cell_mask;
   return &cell_slots[at];
 }
-static uint32_t cell_of(uint64_t element, uint32_t rest, uint32_t kinds) {
+static __attribute__((noinline)) uint32_t cell_of(uint64_t element, uint32_t rest, uint32_t kinds) {
   uint32_t *slot = cell_slot(element, rest);
   if (*slot) return *slot;
   if (cell_count == MOST_CELLS) refuse(0, "more than %u sets of accesses: take a smaller input", MOST_CELLS);
@@ -135,9 +135,9 @@ static uint32_t cell_of(uint64_t element, uint32_t rest, uint32_t kinds) {
 }
 /* (The sets of one access come again and again: those that were asked for last are remembered.) */
 static uint32_t set_of(uint32_t path, uint32_t access) {
-  static struct { uint64_t element; uint32_t set; } last[256];
+  static struct { uint64_t element; uint32_t set; } last[UNIONS];
   uint64_t element = (uint64_t)path << 32 | access;
-  uint32_t at = (path * 8 + access) % 256;
+  uint32_t at = (path * 61 + access) % UNIONS;
   if (last[at].element != element || !last[at].set) {
     last[at].set = cell_of(element, 0, 1u << (access & 3));
     last[at].element = element;
@@ -169,11 +169,11 @@ static uint32_t of_children(uint32_t kids) {
   for (; kids; kids = cells[kids].rest) all = unite(all, (uint32_t)cells[kids].element);
   return all;
 }
-/* The children with those of a spawn at that site added. (They are few.) */
-static uint32_t with_child(uint32_t kids, uint32_t site, uint32_t set) {
+/* The children with those of a spawn at that site added. (They are few, and the same come again and again.) */
+static uint32_t add_child(uint32_t kids, uint32_t site, uint32_t set) {
   uint32_t rest = kids ? cells[kids].rest : 0, first = kids ? CHILD_SITE(cells[kids].element) : UINT32_MAX;
   if (first < site) {
-    rest = with_child(rest, site, set);
+    rest = add_child(rest, site, set);
     set = (uint32_t)cells[kids].element;
     site = first;
   } else if (first == site) {
@@ -183,57 +183,83 @@ static uint32_t with_child(uint32_t kids, uint32_t site, uint32_t set) {
   }
   return cell_of(CHILDREN | (uint64_t)site << 32 | set, rest, cells[set].kinds);
 }
+static uint32_t with_child(uint32_t kids, uint32_t site, uint32_t set) {
+  static struct { uint32_t kids, site, set, all; } last[UNIONS];
+  uint32_t at = (kids * 31 + site * 7 + set) % UNIONS;
+  if (last[at].kids != kids || last[at].site != site || last[at].set != set) {
+    last[at].all = add_child(kids, site, set);
+    last[at].kids = kids;
+    last[at].site = site;
+    last[at].set = set;
+  }
+  return last[at].all;
+}
 
 /* ---- states ---- */
 
-static uint32_t push_state(uint32_t outer, const struct level *level, uint32_t plain, uint32_t kids, uint32_t own) {
+static inline uint32_t push_state(uint32_t outer, const struct level *level, uint32_t plain, uint32_t kids, uint32_t own, uint32_t loose) {
   if (states.count == MOST_STATES) refuse(0, "more than %u states of locations: take a smaller input", MOST_STATES);
   uint32_t kinds = (outer ? state_kinds(outer) : 0) | cells[plain].kinds | cells[kids].kinds;
-  states.list[states.count] = (struct state){outer, level->node, level->block, plain, kids, kinds | own << 4};
+  states.list[states.count] = (struct state){outer, level->node, level->block, plain, kids, kinds | own << 4, loose};
   states.used++;
   return states.count++;
 }
 
+/* The outermost node around one, or itself, that lies in this scope's. (What is between has ended, and is never the innermost open one
+   again: so the way up is made shorter.) */
+static inline uint32_t outermost_within(uint32_t node, uint32_t scope) {
+  for (uint32_t around; (around = nodes[node].around) != scope; node = around)
+    if (nodes[around].around != scope) nodes[node].around = nodes[around].around;
+  return node;
+}
+/* Frames that lie in the scope of the first one come before all others. */
 struct settled states_settle(uint32_t state) {
-  uint32_t node = states.list[state].node, ended = 0;
-  struct settled settled = {.outer = state, .scope = scope_around(node)};
+  struct settled settled = {.scope = scope_around(states.list[state].node)};
   const struct level *level = &settled.scope->level;
-  if (node != level->node) {
-    while (nodes[node].around != level->node) node = nodes[node].around;
-    do {
-      const struct state *frame = &states.list[settled.outer];
-      ended = unite(ended, unite(frame->plain, of_children(frame->kids)));
-      settled.outer = frame->outer;
-    } while (settled.outer && states.list[settled.outer].node > level->node);
-    settled.changed = true;
-  }
-  if (settled.outer && states.list[settled.outer].node == level->node) {
-    const struct state *frame = &states.list[settled.outer];
-    settled.plain = frame->plain;
-    settled.kids = frame->kids;
-    settled.outer = frame->outer;
-    if (frame->block != level->block && frame->kids) {             /* they were synced with since */
-      settled.plain = unite(settled.plain, of_children(settled.kids));
-      settled.kids = 0;
-      settled.changed = true;
+  do {
+    const struct state *frame = &states.list[state];
+    uint32_t node = frame->node, within = frame->plain, kids = frame->kids;
+    bool is_own = node == level->node, is_child = false;
+    if (!is_own) {
+      node = outermost_within(node, level->node);
+      is_child = nodes[node].what & 1 && nodes[node].block == level->block;
     }
-  }
-  if (!ended) return settled;
-  if (nodes[node].what & 1 && nodes[node].block == level->block) settled.kids = with_child(settled.kids, nodes[node].what >> 1, ended);
-  else settled.plain = unite(settled.plain, ended);                /* a function syncs with its children when it ends */
+    if (kids && is_own && frame->block == level->block) {
+      if (!settled.kids) settled.kids = kids;
+      else for (; kids; kids = cells[kids].rest) settled.kids = with_child(settled.kids, CHILD_SITE(cells[kids].element), (uint32_t)cells[kids].element);
+    } else if (kids) {
+      within = unite(within, of_children(kids));                   /* they were synced with since, or where the scope ended */
+    }
+    if (is_child) settled.kids = with_child(settled.kids, nodes[node].what >> 1, within);
+    else settled.plain = unite(settled.plain, within);             /* a function syncs with its children when it ends */
+    state = frame->outer;
+  } while (state && states.list[state].node >= level->node);
+  settled.outer = state;
   return settled;
+}
+
+/* Makes a state that is not loose of one that is. */
+static void tidy(uint32_t state) {
+  struct settled frames[MOST_LOOSE + 2];
+  uint32_t count = 0, outer = state;
+  do {
+    frames[count] = states_settle(outer);
+    outer = frames[count++].outer;
+  } while (outer && (states.list[outer].loose || scope_around(states.list[outer].node)->level.node != states.list[outer].node));
+  while (--count) outer = push_state(outer, &frames[count].scope->level, frames[count].plain, frames[count].kids, 0, 0);
+  const struct level *level = &frames[0].scope->level;
+  states.list[state] = (struct state){outer, level->node, level->block, frames[0].plain, frames[0].kids, states.list[state].what, 0};
 }
 
 uint32_t states_first(uint32_t access, uint32_t edge) {
   const struct level *level = &scope_innermost->level;
-  return push_state(0, level, set_of(level->path, access), 0, 1u << (access & 3) | edge << 4);
+  return push_state(0, level, set_of(level->path, access), 0, 1u << (access & 3) | edge << 4, 0);
 }
-uint32_t states_next(uint32_t state, const struct settled *settled, uint32_t access, uint32_t own_kinds, uint32_t edge) {
+uint32_t states_next(uint32_t state, uint32_t access, uint32_t own_kinds, uint32_t edge) {
   const struct level *level = &scope_innermost->level;
-  uint32_t own = own_kinds | 1u << (access & 3) | edge << 4, set = set_of(level->path, access);
-  if (settled->scope == scope_innermost) return push_state(settled->outer, level, unite(settled->plain, set), settled->kids, own);
-  if (settled->changed) state = push_state(settled->outer, &settled->scope->level, settled->plain, settled->kids, 0);
-  return push_state(state, level, set, 0, own);
+  if (states.list[state].loose == MOST_LOOSE) tidy(state);
+  uint32_t own = own_kinds | 1u << (access & 3) | edge << 4;
+  return push_state(state, level, set_of(level->path, access), 0, own, states.list[state].loose + 1);
 }
 
 static void each_of(uint32_t set, uint32_t kinds, const struct scope *scope, uint32_t part, take_access *take) {
@@ -247,6 +273,10 @@ static void each_of_children(uint32_t kids, uint32_t kinds, const struct scope *
     uint64_t element = cells[kids].element;
     each_of((uint32_t)element, kinds, scope, synced ? 0 : CHILD_SITE(element), take);
   }
+}
+struct settled states_settle_all(uint32_t state) {
+  if (states.list[state].loose) tidy(state);
+  return states_settle(state);
 }
 void states_each(const struct settled *settled, uint32_t kinds, take_access *take) {
   const struct scope *scope = settled->scope;
@@ -262,29 +292,46 @@ void states_each(const struct settled *settled, uint32_t kinds, take_access *tak
 
 /* ---- states that are given up ---- */
 
-static uint32_t *moved, moved_count;
+/* What each state that is kept becomes: 0 of others, 1 until it is known. `kept` lists those. */
+static uint32_t *moved, *kept, kept_count;
 static struct state *old_list, *other_list;
 static uint32_t *made, made_mask;                                /* a hash table of the states that were moved: like ones become one */
 
 void states_mark_begin(void) {
-  if (!moved) {
-    moved = reserve(sizeof *moved * MOST_STATES);
-    made = reserve(sizeof *made * MOST_STATES * 4);
-    other_list = reserve(sizeof *other_list * MOST_STATES);
-  }
-  moved_count = states.count;
-  memset(moved, 0, sizeof *moved * moved_count);
+  kept_count = 0;
+  if (moved) return;
+  moved = reserve(sizeof *moved * MOST_STATES);
+  kept = reserve(sizeof *kept * MOST_STATES);
+  made = reserve(sizeof *made * MOST_STATES * 4);
+  other_list = reserve(sizeof *other_list * MOST_STATES);
 }
-void states_mark(uint32_t state) { moved[state] = 1; }
+static void keep(uint32_t state, uint32_t as) {
+  if (!moved[state]) kept[kept_count++] = state;
+  moved[state] = as;
+}
+void states_mark(uint32_t state) { if (!moved[state]) keep(state, 1); }
 uint32_t states_moved(uint32_t state) { return moved[state]; }
+void states_mark_end(void) { while (kept_count) moved[kept[--kept_count]] = 0; }
 
+static uint32_t made_slot(const struct state *state) {
+  uint64_t mixed = ((uint64_t)state->outer << 32 | state->node) * 0x9E3779B97F4A7C15u;
+  mixed = (mixed ^ mixed >> 29 ^ ((uint64_t)state->plain << 32 | state->kids)) * 0xC2B2AE3D27D4EB4Fu;
+  uint32_t at = (uint32_t)((mixed ^ mixed >> 31) + state->block) & made_mask;
+  while (made[at] && memcmp(&states.list[made[at]], state, sizeof *state)) at = (at + 1) & made_mask;
+  return at;
+}
+static void begin_made(uint32_t mask) {
+  made_mask = mask;
+  memset(made, 0, sizeof *made * ((size_t)mask + 1));
+  for (uint32_t i = FIRST_STATE; i < states.count; i++) made[made_slot(&states.list[i])] = i;
+}
 static uint32_t make(struct state state) {
-  uint64_t mixed = ((uint64_t)state.outer << 32 | state.node) * 0x9E3779B97F4A7C15u;
-  mixed = (mixed ^ mixed >> 29 ^ ((uint64_t)state.plain << 32 | state.kids)) * 0xC2B2AE3D27D4EB4Fu;
-  uint32_t at = (uint32_t)((mixed ^ mixed >> 31) + state.block) & made_mask;
-  for (; made[at]; at = (at + 1) & made_mask) if (!memcmp(&states.list[made[at]], &state, sizeof state)) return made[at];
+  uint32_t at = made_slot(&state);
+  if (made[at]) return made[at];
   states.list[states.count] = state;
-  return made[at] = states.count++;
+  made[at] = states.count++;
+  if (states.count > made_mask / 2) begin_made(made_mask * 4 + 3);
+  return states.count - 1;
 }
 
 /* Moves a state, whose outer ones come first. */
@@ -302,14 +349,12 @@ static void move_state(uint32_t state, struct state *list) {
     uint32_t outer = settled->outer ? moved[settled->outer] : 0, kinds = outer ? state_kinds(outer) : 0;
     kinds |= cells[settled->plain].kinds | cells[settled->kids].kinds;
     uint32_t node = (uint32_t)(settled->scope - scope_outermost), block = settled->kids ? settled->scope->level.block : 0;
-    moved[chain[count]] = make((struct state){outer, node, block, settled->plain, settled->kids, kinds});
+    keep(chain[count], make((struct state){outer, node, block, settled->plain, settled->kids, kinds, 0}));
   }
 }
 
 void states_move_all(void) {
   uint32_t open = (uint32_t)(scope_innermost - scope_outermost);
-  for (made_mask = 1023; made_mask / 2 < moved_count; made_mask = made_mask * 2 + 1);
-  memset(made, 0, sizeof *made * ((size_t)made_mask + 1));
   if (open >= chain_room) {
     if (chain_room) { unreserve(chain, sizeof *chain * chain_room); unreserve(chain_settled, sizeof *chain_settled * chain_room); }
     chain_room = 2 * open + 1000;
@@ -318,7 +363,8 @@ void states_move_all(void) {
   }
   old_list = states.list;
   states.count = FIRST_STATE;
-  for (uint32_t i = FIRST_STATE; i < moved_count; i++) if (moved[i] == 1) move_state(i, other_list);
+  begin_made(1023);
+  for (uint32_t i = 0, marked = kept_count; i < marked; i++) if (moved[kept[i]] == 1) move_state(kept[i], other_list);
   states.list = other_list;
   other_list = old_list;
   for (uint32_t i = 1; i <= open; i++) {

@@ -17,6 +17,9 @@
      node has no larger number.
    - A state's frames are of scopes of which each is within the next. Where one has ended, its accesses are a child's, or plain ones, of
      the innermost open one: states_settle finds that when the state is used again.
+   - An access that conflicts with none of a state's makes no pair, and only puts a frame of its own before the others. So the first
+     `loose` frames of a state come in the order of their accesses, the last one first: the open scopes around them are each within, or
+     the same as, that of the next one.
    - A set is a list of cells in ascending order, and cells are made once: two sets are equal where their numbers are.
    - `what` of a state holds, from the low bits on: the kinds of all its accesses; the kinds of those by the strand that made it; the
      number of the edge that led to it (histories.c), while that strand runs. */
@@ -26,7 +29,10 @@
 
 #define FIRST_STATE 2u
 #define MOST_STATES (1u << 26)
-struct state { uint32_t outer, node, block, plain, kids, what; };
+#ifndef MOST_LOOSE                            /* then they are settled: so each is looked at a few times; tests have few */
+#define MOST_LOOSE 128u
+#endif
+struct state { uint32_t outer, node, block, plain, kids, what, loose; };
 struct states { struct state *list; uint32_t count, used; };     /* used: states and nodes that were made since states_move_all */
 extern struct states states;
 static inline uint32_t state_kinds(uint32_t state) { return states.list[state].what & 15; }
@@ -44,14 +50,16 @@ static inline void states_sync(struct level *level) { level->block++; }
 uint32_t states_site(const struct level *level);
 
 /* A state seen from the running strand: the frame of the innermost open scope, and what is around it. */
-struct settled { uint32_t outer, plain, kids; struct scope *scope; bool changed; };
+struct settled { uint32_t outer, plain, kids; struct scope *scope; };
 struct settled states_settle(uint32_t state);
-/* The state behind an access (site << 2 | kind) by the running strand, where it is settled; and behind one of a location without any. */
-uint32_t states_next(uint32_t state, const struct settled *settled, uint32_t access, uint32_t own_kinds, uint32_t edge);
+/* The same, where none of what is around it is loose. */
+struct settled states_settle_all(uint32_t state);
+/* The state behind an access (site << 2 | kind) by the running strand; and behind one of a location without any. */
+uint32_t states_next(uint32_t state, uint32_t access, uint32_t own_kinds, uint32_t edge);
 uint32_t states_first(uint32_t access, uint32_t edge);
 
-/* Each access of a settled state whose kind is in the mask: the access; its path; the scope in which it parts from the running strand; and
-   the site of the spawn at which it does, or 0 where that spawn's block was synced, or there is none. */
+/* Each access of a state that is settled with all around it, whose kind is in the mask: the access; its path; the scope in which it parts from
+   the running strand; and the site of the spawn at which it does, or 0 where that spawn's block was synced, or there is none. */
 typedef void take_access(uint32_t access, uint32_t path, const struct scope *scope, uint32_t part);
 void states_each(const struct settled *settled, uint32_t kinds, take_access *take);
 
@@ -63,10 +71,11 @@ uint32_t path_site(uint32_t path);
 /* Whether of the path the innermost spawn alone is known. */
 bool path_is_short(uint32_t path);
 
-/* Gives up all states but those that are marked, each of which becomes another one that states_moved tells. */
+/* Gives up all states but those that are marked, each of which becomes another one that states_moved tells up to the end. */
 void states_mark_begin(void);
 void states_mark(uint32_t state);
 void states_move_all(void);
 uint32_t states_moved(uint32_t state);
+void states_mark_end(void);
 
 #endif

@@ -177,15 +177,19 @@ def main():
     runtime = harness.RECORDER / "runtime"
     failures, counts = [], Counter()
     with tempfile.TemporaryDirectory(prefix="cilkcheck-fuzz-") as room:
-        # (These programs are small: a runtime that tells the states in use from the others after each strand is built for half of them.)
-        subprocess.run(["make", "-s", "-j2", "-C", runtime, f"OUT={room}/often", "CFLAGS=-O2 -g -DCOLLECT_AFTER=1", f"{room}/often/cilkcheck-runtime.o"], env=harness.ENVIRONMENT, check=True)
+        # (These programs are small: for most of them a runtime is built that tells the states in use from the others after each strand, or that
+        # settles what is loose of a state at once.)
+        builds = {"often": "-DCOLLECT_AFTER=1", "at-once": "-DMOST_LOOSE=1u"}
+        for name, option in builds.items():
+            subprocess.run(["make", "-s", "-j2", "-C", runtime, f"OUT={room}/{name}", f"CFLAGS=-O2 -g {option}", f"{room}/{name}/cilkcheck-runtime.o"], env=harness.ENVIRONMENT, check=True)
         jobs = []
         for k, first in enumerate(range(given.seed, given.seed + given.count, EACH)):
             level, compiler, cxx = combinations[k % len(combinations)]
             seeds = list(range(first, min(first + EACH, given.seed + given.count)))
             if not given.only or f"{compiler}{level}{'-c++' * cxx}".startswith(tuple(given.only)):
                 often = (k // 2 + k // len(combinations)) % 2
-                jobs.append((given, room, seeds, compiler, level, cxx, f"{room}/often/cilkcheck-runtime.o" if often else None))
+                build = "often" if often else "at-once" if k // 4 % 2 else None
+                jobs.append((given, room, seeds, compiler, level, cxx, build and f"{room}/{build}/cilkcheck-runtime.o"))
         with concurrent.futures.ProcessPoolExecutor(given.jobs) as pool:
             for found, counted in pool.map(check, jobs):
                 failures += found

@@ -23,8 +23,9 @@ NAMES = ROOT / "names"
 RECORDED = ["-g", "-gdwarf-4", "-fno-inline", "-fno-builtin", "-fno-omit-frame-pointer", "-fno-optimize-sibling-calls", "-fsanitize=thread"]
 # gcc puts no two variables into one place of the frame, learns nothing of a function from its body, and leaves a function in one piece
 GCC = ["-fno-reorder-blocks-and-partition", "-fno-ipa-icf", "-fno-ipa-modref", "-fno-ipa-pure-const", "-fno-ipa-sra", "-fno-ipa-cp", "-fno-ipa-ra", "-fno-partial-inlining", "-fstack-reuse=none", "-mno-accumulate-outgoing-args"]
-# clang 14's thread sanitizer leaves out the fields and elements of shared locals; its coverage hooks tell every load and store
-CLANG = ["-mllvm", "-tsan-instrument-memory-accesses=0", "-fsanitize-coverage=func,trace-loads,trace-stores", "-Wno-unused-command-line-argument"]
+# clang 14's thread sanitizer leaves out the fields and elements of shared locals; its coverage hooks tell every load and store. Without the marks
+# of lifetimes it puts no two variables into one place of the frame: a child may still use the one where the other begins
+CLANG = ["-mllvm", "-tsan-instrument-memory-accesses=0", "-fsanitize-coverage=func,trace-loads,trace-stores", "-Xclang", "-disable-lifetime-markers", "-Wno-unused-command-line-argument"]
 # the columns of rewritten text are not the user's
 QUIET = {"gcc": ["-fno-diagnostics-show-caret", "-fno-show-column", "-Wno-misleading-indentation"],
          "clang": ["-fno-caret-diagnostics", "-fno-show-column", "-Wno-misleading-indentation"]}
@@ -184,9 +185,18 @@ class Driver:
         return [it for it in found if not it.file.startswith(str(INCLUDE))]
 
     def redirect(self, target):
-        """Calls of libc's functions come to those of the runtime, which tell what they read and write."""
-        if (NAMES / "redirected").exists() and os.path.isfile(target):
-            run(["objcopy", f"--redefine-syms={NAMES / 'redirected'}", target])
+        """Calls of libc's functions come to those of the runtime, which tell what they read and write. A static function of such a name is the
+        object's own."""
+        listed = NAMES / "redirected"
+        if not listed.exists() or not os.path.isfile(target):
+            return
+        own = program.static_names(target)
+        lines = listed.read_text(encoding="ascii").splitlines(keepends=True)
+        others = [line for line in lines if line.partition(" ")[0] not in own]
+        if len(others) < len(lines):
+            listed = self.folder / "redirected"
+            listed.write_text("".join(others), encoding="ascii")
+        run(["objcopy", f"--redefine-syms={listed}", target])
 
     def target(self, source):
         if self.commands.output:

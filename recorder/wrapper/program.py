@@ -9,7 +9,7 @@ from pathlib import Path
 
 from . import names
 
-TEXT_TYPES, DATA_TYPES = "tTwWi", "bBdDrRuVvgGsS"
+TEXT_TYPES, DATA_TYPES, STATIC = "tTwWi", "bBdDrRuVvgGsS", "tbdrgs"
 
 
 def output_of(command, given=None):
@@ -18,22 +18,26 @@ def output_of(command, given=None):
 
 
 class Symbols:
-    """The symbols of a linked program: functions and objects by address."""
+    """The symbols of a linked program: functions and objects by address; and the address of each name, which is that of a static one only where
+    no other has it."""
 
     def __init__(self, path):
         self.functions, self.objects, self.address = [], [], {}
+        static = {}
         for line in output_of(["nm", "-n", "-S", "--defined-only", path]).splitlines():
             words = line.split()
-            if len(words) == 3:
-                self.address.setdefault(words[2], int(words[0], 16))
-            if len(words) != 4:
+            if len(words) not in (3, 4):
                 continue
-            address, size, kind, name = int(words[0], 16), int(words[1], 16), words[2], words[3]
-            self.address.setdefault(name, address)
+            address, kind, name = int(words[0], 16), words[-2], words[-1]
+            (static if kind in STATIC else self.address).setdefault(name, address)
+            if len(words) == 3:
+                continue
+            size = int(words[1], 16)
             if kind in TEXT_TYPES:
                 self.functions.append((address, size, name))
             elif kind in DATA_TYPES and size:
                 self.objects.append((address, size, name))
+        self.address = static | self.address
         self.starts = [it[0] for it in self.functions]
 
     def function_at(self, address):
@@ -134,7 +138,7 @@ def table(path, runtime, include, called, compiled):
     entry = symbols.address.get("__tsan_func_entry")
     direct, indirect = calls(path, targets)
     sites = {behind: (target, function) for behind, target in direct.items()
-             if (function := symbols.function_at(behind - 1)) is not None and function[2] not in hooks}
+             if (function := symbols.function_at(behind - 1)) is not None and function[0] not in targets}
     functions = sorted({it[1] for it in sites.values()})
     recorded = set(functions)
     sites |= {behind: (None, function) for behind in indirect if behind not in sites and (function := symbols.function_at(behind - 1)) in recorded}
@@ -184,7 +188,7 @@ def table(path, runtime, include, called, compiled):
         out.append(f"in\t{function[0]:x}\t{function[1]:x}\t{clean(function_name(function, file, line))}\t{shown(file)}\t{line}")
     objects = names.demangle([it[2] for it in symbols.objects])
     for address, size, name in symbols.objects:
-        told = "the state of " + name[len(STATE):] if name.startswith(STATE) else objects[name]
+        told = "the state of " + name[len(STATE):] if name.startswith(STATE) else objects[name].removeprefix(names.RENAMED)
         out.append(f"of\t{address:x}\t{size:x}\t{clean(told)}")
     if "__cilkcheck_child_awaited" in hooks and symbols.address.get("__cilkcheck_child_awaited") in {it[0] for it in sites.values()}:
         entered = set()
@@ -198,6 +202,11 @@ def table(path, runtime, include, called, compiled):
         out += sorted({f"plain\t0\t{name}" for it in names.demangle(others).values() if (name := names.called(it)) != "-"})
         out += sorted({f"library\t0\t{names.called(name)}" for name in names.demangle(called).values()})
     return out
+
+
+def static_names(path):
+    """The names of an object's static functions and objects."""
+    return {words[-1] for line in output_of(["nm", "--defined-only", path]).splitlines() if (words := line.split()) and words[-2] in STATIC}
 
 
 def system_folders():
