@@ -1,2 +1,4 @@
+pub mod Commands
+pub mod Asked
 pub mod Jobs
 pub mod Names

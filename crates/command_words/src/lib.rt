@@ -4,6 +4,7 @@
 //! which job is shown by tests. [`check_names`] refuses a job that would write the trace of a run over its program.
 #![tactic(auto)]
 
+mod commands;
 mod help;
 mod names;
 mod words;

@@ -1,15 +1,20 @@
 //! The words of the command line.
 
-ghost use Rattle.std.specs.Prelude.{◌≡◌, ◌<◌, ◌≤◌, IfOk, IfErr};
-ghost use Rattle.model_histories.specs.Shapes.{most_entries};
+ghost use Rattle.std.specs.Prelude.{◌≡◌, ◌≢◌, ◌<◌, IfOk, IfErr, IfSome, Some, None, false, [], ◌∷◌, codes, length, map, option_map};
+ghost use Rattle.std.specs.List.{All};
+ghost use Rattle.std.specs.String.{string_bytes};
+ghost use Rattle.clap.specs.Words.{app_of, kind_of, first_of, all_of, subcommand_rows_of};
+ghost use Rattle.command_words.specs.Commands.{cilkcheck};
 ghost use Rattle.command_words.specs.Jobs.{IsInRange};
+ghost use Rattle.command_words.specs.Asked.{rows_in, IsWorkers, IsLimit, IsName, IsColor, IsSerial, has_flag, language_of, input_word};
+ghost use Rattle.command_words.specs.Asked.{IsAsked, IsAskedBy, IsShown, IsJobOf};
 ghost use Rattle.command_streams.specs.Faults.{IsUsageFault, TellsUsage};
 
-use crate::help;
+use crate::commands::commands;
 use clap::error::ErrorKind;
-use clap::{Arg, ArgAction, ArgMatches, Command};
+use clap::{ArgMatches, Command};
 use command_streams::{CliFault, MOST_ENTRIES};
-use std::alloc::{AllocError, Global};
+use std::alloc::Global;
 use std::convert::AsStr;
 use std::env::{self, Env};
 use std::io;
@@ -149,224 +154,6 @@ impl Drop for Job {
     }
 }
 
-/// Where a word of a command stands.
-enum Place {
-    /// Behind `--`, with nothing behind it, or nowhere.
-    Flag,
-    /// Behind `--` and its name, or nowhere.
-    Named,
-    /// Among the words, where it must stand.
-    Wanted,
-    /// Among the words, where one or more must stand.
-    Several,
-    /// Among the words, or nowhere.
-    Free,
-}
-
-/// A word that a command takes.
-struct Word {
-    place: Place,
-    name: &'static str,
-    value: &'static str,
-    help: &'static str,
-}
-
-/// A command, with its texts and the words that it takes.
-struct CommandForm {
-    name: &'static str,
-    about: &'static str,
-    /// What stands before its help, where that is more than what it is about.
-    before: Option<&'static str>,
-    /// What stands behind its help.
-    behind: &'static str,
-    words: &'static [Word],
-}
-
-const FILE: Word = Word {
-    place: Place::Wanted,
-    name: "file",
-    value: "FILE",
-    help: "The program",
-};
-
-const EXPLAINED: Word = Word {
-    place: Place::Several,
-    name: "file",
-    value: "FILE",
-    help: "A program, or one or more traces; '-' is standard input",
-};
-
-const TRACE: Word = Word {
-    place: Place::Wanted,
-    name: "trace",
-    value: "TRACE",
-    help: "The trace",
-};
-
-const JUDGED: Word = Word {
-    place: Place::Free,
-    name: "file",
-    value: "FILE",
-    help: "The trace [default: standard input]",
-};
-
-const ENTRIES: Word = Word {
-    place: Place::Named,
-    name: "limit",
-    value: "N",
-    help: "The most entries of the history, from 0 to 1000000 [default: 1000000]",
-};
-
-const REQUESTS: Word = Word {
-    place: Place::Named,
-    name: "limit",
-    value: "N",
-    help: "The most requests, from 0 to 1000000 [default: 1000000]",
-};
-
-const STEALING: Word = Word {
-    place: Place::Named,
-    name: "workers",
-    value: "N",
-    help: "The workers, from 1 to 64 [default: 2]",
-};
-
-const SERIAL: Word = Word {
-    place: Place::Flag,
-    name: "serial",
-    value: "",
-    help: "Run each child before what follows its spawn, by one worker: the same run each time",
-};
-
-const PAINTING: Word = Word {
-    place: Place::Named,
-    name: "color",
-    value: "WHEN",
-    help: "When words are painted: auto, always or never [default: auto]",
-};
-
-const OUT: Word = Word {
-    place: Place::Named,
-    name: "trace",
-    value: "OUT",
-    help: "A file, made or emptied, that the trace of the run is written into",
-};
-
-const PICTURE: Word = Word {
-    place: Place::Flag,
-    name: "svg",
-    value: "",
-    help: "Writes a picture, as SVG, in place of a text for Graphviz",
-};
-
-/// The program's commands.
-const FORMS: &[CommandForm] = &[
-    CommandForm {
-        name: "judge",
-        about: help::JUDGE,
-        before: None,
-        behind: help::TRACE,
-        words: &[JUDGED, ENTRIES],
-    },
-    CommandForm {
-        name: "elide",
-        about: help::ELIDE,
-        before: Some(help::ELISION),
-        behind: help::LANGUAGE,
-        words: &[FILE, REQUESTS],
-    },
-    CommandForm {
-        name: "run",
-        about: help::RUN,
-        before: Some(help::REPORT),
-        behind: help::LANGUAGE,
-        words: &[FILE, STEALING, ENTRIES, OUT],
-    },
-    CommandForm {
-        name: "explain",
-        about: help::EXPLAIN,
-        before: Some(help::EXPLANATION),
-        behind: help::LANGUAGE,
-        words: &[EXPLAINED, STEALING, SERIAL, ENTRIES, PAINTING],
-    },
-    CommandForm {
-        name: "replay",
-        about: help::REPLAY,
-        before: None,
-        behind: help::OUTCOME,
-        words: &[FILE, TRACE],
-    },
-    CommandForm {
-        name: "draw",
-        about: help::DRAW,
-        before: Some(help::DRAWING),
-        behind: help::STRANDS,
-        words: &[TRACE, PICTURE],
-    },
-];
-
-/// The parser's argument for a word.
-fn argument<'a>(alloc: Global, word: &'a Word) -> Arg<'a> {
-    let arg = Arg::new(alloc, word.name).help(word.help);
-    match word.place {
-        Place::Flag => arg.long(word.name).action(ArgAction::SetTrue),
-        Place::Named => arg.value_name(word.value).long(word.name),
-        Place::Wanted => arg.value_name(word.value).required(true),
-        Place::Several => arg
-            .value_name(word.value)
-            .required(true)
-            .num_args(1..)
-            .action(ArgAction::Append),
-        Place::Free => arg.value_name(word.value),
-    }
-}
-
-/// A command with its texts, and no words yet.
-fn described<'a>(alloc: Global, form: &'a CommandForm) -> Command<'a> {
-    let command = Command::new(alloc, form.name)
-        .about(form.about)
-        .after_help(form.behind);
-    match form.before {
-        Some(text) => command.long_about(text),
-        None => command,
-    }
-}
-
-/// A command with its texts and its words.
-fn command_of<'a>(alloc: Global, form: &'a CommandForm) -> Result<Command<'a>, AllocError> {
-    let mut command = described(alloc, form);
-    for word in form.words {
-        command = command.arg(argument(alloc, word))?;
-    }
-    Ok(command)
-}
-
-/// A program that also has this command.
-fn with<'a>(
-    program: Command<'a>,
-    command: Result<Command<'a>, AllocError>,
-) -> Result<Command<'a>, AllocError> {
-    program.subcommand(command?)
-}
-
-/// The program's command without its subcommands.
-fn program<'a>(alloc: Global) -> Result<Command<'a>, AllocError> {
-    Command::new(alloc, "cilkcheck")
-        .about(help::ABOUT)
-        .after_help(help::PROGRAM)
-        .version(help::VERSION)
-        .bin_name("cilkcheck")
-}
-
-/// The program's command with its subcommands.
-fn commands<'a>(alloc: Global) -> Result<Command<'a>, AllocError> {
-    let mut program = program(alloc)?;
-    for form in FORMS {
-        program = with(program, command_of(alloc, form))?;
-    }
-    Ok(program)
-}
-
 /// A usage fault with this text, which stands in one line; or want of memory.
 pub fn usage(alloc: Global, text: &str) -> CliFault
     ensures fault { IsUsageFault result }
@@ -385,6 +172,13 @@ fn no_file(alloc: Global) -> CliFault
     usage(alloc, "no file is given; see 'cilkcheck --help'")
 }
 
+/// No command is named.
+fn no_command(alloc: Global) -> CliFault
+    ensures { IsUsageFault result }
+{
+    usage(alloc, "no command is given; see 'cilkcheck --help'")
+}
+
 /// A usage fault with the first line of the parser's text.
 fn complaint(alloc: Global, text: &str) -> CliFault
     ensures { IsUsageFault result }
@@ -395,7 +189,7 @@ fn complaint(alloc: Global, text: &str) -> CliFault
 
 /// What the parser of the command line answers in place of a job: a text to show, or the first line of what is wrong.
 fn shown(alloc: Global, error: &clap::Error) -> Result<Job, CliFault>
-    ensures job { IfOk result IsInRange }
+    ensures job { IfOk result (IsShown (kind_of error.now)) }
     ensures fault { IfErr result IsUsageFault }
 {
     match error.kind() {
@@ -411,12 +205,33 @@ fn shown(alloc: Global, error: &clap::Error) -> Result<Job, CliFault>
     }
 }
 
+/// What stands at this name among the words of a command.
+fn text_of<'a>(matches: &ArgMatches<'a>, name: &str) -> Option<&'a str>
+    ensures { option_map (λ text. text.now) result ≡ first_of name.now (rows_in matches.now) }
+{
+    matches.get_str(name)
+}
+
+/// All that stands at this name among the words of a command.
+fn texts_of<'m, 'a>(matches: &'m ArgMatches<'a>, name: &str) -> Option<&'m [&'a str]>
+    ensures { option_map (λ texts. map (λ text. text.now) texts.now) result ≡ all_of name.now (rows_in matches.now) }
+{
+    matches.get_strs(name)
+}
+
+/// Whether the flag with this name is given, of which the parser says `true`.
+fn has_flag(matches: &ArgMatches<'_>, name: &str) -> bool
+    ensures { result ≡ has_flag name.now (rows_in matches.now) }
+{
+    text_of(matches, name) == Some("true")
+}
+
 /// How many workers the words of a command want.
 fn workers_of(alloc: Global, matches: &ArgMatches<'_>) -> Result<usize, CliFault>
-    ensures workers { IfOk result (λ workers. (0 < workers) × (workers ≤ 64)) }
+    ensures workers { IfOk result (IsWorkers (rows_in matches.now)) }
     ensures fault { IfErr result IsUsageFault }
 {
-    let Some(text) = matches.get_str("workers") else {
+    let Some(text) = text_of(matches, "workers") else {
         return Ok(WORKERS);
     };
     match text.parse::<usize>() {
@@ -430,10 +245,10 @@ fn workers_of(alloc: Global, matches: &ArgMatches<'_>) -> Result<usize, CliFault
 
 /// The limit that the words of a command give.
 fn limit_of(alloc: Global, matches: &ArgMatches<'_>) -> Result<u32, CliFault>
-    ensures limit { IfOk result (λ limit. limit ≤ most_entries) }
+    ensures limit { IfOk result (IsLimit (rows_in matches.now)) }
     ensures fault { IfErr result IsUsageFault }
 {
-    let Some(text) = matches.get_str("limit") else {
+    let Some(text) = text_of(matches, "limit") else {
         return Ok(MOST_ENTRIES);
     };
     match text.parse::<u32>() {
@@ -447,9 +262,10 @@ fn limit_of(alloc: Global, matches: &ArgMatches<'_>) -> Result<u32, CliFault>
 
 /// The name of a file that the words of a command give.
 fn file_of(alloc: Global, matches: &ArgMatches<'_>, argument: &str) -> Result<String, CliFault>
+    ensures name { IfOk result (λ file. IsName argument.now (rows_in matches.now) (string_bytes file)) }
     ensures fault { IfErr result IsUsageFault }
 {
-    let Some(name) = matches.get_str(argument) else {
+    let Some(name) = text_of(matches, argument) else {
         return Err(no_file(alloc));
     };
     Ok(String::from_str(alloc, name)?)
@@ -461,16 +277,17 @@ fn given_file(
     matches: &ArgMatches<'_>,
     argument: &str,
 ) -> Result<Option<String>, CliFault>
+    ensures name { IfOk result (λ file. option_map string_bytes file ≡ first_of argument.now (rows_in matches.now)) }
     ensures fault { IfErr result IsUsageFault }
 {
-    let Some(name) = matches.get_str(argument) else {
+    let Some(name) = text_of(matches, argument) else {
         return Ok(None);
     };
     Ok(Some(String::from_str(alloc, name)?))
 }
 
 fn judge_job(alloc: Global, matches: &ArgMatches<'_>) -> Result<Job, CliFault>
-    ensures job { IfOk result IsInRange }
+    ensures job { IfOk result (IsAsked (codes "judge") (rows_in matches.now)) }
     ensures fault { IfErr result IsUsageFault }
 {
     let file = given_file(alloc, matches, "file")?;
@@ -479,7 +296,7 @@ fn judge_job(alloc: Global, matches: &ArgMatches<'_>) -> Result<Job, CliFault>
 }
 
 fn elide_job(alloc: Global, matches: &ArgMatches<'_>) -> Result<Job, CliFault>
-    ensures job { IfOk result IsInRange }
+    ensures job { IfOk result (IsAsked (codes "elide") (rows_in matches.now)) }
     ensures fault { IfErr result IsUsageFault }
 {
     let file = file_of(alloc, matches, "file")?;
@@ -489,16 +306,18 @@ fn elide_job(alloc: Global, matches: &ArgMatches<'_>) -> Result<Job, CliFault>
 
 /// The file that the trace of a run is written into, where one is named. It is none that holds the program, which would be lost.
 fn out_of(alloc: Global, matches: &ArgMatches<'_>, file: &str) -> Result<Option<String>, CliFault>
+    ensures name { IfOk result (λ trace. option_map string_bytes trace ≡ first_of (codes "trace") (rows_in matches.now)) }
+    ensures other { IfOk result (λ trace. IfSome trace (λ name. string_bytes name ≢ file.now)) }
     ensures fault { IfErr result IsUsageFault }
 {
-    match matches.get_str("trace") {
+    match text_of(matches, "trace") {
         Some(name) if name == file => Err(usage(alloc, OVER_PROGRAM)),
         _ => given_file(alloc, matches, "trace"),
     }
 }
 
 fn run_job(alloc: Global, matches: &ArgMatches<'_>) -> Result<Job, CliFault>
-    ensures job { IfOk result IsInRange }
+    ensures job { IfOk result (IsAsked (codes "run") (rows_in matches.now)) }
     ensures fault { IfErr result IsUsageFault }
 {
     let file = file_of(alloc, matches, "file")?;
@@ -521,9 +340,10 @@ fn run_job(alloc: Global, matches: &ArgMatches<'_>) -> Result<Job, CliFault>
 
 /// When the words of a command want words to be painted.
 fn color_of(alloc: Global, matches: &ArgMatches<'_>) -> Result<Color, CliFault>
+    ensures color { IfOk result (IsColor (rows_in matches.now)) }
     ensures fault { IfErr result IsUsageFault }
 {
-    match matches.get_str("color") {
+    match text_of(matches, "color") {
         None | Some("auto") => Ok(Color::Auto),
         Some("always") => Ok(Color::Always),
         Some("never") => Ok(Color::Never),
@@ -536,10 +356,11 @@ fn color_of(alloc: Global, matches: &ArgMatches<'_>) -> Result<Color, CliFault>
 
 /// Whether the words of a command want one worker in the serial order, which is no number of workers that steal.
 fn is_serial(alloc: Global, matches: &ArgMatches<'_>) -> Result<bool, CliFault>
+    ensures serial { IfOk result (IsSerial (rows_in matches.now)) }
     ensures fault { IfErr result IsUsageFault }
 {
-    let is_serial = matches.get_flag("serial");
-    if is_serial && matches.get_str("workers").is_some() {
+    let is_serial = has_flag(matches, "serial");
+    if is_serial && text_of(matches, "workers").is_some() {
         return Err(usage(
             alloc,
             "the argument '--serial' cannot be used with '--workers <N>'",
@@ -550,7 +371,8 @@ fn is_serial(alloc: Global, matches: &ArgMatches<'_>) -> Result<bool, CliFault>
 
 /// A program, or a single trace, is to be explained.
 fn explain_one(alloc: Global, matches: &ArgMatches<'_>, name: &str) -> Result<Job, CliFault>
-    ensures job { IfOk result IsInRange }
+    requires { all_of (codes "file") (rows_in matches.now) ≡ Some (name.now ∷ []) }
+    ensures job { IfOk result (IsAsked (codes "explain") (rows_in matches.now)) }
     ensures fault { IfErr result IsUsageFault }
 {
     let workers = workers_of(alloc, matches)?;
@@ -575,32 +397,51 @@ fn explain_one(alloc: Global, matches: &ArgMatches<'_>, name: &str) -> Result<Jo
     })
 }
 
-/// The names of several files, each a file's own.
+/// The name of one of several files, which is not standard input.
+fn one_of_several(alloc: Global, name: &str) -> Result<String, CliFault>
+    ensures name { IfOk result (λ file. (string_bytes file ≡ name.now) × (string_bytes file ≢ input_word)) }
+    ensures fault { IfErr result IsUsageFault }
+{
+    if name == INPUT {
+        return Err(usage(
+            alloc,
+            "'-' is given among several files: standard input is explained alone",
+        ));
+    }
+    Ok(String::from_str(alloc, name)?)
+}
+
+/// The names of several files.
 fn several_files(alloc: Global, names: &[&str]) -> Result<Vec<String>, CliFault>
+    ensures names { IfOk result (λ files. map string_bytes files.items ≡ map (λ name. name.now) names.now) }
+    ensures files { IfOk result (λ files. All (λ file. string_bytes file ≢ input_word) files.items) }
     ensures fault { IfErr result IsUsageFault }
 {
     let mut files = Vec::new(alloc);
     for name in names {
-        if *name == INPUT {
-            return Err(usage(
-                alloc,
-                "'-' is given among several files: standard input is explained alone",
-            ));
-        }
-        files.push(String::from_str(alloc, name)?)?;
+        files.push(one_of_several(alloc, name)?)?;
     }
     Ok(files)
 }
 
+/// Whether a word is given that is for one file.
+fn has_run_word(matches: &ArgMatches<'_>) -> bool
+    ensures { result ≡ false → (first_of (codes "workers") (rows_in matches.now) ≡ None)
+        × (first_of (codes "limit") (rows_in matches.now) ≡ None) × (has_flag (codes "serial") (rows_in matches.now) ≡ false) }
+{
+    text_of(matches, "workers").is_some()
+        || text_of(matches, "limit").is_some()
+        || has_flag(matches, "serial")
+}
+
 /// Several traces are to be explained, which are judged and not run.
 fn explain_several(alloc: Global, matches: &ArgMatches<'_>, names: &[&str]) -> Result<Job, CliFault>
-    ensures job { IfOk result IsInRange }
+    requires names { all_of (codes "file") (rows_in matches.now) ≡ Some (map (λ name. name.now) names.now) }
+    requires several { 1 < length names.now }
+    ensures job { IfOk result (IsAsked (codes "explain") (rows_in matches.now)) }
     ensures fault { IfErr result IsUsageFault }
 {
-    if matches.contains_id("workers")
-        || matches.contains_id("limit")
-        || matches.get_flag("serial")
-    {
+    if has_run_word(matches) {
         return Err(usage(
             alloc,
             "'--workers <N>', '--serial' and '--limit <N>' are for one file: several are traces, which are not run",
@@ -612,21 +453,18 @@ fn explain_several(alloc: Global, matches: &ArgMatches<'_>, names: &[&str]) -> R
 }
 
 fn explain_job(alloc: Global, matches: &ArgMatches<'_>) -> Result<Job, CliFault>
-    ensures job { IfOk result IsInRange }
+    ensures job { IfOk result (IsAsked (codes "explain") (rows_in matches.now)) }
     ensures fault { IfErr result IsUsageFault }
 {
-    let Some(names) = matches.get_strs("file") else {
-        return Err(no_file(alloc));
-    };
-    match names.split_first() {
-        None => Err(no_file(alloc)),
-        Some((name, others)) if others.is_empty() => explain_one(alloc, matches, name),
-        Some(_) => explain_several(alloc, matches, names),
+    match texts_of(matches, "file") {
+        None | Some([]) => Err(no_file(alloc)),
+        Some([name]) => explain_one(alloc, matches, name),
+        Some(names) => explain_several(alloc, matches, names),
     }
 }
 
 fn replay_job(alloc: Global, matches: &ArgMatches<'_>) -> Result<Job, CliFault>
-    ensures job { IfOk result IsInRange }
+    ensures job { IfOk result (IsAsked (codes "replay") (rows_in matches.now)) }
     ensures fault { IfErr result IsUsageFault }
 {
     let file = file_of(alloc, matches, "file")?;
@@ -634,32 +472,52 @@ fn replay_job(alloc: Global, matches: &ArgMatches<'_>) -> Result<Job, CliFault>
     Ok(Job::Replay { file, trace })
 }
 
-fn draw_job(alloc: Global, matches: &ArgMatches<'_>) -> Result<Job, CliFault>
-    ensures job { IfOk result IsInRange }
-    ensures fault { IfErr result IsUsageFault }
+/// The language that a drawing is wanted in.
+fn language_of(matches: &ArgMatches<'_>) -> Language
+    ensures { result ≡ language_of (rows_in matches.now) }
 {
-    let file = file_of(alloc, matches, "trace")?;
-    let language = if matches.get_flag("svg") {
+    if has_flag(matches, "svg") {
         Language::Svg
     } else {
         Language::Dot
-    };
-    Ok(Job::Draw { file, language })
+    }
 }
 
-/// What the words that were matched ask for.
+fn draw_job(alloc: Global, matches: &ArgMatches<'_>) -> Result<Job, CliFault>
+    ensures job { IfOk result (IsAsked (codes "draw") (rows_in matches.now)) }
+    ensures fault { IfErr result IsUsageFault }
+{
+    let file = file_of(alloc, matches, "trace")?;
+    Ok(Job::Draw {
+        file,
+        language: language_of(matches),
+    })
+}
+
+/// The job that a command with this name asks for, by what was found of its words.
+fn job_named(alloc: Global, name: &str, matches: &ArgMatches<'_>) -> Result<Job, CliFault>
+    ensures job { IfOk result (IsAsked name.now (rows_in matches.now)) }
+    ensures fault { IfErr result IsUsageFault }
+{
+    match name {
+        "judge" => judge_job(alloc, matches),
+        "elide" => elide_job(alloc, matches),
+        "run" => run_job(alloc, matches),
+        "explain" => explain_job(alloc, matches),
+        "replay" => replay_job(alloc, matches),
+        "draw" => draw_job(alloc, matches),
+        _ => Err(no_command(alloc)),
+    }
+}
+
+/// The job that the words ask for, by what was found of them.
 fn job_of(alloc: Global, matches: &ArgMatches<'_>) -> Result<Job, CliFault>
-    ensures job { IfOk result IsInRange }
+    ensures job { IfOk result (IsAskedBy (subcommand_rows_of matches.now)) }
     ensures fault { IfErr result IsUsageFault }
 {
     match matches.subcommand() {
-        Some(("judge", matches)) => judge_job(alloc, matches),
-        Some(("elide", matches)) => elide_job(alloc, matches),
-        Some(("run", matches)) => run_job(alloc, matches),
-        Some(("explain", matches)) => explain_job(alloc, matches),
-        Some(("replay", matches)) => replay_job(alloc, matches),
-        Some(("draw", matches)) => draw_job(alloc, matches),
-        _ => Err(usage(alloc, "no command is given; see 'cilkcheck --help'")),
+        Some((name, matches)) => job_named(alloc, name, matches),
+        None => Err(no_command(alloc)),
     }
 }
 
@@ -669,10 +527,11 @@ fn read_by<'a, S: AsStr>(
     command: Command<'a>,
     words: &'a [S],
 ) -> Result<Job, CliFault>
-    ensures job { IfOk result IsInRange }
+    requires { app_of command ≡ cilkcheck }
+    ensures job { IfOk result (IsJobOf (map S.text words.entry.now)) }
     ensures fault { IfErr result IsUsageFault }
 {
-    match command.no_binary_name(true).try_get_matches_from(words) {
+    match command.try_get_matches_from(words) {
         Ok(matches) => job_of(alloc, &matches),
         Err(error) => shown(alloc, &error),
     }
@@ -680,7 +539,8 @@ fn read_by<'a, S: AsStr>(
 
 /// Reads the words behind the program's name, as they lie there.
 fn read_given<S: AsStr>(alloc: Global, words: &[S]) -> Result<Job, CliFault>
-    ensures job { IfOk result IsInRange }
+    ensures job { IfOk result (IsJobOf (map S.text words.now)) }
+    ensures ranges { IfOk result IsInRange }
     ensures fault { IfErr result IsUsageFault }
 {
     read_by(alloc, commands(alloc)?, words)
@@ -688,7 +548,8 @@ fn read_given<S: AsStr>(alloc: Global, words: &[S]) -> Result<Job, CliFault>
 
 /// Reads the words behind the program's name. A fault is [`CliFault::Usage`] or [`CliFault::Memory`].
 pub fn read_words(alloc: Global, words: &[&str]) -> Result<Job, CliFault>
-    ensures job { IfOk result IsInRange }
+    ensures job { IfOk result (IsJobOf (map (λ word. word.now) words.now)) }
+    ensures ranges { IfOk result IsInRange }
     ensures fault { IfErr result IsUsageFault }
 {
     read_given(alloc, words)
@@ -696,7 +557,8 @@ pub fn read_words(alloc: Global, words: &[&str]) -> Result<Job, CliFault>
 
 /// Reads the words that the program was called with, behind its name. A fault is [`CliFault::Usage`] or [`CliFault::Memory`].
 pub fn read_args<R: Env + Alloc<A = Global>>(rt: &R) -> Result<Job, CliFault>
-    ensures job { IfOk result IsInRange }
+    ensures job { IfOk result (λ job. (words : _) × IsJobOf words job) }
+    ensures ranges { IfOk result IsInRange }
     ensures fault { IfErr result IsUsageFault }
 {
     let alloc = rt.alloc();

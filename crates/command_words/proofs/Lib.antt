@@ -1,0 +1,3 @@
+mod Building
+mod Ranges
+mod Simple

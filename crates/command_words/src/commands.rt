@@ -1,0 +1,201 @@
+//! The commands for the parser of the command line: their texts, and the words that each takes.
+
+ghost use Rattle.std.specs.Prelude.{◌≡◌, IfOk, codes};
+ghost use Rattle.clap.specs.Words.{new_app};
+ghost use Rattle.command_words.specs.Commands.{free, wanted, several, option, flag, leaf, program, cilkcheck, IsArgument, IsCommand};
+ghost use Rattle.command_words.specs.Commands.{judge, elide, run, explain, replay, draw};
+
+use crate::help;
+use clap::{Arg, ArgAction, Command};
+use std::alloc::{AllocError, Global};
+
+/// A word among the words, or none.
+fn free<'a>(alloc: Global, name: &'a str, value: &'a str, help: &'a str) -> Arg<'a>
+    ensures { IsArgument (free name.entry.now) result }
+{
+    Arg::new(alloc, name).value_name(value).help(help)
+}
+
+/// A word that must stand among the words.
+fn wanted<'a>(alloc: Global, name: &'a str, value: &'a str, help: &'a str) -> Arg<'a>
+    ensures { IsArgument (wanted name.entry.now) result }
+{
+    free(alloc, name, value, help).required(true)
+}
+
+/// One word or more, of which one must stand among the words.
+fn several<'a>(alloc: Global, name: &'a str, value: &'a str, help: &'a str) -> Arg<'a>
+    ensures { IsArgument (several name.entry.now) result }
+{
+    wanted(alloc, name, value, help)
+        .num_args(1..)
+        .action(ArgAction::Append)
+}
+
+/// `--NAME VALUE`, or nothing.
+fn option<'a>(alloc: Global, name: &'a str, value: &'a str, help: &'a str) -> Arg<'a>
+    ensures { IsArgument (option name.entry.now) result }
+{
+    free(alloc, name, value, help).long(name)
+}
+
+/// `--NAME`, or nothing.
+fn flag<'a>(alloc: Global, name: &'a str, help: &'a str) -> Arg<'a>
+    ensures { IsArgument (flag name.entry.now) result }
+{
+    Arg::new(alloc, name)
+        .long(name)
+        .action(ArgAction::SetTrue)
+        .help(help)
+}
+
+/// A command with the text of what it is about, that behind its help, and no words yet.
+fn command<'a>(alloc: Global, name: &'a str, about: &'a str, behind: &'a str) -> Command<'a>
+    ensures { IsCommand (new_app name.entry.now) result }
+{
+    Command::new(alloc, name).about(about).after_help(behind)
+}
+
+/// The limit on the entries of a history.
+fn entries<'a>(alloc: Global) -> Arg<'a>
+    ensures { IsArgument (option (codes "limit")) result }
+{
+    option(
+        alloc,
+        "limit",
+        "N",
+        "The most entries of the history, from 0 to 1000000 [default: 1000000]",
+    )
+}
+
+/// The number of workers.
+fn workers<'a>(alloc: Global) -> Arg<'a>
+    ensures { IsArgument (option (codes "workers")) result }
+{
+    option(
+        alloc,
+        "workers",
+        "N",
+        "The workers, from 1 to 64 [default: 2]",
+    )
+}
+
+fn judge<'a>(alloc: Global) -> Result<Command<'a>, AllocError>
+    ensures { IfOk result (IsCommand (leaf judge)) }
+{
+    let file = free(alloc, "file", "FILE", "The trace [default: standard input]");
+    command(alloc, "judge", help::JUDGE, help::TRACE)
+        .arg(file)?
+        .arg(entries(alloc))
+}
+
+fn elide<'a>(alloc: Global) -> Result<Command<'a>, AllocError>
+    ensures { IfOk result (IsCommand (leaf elide)) }
+{
+    let file = wanted(alloc, "file", "FILE", "The program");
+    let limit = option(
+        alloc,
+        "limit",
+        "N",
+        "The most requests, from 0 to 1000000 [default: 1000000]",
+    );
+    command(alloc, "elide", help::ELIDE, help::LANGUAGE)
+        .long_about(help::ELISION)
+        .arg(file)?
+        .arg(limit)
+}
+
+fn run<'a>(alloc: Global) -> Result<Command<'a>, AllocError>
+    ensures { IfOk result (IsCommand (leaf run)) }
+{
+    let file = wanted(alloc, "file", "FILE", "The program");
+    let trace = option(
+        alloc,
+        "trace",
+        "OUT",
+        "A file, made or emptied, that the trace of the run is written into",
+    );
+    command(alloc, "run", help::RUN, help::LANGUAGE)
+        .long_about(help::REPORT)
+        .arg(file)?
+        .arg(workers(alloc))?
+        .arg(entries(alloc))?
+        .arg(trace)
+}
+
+fn explain<'a>(alloc: Global) -> Result<Command<'a>, AllocError>
+    ensures { IfOk result (IsCommand (leaf explain)) }
+{
+    let file = several(
+        alloc,
+        "file",
+        "FILE",
+        "A program, or one or more traces; '-' is standard input",
+    );
+    let serial = flag(
+        alloc,
+        "serial",
+        "Run each child before what follows its spawn, by one worker: the same run each time",
+    );
+    let color = option(
+        alloc,
+        "color",
+        "WHEN",
+        "When words are painted: auto, always or never [default: auto]",
+    );
+    command(alloc, "explain", help::EXPLAIN, help::LANGUAGE)
+        .long_about(help::EXPLANATION)
+        .arg(file)?
+        .arg(workers(alloc))?
+        .arg(serial)?
+        .arg(entries(alloc))?
+        .arg(color)
+}
+
+fn replay<'a>(alloc: Global) -> Result<Command<'a>, AllocError>
+    ensures { IfOk result (IsCommand (leaf replay)) }
+{
+    let file = wanted(alloc, "file", "FILE", "The program");
+    let trace = wanted(alloc, "trace", "TRACE", "The trace");
+    command(alloc, "replay", help::REPLAY, help::OUTCOME)
+        .arg(file)?
+        .arg(trace)
+}
+
+fn draw<'a>(alloc: Global) -> Result<Command<'a>, AllocError>
+    ensures { IfOk result (IsCommand (leaf draw)) }
+{
+    let trace = wanted(alloc, "trace", "TRACE", "The trace");
+    let svg = flag(
+        alloc,
+        "svg",
+        "Writes a picture, as SVG, in place of a text for Graphviz",
+    );
+    command(alloc, "draw", help::DRAW, help::STRANDS)
+        .long_about(help::DRAWING)
+        .arg(trace)?
+        .arg(svg)
+}
+
+/// The program without its commands. Its words stand behind its name.
+fn program<'a>(alloc: Global) -> Result<Command<'a>, AllocError>
+    ensures { IfOk result (IsCommand program) }
+{
+    command(alloc, "cilkcheck", help::ABOUT, help::PROGRAM)
+        .version(help::VERSION)
+        .no_binary_name(true)
+        .bin_name("cilkcheck")
+}
+
+/// The program with its commands.
+pub(crate) fn commands<'a>(alloc: Global) -> Result<Command<'a>, AllocError>
+    ensures { IfOk result (IsCommand cilkcheck) }
+{
+    program(alloc)?
+        .subcommand(judge(alloc)?)?
+        .subcommand(elide(alloc)?)?
+        .subcommand(run(alloc)?)?
+        .subcommand(explain(alloc)?)?
+        .subcommand(replay(alloc)?)?
+        .subcommand(draw(alloc)?)
+}
