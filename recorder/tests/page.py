@@ -7,6 +7,7 @@
 - A block ```sh-session has commands, each behind `$ `, and what they print on standard output and error. They find the wrappers and the judge
   on the PATH; `$?` is the status of the one before.
 - A block ```diff has the lines that the mended example FILE_mended.c takes out of FILE and puts into it, which is then done in the folder.
+- Each block ```sh-session of README.md stands on that page, too.
 """
 import difflib
 import os
@@ -18,7 +19,7 @@ from pathlib import Path
 
 import harness
 
-PAGE = harness.RECORDER.parent / "docs/C-PROGRAMS.md"
+README, PAGE = (harness.RECORDER.parent / it for it in ("README.md", "docs/C-PROGRAMS.md"))
 EXAMPLES = harness.RECORDER / "examples"
 
 
@@ -89,6 +90,10 @@ def main():
                     reader.run(*it)
             else:
                 reader.check(line, False, f"a block of another kind: {words}")
+        page = [text for _, _, text in blocks(PAGE.read_text())]
+        for line, words, text in blocks(README.read_text()):
+            if words[0] == "sh-session":
+                reader.check(line, text in page, "the block of README.md is none of this page")
         kept = sorted(os.listdir(reader.folder))
     harness.finish("page", reader.checks, reader.failures + [it for it in kept if it not in ("words", "words.c", "words.trace")], given.expect)
 
