@@ -85,6 +85,10 @@ input_word = codes "-"
 abbrev pub IsName : (name : Text) → List Row → Text → Type 0
 IsName name rows file = first_of name rows ≡ Some file
 
+-- A trace may be written into this file: it is not the program's and not standard output, which has the report; and the program is in a file.
+abbrev pub IsOut : (file trace : Text) → Type 0
+IsOut file trace = (trace ≢ file) × (trace ≢ input_word) × (file ≢ input_word)
+
 -- ---- jobs
 
 -- What the words of the command ask for. Each number that is not written has its default: 2 workers, and the largest limit.
@@ -98,7 +102,7 @@ IsAsked command rows (Run file workers limit) =
     × (first_of (codes "trace") rows ≡ None)
 IsAsked command rows (Record file workers limit trace) =
     (command ≡ codes "run") × IsName (codes "file") rows (string_bytes file) × IsWorkers rows workers × IsLimit rows limit
-    × IsName (codes "trace") rows (string_bytes trace) × (string_bytes trace ≢ string_bytes file)
+    × IsName (codes "trace") rows (string_bytes trace) × IsOut (string_bytes file) (string_bytes trace)
 IsAsked command rows (Explain file workers is_serial limit color) =
     (command ≡ codes "explain") × (all_of (codes "file") rows ≡ Some (string_bytes file ∷ [])) × (string_bytes file ≢ input_word)
     × IsWorkers rows workers × IsSerial rows is_serial × IsLimit rows limit × IsColor rows color
@@ -111,6 +115,7 @@ IsAsked command rows (ExplainTraces files color) =
     × (first_of (codes "limit") rows ≡ None) × (has_flag (codes "serial") rows ≡ false)
 IsAsked command rows (Replay file trace) =
     (command ≡ codes "replay") × IsName (codes "file") rows (string_bytes file) × IsName (codes "trace") rows (string_bytes trace)
+    × (string_bytes file ≡ input_word → string_bytes trace ≢ input_word)
 IsAsked command rows (Draw file language) =
     (command ≡ codes "draw") × IsName (codes "trace") rows (string_bytes file) × (language ≡ language_of rows)
 IsAsked command rows (Show text) = ⊥

@@ -83,7 +83,12 @@ fn workers<'a>(alloc: Global) -> Arg<'a>
 fn judge<'a>(alloc: Global) -> Result<Command<'a>, AllocError>
     ensures { IfOk result (IsCommand (leaf judge)) }
 {
-    let file = free(alloc, "file", "FILE", "The trace [default: standard input]");
+    let file = free(
+        alloc,
+        "file",
+        "FILE",
+        "The trace; '-' is standard input [default: -]",
+    );
     command(alloc, "judge", help::JUDGE, help::TRACE)
         .arg(file)?
         .arg(entries(alloc))
@@ -92,7 +97,7 @@ fn judge<'a>(alloc: Global) -> Result<Command<'a>, AllocError>
 fn elide<'a>(alloc: Global) -> Result<Command<'a>, AllocError>
     ensures { IfOk result (IsCommand (leaf elide)) }
 {
-    let file = wanted(alloc, "file", "FILE", "The program");
+    let file = wanted(alloc, "file", "FILE", "The program; '-' is standard input");
     let limit = option(
         alloc,
         "limit",
@@ -108,7 +113,7 @@ fn elide<'a>(alloc: Global) -> Result<Command<'a>, AllocError>
 fn run<'a>(alloc: Global) -> Result<Command<'a>, AllocError>
     ensures { IfOk result (IsCommand (leaf run)) }
 {
-    let file = wanted(alloc, "file", "FILE", "The program");
+    let file = wanted(alloc, "file", "FILE", "The program; '-' is standard input");
     let trace = option(
         alloc,
         "trace",
@@ -155,8 +160,8 @@ fn explain<'a>(alloc: Global) -> Result<Command<'a>, AllocError>
 fn replay<'a>(alloc: Global) -> Result<Command<'a>, AllocError>
     ensures { IfOk result (IsCommand (leaf replay)) }
 {
-    let file = wanted(alloc, "file", "FILE", "The program");
-    let trace = wanted(alloc, "trace", "TRACE", "The trace");
+    let file = wanted(alloc, "file", "FILE", "The program; '-' is standard input");
+    let trace = wanted(alloc, "trace", "TRACE", "The trace; '-' is standard input");
     command(alloc, "replay", help::REPLAY, help::OUTCOME)
         .arg(file)?
         .arg(trace)
@@ -165,7 +170,7 @@ fn replay<'a>(alloc: Global) -> Result<Command<'a>, AllocError>
 fn draw<'a>(alloc: Global) -> Result<Command<'a>, AllocError>
     ensures { IfOk result (IsCommand (leaf draw)) }
 {
-    let trace = wanted(alloc, "trace", "TRACE", "The trace");
+    let trace = wanted(alloc, "trace", "TRACE", "The trace; '-' is standard input");
     let svg = flag(
         alloc,
         "svg",

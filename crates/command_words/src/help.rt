@@ -113,6 +113,7 @@ request with its line in the program:
 
 Then `replay` tells `replayed 7`, and `judge` the answer to each of the 7 requests. OUT is made, or emptied where it is there,
 once the run is done; before the report is written it has the trace. Where there is no run to be told, it stays as it was.
+OUT is no `-`, since standard output has the report; nor is FILE then, so that the trace can be replayed.
 
 Output: one JSON object in a line, with the keys
   clean      whether nothing was refused

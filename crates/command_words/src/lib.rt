@@ -10,4 +10,4 @@ mod names;
 mod words;
 
 pub use names::check_names;
-pub use words::{Color, Job, Language, read_args, read_words, usage};
+pub use words::{Color, INPUT, Job, Language, read_args, read_words, usage};

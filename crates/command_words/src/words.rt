@@ -6,7 +6,7 @@ ghost use Rattle.std.specs.String.{string_bytes};
 ghost use Rattle.clap.specs.Words.{app_of, kind_of, first_of, all_of, subcommand_rows_of};
 ghost use Rattle.command_words.specs.Commands.{cilkcheck};
 ghost use Rattle.command_words.specs.Jobs.{IsInRange};
-ghost use Rattle.command_words.specs.Asked.{rows_in, IsWorkers, IsLimit, IsName, IsColor, IsSerial, has_flag, language_of, input_word};
+ghost use Rattle.command_words.specs.Asked.{rows_in, IsWorkers, IsLimit, IsName, IsColor, IsSerial, has_flag, language_of, input_word, IsOut};
 ghost use Rattle.command_words.specs.Asked.{IsAsked, IsAskedBy, IsShown, IsJobOf};
 ghost use Rattle.command_streams.specs.Faults.{IsUsageFault, TellsUsage};
 
@@ -25,7 +25,18 @@ const MOST_WORKERS: usize = 64;
 const WORKERS: usize = 2;
 
 /// The word for standard input in place of a file.
-const INPUT: &str = "-";
+pub const INPUT: &str = "-";
+
+/// A trace would be written to standard output, which has the report.
+const OVER_REPORT: &str = "standard output has the report: name a file with '--trace <OUT>'";
+
+/// A trace is wanted of a program on standard input.
+const OF_INPUT: &str =
+    "a trace belongs to a program that is in a file, which is not standard input: name it";
+
+/// Both files of a replay are standard input.
+const INPUT_TWICE: &str =
+    "'-' is given twice: standard input is the program or the trace, and not both";
 
 /// A trace and its program have one name.
 pub const OVER_PROGRAM: &str =
@@ -51,7 +62,8 @@ pub enum Language {
     Svg,
 }
 
-/// What the words of the command line ask for.
+/// What the words of the command line ask for. A file with the name [`INPUT`] is standard input, but for that of [`Job::Record`] and
+/// [`Job::Explain`], whose names are not.
 #[derive(Debug)]
 pub enum Job {
     /// To judge the trace in this file, or on standard input where there is none, with this limit on the entries of its history.
@@ -304,13 +316,16 @@ fn elide_job(alloc: Global, matches: &ArgMatches<'_>) -> Result<Job, CliFault>
     Ok(Job::Elide { file, limit })
 }
 
-/// The file that the trace of a run is written into, where one is named. It is none that holds the program, which would be lost.
+/// The file that the trace of a run is written into, where one is named. It is none that holds the program, which would be lost, and not
+/// standard output, which has the report; and the program is in a file, so that the trace can be replayed.
 fn out_of(alloc: Global, matches: &ArgMatches<'_>, file: &str) -> Result<Option<String>, CliFault>
     ensures name { IfOk result (λ trace. option_map string_bytes trace ≡ first_of (codes "trace") (rows_in matches.now)) }
-    ensures other { IfOk result (λ trace. IfSome trace (λ name. string_bytes name ≢ file.now)) }
+    ensures other { IfOk result (λ trace. IfSome trace (λ name. IsOut file.now (string_bytes name))) }
     ensures fault { IfErr result IsUsageFault }
 {
     match text_of(matches, "trace") {
+        Some(name) if name == INPUT => Err(usage(alloc, OVER_REPORT)),
+        Some(_) if file == INPUT => Err(usage(alloc, OF_INPUT)),
         Some(name) if name == file => Err(usage(alloc, OVER_PROGRAM)),
         _ => given_file(alloc, matches, "trace"),
     }
@@ -469,6 +484,9 @@ fn replay_job(alloc: Global, matches: &ArgMatches<'_>) -> Result<Job, CliFault>
 {
     let file = file_of(alloc, matches, "file")?;
     let trace = file_of(alloc, matches, "trace")?;
+    if file.as_str() == INPUT && trace.as_str() == INPUT {
+        return Err(usage(alloc, INPUT_TWICE));
+    }
     Ok(Job::Replay { file, trace })
 }
 

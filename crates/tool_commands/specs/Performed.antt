@@ -1,12 +1,14 @@
 -- What a job does: from what standard input and files hold to what is written, and the status.
 use Rattle.std.specs.Global.{Global}
-use Rattle.std.specs.Prelude.{ℕ, Bool, true, false, ◌≡◌, ◌⊎◌, Option, Some, Result, Ok, Err, List, [], ◌∷◌, codes, map}
+use Rattle.std.specs.Prelude.{ℕ, Bool, true, false, ◌≡◌, ◌⊎◌, Option, Some, None, Result, Ok, Err, List, [], ◌∷◌, codes, map, String, if◌then◌else◌}
 use Rattle.std.specs.String.{string_bytes}
+use Rattle.std.specs.Str.{bytes_eq}
 use Rattle.std.specs.Io.KnownBytes.{Appends}
 use Rattle.model_histories.specs.declared.reply.Reply.{Reply}
 use Rattle.command_streams.specs.declared.fault.CliFault.{CliFault}
 use Rattle.command_words.specs.declared.words.Job.{Job}
 use Rattle.command_words.specs.declared.words.Job.TheVariants.{Judge, Elide, Run, Record, Explain, ExplainInput, ExplainTraces, Replay, Draw, Show}
+use Rattle.command_words.specs.Asked.{input_word}
 use Rattle.command_words.specs.declared.words.Color.{Color}
 use Rattle.command_words.specs.declared.words.Color.TheVariants.{Auto, Always, Never}
 use Rattle.command_words.specs.declared.words.Language.{Language}
@@ -20,7 +22,7 @@ use Rattle.command_streams.specs.Faults.{status_of_fault}
 use Rattle.command_streams.specs.Readings.{reading}
 use Rattle.other_commands.specs.Replays.{IsReplayed, HasReplayCause}
 use Rattle.run_command.specs.Runs.{IsRan, HasRunCause}
-use Rattle.command_streams.specs.Sources.{Sources, source_of}
+use Rattle.command_streams.specs.Sources.{Sources}
 use Rattle.judge_command.specs.Statuses.{status_of_replies}
 use Rattle.command_streams.specs.Streams.{IsAnswered, HasCause, StopsWriting}
 use Rattle.other_commands.specs.Traced.{IsTraced, IsReportCut, HasTracedCause}
@@ -45,15 +47,36 @@ IsMannerOf file color manner = (manner.file ≡ file) × IsPaintedBy color manne
 abbrev pub input_name : List ℕ
 input_name = codes "<stdin>"
 
+-- what standard input holds, where the name stands for it, or else the file of this name
+abbrev pub named : Sources → (name : List ℕ) → Option (List ℕ)
+named sources name = if bytes_eq name input_word then sources.input else sources.file name
+
+-- the name is a file's, which can't be opened
+abbrev pub lacks_named : (List ℕ → Type 0) → (name : List ℕ) → Type 0
+lacks_named lacks name = (bytes_eq name input_word ≡ false) × lacks name
+
+-- what is judged: standard input where no name is given
+abbrev pub judged : {A : Type 0} → Sources → Option (String A) → Option (List ℕ)
+judged sources None = sources.input
+judged sources (Some file) = named sources (string_bytes file)
+
+-- the trace of a replay, which is a file where its program is standard input
+abbrev pub replayed : Sources → (program trace : List ℕ) → Option (List ℕ)
+replayed sources program trace = if bytes_eq program input_word then sources.file trace else named sources trace
+
+abbrev pub lacks_replayed : (List ℕ → Type 0) → (program trace : List ℕ) → Type 0
+lacks_replayed lacks program trace =
+    ((bytes_eq program input_word ≡ true) ⊎ (bytes_eq trace input_word ≡ false)) × lacks trace
+
 -- The job was done at this status. What a reader leaves behind is the end of what its source holds, where that is known.
 abbrev pub IsPerformed : Sources → Job → (wrote writes : Option (List ℕ)) → (status : ℕ) → Type 0
 IsPerformed sources (Judge file limit) wrote writes status =
     (behind : Option (List ℕ)) × (replies : List Reply) × (status ≡ status_of_replies replies) ×
-    IsAnswered (source_of sources file) behind wrote writes limit replies
+    IsAnswered (judged sources file) behind wrote writes limit replies
 IsPerformed sources (Elide file limit) wrote writes status = (behind : Option (List ℕ)) × (status ≡ 0) ×
-    IsElided (sources.file (string_bytes file)) behind wrote writes limit
+    IsElided (named sources (string_bytes file)) behind wrote writes limit
 IsPerformed sources (Run file workers limit) wrote writes status = (behind : Option (List ℕ)) ×
-    IsRan (reading (sources.file (string_bytes file)) behind) wrote writes limit status
+    IsRan (reading (named sources (string_bytes file)) behind) wrote writes limit status
 IsPerformed sources (Record file workers limit trace) wrote writes status = (behind : Option (List ℕ)) ×
     IsRan (reading (sources.file (string_bytes file)) behind) wrote writes limit status
 IsPerformed sources (Explain file workers is_serial limit color) wrote writes status = (behind : Option (List ℕ)) × (manner : Manner) ×
@@ -65,20 +88,21 @@ IsPerformed sources (ExplainInput workers is_serial limit color) wrote writes st
 IsPerformed sources (ExplainTraces files color) wrote writes status = (is_painted : Bool) × IsPaintedBy color is_painted ×
     AreExplained is_painted sources.file (map string_bytes files.items) wrote writes status
 IsPerformed sources (Replay file trace) wrote writes status = (program_behind : Option (List ℕ)) × (trace_behind : Option (List ℕ)) ×
-    IsReplayed (reading (sources.file (string_bytes file)) program_behind) (reading (sources.file (string_bytes trace)) trace_behind)
+    IsReplayed (reading (named sources (string_bytes file)) program_behind)
+    (reading (replayed sources (string_bytes file) (string_bytes trace)) trace_behind)
     wrote writes status
 IsPerformed sources (Draw file language) wrote writes status = (behind : Option (List ℕ)) ×
-    IsDrawn Global (form_of language) (reading (sources.file (string_bytes file)) behind) wrote writes status
+    IsDrawn Global (form_of language) (reading (named sources (string_bytes file)) behind) wrote writes status
 IsPerformed sources (Show text) wrote writes status = (status ≡ 0) × Appends wrote writes (string_bytes text)
 
 -- Why the job was not done, or not wholly: each fault has the cause that it has in the job's own call.
 abbrev pub HasJobCause : Sources → Job → (wrote writes : Option (List ℕ)) → CliFault → Type 0
 HasJobCause sources (Judge file limit) wrote writes fault = (behind : Option (List ℕ)) ×
-    HasCause (source_of sources file) behind wrote writes limit fault
+    HasCause (judged sources file) behind wrote writes limit fault
 HasJobCause sources (Elide file limit) wrote writes fault = (behind : Option (List ℕ)) ×
-    HasElisionCause (sources.file (string_bytes file)) behind wrote writes limit fault
+    HasElisionCause (named sources (string_bytes file)) behind wrote writes limit fault
 HasJobCause sources (Run file workers limit) wrote writes fault = (behind : Option (List ℕ)) ×
-    HasRunCause (reading (sources.file (string_bytes file)) behind) wrote writes limit fault
+    HasRunCause (reading (named sources (string_bytes file)) behind) wrote writes limit fault
 HasJobCause sources (Record file workers limit trace) wrote writes fault =
     (behind : Option (List ℕ)) × (traced : Option (List ℕ)) × (traces : Option (List ℕ)) ×
     HasTracedCause (reading (sources.file (string_bytes file)) behind) traced traces wrote writes limit fault
@@ -91,10 +115,11 @@ HasJobCause sources (ExplainInput workers is_serial limit color) wrote writes fa
 HasJobCause sources (ExplainTraces files color) wrote writes fault = (is_painted : Bool) × IsPaintedBy color is_painted ×
     HasSeveralCause is_painted sources.file (map string_bytes files.items) wrote writes fault
 HasJobCause sources (Replay file trace) wrote writes fault = (program_behind : Option (List ℕ)) × (trace_behind : Option (List ℕ)) ×
-    HasReplayCause (reading (sources.file (string_bytes file)) program_behind) (reading (sources.file (string_bytes trace)) trace_behind)
+    HasReplayCause (reading (named sources (string_bytes file)) program_behind)
+    (reading (replayed sources (string_bytes file) (string_bytes trace)) trace_behind)
     wrote writes fault
 HasJobCause sources (Draw file language) wrote writes fault = (behind : Option (List ℕ)) ×
-    HasDrawingCause Global (form_of language) (reading (sources.file (string_bytes file)) behind) wrote writes fault
+    HasDrawingCause Global (form_of language) (reading (named sources (string_bytes file)) behind) wrote writes fault
 HasJobCause sources (Show text) wrote writes fault = StopsWriting wrote writes (string_bytes text) fault
 
 -- Of a job that records: the file of the trace, which held `blank` when it was made, has the trace of the run that is reported.
@@ -122,14 +147,15 @@ lacks_first lacks (name ∷ names) = lacks name
 
 -- One of the job's files can't be opened. Of several traces that is the first: a fault in an earlier one is told before the next is opened.
 abbrev pub LacksFile : (List ℕ → Type 0) → Job → Type 0
-LacksFile lacks (Judge (Some file) limit) = lacks (string_bytes file)
-LacksFile lacks (Elide file limit) = lacks (string_bytes file)
-LacksFile lacks (Run file workers limit) = lacks (string_bytes file)
+LacksFile lacks (Judge (Some file) limit) = lacks_named lacks (string_bytes file)
+LacksFile lacks (Elide file limit) = lacks_named lacks (string_bytes file)
+LacksFile lacks (Run file workers limit) = lacks_named lacks (string_bytes file)
 LacksFile lacks (Record file workers limit trace) = lacks (string_bytes file)
 LacksFile lacks (Explain file workers is_serial limit color) = lacks (string_bytes file)
 LacksFile lacks (ExplainTraces files color) = lacks_first lacks (map string_bytes files.items)
-LacksFile lacks (Replay file trace) = lacks (string_bytes file) ⊎ lacks (string_bytes trace)
-LacksFile lacks (Draw file language) = lacks (string_bytes file)
+LacksFile lacks (Replay file trace) =
+    lacks_named lacks (string_bytes file) ⊎ lacks_replayed lacks (string_bytes file) (string_bytes trace)
+LacksFile lacks (Draw file language) = lacks_named lacks (string_bytes file)
 LacksFile lacks job = ⊥
 
 -- the job starts no thread and waits for none

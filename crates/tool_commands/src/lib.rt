@@ -7,11 +7,12 @@
 //! below, whose calls are all to be had here.
 #![tactic(auto)]
 
+mod named;
 mod performing;
 mod several;
 
 pub use command_streams::{CliFault, Host, Watched, write_text};
-pub use command_words::{Color, Job, Language, check_names, read_args, read_words, usage};
+pub use command_words::{Color, INPUT, Job, Language, check_names, read_args, read_words, usage};
 pub use dag_drawing::Form;
 pub use judge_command::{judge_stream, status_of};
 pub use other_commands::{

@@ -10,9 +10,10 @@ ghost use Rattle.command_streams.specs.Watched.{held, has_failed, is_delivered};
 ghost use Rattle.tool_commands.specs.Performed.{form_of, IsPerformed, IsPaintedBy, HasJobCause, IsRecorded};
 ghost use Rattle.tool_commands.specs.Performed.{IsRecordedFirst, BarsTrace, LacksFile, IsAlone, status_of_answer};
 
+use crate::named::open_named;
 use crate::several::explain_files;
 use command_streams::{CliFault, Host, Watched, write_text};
-use command_words::{Color, Job, Language};
+use command_words::{Color, INPUT, Job, Language};
 use dag_drawing::Form;
 use judge_command::judge_stream;
 use other_commands::{
@@ -73,7 +74,7 @@ fn judge_file<H: Host, W: Write>(
     ensures unwritten { IfErr result (λ fault. fault ≢ CliFault.Write → output.new ≡ output.old) }
     ensures lacking { LacksFile (H.lacks (held host.old)) (Job.Judge (Some file.now) limit) → IsErrOf result CliFault.Read }
 {
-    let mut trace = host.open(file.as_str())?;
+    let mut trace = open_named(host, file.as_str())?;
     let answer = judge_stream(alloc, &mut trace, output, limit);
     host.note(&trace);
     answer
@@ -100,7 +101,7 @@ fn elide_file<H: Host, W: Write>(
     ensures unwritten { IfErr result (λ fault. fault ≢ CliFault.Write → output.new ≡ output.old) }
     ensures lacking { LacksFile (H.lacks (held host.old)) (Job.Elide file.now limit) → IsErrOf result CliFault.Read }
 {
-    let mut program = host.open(file.as_str())?;
+    let mut program = open_named(host, file.as_str())?;
     let answer = elide_text(alloc, &mut program, output, limit);
     host.note(&program);
     answer
@@ -130,7 +131,7 @@ fn run_file<H: Host, W: Write, R: Threads + Wait + Sync>(
     ensures unwritten { IfErr result (λ fault. fault ≢ CliFault.Write → output.new ≡ output.old) }
     ensures lacking { LacksFile (H.lacks (held host.old)) (Job.Run file.now workers limit) → IsErrOf result CliFault.Read }
 {
-    let mut program = host.open(file.as_str())?;
+    let mut program = open_named(host, file.as_str())?;
     let answer = run_text(
         threads,
         alloc,
@@ -333,8 +334,16 @@ fn replay_files<H: Host, W: Write>(
     ensures unwritten { IfErr result (λ fault. fault ≢ CliFault.Write → output.new ≡ output.old) }
     ensures lacking { LacksFile (H.lacks (held host.old)) (Job.Replay file.now trace.now) → IsErrOf result CliFault.Read }
 {
+    if file.as_str() == INPUT {
+        let mut entries = host.open(trace.as_str())?;
+        let mut program = host.input();
+        let answer = replay_text(alloc, &mut program, &mut entries, output);
+        host.note(&program);
+        host.note(&entries);
+        return answer;
+    }
     let mut program = host.open(file.as_str())?;
-    let mut entries = host.open(trace.as_str())?;
+    let mut entries = open_named(host, trace.as_str())?;
     let answer = replay_text(alloc, &mut program, &mut entries, output);
     host.note(&program);
     host.note(&entries);
@@ -371,7 +380,7 @@ fn draw_file<H: Host, W: Write>(
     ensures unwritten { IfErr result (λ fault. fault ≢ CliFault.Write → output.new ≡ output.old) }
     ensures lacking { LacksFile (H.lacks (held host.old)) (Job.Draw file.now language) → IsErrOf result CliFault.Read }
 {
-    let mut trace = host.open(file.as_str())?;
+    let mut trace = open_named(host, file.as_str())?;
     let answer = draw_text(alloc, form_of(language), &mut trace, output);
     host.note(&trace);
     answer
