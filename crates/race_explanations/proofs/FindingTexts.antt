@@ -1,6 +1,7 @@
 -- The text of a finding is what is told of its pair.
-use Rattle.std.proofs.Common.{◌≡◌, ℕ, List, [], ◌++◌, Option, Some, None, length, codes, refl, sym, ap, ◌∙◌, append_assoc, append-nil}
-use Rattle.std.specs.Global.{Global}
+use Rattle.std.proofs.Common.{◌≡◌, ℕ, List, [], ◌++◌, Option, Some, None, length, map, codes, refl, sym, ap, ◌∙◌, append_assoc, append-nil}
+use Rattle.std.specs.Global.{Global, Vec}
+use Rattle.std.proofs.lemmas.List.{length-map}
 use Rattle.source_quotes.specs.Quotes.{counted}
 use Rattle.race_pairs.specs.declared.tally.Pair.{Pair}
 use Rattle.race_pairs.specs.declared.encounter.Encounter.{Encounter}
@@ -8,7 +9,7 @@ use Rattle.race_pairs.specs.Places.{ArePlaces}
 use Rattle.race_explanations.specs.declared.finding.Finding.{Finding}
 use Rattle.race_explanations.specs.Settings.{Origin, in_program, in_trace, Setting}
 use Rattle.race_explanations.specs.Accounts.{Adds}
-use Rattle.race_explanations.specs.Titles.{left_out}
+use Rattle.race_explanations.specs.Titles.{told_names, left_out}
 use Rattle.race_explanations.specs.Messages.{message, earlier_text, refused_text, advice_text}
 use Rattle.race_explanations.specs.Explained.{IsEncounter}
 use Rattle.race_explanations.specs.Findings.{kind_text, name_text, body_text, finding_text, IsOfTrace, IsFinding}
@@ -31,26 +32,27 @@ regrouped k n l s c z e r a b =
 
 said : (origin : Origin) (setting : Setting) (finding : Finding) (pair : Pair) (places : List ℕ) (encounter : Encounter Global) → setting.origin ≡ origin → IsOfTrace origin →
     finding.kind.items ≡ kind_text setting pair.lines.reason → finding.name.items ≡ name_text setting pair.lines.reason places →
-    finding.body.items ≡ body_text setting pair encounter → finding.cells ≡ length places → finding.times ≡ pair.times →
+    finding.body.items ≡ body_text setting pair encounter → length finding.names.keys ≡ length (told_names setting pair.lines.reason places) → finding.times ≡ pair.times →
     finding_text finding ≡ message setting pair places encounter
 said (in_program file source functions) setting finding pair places encounter is trace kind name body cells times = absurd trace
 said (in_trace notes) setting finding pair places encounter is trace kind name body cells times =
     let reason = pair.lines.reason in
-    ap (λ t. t ++ finding.name.items ++ left_out 1 finding.cells ++ codes ", " ++ counted finding.times (codes "time") ++ codes "\n" ++ finding.body.items) kind ∙
-    ap (λ t. kind_text setting reason ++ t ++ left_out 1 finding.cells ++ codes ", " ++ counted finding.times (codes "time") ++ codes "\n" ++ finding.body.items) name ∙
+    ap (λ t. t ++ finding.name.items ++ left_out 1 (length finding.names.keys) ++ codes ", " ++ counted finding.times (codes "time") ++ codes "\n" ++ finding.body.items) kind ∙
+    ap (λ t. kind_text setting reason ++ t ++ left_out 1 (length finding.names.keys) ++ codes ", " ++ counted finding.times (codes "time") ++ codes "\n" ++ finding.body.items) name ∙
     ap (λ n. kind_text setting reason ++ name_text setting reason places ++ left_out 1 n ++ codes ", " ++ counted finding.times (codes "time") ++ codes "\n" ++ finding.body.items) cells ∙
-    ap (λ n. kind_text setting reason ++ name_text setting reason places ++ left_out 1 (length places) ++ codes ", " ++ counted n (codes "time") ++ codes "\n" ++ finding.body.items) times ∙
-    ap (λ t. kind_text setting reason ++ name_text setting reason places ++ left_out 1 (length places) ++ codes ", " ++ counted pair.times (codes "time") ++ codes "\n" ++ t) body ∙
-    regrouped (kind_text setting reason) (name_text setting reason places) (left_out 1 (length places)) (codes ", ") (counted pair.times (codes "time")) (codes "\n")
+    ap (λ n. kind_text setting reason ++ name_text setting reason places ++ left_out 1 (length (told_names setting pair.lines.reason places)) ++ codes ", " ++ counted n (codes "time") ++ codes "\n" ++ finding.body.items) times ∙
+    ap (λ t. kind_text setting reason ++ name_text setting reason places ++ left_out 1 (length (told_names setting pair.lines.reason places)) ++ codes ", " ++ counted pair.times (codes "time") ++ codes "\n" ++ t) body ∙
+    regrouped (kind_text setting reason) (name_text setting reason places) (left_out 1 (length (told_names setting pair.lines.reason places))) (codes ", ") (counted pair.times (codes "time")) (codes "\n")
     (earlier_text reason setting pair encounter) (refused_text setting pair encounter) (advice_text reason setting pair encounter) (codes "\n") ∙
     rw is refl
 
 pub is_finding : (setting : Setting) (finding : Finding) (pair : Pair) (places : List ℕ) (encounter : Encounter Global) → IsOfTrace setting.origin →
     ArePlaces setting.entries pair.lines places → IsEncounter setting.entries pair encounter →
     finding.kind.items ≡ kind_text setting pair.lines.reason → finding.name.items ≡ name_text setting pair.lines.reason places →
-    finding.body.items ≡ body_text setting pair encounter → finding.cells ≡ length places → finding.times ≡ pair.times →
+    finding.body.items ≡ body_text setting pair encounter →
+    map (λ (name : Vec ℕ). name.items) finding.names.keys ≡ told_names setting pair.lines.reason places → finding.times ≡ pair.times →
     IsFinding setting pair finding
-is_finding setting finding pair places encounter trace are is kind name body cells times = record {
+is_finding setting finding pair places encounter trace are is kind name body names times = record {
   places = places;
   encounter = encounter;
   are_places = are;
@@ -58,7 +60,8 @@ is_finding setting finding pair places encounter trace are is kind name body cel
   kind_is = kind;
   name_is = name;
   body_is = body;
-  cells_is = cells;
+  names_are = names;
   times_is = times;
-  text_is = said setting.origin setting finding pair places encounter refl trace kind name body cells times;
+  text_is = said setting.origin setting finding pair places encounter refl trace kind name body
+      (sym (length-map finding.names.keys (λ (name : Vec ℕ). name.items)) ∙ ap length names) times;
 }

@@ -2,3 +2,4 @@ pub mod Telling
 pub mod Accounts
 pub mod Merging
 pub mod FindingTexts
+mod Named

@@ -1,7 +1,10 @@
 -- What is told of a pair of places that raced in a trace, in pieces, so that pairs of several traces that are told alike are told once.
-use Rattle.std.specs.Prelude.{ℕ, ◌≡◌, ◌<◌, Option, Some, None, slice_set, slice_index_or, ◌+◌, ◌-◌, ◌^◌, ◌==◌, ◌&&◌, min, nat_lt, Bool, List, [], ◌∷◌, ◌++◌, codes, flat_map, length, take, cond, if◌then◌else◌}
+use Rattle.std.specs.Prelude.{ℕ, ◌≡◌, ◌<◌, Option, Some, None, slice_set, slice_index_or, ◌+◌, ◌-◌, ◌^◌, ◌==◌, ◌&&◌, min, nat_lt, Bool, List, [], ◌∷◌, ◌++◌, codes, flat_map, map, length, take, cond, if◌then◌else◌}
 use Rattle.std.specs.Str.{bytes_eq}
-use Rattle.std.specs.Global.{Global}
+use Rattle.std.specs.Global.{Global, Vec}
+use Rattle.std.specs.BTreeSet.{BTreeSet, insert_key}
+use Rattle.std.specs.Ordering.{nat_cmp}
+use Rattle.std.specs.Cmp.Lexicographic.{slice_cmp}
 use Rattle.source_quotes.specs.declared.look.Paint.TheVariants.{Red}
 use Rattle.source_quotes.specs.Quotes.{painted, counted}
 use Rattle.race_pairs.specs.declared.refusal.Reason.{Reason}
@@ -12,7 +15,7 @@ use Rattle.race_pairs.specs.Places.{ArePlaces}
 use Rattle.race_explanations.specs.declared.finding.Finding.{Finding}
 use Rattle.race_explanations.specs.declared.findings.Findings.{Findings}
 use Rattle.race_explanations.specs.Settings.{Origin, in_program, in_trace, Setting}
-use Rattle.race_explanations.specs.Titles.{sort_word, reason_words, listed_names, left_out}
+use Rattle.race_explanations.specs.Titles.{sort_word, reason_words, listed_names, told_names, left_out}
 use Rattle.race_explanations.specs.Messages.{earlier_text, refused_text, advice_text, message}
 use Rattle.race_explanations.specs.Explained.{IsEncounter, refusals_among}
 
@@ -22,7 +25,7 @@ use Rattle.race_explanations.specs.Explained.{IsEncounter, refusals_among}
 abbrev pub kind_text : Setting → Reason → List ℕ
 kind_text setting reason = painted setting.look Red (sort_word reason) ++ codes ": " ++ reason_words reason
 
--- the first of the cells or reducers on which it was
+-- what the first of the cells or reducers on which it was is told as
 abbrev pub name_text : Setting → Reason → List ℕ → List ℕ
 name_text setting reason places = listed_names setting reason (take 1 places)
 
@@ -34,7 +37,7 @@ body_text setting pair encounter =
 
 abbrev pub finding_text : Finding → List ℕ
 finding_text finding =
-    finding.kind.items ++ finding.name.items ++ left_out 1 finding.cells ++ codes ", " ++ counted finding.times (codes "time") ++ codes "\n" ++
+    finding.kind.items ++ finding.name.items ++ left_out 1 (length finding.names.keys) ++ codes ", " ++ counted finding.times (codes "time") ++ codes "\n" ++
     finding.body.items
 
 abbrev pub IsOfTrace : Origin → Type 0
@@ -50,7 +53,7 @@ pub record IsFinding (setting : Setting) (pair : Pair) (finding : Finding) : Typ
   pub kind_is : finding.kind.items ≡ kind_text setting pair.lines.reason
   pub name_is : finding.name.items ≡ name_text setting pair.lines.reason places
   pub body_is : finding.body.items ≡ body_text setting pair encounter
-  pub cells_is : finding.cells ≡ length places
+  pub names_are : map (λ (name : Vec ℕ). name.items) finding.names.keys ≡ told_names setting pair.lines.reason places
   pub times_is : finding.times ≡ pair.times
   pub text_is : finding_text finding ≡ message setting pair places encounter
 
@@ -62,7 +65,7 @@ pub data AllFound (setting : Setting) : List Pair → List Finding → Type 0 wh
 
 -- ---- findings that are told alike
 
--- both are told alike but for the name of the first cell and the counts
+-- both are told alike but for the names of what they were on and the counts
 abbrev pub is_alike : Finding → Finding → Bool
 is_alike one other = bytes_eq one.kind.items other.kind.items && bytes_eq one.body.items other.body.items
 
@@ -70,9 +73,18 @@ is_alike one other = bytes_eq one.kind.items other.kind.items && bytes_eq one.bo
 abbrev pub added_up : ℕ → ℕ → ℕ
 added_up a b = min (a + b) (2 ^ 64 - 1)
 
--- the first of two that are told alike, with the counts of both
+-- names among others in the order of their bytes, each once
+abbrev pub with_names : List (Vec ℕ) → List (Vec ℕ) → List (Vec ℕ)
+with_names names [] = names
+with_names names (name ∷ others) =
+    with_names (insert_key (λ (one : Vec ℕ) (other : Vec ℕ). slice_cmp nat_cmp one.items other.items) names name) others
+
+-- the first of two that are told alike, with the names and the counts of both
 abbrev pub joined : Finding → Finding → Finding
-joined one other = record one { cells = added_up one.cells other.cells; times = added_up one.times other.times }
+joined one other = record one {
+  names = record { keys = with_names one.names.keys other.names.keys };
+  times = added_up one.times other.times;
+}
 
 -- one finding more: joined to the first that is told alike, or behind all
 abbrev pub with_finding : List Finding → Finding → List Finding

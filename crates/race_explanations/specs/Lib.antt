@@ -8,3 +8,4 @@ pub mod Advice
 pub mod Messages
 pub mod Explained
 pub mod Findings
+pub mod Illegal

@@ -1,5 +1,8 @@
 -- The first lines of what is told of a race: the kind, on what, how often, and where.
-use Rattle.std.specs.Prelude.{ℕ, ◌-◌, nat_lt, List, [], ◌∷◌, ◌++◌, codes, flat_map, length, take, decimal, Option, Some, None, if◌then◌else◌}
+use Rattle.std.specs.Prelude.{ℕ, ◌-◌, nat_lt, List, [], ◌∷◌, ◌++◌, codes, flat_map, map, length, take, decimal, Option, Some, None, if◌then◌else◌}
+use Rattle.std.specs.BTreeSet.{insert_key}
+use Rattle.std.specs.Ordering.{nat_cmp}
+use Rattle.std.specs.Cmp.Lexicographic.{slice_cmp}
 use Rattle.model_accesses.specs.Table.{spelling}
 use Rattle.trace_text.specs.Shapes.{name_of_cell}
 use Rattle.trace_text.specs.Printing.{name_of_reducer}
@@ -58,6 +61,25 @@ abbrev pub most_names : Origin → ℕ
 most_names (in_program file source functions) = 8
 most_names (in_trace notes) = 1
 
+-- ---- how many names
+
+-- a text among others in the order of their bytes, each once
+abbrev pub with_text : List (List ℕ) → List ℕ → List (List ℕ)
+with_text texts text = insert_key (slice_cmp nat_cmp) texts text
+
+abbrev pub with_texts : List (List ℕ) → List (List ℕ) → List (List ℕ)
+with_texts texts [] = texts
+with_texts texts (text ∷ others) = with_texts (with_text texts text) others
+
+-- what places are told as, each once: several cells may be told alike
+abbrev pub told_names : Setting → Reason → List ℕ → List (List ℕ)
+told_names setting reason places = with_texts [] (map (spaced_name setting reason) places)
+
+-- how many names there are: each cell of a program has its own
+abbrev pub name_count : Origin → Setting → Reason → List ℕ → ℕ
+name_count (in_program file source functions) setting reason places = length places
+name_count (in_trace notes) setting reason places = length (told_names setting reason places)
+
 -- how many names are left out
 abbrev pub left_out : ℕ → ℕ → List ℕ
 left_out most count = if nat_lt most count then codes " and " ++ decimal (count - most) ++ codes " more" else []
@@ -65,7 +87,8 @@ left_out most count = if nat_lt most count then codes " and " ++ decimal (count 
 -- the names of at most so many, and how many more there are
 abbrev pub names_text : Setting → Reason → List ℕ → List ℕ
 names_text setting reason places =
-    listed_names setting reason (take (most_names setting.origin) places) ++ left_out (most_names setting.origin) (length places)
+    listed_names setting reason (take (most_names setting.origin) places) ++
+    left_out (most_names setting.origin) (name_count setting.origin setting reason places)
 
 -- The kind of the race, what it was on, and how often it came.
 abbrev pub headline : Setting → Pair → List ℕ → List ℕ

@@ -93,6 +93,20 @@ impl Account {
         self.is_short |= push_painted(&mut self.bytes, scene.look, Paint::Red, words).is_err();
     }
 
+    /// Tells words in a paint.
+    pub(crate) fn painted(&mut self, look: Look, paint: Paint, words: &str)
+        ensures { Adds self.old (painted look paint words.now) self.new }
+    {
+        self.is_short |= push_painted(&mut self.bytes, look, paint, words).is_err();
+    }
+
+    /// Begins a note in this look.
+    pub(crate) fn note(&mut self, look: Look)
+        ensures { Adds self.old (noted look) self.new }
+    {
+        self.is_short |= push_noted(&mut self.bytes, look).is_err();
+    }
+
     /// Begins a note beside the source.
     pub(crate) fn noted(&mut self, scene: &Scene<'_, '_>)
         ensures { Adds self.old (noted scene.now.look) self.new }

@@ -11,20 +11,21 @@ use crate::account::Account;
 use crate::merge::merge;
 use crate::message::{push_advice, push_earlier, push_refused};
 use crate::scene::Scene;
-use crate::title::{push_list, push_reason, sort_word};
+use crate::title::{push_list, push_reason, sort_word, told_names};
 use crate::told::PAIRS;
 use race_pairs::{Encounter, Pair, Reason, pairs, places};
 use spawn_chains::Lineage;
 use std::alloc::{AllocError, Global};
+use std::collections::BTreeSet;
 
 /// What is told of a pair of places, in pieces.
 pub struct Finding {
     /// The kind of the race, and what was wrong.
     pub kind: Vec<u8>,
-    /// The first of the cells or reducers on which it was.
+    /// What the first of the cells or reducers on which it was is told as.
     pub name: Vec<u8>,
-    /// On how many it was.
-    pub cells: usize,
+    /// What all of them are told as.
+    pub names: BTreeSet<Vec<u8>>,
     /// How often it came.
     pub times: usize,
     /// The two accesses with what led there, and what would order them.
@@ -37,10 +38,27 @@ impl Drop for Finding {
         let Finding {
             kind: _,
             name: _,
-            cells: _,
+            names: _,
             times: _,
             body: _,
         } = self;
+    }
+}
+
+impl Finding {
+    /// What its places are told as, and how often it came.
+    pub(crate) fn into_counted(self) -> (BTreeSet<Vec<u8>>, usize)
+        ensures names { result.0 ≡ self.names }
+        ensures times { result.1 ≡ self.times }
+    {
+        let Finding {
+            kind: _,
+            name: _,
+            names,
+            times,
+            body: _,
+        } = self;
+        (names, times)
     }
 }
 
@@ -104,11 +122,12 @@ fn finding_of(
     let reason = pair.lines.reason;
     let kind = kind_of(alloc, scene, reason)?;
     let name = name_of(alloc, scene, reason, found.as_slice())?;
+    let names = told_names(alloc, scene, reason, found.as_slice())?;
     let body = body_of(alloc, scene, pair, &encounter)?;
     Ok(Finding {
         kind,
         name,
-        cells: found.len(),
+        names,
         times: pair.times,
         body,
     })

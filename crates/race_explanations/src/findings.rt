@@ -64,7 +64,7 @@ fn tell_finding(account: &mut Account, finding: &Finding)
 {
     account.bytes(finding.kind.as_slice());
     account.bytes(finding.name.as_slice());
-    push_left_out(account, 1, finding.cells);
+    push_left_out(account, 1, finding.names.len());
     account.words(", ");
     account.count(finding.times, "time");
     account.words("\n");

@@ -4,12 +4,14 @@
 //! [`explanation`] tells the entries of a run. Its contract says that its text tells each pair of lines that raced once, in the order
 //! of their first refusals, with what a witness of the refusal is and the spawn where its strand and the refused one part, as the crates
 //! `race_pairs` and `spawn_chains` define these; and the text is a function of these values, letter by letter, in `specs/`.
+//! [`illegal_explanation`] tells why a request of a trace is illegal, by a reason that [`find_illegality`] finds in the history before it.
 #![tactic(auto)]
 
 mod account;
 mod advice;
 mod finding;
 mod findings;
+mod illegal;
 mod merge;
 mod message;
 mod paths;
@@ -20,5 +22,6 @@ mod words;
 
 pub use finding::Finding;
 pub use findings::Findings;
+pub use illegal::{Illegality, find_illegality, illegal_explanation};
 pub use scene::{Origin, Scene};
 pub use told::{explanation, trace_explanation};

@@ -1,11 +1,12 @@
 //! The first lines of what is told of a race.
 
-ghost use Rattle.std.specs.Prelude.{◌≡◌, ◌≤◌, ◌∷◌, ℕ, List, IfOk, string_bytes};
+ghost use Rattle.std.specs.Prelude.{◌≡◌, ◌≤◌, ◌∷◌, ℕ, List, IfOk, map, string_bytes};
+ghost use Rattle.std.specs.Global.{Vec};
 ghost use Rattle.trace_notes.specs.Notes.{noted_text};
 ghost use Rattle.race_explanations.specs.Accounts.{Adds};
 ghost use Rattle.race_explanations.specs.Scenes.{setting_of};
 ghost use Rattle.race_explanations.specs.Titles.{sort_word, reason_words, name_of_place, noted_name, told_name, spaced_name, other_names};
-ghost use Rattle.race_explanations.specs.Titles.{listed_names, most_names, left_out, names_text, headline, heading, title_text};
+ghost use Rattle.race_explanations.specs.Titles.{listed_names, told_names, name_count, most_names, left_out, names_text, headline, heading, title_text};
 ghost use Rattle.trace_text.specs.Printing.{name_of_reducer};
 
 use crate::account::Account;
@@ -13,6 +14,7 @@ use crate::scene::{Origin, Scene};
 use access_table::word;
 use race_pairs::{Pair, Reason};
 use std::alloc::{AllocError, Global};
+use std::collections::BTreeSet;
 use text_words::Reducer;
 use trace_notes::Notes;
 use trace_text::{put_cell, put_word};
@@ -146,6 +148,54 @@ pub(crate) fn push_list(
     push_others(alloc, account, scene, reason, others);
 }
 
+/// What the name of what a refusal was about is told as, behind a space.
+fn told_name(
+    alloc: Global,
+    scene: &Scene<'_, '_>,
+    reason: Reason,
+    place: u32,
+) -> Result<Vec<u8>, AllocError>
+    ensures { IfOk result (λ name. name.items ≡ spaced_name (setting_of scene.now) reason place) }
+{
+    let mut account = Account::new(alloc);
+    push_name(alloc, &mut account, scene, reason, place);
+    account.end()
+}
+
+/// What the places are told as, each once.
+pub(crate) fn told_names(
+    alloc: Global,
+    scene: &Scene<'_, '_>,
+    reason: Reason,
+    places: &[u32],
+) -> Result<BTreeSet<Vec<u8>>, AllocError>
+    ensures { IfOk result (λ names. map (λ (name : Vec ℕ). name.items) names.keys ≡ told_names (setting_of scene.now) reason places.now) }
+{
+    let mut names = BTreeSet::new(alloc);
+    for place in places {
+        names.insert(told_name(alloc, scene, reason, *place)?)?;
+    }
+    Ok(names)
+}
+
+/// How many names there are.
+fn name_count(
+    alloc: Global,
+    scene: &Scene<'_, '_>,
+    reason: Reason,
+    places: &[u32],
+) -> Result<usize, AllocError>
+    ensures { IfOk result (λ count. count ≡ name_count (setting_of scene.now).origin (setting_of scene.now) reason places.now) }
+{
+    match &scene.origin {
+        Origin::Program { .. } => Ok(places.len()),
+        Origin::Trace { .. } => {
+            let names = told_names(alloc, scene, reason, places)?;
+            Ok(names.len())
+        }
+    }
+}
+
 /// How many names are told at most: what a name stands for in a trace is long.
 fn most_names(scene: &Scene<'_, '_>) -> usize
     ensures value { result ≡ most_names (setting_of scene.now).origin }
@@ -168,6 +218,23 @@ pub(crate) fn push_left_out(account: &mut Account, most: usize, count: usize)
     account.words(" more");
 }
 
+/// Adds how many names are left out.
+fn push_rest(
+    alloc: Global,
+    account: &mut Account,
+    scene: &Scene<'_, '_>,
+    reason: Reason,
+    places: &[u32],
+    most: usize,
+)
+    ensures { Adds account.old (left_out most (name_count (setting_of scene.now).origin (setting_of scene.now) reason places.now)) account.new }
+{
+    match name_count(alloc, scene, reason, places) {
+        Ok(count) => push_left_out(account, most, count),
+        Err(_) => account.fail(),
+    }
+}
+
 /// Adds the names of some, and how many more there are.
 fn push_names(
     alloc: Global,
@@ -181,7 +248,7 @@ fn push_names(
     let most = most_names(scene);
     let (told, _) = places.split_at(places.len().min(most));
     push_list(alloc, account, scene, reason, told);
-    push_left_out(account, most, places.len());
+    push_rest(alloc, account, scene, reason, places, most);
 }
 
 /// Adds the kind of the race, what it was on, and how often it came.

@@ -5,3 +5,4 @@ pub mod Parted
 pub mod Asked
 pub mod Framed
 pub mod Outstanding
+pub mod Statuses

@@ -3,3 +3,4 @@ pub mod Partings
 pub mod Climbs
 pub mod Frames
 pub mod OpenSpawns
+pub mod Standings

@@ -1,4 +1,4 @@
-//! How strands came about: which spawns lead to a strand, and at which spawn two strands part.
+//! How strands came about and ended: which spawns lead to a strand, at which spawn two strands part, and what has become of a strand.
 //!
 //! Two strands are logically parallel exactly where they part at a spawn: its child reaches the one, its next the other, and neither
 //! the other way round. A [`Lineage`] knows of each strand the entry that made it, and finds that spawn by climbing from both strands
@@ -8,6 +8,8 @@
 
 mod frames;
 mod lineage;
+mod standing;
 
 pub use frames::chain;
 pub use lineage::{Lineage, OpenSpawn, Parting};
+pub use standing::{Standing, standing_of};

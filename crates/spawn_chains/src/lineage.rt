@@ -1,10 +1,10 @@
 //! The makers of strands, and where two strands part.
 
 ghost use Rattle.std.specs.Prelude.{◌≡◌, ◌<◌, ◌↔◌, ◌++◌, ℕ, [], ◌∷◌, length, reverse, IfOk, IfSome, IsSome, MatchOption, if◌then◌else◌};
-ghost use Rattle.model_strands.specs.Strands.{Begun};
+ghost use Rattle.model_strands.specs.Strands.{Begun, unused};
 ghost use Rattle.model_strands.specs.Legal.{Legal};
 ghost use Rattle.model_strands.specs.Dag.{IsParallel};
-ghost use Rattle.model_histories.specs.Entries.{control_part};
+ghost use Rattle.model_histories.specs.Entries.{Entries, control_part};
 ghost use Rattle.model_strands.specs.declared.spawned.Spawned.{Spawned};
 ghost use Rattle.spawn_chains.specs.Makers.{Began, IsSpawn, maker, IsLineage};
 ghost use Rattle.spawn_chains.specs.Climbs.{Climbs};
@@ -184,6 +184,13 @@ impl<A: Allocator> Lineage<A> {
             }
         }
         Ok(Lineage { makers })
+    }
+
+    /// How many numbers strands and joins have: the least number that none has.
+    pub fn count(&self) -> usize
+        ensures { (entries : Entries) → IsLineage self.now entries → result ≡ unused (control_part entries) }
+    {
+        self.makers.len()
     }
 
     /// The spawn where two begun strands of the history part, and none where a path leads from one to the other or they are one

@@ -1,0 +1,5 @@
+use Rattle.race_explanations.proofs.Accounts.{four_adds}
+use Rattle.race_explanations.proofs.illegal.push_head.Goals as goal
+
+pub returns : goal.returns
+returns c = four_adds _ _ _ _ _ _ _ _ _ c.push_title.ensures c.place.ensures c.marked.ensures c.words.ensures
