@@ -6,7 +6,7 @@ use Rattle.source_quotes.specs.declared.meant.Meant.{Meant}
 use Rattle.source_quotes.specs.Lines.{line_in}
 use Rattle.fault_lists.specs.declared.fault.Fault.{Fault}
 use Rattle.fault_lists.specs.Doubts.{leaves_doubt, lost_by, follows}
-use Rattle.fault_lists.specs.FaultLists.{most_told, most_looks, HasMeaning, HasFault, blanked, Lists, Adds, ListsBehind, ListsFaults}
+use Rattle.fault_lists.specs.FaultLists.{most_told, most_left_out, HasMeaning, HasFault, blanked, Lists, Adds, ListsBehind, ListsFaults}
 use Rattle.fault_lists.specs.FaultLists.Lists.{whole, unread, passed, full, last, told}
 
 pub found_none : (found : Option Fault) (meant : Meant) (text : List ℕ) → MatchOption found (HasMeaning meant text) (HasFault meant text) →
@@ -107,7 +107,7 @@ lists_first meant text source first others more is_last has is doubt holds none 
 )
 
 behind_sure : (doubt : Bool) (meant : Meant) (text : List ℕ) (first : Fault) (others : List Fault) (more : Bool) → doubt ≡ false →
-    Lists meant (lines text) most_looks (most_told - 1) (blanked first.line text) (lost_by meant (line_in (lines text) first.line)) others more →
+    Lists meant (lines text) (most_left_out - 1) (most_told - 1) (blanked first.line text) (lost_by meant (line_in (lines text) first.line)) others more →
     ListsBehind doubt meant text first others more
 behind_sure true meant text first others more is lists = absurd (cc)
 behind_sure false meant text first others more is lists = lists
@@ -115,11 +115,11 @@ behind_sure false meant text first others more is lists = lists
 -- others are told behind the first one
 pub lists_more : (meant : Meant) (text : List ℕ) (source : List (List ℕ)) (first : Fault) (others : List Fault) (more is_last : Bool) →
     HasFault meant text first → source ≡ lines text → is_last ≡ leaves_doubt meant source first.line first.why → is_last ≡ false →
-    Lists meant source most_looks (most_told - 1) (blanked first.line text) (lost_by meant (line_in source first.line)) others more →
+    Lists meant source (most_left_out - 1) (most_told - 1) (blanked first.line text) (lost_by meant (line_in source first.line)) others more →
     ListsFaults meant text first others more
 lists_more meant text source first others more is_last has is doubt fails lists = (
   has,
   behind_sure (leaves_doubt meant (lines text) first.line first.why) meant text first others more
       (ap (λ some. leaves_doubt meant some first.line first.why) (sym is) ∙ sym doubt ∙ fails)
-      (subst (λ some. Lists meant some most_looks (most_told - 1) (blanked first.line text) (lost_by meant (line_in some first.line)) others more) is lists),
+      (subst (λ some. Lists meant some (most_left_out - 1) (most_told - 1) (blanked first.line text) (lost_by meant (line_in some first.line)) others more) is lists),
 )

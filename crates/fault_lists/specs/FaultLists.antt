@@ -17,9 +17,9 @@ use Rattle.fault_lists.specs.Doubts.{leaves_doubt, lost_by, follows}
 abbrev pub most_told : ℕ
 most_told = 20
 
--- how often a text is read again, with one line less
-abbrev pub most_looks : ℕ
-most_looks = 100
+-- the most lines that are left out of a text
+abbrev pub most_left_out : ℕ
+most_left_out = 100
 
 abbrev pub HasMeaning : Meant → List ℕ → Type 0
 HasMeaning Program text = (contents : Contents) × TextMeans text contents
@@ -73,7 +73,7 @@ pub record Adds (meant : Meant) (source : List (List ℕ)) (looks left : ℕ) (n
 abbrev pub ListsBehind : Bool → Meant → List ℕ → Fault → List Fault → Bool → Type 0
 ListsBehind true meant text first others more = (others ≡ []) × (more ≡ false)
 ListsBehind false meant text first others more =
-    Lists meant (lines text) most_looks (most_told - 1) (blanked first.line text) (lost_by meant (line_in (lines text) first.line)) others more
+    Lists meant (lines text) (most_left_out - 1) (most_told - 1) (blanked first.line text) (lost_by meant (line_in (lines text) first.line)) others more
 
 -- The first fault is that of the text, and these are told behind it.
 abbrev pub ListsFaults : Meant → List ℕ → Fault → List Fault → Bool → Type 0

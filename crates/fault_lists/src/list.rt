@@ -4,7 +4,7 @@ ghost use Rattle.std.specs.Prelude.{◌≡◌, ◌-◌, ◌++◌, [], false, ℕ
 ghost use Rattle.text_words.specs.Text.{lines};
 ghost use Rattle.source_quotes.specs.Lines.{line_in};
 ghost use Rattle.fault_lists.specs.Doubts.{structure_of, leaves_doubt, lost_by, follows};
-ghost use Rattle.fault_lists.specs.FaultLists.{most_looks, most_told, HasMeaning, HasFault, blanked, Lists, Adds, ListsFaults};
+ghost use Rattle.fault_lists.specs.FaultLists.{most_left_out, most_told, HasMeaning, HasFault, blanked, Lists, Adds, ListsFaults};
 ghost use denote.Ref.{Bor};
 
 use crate::doubt::{Structure, follows, is_doubtful, lost_with, structure_of};
@@ -16,8 +16,8 @@ use std::alloc::{AllocError, Global};
 /// The most faults that are told of a text.
 const MOST_TOLD: usize = 20;
 
-/// How often a text is read again, with one line less.
-const MOST_LOOKS: usize = 100;
+/// The most lines that are left out of a text.
+const MOST_LEFT_OUT: usize = 100;
 
 /// The text in which each byte of the line with this number is a space.
 fn blanked(alloc: Global, text: &[u8], number: u32) -> Result<Vec<u8>, AllocError>
@@ -221,7 +221,7 @@ fn list_behind(
     first: Fault,
 ) -> Result<Others, AllocError>
     requires { structure ≡ structure_of source.now }
-    ensures { IfOk result (λ others. Lists meant source.now most_looks (most_told - 1) (blanked first.line text.now)
+    ensures { IfOk result (λ others. Lists meant source.now (most_left_out - 1) (most_told - 1) (blanked first.line text.now)
         (lost_by meant (line_in source.now first.line)) others.faults.items others.is_more) }
 {
     let mut rest = Rest::new(alloc, text)?;
@@ -233,7 +233,7 @@ fn list_behind(
         source,
         structure,
         &mut rest,
-        MOST_LOOKS,
+        MOST_LEFT_OUT - 1,
         MOST_TOLD - 1,
         &mut faults,
     )?;

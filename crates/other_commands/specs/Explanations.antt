@@ -2,6 +2,7 @@
 use Rattle.std.specs.Prelude.{ℕ, ◌≡◌, ◌≤◌, ◌⊎◌, Bool, true, false, Option, List, ◌++◌, length, flat_map, reverse, codes, decimal}
 use Rattle.std.specs.Global.{Global}
 use Rattle.std.specs.Io.KnownBytes.{Appends}
+use Rattle.text_words.specs.declared.fault.Cause.{Cause}
 use Rattle.text_words.specs.Declarations.{cells_of}
 use Rattle.text_words.specs.Text.{lines}
 use Rattle.text_words.specs.Values.{Contents as TraceContents}
@@ -19,7 +20,6 @@ use Rattle.model_runs.specs.Runs.{IsRun, IsFinishedRun}
 use Rattle.locked_replay.specs.Laws.{SpeaksForAll}
 use Rattle.law_traces.specs.CleanTraces.{SpeaksForOrders}
 use Rattle.source_quotes.specs.declared.meant.Meant.TheVariants.{Program, Trace}
-use Rattle.fault_lists.specs.declared.fault.Fault.{Fault}
 use Rattle.fault_lists.specs.Messages.{TellsFaults}
 use Rattle.source_quotes.specs.Quotes.{counted}
 use Rattle.race_explanations.specs.Explained.{IsExplanation, IsTraceExplanation}
@@ -115,9 +115,10 @@ pub record IsRunTold (manner : Manner) (text : List ℕ) (limit : ℕ) (told : L
 
 -- The faults of the text that can be told apart are told, the first of which is its fault.
 pub record IsFaultTold (manner : Manner) (text : List ℕ) (told : List ℕ) (status : ℕ) : Type 0 where
-  pub first : Fault
-  pub faults : TextFaults text first.line first.why
-  pub tells : TellsFaults manner.is_painted manner.file Program text first told
+  pub number : ℕ
+  pub why : Cause
+  pub faults : TextFaults text number why
+  pub tells : TellsFaults manner.is_painted manner.file Program text (record { line = number; why = why }) told
   pub status_is : status ≡ 2
 
 -- ---- a trace
@@ -161,9 +162,10 @@ pub record IsTraceTold (manner : Manner) (text : List ℕ) (told : List ℕ) (st
 
 -- The faults of the text as a trace that can be told apart are told, the first of which is its fault.
 pub record IsTraceFaultTold (manner : Manner) (text : List ℕ) (told : List ℕ) (status : ℕ) : Type 0 where
-  pub first : Fault
-  pub faults : TraceFaults text first.line first.why
-  pub tells : TellsFaults manner.is_painted manner.file Trace text first told
+  pub number : ℕ
+  pub why : Cause
+  pub faults : TraceFaults text number why
+  pub tells : TellsFaults manner.is_painted manner.file Trace text (record { line = number; why = why }) told
   pub status_is : status ≡ 2
 
 -- What a text means is told, or why it means nothing: as a program, or as a trace.
