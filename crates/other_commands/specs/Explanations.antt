@@ -19,7 +19,8 @@ use Rattle.model_histories.specs.Extensions.{IsFinished, IsClean}
 use Rattle.model_runs.specs.Runs.{IsRun, IsFinishedRun}
 use Rattle.locked_replay.specs.Laws.{SpeaksForAll}
 use Rattle.law_traces.specs.CleanTraces.{SpeaksForOrders}
-use Rattle.source_quotes.specs.FaultTexts.{TellsFault}
+use Rattle.source_quotes.specs.declared.meant.Meant.TheVariants.{Program, Trace}
+use Rattle.fault_lists.specs.Messages.{TellsFaults}
 use Rattle.source_quotes.specs.Quotes.{counted}
 use Rattle.race_explanations.specs.Explained.{IsExplanation, IsTraceExplanation}
 use Rattle.command_streams.specs.declared.fault.CliFault.{CliFault}
@@ -112,12 +113,12 @@ pub record IsRunTold (manner : Manner) (text : List ℕ) (limit : ℕ) (told : L
   pub tells : TellsEnd manner text program limit told end
   pub status_is : status ≡ status_of_end end
 
--- The first fault of the text is told.
+-- The faults of the text that can be told apart are told, the first of which is its fault.
 pub record IsFaultTold (manner : Manner) (text : List ℕ) (told : List ℕ) (status : ℕ) : Type 0 where
   pub number : ℕ
   pub why : Cause
   pub faults : TextFaults text number why
-  pub tells : TellsFault manner.is_painted manner.file (lines text) number why told
+  pub tells : TellsFaults manner.is_painted manner.file Program text (record { line = number; why = why }) told
   pub status_is : status ≡ 2
 
 -- ---- a trace
@@ -159,12 +160,12 @@ pub record IsTraceTold (manner : Manner) (text : List ℕ) (told : List ℕ) (st
   pub told_is : told ≡ verdict ++ recorded_text notes
   pub status_is : status ≡ refusal_status entries
 
--- The first fault of the text as a trace is told.
+-- The faults of the text as a trace that can be told apart are told, the first of which is its fault.
 pub record IsTraceFaultTold (manner : Manner) (text : List ℕ) (told : List ℕ) (status : ℕ) : Type 0 where
   pub number : ℕ
   pub why : Cause
   pub faults : TraceFaults text number why
-  pub tells : TellsFault manner.is_painted manner.file (lines text) number why told
+  pub tells : TellsFaults manner.is_painted manner.file Trace text (record { line = number; why = why }) told
   pub status_is : status ≡ 2
 
 -- What a text means is told, or why it means nothing: as a program, or as a trace.

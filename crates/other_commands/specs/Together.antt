@@ -69,7 +69,7 @@ pub record AddsText (manner : Manner) (text : List ℕ) (old new : Together) : T
   pub adds : AddsTrace manner.file (trace_setting manner.is_painted notes trace.known entries) old.found new.found
   pub runs_is : new.runs ≡ with_runs old.runs (kept_runs notes)
 
--- The trace that a text means is added, or the first fault of the text is told.
+-- The trace that a text means is added, or the faults of the text are told.
 abbrev pub TakesText : Manner → (text : List ℕ) → (old new : Together) → Option (Vec ℕ) → Type 0
 TakesText manner text old new (Some told) = IsTraceFaultTold manner text told.items 2
 TakesText manner text old new None = AddsText manner text old new

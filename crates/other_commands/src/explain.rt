@@ -24,12 +24,13 @@ use crate::sort::is_program;
 use command_streams::{
     CliFault, Outcome, Watched, outcome_of, read_text, refusal_status, write_text,
 };
+use fault_lists::{Fault, faults_message};
 use locked_replay::{RunFault, Whole};
 use program_text::Program;
 use race_explanations::explanation;
 use race_gate::{Entry, ShortGate};
 use run_command::{Door, PARTS, fault_of, serial_run, some_run};
-use source_quotes::{Meant, fault_message};
+use source_quotes::Meant;
 use std::alloc::{AllocError, Global};
 use std::io::{Read, Write};
 use std::marker::{Brand, Model};
@@ -260,14 +261,13 @@ fn program_text_told<D: Door + Sync, R: Threads + Wait + Sync>(
         Ok(program) => program,
         Err(TextFault::Memory) => return Err(CliFault::Memory),
         Err(TextFault::At { line, why }) => {
-            let told = fault_message(
+            let told = faults_message(
                 alloc,
                 manner.is_painted,
                 manner.file,
                 text,
-                line,
-                why,
                 Meant::Program,
+                Fault { line, why },
             )?;
             return Ok((told, 2));
         }
@@ -305,8 +305,8 @@ fn told_of<D: Door + Sync, R: Threads + Wait + Sync>(
 /// what follows its spawn, and tells a person of the run, in lines of text: each pair of lines that raced, with both lines, the spawns and calls that led there, the spawn where the two part, and what would
 /// order them. Where nothing was refused it tells that this is so for every schedule, and the memory. Where the limit ended the run it
 /// tells the races until then, and that it is no whole run. A text whose first word behind its declarations is not `func` is a trace: its
-/// requests are judged in their order, and the pairs that raced are told by its notes. Of a text that means neither it tells the fault. The
-/// exit status is 0 where nothing was refused, 1 where something was, 2 for a fault of the text, and 4 where the limit ended
+/// requests are judged in their order, and the pairs that raced are told by its notes. Of a text that means neither it tells the faults that can
+/// be told apart, the first of which is that of the other commands. The exit status is 0 where nothing was refused, 1 where something was, 2 for a fault of the text, and 4 where the limit ended
 /// the run and nothing was refused until then.
 ///
 /// It answers [`CliFault::Read`] or [`CliFault::Write`] exactly where the reader or the writer has failed, [`CliFault::TooLong`] for more

@@ -15,9 +15,10 @@ ghost use Rattle.other_commands.specs.Explanations.{IsUntoldTrace};
 use crate::explain::Manner;
 use crate::replay::answered;
 use command_streams::{CliFault, refusal_status};
+use fault_lists::{Fault, faults_message};
 use race_explanations::trace_explanation;
 use race_gate::Entry;
-use source_quotes::{Meant, fault_message, push_count};
+use source_quotes::{Meant, push_count};
 use std::alloc::{AllocError, Allocator, Global};
 use text_buffers::push_words;
 use text_words::TextFault;
@@ -107,7 +108,7 @@ fn trace_told(
     Ok((told, refusal_status(entries)))
 }
 
-/// What is told of a text that is to mean a trace, and the exit status: the races of the trace, or its first fault.
+/// What is told of a text that is to mean a trace, and the exit status: the races of the trace, or its faults.
 pub(crate) fn trace_text_told(
     alloc: Global,
     manner: &Manner<'_>,
@@ -120,14 +121,13 @@ pub(crate) fn trace_text_told(
         Ok(trace) => trace_told(alloc, manner, text, &trace),
         Err(TextFault::Memory) => Err(CliFault::Memory),
         Err(TextFault::At { line, why }) => {
-            let told = fault_message(
+            let told = faults_message(
                 alloc,
                 manner.is_painted,
                 manner.file,
                 text,
-                line,
-                why,
                 Meant::Trace,
+                Fault { line, why },
             )?;
             Ok((told, 2))
         }

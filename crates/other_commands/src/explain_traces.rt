@@ -17,8 +17,9 @@ use crate::explain::Manner;
 use crate::explain_trace::{notes_of, push_run};
 use crate::replay::answered;
 use command_streams::{CliFault, Watched, read_text};
+use fault_lists::{Fault, faults_message};
 use race_explanations::Findings;
-use source_quotes::{Meant, fault_message};
+use source_quotes::Meant;
 use std::alloc::{AllocError, Global};
 use std::io::Read;
 use text_words::TextFault;
@@ -129,7 +130,7 @@ impl Traces {
         Ok(())
     }
 
-    /// Adds the trace that a text means, or tells the first fault of a text that means none.
+    /// Adds the trace that a text means, or tells the faults of a text that means none.
     fn take_text(
         &mut self,
         alloc: Global,
@@ -145,20 +146,19 @@ impl Traces {
                 Ok(None)
             }
             Err(TextFault::Memory) => Err(CliFault::Memory),
-            Err(TextFault::At { line, why }) => Ok(Some(fault_message(
+            Err(TextFault::At { line, why }) => Ok(Some(faults_message(
                 alloc,
                 manner.is_painted,
                 manner.file,
                 text,
-                line,
-                why,
                 Meant::Trace,
+                Fault { line, why },
             )?)),
         }
     }
 
-    /// Reads a text to its end, and adds the trace that it means, by the name of its file. The first fault of a text that means none is told,
-    /// which is the answer then.
+    /// Reads a text to its end, and adds the trace that it means, by the name of its file. The faults of a text that means none are told, which
+    /// is the answer then.
     ///
     /// It answers [`CliFault::Read`] exactly where the reader has failed, [`CliFault::TooLong`] for more than 67,108,864 bytes, by the first
     /// request that a gate does not answer [`CliFault::Limit`] or [`CliFault::Illegal`], and [`CliFault::Memory`] where a growth was refused.

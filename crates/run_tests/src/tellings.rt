@@ -9,6 +9,8 @@ mod drawings;
 #[cfg(test)]
 mod explanations;
 #[cfg(test)]
+mod faults;
+#[cfg(test)]
 mod mistakes;
 #[cfg(test)]
 mod openings;

@@ -25,7 +25,7 @@ pub record TellsAll (is_painted : Bool) (files : List ℕ → Option (List ℕ))
   pub told_is : told ≡ together_text together
   pub status_is : status ≡ together_status together
 
--- The first fault is told of the first text that means no trace.
+-- The faults are told of the first text that means no trace.
 pub record TellsFaulty (is_painted : Bool) (files : List ℕ → Option (List ℕ)) (names : List (List ℕ)) (told : List ℕ) (status : ℕ) : Type 0 where
   pub earlier : List (List ℕ)
   pub name : List ℕ

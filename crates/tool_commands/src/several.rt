@@ -13,7 +13,7 @@ use other_commands::{Manner, Traces};
 use std::alloc::Global;
 use std::io::Write;
 
-/// Takes the trace in a file, or tells the first fault of its text.
+/// Takes the trace in a file, or tells the faults of its text.
 fn take_file<H: Host>(
     alloc: Global,
     host: &mut Watched<H>,

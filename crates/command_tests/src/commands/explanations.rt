@@ -27,7 +27,7 @@ const RACE_TOLD: &str = "race: write-write on x, 1 time
 this is no whole run: the limit ended it after 6 requests, and there may be more to tell
 ";
 
-/// Two names that are wrong, of which the first is told.
+/// Two names that are wrong.
 const NO_PROGRAM: &str = "cilk 1\nfunc main z\nwrite x 1\nwrite y 2\nend\n";
 
 const NO_PROGRAM_TOLD: &str = "error: no cell has this name
@@ -36,6 +36,15 @@ const NO_PROGRAM_TOLD: &str = "error: no cell has this name
 3 | write x 1
   |       ^
   = help: declare it before the first function, by `mem NAME`
+
+error: no cell has this name
+ --> p.cilk:4
+  |
+4 | write y 2
+  |       ^
+  = help: declare it before the first function, by `mem NAME`
+
+2 faults
 ";
 
 const FIB_TOLD: &str =
@@ -101,7 +110,8 @@ const CLEAN_TRACE: &str = "cilk 1\nmem x\n#run one write\nwrite 0 x 1\nreturn 0\
 const CLEAN_TRACE_TOLD: &str =
     "clean: no two of the accesses of this trace race, in whatever order its strands run\njudged: 2 requests\nrecorded: one write\n";
 
-const NO_TRACE: &str = "cilk 1\nmem x\nread 0 y\n";
+/// A name and a number that are wrong.
+const NO_TRACE: &str = "cilk 1\nmem x\nread 0 y\nwrite 0 x -1\n";
 
 const NO_TRACE_TOLD: &str = "error: no cell has this name
  --> p.cilk:3
@@ -109,6 +119,15 @@ const NO_TRACE_TOLD: &str = "error: no cell has this name
 3 | read 0 y
   |        ^
   = help: declare it before the first request, by `mem NAME`
+
+error: there are no negative numbers
+ --> p.cilk:4
+  |
+4 | write 0 x -1
+  |           ^^
+  = help: write a number from 0 to 18446744073709551615
+
+2 faults
 ";
 
 /// Traces and what is told of them.

@@ -1,0 +1,4 @@
+pub mod Adding
+pub mod Lost
+pub mod Messages
+pub mod Pieces

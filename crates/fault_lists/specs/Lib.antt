@@ -1,0 +1,4 @@
+pub mod LineNames
+pub mod Doubts
+pub mod FaultLists
+pub mod Messages
