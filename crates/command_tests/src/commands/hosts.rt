@@ -17,6 +17,9 @@ use std::test::Fail;
 use std::thread::Threads;
 use tool_commands::{Color, Host, Job, Language, Watched, perform, perform_alone};
 
+/// A file with the name that stands for standard input.
+const DASH: &[(&str, &str)] = &[("-", "no text of any kind\n")];
+
 /// A trace in which a join begins, and its verdict lines.
 const JOINED: &str = "cilk 1\nmem x\nspawn 0\nread 1 x\nsync 2\nreturn 1\nwrite 3 x 4\n";
 
@@ -96,6 +99,7 @@ impl<'a> Host for Texts<'a> {
 #[derive(Clone, Copy)]
 enum Deed {
     JudgeInput,
+    Judge(&'static str),
     Elide(&'static str),
     Replay(&'static str, &'static str),
     Draw(&'static str),
@@ -110,7 +114,7 @@ impl Deed {
     fn names(self) -> (&'static str, &'static str) {
         match self {
             Deed::JudgeInput | Deed::Explain(_) => ("", ""),
-            Deed::Elide(name) | Deed::Draw(name) | Deed::Show(name) => (name, ""),
+            Deed::Judge(name) | Deed::Elide(name) | Deed::Draw(name) | Deed::Show(name) => (name, ""),
             Deed::Replay(program, trace) => (program, trace),
         }
     }
@@ -142,6 +146,10 @@ fn job_alone(alloc: Global, deed: Deed) -> Result<Job, AllocError>
     match deed {
         Deed::JudgeInput => Ok(Job::Judge {
             file: None,
+            limit: MOST,
+        }),
+        Deed::Judge(_) => Ok(Job::Judge {
+            file: Some(file),
             limit: MOST,
         }),
         Deed::Elide(_) => Ok(Job::Elide { file, limit: MOST }),
@@ -462,9 +470,53 @@ const DEEDS: &[(Texts<'static>, Deed, Wanted<'static>)] = &[
     (THERE, Deed::Draw("gone"), Lacking),
     (THERE, Deed::Replay("gone", "there"), Lacking),
     (THERE, Deed::Replay("there", "gone"), Lacking),
+    // Where `-` stands, standard input is read, and no file with that name.
+    (
+        Texts {
+            input: JOINED,
+            files: DASH,
+        },
+        Deed::Judge("-"),
+        Text(0, VERDICTS),
+    ),
+    (
+        Texts {
+            input: FIB,
+            files: DASH,
+        },
+        Deed::Elide("-"),
+        Text(0, "x 55\nrequests 713\n"),
+    ),
+    (
+        Texts {
+            input: "cilk 1\nmem x\nread 0 x\n",
+            files: DASH,
+        },
+        Deed::Draw("-"),
+        Text(0, "digraph trace {\n  0 [label=\"0\\l1 read x\\l\"];\n}\n"),
+    ),
+    (
+        Texts {
+            input: PAIR,
+            files: &[("trace", PAIR_TRACE)],
+        },
+        Deed::Replay("-", "trace"),
+        Text(1, "replayed 7\n"),
+    ),
+    (
+        Texts {
+            input: PAIR_TRACE,
+            files: &[("program", PAIR)],
+        },
+        Deed::Replay("program", "-"),
+        Text(1, "replayed 7\n"),
+    ),
+    (THERE, Deed::Replay("-", "gone"), Lacking),
+    (THERE, Deed::Replay("gone", "-"), Lacking),
 ];
 
-/// A trace on standard input, a program in a file, both in two files, a trace in a file, a text that is shown, and files that are not there.
+/// A trace on standard input, a program in a file, both in two files, a trace in a file, a text that is shown, files that are not there, and
+/// each of them on standard input by its name.
 #[test]
 fn texts_that_are_there_or_not(rt: HostRuntime) -> Result<(), Fail> {
     for case in DEEDS {
@@ -477,6 +529,15 @@ fn texts_that_are_there_or_not(rt: HostRuntime) -> Result<(), Fail> {
 const RUNS: &[(Texts<'static>, &str, usize, Wanted<'static>)] = &[
     (PROGRAM, "program", 1, Text(0, FIB_REPORT)),
     (PROGRAM, "program", 2, Text(0, FIB_REPORT)),
+    (
+        Texts {
+            input: FIB,
+            files: DASH,
+        },
+        "-",
+        2,
+        Text(0, FIB_REPORT),
+    ),
     (THERE, "gone", 1, Lacking),
     (THERE, "gone", 2, Lacking),
 ];

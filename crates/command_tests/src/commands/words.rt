@@ -16,6 +16,15 @@ const NO_FILE: &str = "no file is given; see 'cilkcheck --help'";
 const OVER_PROGRAM: &str =
     "the trace would be written over the program: name another file with '--trace <OUT>'";
 
+const OVER_REPORT: &str =
+    "standard output has the report: name a file with '--trace <OUT>'";
+
+const OF_INPUT: &str =
+    "a trace belongs to a program that is in a file, which is not standard input: name it";
+
+const INPUT_TWICE: &str =
+    "'-' is given twice: standard input is the program or the trace, and not both";
+
 const INPUT_AMONG_FILES: &str =
     "'-' is given among several files: standard input is explained alone";
 
@@ -185,7 +194,27 @@ const LINES: &[(&str, Asks<'static>)] = &[
     ("draw g", Does("Draw { file: \"g\", language: Dot }")),
     ("draw g --svg", Does("Draw { file: \"g\", language: Svg }")),
     ("draw --svg g", Does("Draw { file: \"g\", language: Svg }")),
+    // The name of standard input.
+    (
+        "judge -",
+        Does("Judge { file: Some(\"-\"), limit: 1000000 }"),
+    ),
+    (
+        "elide - --limit 4",
+        Does("Elide { file: \"-\", limit: 4 }"),
+    ),
+    (
+        "run - --workers 3",
+        Does("Run { file: \"-\", workers: 3, limit: 1000000 }"),
+    ),
+    ("replay - g", Does("Replay { file: \"-\", trace: \"g\" }")),
+    ("replay f -", Does("Replay { file: \"f\", trace: \"-\" }")),
+    ("draw -", Does("Draw { file: \"-\", language: Dot }")),
     // Words that ask for nothing, and why.
+    ("replay - -", Refused(INPUT_TWICE)),
+    ("run f --trace -", Refused(OVER_REPORT)),
+    ("run - --trace -", Refused(OVER_REPORT)),
+    ("run - --trace g", Refused(OF_INPUT)),
     ("judge --limit 1000001", Refused(NO_LIMIT)),
     ("judge --limit many", Refused(NO_LIMIT)),
     ("elide f --limit 1000001", Refused(NO_LIMIT)),
