@@ -127,7 +127,8 @@ impl Traces {
             trace,
             entries,
         )?;
-        keep_runs(alloc, &mut self.runs, &notes)
+        keep_runs(alloc, &mut self.runs, &notes)?;
+        Ok(())
     }
 
     /// Adds a trace that a text means, or tells its first illegal request.

@@ -14,8 +14,8 @@ loop-line-init c = rw c.make_room.ensures (record {
 pub loop-line-preserved : goal.loop-line-preserved
 loop-line-preserved c =
     let was = c.loop-line.invariant in record {
-      clean = clean_more (shape_of c.in_ok-shape.shape) c.loop-line.yielded c.in-Some.line _ _ c.reply.result was.clean
-          (c.reply.ensures was.clean.gate was.clean.fits) (search rules);
+      clean = clean_more (shape_of c.in_ok-shape.shape) c.loop-line.yielded c.in-Some.line _ _ c.reply-reply.result was.clean
+          (c.reply-reply.ensures was.clean.gate was.clean.fits) (search rules);
       whole = taken_more _ c.loop-line.yielded _ _ _ was.whole c.in-Some.ensures.steps;
     }
 

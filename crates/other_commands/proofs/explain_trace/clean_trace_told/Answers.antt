@@ -27,5 +27,5 @@ returns c = λ manner.
       verdict = c.in_ok-told.told.items;
       tells = inl (clean, c.in_ok-told.ensures ∙ ap (λ n. clean_trace_words ++ judged_text n) (all.count_is ∙ sym (length-reverse history)));
       told_is = c.in_ok-push_recorded.ensures;
-      status_is = sym (status_clean entries clean);
+      status_is = status_clean entries clean;
     }

@@ -1,4 +1,4 @@
-use Rattle.std.proofs.Common.{List, refl, sym, subst, inr}
+use Rattle.std.proofs.Common.{rules, List, refl, sym, subst}
 use Rattle.trace_text.specs.Traces.{contents as trace_contents}
 use Rattle.model_histories.specs.declared.answer.Entry.{Entry}
 use Rattle.model_histories.specs.Legal.{IsLegal}
@@ -9,3 +9,16 @@ find_illegality-requires c = (
   c.args.gate.now.shape,
   subst (λ (xs : List Entry). IsLegal c.args.gate.now.shape xs) (sym c.history-entries.ensures.entries) c.history-entries.ensures.judged.legal,
 )
+
+pub returns-in_ok-told-in-Some-clause-ok : goal.returns-in_ok-told-in-Some-clause-ok
+returns-in_ok-told-in-Some-clause-ok c = record {
+  trace = trace_contents c.args.trace.now;
+  means = c.requires.means;
+  gate = c.args.gate.now;
+  stop = c.args.stop;
+  stops = c.requires.stops;
+  why = c.in-Some.why;
+  reason = (rw c.in-Some.is at c.in_ok-find_illegality.ensures) c.args.gate.now (sym c.history-entries.ensures.entries) c.requires.stops.first.0;
+  told_is = search rules;
+  status_is = refl;
+}

@@ -31,5 +31,5 @@ returns c = record {
       (trace_setting m.is_painted c.in_ok-notes.notes (trace_contents c.args.trace.now).known c.history-entries.result.now)
       (found_of c.args.self.now.findings) (found_of c.add.new.self))
       c.manner.view_is c.in_ok-add.ensures;
-  runs_is = c.keep_runs.ensures;
+  runs_is = c.in_ok-keep_runs.ensures;
 }
