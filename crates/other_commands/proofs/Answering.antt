@@ -9,16 +9,15 @@ use Rattle.text_words.specs.Values.{Contents}
 use Rattle.model_histories.specs.declared.reply.Receipt.{Receipt}
 use Rattle.model_histories.specs.declared.reply.Reply.{Reply}
 use Rattle.model_histories.specs.declared.reply.Reply.TheVariants.{Done}
-use Rattle.model_histories.specs.declared.fault.GateFault.{GateFault}
 use Rattle.model_histories.specs.Faults.{IsFirstFault}
 use Rattle.model_races.specs.Judged.{IsJudged}
 use Rattle.model_histories.specs.Replies.{Judges}
 use Rattle.model_histories.specs.Shapes.{Shape, most_entries}
 use Rattle.model_histories.specs.States.{State, opening}
 use Rattle.race_gate.proofs.Lists.{JudgesAll-more}
-use Rattle.command_streams.specs.declared.fault.CliFault.{CliFault}
 use Rattle.command_streams.specs.Streams.{declared_shape, IsJudgedBy}
-use Rattle.other_commands.specs.Replays.{IsDone, AnswersAll, StopsGate, fault_of_request}
+use Rattle.other_commands.specs.declared.ask.Stop.{Stop}
+use Rattle.other_commands.specs.Replays.{IsDone, AnswersAll, StopsAt}
 use Rattle.command_streams.proofs.TakenLines.{requests_more}
 
 -- a gate without entries has answered no request
@@ -40,24 +39,20 @@ answered_more taken line shape old new receipt judges judged before = (
 )
 
 -- the first that is not answered stops the gate
-pub answers_end : (taken later : List TraceLine) (line : TraceLine) (trace : Contents) (shape : Shape) (gate : State) (number : ℕ) (cause : GateFault) (fault : CliFault) →
+pub answers_end : (taken later : List TraceLine) (line : TraceLine) (trace : Contents) (shape : Shape) (gate : State) (stop : Stop) →
     trace.lines ≡ taken ++ line ∷ later → shape ≡ declared_shape trace →
     ((replies : List Reply) × IsJudgedBy shape most_entries (map (λ line. line.request) taken) replies gate × All IsDone replies) →
-    IsFirstFault gate line.request cause → number ≡ length taken + 1 → fault ≡ fault_of_request number cause → StopsGate trace fault
-answers_end taken later line trace shape gate number cause fault same declared before first place named = record {
+    IsFirstFault gate stop.request stop.fault → line.request ≡ stop.request → stop.number ≡ length taken + 1 → StopsAt trace gate stop
+answers_end taken later line trace shape gate stop same declared before first is place = record {
   earlier = map (λ line. line.request) taken;
-  request = line.request;
   later = map (λ line. line.request) later;
-  asked = ap (map (λ line. line.request)) same ∙ map-append (λ (line : TraceLine). line.request) taken (line ∷ later);
+  asked = ap (map (λ line. line.request)) same ∙ map-append (λ (line : TraceLine). line.request) taken (line ∷ later) ∙
+      ap (λ (one : Request). map (λ (line : TraceLine). line.request) taken ++ one ∷ map (λ (line : TraceLine). line.request) later) is;
+  number_is = (let count = length-map taken (λ (line : TraceLine). line.request) in omega (arith, place, count));
   replies = before.0;
-  gate = gate;
   judges = subst (λ (those : Shape). IsJudgedBy those most_entries (map (λ line. line.request) taken) before.0 gate) declared before.1;
   done = before.2;
-  cause = cause;
   first = first;
-  named =
-      let count = length-map taken (λ (line : TraceLine). line.request) in
-      named ∙ ap (λ n. fault_of_request n cause) (omega (arith, place, count));
 }
 
 -- all were answered

@@ -46,7 +46,8 @@ status_as true manner text limit told status (inl run) = subst (λ n. n ≤ 4) (
 status_as true manner text limit told status (inr fault) = subst (λ n. n ≤ 4) (sym fault.status_is) (omega arith)
 status_as false manner text limit told status (inl trace) =
     subst (λ n. n ≤ 4) (sym trace.status_is) (refused_status (list_any (λ (entry : Entry). is_refused entry.answer) trace.entries))
-status_as false manner text limit told status (inr fault) = subst (λ n. n ≤ 4) (sym fault.status_is) (omega arith)
+status_as false manner text limit told status (inr (inl fault)) = subst (λ n. n ≤ 4) (sym fault.status_is) (omega arith)
+status_as false manner text limit told status (inr (inr illegal)) = subst (λ n. n ≤ 4) (sym illegal.status_is) (omega arith)
 
 told_status : (manner : Manner) (text : List ℕ) (limit : ℕ) (told : List ℕ) (status : ℕ) → Explains manner text limit told status → status ≤ 4
 told_status manner text limit told status explains = status_as (is_program_text text) manner text limit told status explains

@@ -9,3 +9,4 @@ mod Sorted
 mod KeptRuns
 mod Recorded
 pub mod TracedCauses
+mod CleanSoFar

@@ -27,7 +27,7 @@ pub gate_cause : (program : Contents) (trace : TraceContents) (fault : CliFault)
 gate_cause program trace fault same (inl is) = subst (StopsReplay program trace) (sym is) tt
 gate_cause program trace fault same (inr stops) =
     subst (StopsReplay program trace) (sym stops.named)
-    (request_cause program trace (suc (length stops.earlier)) stops.cause same (subst (StopsGate trace) stops.named stops))
+    (request_cause program trace stops.stop.number stops.stop.fault same (subst (StopsGate trace) stops.named stops))
 
 -- both texts were read, and there is no replay
 pub replay_stops : (program trace : Reading) (wrote writes : Option (List ℕ)) (contents : Contents) (trace_contents : TraceContents) (fault : CliFault) →

@@ -22,6 +22,8 @@ use Rattle.law_traces.specs.CleanTraces.{SpeaksForOrders}
 use Rattle.source_quotes.specs.FaultTexts.{TellsFault}
 use Rattle.source_quotes.specs.Quotes.{counted}
 use Rattle.race_explanations.specs.Explained.{IsExplanation, IsTraceExplanation}
+use Rattle.race_explanations.specs.declared.illegal.Illegality.{Illegality}
+use Rattle.race_explanations.specs.Illegal.{HasReason, illegal_text}
 use Rattle.command_streams.specs.declared.fault.CliFault.{CliFault}
 use Rattle.command_streams.specs.declared.fault.CliFault.TheVariants.{Read, Write, TooLong, Memory}
 use Rattle.other_commands.specs.declared.explain.End.{End}
@@ -32,7 +34,8 @@ use Rattle.run_command.specs.Runs.{IsRunFault}
 use Rattle.command_streams.specs.Streams.{IsRead}
 use Rattle.command_streams.specs.Outcomes.{refusal_status}
 use Rattle.model_histories.specs.States.{State}
-use Rattle.other_commands.specs.Replays.{AnswersAll, StopsGate}
+use Rattle.other_commands.specs.declared.ask.Stop.{Stop}
+use Rattle.other_commands.specs.Replays.{AnswersAll, StopsAt, StopsGate}
 use Rattle.other_commands.specs.Sorts.{is_program_text}
 
 -- how it is told: whether words are painted, and by which name the text's file is called
@@ -167,10 +170,26 @@ pub record IsTraceFaultTold (manner : Manner) (text : List ℕ) (told : List ℕ
   pub tells : TellsFault manner.is_painted manner.file (lines text) number why told
   pub status_is : status ≡ 2
 
+-- The text means a trace, and of its first request that a gate does not answer it is told why it is illegal in the history of that gate.
+pub record IsIllegalTold (manner : Manner) (text : List ℕ) (told : List ℕ) (status : ℕ) : Type 0 where
+  pub trace : TraceContents
+  pub means : TraceMeans text trace
+  pub gate : State
+  pub stop : Stop
+  pub stops : StopsAt trace gate stop
+  pub why : Illegality
+  pub reason : HasReason gate stop.request why
+  pub told_is : told ≡ illegal_text manner.is_painted manner.file (lines text) trace.lines stop.number why
+  pub status_is : status ≡ 2
+
+-- It is told why no trace is judged to its end: by a fault of the text, or by an illegal request.
+abbrev pub IsUnjudgedTold : Manner → (text : List ℕ) → (told : List ℕ) → (status : ℕ) → Type 0
+IsUnjudgedTold manner text told status = IsTraceFaultTold manner text told status ⊎ IsIllegalTold manner text told status
+
 -- What a text means is told, or why it means nothing: as a program, or as a trace.
 abbrev pub ExplainsAs : Bool → Manner → (text : List ℕ) → (limit : ℕ) → (told : List ℕ) → (status : ℕ) → Type 0
 ExplainsAs true manner text limit told status = IsRunTold manner text limit told status ⊎ IsFaultTold manner text told status
-ExplainsAs false manner text limit told status = IsTraceTold manner text told status ⊎ IsTraceFaultTold manner text told status
+ExplainsAs false manner text limit told status = IsTraceTold manner text told status ⊎ IsUnjudgedTold manner text told status
 
 abbrev pub Explains : Manner → (text : List ℕ) → (limit : ℕ) → (told : List ℕ) → (status : ℕ) → Type 0
 Explains manner text limit told status = ExplainsAs (is_program_text text) manner text limit told status

@@ -6,3 +6,4 @@ pub mod Traced
 pub mod Explanations
 pub mod Sorts
 pub mod Together
+pub mod Cleanness

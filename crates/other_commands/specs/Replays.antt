@@ -1,5 +1,5 @@
 -- What is read of a program and a trace, and what is written of the replay.
-use Rattle.std.specs.Prelude.{ℕ, ◌≡◌, ◌⊎◌, suc, Option, List, ◌∷◌, ◌++◌, length, reverse}
+use Rattle.std.specs.Prelude.{ℕ, ◌≡◌, ◌⊎◌, suc, Option, Some, None, List, ◌∷◌, ◌++◌, length, reverse}
 use Rattle.std.specs.List.{All}
 use Rattle.std.specs.Io.KnownBytes.{Appends}
 use Rattle.trace_text.specs.Grammar.{TextMeans as TraceMeans}
@@ -19,6 +19,7 @@ use Rattle.command_streams.specs.declared.fault.CliFault.{CliFault}
 use Rattle.command_streams.specs.declared.fault.CliFault.TheVariants.{Usage, Read, Write, TooLong, Trace, Program}
 use Rattle.command_streams.specs.declared.fault.CliFault.TheVariants.{Shape as ShapeFault, Illegal, Limit, Memory}
 use Rattle.command_streams.specs.declared.outcome.Outcome.{Outcome}
+use Rattle.other_commands.specs.declared.ask.Stop.{Stop}
 use Rattle.other_commands.specs.Declarations.{DeclareSame}
 use Rattle.command_streams.specs.Readings.{IsFaultyProgram}
 use Rattle.run_command.specs.Runs.{IsProgramRead}
@@ -45,18 +46,27 @@ fault_of_request number GateMemory = Memory
 fault_of_request number fault = Illegal number
 
 -- All requests before this one were answered, and it is not, by its first fault; the first request has the number 1.
-pub record StopsGate (trace : TraceContents) (fault : CliFault) : Type 0 where
+pub record StopsAt (trace : TraceContents) (gate : State) (stop : Stop) : Type 0 where
   pub earlier : List Request
-  pub request : Request
   pub later : List Request
-  pub asked : requests_of trace ≡ earlier ++ request ∷ later
+  pub asked : requests_of trace ≡ earlier ++ stop.request ∷ later
+  pub number_is : stop.number ≡ suc (length earlier)
   pub replies : List Reply
-  pub gate : State
   pub judges : IsJudgedBy (declared_shape trace) most_entries earlier replies gate
   pub done : All IsDone replies
-  pub cause : GateFault
-  pub first : IsFirstFault gate request cause
-  pub named : fault ≡ fault_of_request (suc (length earlier)) cause
+  pub first : IsFirstFault gate stop.request stop.fault
+
+-- some request is such a one, and this is the fault of a command for it
+pub record StopsGate (trace : TraceContents) (fault : CliFault) : Type 0 where
+  pub gate : State
+  pub stop : Stop
+  pub stops : StopsAt trace gate stop
+  pub named : fault ≡ fault_of_request stop.number stop.fault
+
+-- all requests were answered, or this one is the first that is not
+abbrev pub Asks : TraceContents → State → Option Stop → Type 0
+Asks trace gate None = AnswersAll trace gate
+Asks trace gate (Some stop) = StopsAt trace gate stop
 
 -- ---- the replay of a trace
 

@@ -21,7 +21,7 @@ use Rattle.command_streams.specs.Readings.{Reading, StopsReader}
 use Rattle.command_streams.specs.Streams.{IsRead}
 use Rattle.other_commands.specs.declared.explain_traces.Traces.{Traces}
 use Rattle.other_commands.specs.Replays.{AnswersAll}
-use Rattle.other_commands.specs.Explanations.{Manner, recorded_line, IsTraceFaultTold, IsUntoldTrace}
+use Rattle.other_commands.specs.Explanations.{Manner, recorded_line, IsUnjudgedTold, IsUntoldTrace}
 
 -- ---- what is kept of the traces
 
@@ -69,9 +69,9 @@ pub record AddsText (manner : Manner) (text : List ℕ) (old new : Together) : T
   pub adds : AddsTrace manner.file (trace_setting manner.is_painted notes trace.known entries) old.found new.found
   pub runs_is : new.runs ≡ with_runs old.runs (kept_runs notes)
 
--- The trace that a text means is added, or the first fault of the text is told.
+-- The trace that a text means is added, or it is told why it is not judged to its end.
 abbrev pub TakesText : Manner → (text : List ℕ) → (old new : Together) → Option (Vec ℕ) → Type 0
-TakesText manner text old new (Some told) = IsTraceFaultTold manner text told.items 2
+TakesText manner text old new (Some told) = IsUnjudgedTold manner text told.items 2
 TakesText manner text old new None = AddsText manner text old new
 
 -- A text was read, and is taken.

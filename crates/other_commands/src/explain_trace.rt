@@ -8,15 +8,18 @@ ghost use Rattle.trace_notes.specs.Notes.{AreNotes, kept_runs};
 ghost use Rattle.model_histories.specs.Legal.{IsLegal};
 ghost use Rattle.model_histories.specs.Shapes.{Shape};
 ghost use Rattle.command_streams.specs.Outcomes.{refusal_status};
-ghost use Rattle.other_commands.specs.Replays.{AnswersAll, StopsGate};
-ghost use Rattle.other_commands.specs.Explanations.{clean_trace_words, recorded_line, recorded_text, judged_text, TellsEntries, IsTraceTold, IsTraceFaultTold};
-ghost use Rattle.other_commands.specs.Explanations.{IsUntoldTrace};
+ghost use Rattle.other_commands.specs.Cleanness.{IsAllClean};
+ghost use Rattle.other_commands.specs.Replays.{AnswersAll, StopsAt, StopsGate};
+ghost use Rattle.other_commands.specs.Explanations.{clean_trace_words, recorded_line, recorded_text, judged_text, TellsEntries, IsTraceTold, IsIllegalTold, IsUnjudgedTold};
+ghost use Rattle.other_commands.specs.Explanations.{Manner as SpecManner, IsUntoldTrace};
 
+use crate::ask::{Stop, ask_all};
+use crate::clean::clean_count;
 use crate::explain::Manner;
-use crate::replay::answered;
+use crate::replay::fault_of_request;
 use command_streams::{CliFault, refusal_status};
-use race_explanations::trace_explanation;
-use race_gate::Entry;
+use race_explanations::{find_illegality, illegal_explanation, trace_explanation};
+use race_gate::{Entry, Gate};
 use source_quotes::{Meant, fault_message, push_count};
 use std::alloc::{AllocError, Global};
 use text_buffers::push_words;
@@ -88,18 +91,50 @@ pub(crate) fn notes_of(alloc: Global, text: &[u8]) -> Result<Notes<Global>, Allo
     Ok(notes)
 }
 
-/// What is told of a trace that a text means, and the exit status.
-fn trace_told(
+/// What is told of the first request that a gate does not answer: why it is illegal. The fault of a command for one that is not illegal.
+pub(crate) fn stop_told(
     alloc: Global,
     manner: &Manner<'_>,
     text: &[u8],
     trace: &Trace<Global>,
-) -> Result<(Vec<u8>, u8), CliFault>
-    requires { TraceMeans text.now (trace_contents trace.now) }
-    ensures ok { IfOk result (λ told. IsTraceTold manner.now text.now told.0.items told.1) }
+    gate: &Gate<Global>,
+    stop: Stop,
+) -> Result<Vec<u8>, CliFault>
+    requires means { TraceMeans text.now (trace_contents trace.now) }
+    requires stops { StopsAt (trace_contents trace.now) gate.now stop }
+    ensures ok { IfOk result (λ told. IsIllegalTold manner.now text.now told.items 2) }
     ensures fault { IfErr result (λ fault. (fault ≡ CliFault.Memory) ⊎ StopsGate (trace_contents trace.now) fault) }
 {
-    let gate = answered(alloc, trace)?;
+    let entries = gate.history();
+    match find_illegality(alloc, entries, stop.request, stop.fault)? {
+        Some(why) => {
+            let told = illegal_explanation(
+                alloc,
+                manner.is_painted,
+                manner.file,
+                text,
+                trace,
+                stop.number as usize,
+                why,
+            )?;
+            Ok(told)
+        }
+        None => Err(fault_of_request(stop.number, stop.fault)),
+    }
+}
+
+/// What is told of a trace that a text means and whose requests this gate answered, and the exit status.
+fn judged_told(
+    alloc: Global,
+    manner: &Manner<'_>,
+    text: &[u8],
+    trace: &Trace<Global>,
+    gate: &Gate<Global>,
+) -> Result<(Vec<u8>, u8), AllocError>
+    requires means { TraceMeans text.now (trace_contents trace.now) }
+    requires answers { AnswersAll (trace_contents trace.now) gate.now }
+    ensures { IfOk result (λ told. IsTraceTold manner.now text.now told.0.items told.1) }
+{
     let notes = notes_of(alloc, text)?;
     let entries = gate.history();
     let mut told = entries_told(alloc, manner, &notes, trace, entries)?;
@@ -107,13 +142,73 @@ fn trace_told(
     Ok((told, refusal_status(entries)))
 }
 
-/// What is told of a text that is to mean a trace, and the exit status: the races of the trace, or its first fault.
+/// What is told of a trace that a text means, in which nothing is refused among so many requests.
+fn clean_trace_told(
+    alloc: Global,
+    text: &[u8],
+    trace: &Trace<Global>,
+    count: usize,
+) -> Result<Vec<u8>, AllocError>
+    requires means { TraceMeans text.now (trace_contents trace.now) }
+    requires clean { IsAllClean (trace_contents trace.now) count }
+    ensures { IfOk result (λ told. (manner : SpecManner) → IsTraceTold manner text.now told.items 0) }
+{
+    let _trace = trace;
+    let notes = notes_of(alloc, text)?;
+    let mut told = clean_told(alloc, count)?;
+    push_recorded(&mut told, &notes)?;
+    Ok(told)
+}
+
+/// What is told of a trace that a text means, and the exit status, by a gate that keeps the history.
+fn history_told(
+    alloc: Global,
+    manner: &Manner<'_>,
+    text: &[u8],
+    trace: &Trace<Global>,
+) -> Result<(Vec<u8>, u8), CliFault>
+    requires { TraceMeans text.now (trace_contents trace.now) }
+    ensures ok { IfOk result (λ told. IsTraceTold manner.now text.now told.0.items told.1 ⊎ IsUnjudgedTold manner.now text.now told.0.items told.1) }
+    ensures fault { IfErr result (λ fault. (fault ≡ CliFault.Memory) ⊎ StopsGate (trace_contents trace.now) fault) }
+{
+    let (gate, stop) = ask_all(alloc, trace)?;
+    match stop {
+        None => Ok(judged_told(alloc, manner, text, trace, &gate)?),
+        Some(stop) => {
+            let told = stop_told(alloc, manner, text, trace, &gate, stop)?;
+            Ok((told, 2))
+        }
+    }
+}
+
+/// What is told of a trace that a text means, and the exit status. A history is kept only where something is refused or illegal.
+fn trace_told(
+    alloc: Global,
+    manner: &Manner<'_>,
+    text: &[u8],
+    trace: &Trace<Global>,
+) -> Result<(Vec<u8>, u8), CliFault>
+    requires { TraceMeans text.now (trace_contents trace.now) }
+    ensures ok { IfOk result (λ told. IsTraceTold manner.now text.now told.0.items told.1 ⊎ IsUnjudgedTold manner.now text.now told.0.items told.1) }
+    ensures fault { IfErr result (λ fault. (fault ≡ CliFault.Memory) ⊎ StopsGate (trace_contents trace.now) fault) }
+{
+    match clean_count(alloc, trace)? {
+        Some(count) => {
+            let told = clean_trace_told(alloc, text, trace, count)?;
+            Ok((told, 0))
+        }
+        None => history_told(alloc, manner, text, trace),
+    }
+}
+
+/// What is told of a text that is to mean a trace, and the exit status: the races of the trace, its first illegal request, or the first
+/// fault of the text.
 pub(crate) fn trace_text_told(
     alloc: Global,
     manner: &Manner<'_>,
     text: &[u8],
 ) -> Result<(Vec<u8>, u8), CliFault>
-    ensures ok { IfOk result (λ told. IsTraceTold manner.now text.now told.0.items told.1 ⊎ IsTraceFaultTold manner.now text.now told.0.items told.1) }
+    ensures ok { IfOk result (λ told. IsTraceTold manner.now text.now told.0.items told.1 ⊎ IsUnjudgedTold manner.now text.now told.0.items told.1) }
     ensures fault { IfErr result (λ fault. (fault ≡ CliFault.Memory) ⊎ IsUntoldTrace text.now fault) }
 {
     match Trace::parse(alloc, text) {

@@ -8,16 +8,17 @@ ghost use Rattle.trace_text.specs.Grammar.{TextMeans as TraceMeans};
 ghost use Rattle.trace_notes.specs.Notes.{kept_runs};
 ghost use Rattle.command_streams.specs.Watched.{held, has_failed};
 ghost use Rattle.command_streams.specs.Readings.{reading};
-ghost use Rattle.other_commands.specs.Replays.{StopsGate};
+ghost use Rattle.other_commands.specs.Replays.{AnswersAll, StopsGate};
 ghost use Rattle.other_commands.specs.Explanations.{IsUntoldTrace, recorded_line};
 ghost use Rattle.other_commands.specs.Together.{together_of, none_together, with_run, with_runs, together_text, together_status};
 ghost use Rattle.other_commands.specs.Together.{AddsText, TakesText, TakesReading, StopsTaking};
 
+use crate::ask::ask_all;
 use crate::explain::Manner;
-use crate::explain_trace::{notes_of, push_run};
-use crate::replay::answered;
+use crate::explain_trace::{notes_of, push_run, stop_told};
 use command_streams::{CliFault, Watched, read_text};
 use race_explanations::Findings;
+use race_gate::Gate;
 use source_quotes::{Meant, fault_message};
 use std::alloc::{AllocError, Global};
 use std::io::Read;
@@ -102,19 +103,19 @@ impl Traces {
         }
     }
 
-    /// Adds a trace that a text means.
+    /// Adds a trace that a text means and whose requests this gate answered.
     fn add(
         &mut self,
         alloc: Global,
         manner: &Manner<'_>,
         text: &[u8],
         trace: &Trace<Global>,
-    ) -> Result<(), CliFault>
-        requires { TraceMeans text.now (trace_contents trace.now) }
-        ensures ok { OnOk result (AddsText manner.now text.now (together_of self.old) (together_of self.new)) }
-        ensures fault { IfErr result (λ fault. (fault ≡ CliFault.Memory) ⊎ StopsGate (trace_contents trace.now) fault) }
+        gate: &Gate<Global>,
+    ) -> Result<(), AllocError>
+        requires means { TraceMeans text.now (trace_contents trace.now) }
+        requires answers { AnswersAll (trace_contents trace.now) gate.now }
+        ensures { OnOk result (AddsText manner.now text.now (together_of self.old) (together_of self.new)) }
     {
-        let gate = answered(alloc, trace)?;
         let notes = notes_of(alloc, text)?;
         let entries = gate.history();
         self.findings.add(
@@ -129,7 +130,29 @@ impl Traces {
         Ok(())
     }
 
-    /// Adds the trace that a text means, or tells the first fault of a text that means none.
+    /// Adds a trace that a text means, or tells its first illegal request.
+    fn take_trace(
+        &mut self,
+        alloc: Global,
+        manner: &Manner<'_>,
+        text: &[u8],
+        trace: &Trace<Global>,
+    ) -> Result<Option<Vec<u8>>, CliFault>
+        requires { TraceMeans text.now (trace_contents trace.now) }
+        ensures ok { IfOk result (TakesText manner.now text.now (together_of self.old) (together_of self.new)) }
+        ensures fault { IfErr result (λ fault. (fault ≡ CliFault.Memory) ⊎ StopsGate (trace_contents trace.now) fault) }
+    {
+        let (gate, stop) = ask_all(alloc, trace)?;
+        match stop {
+            None => {
+                self.add(alloc, manner, text, trace, &gate)?;
+                Ok(None)
+            }
+            Some(stop) => Ok(Some(stop_told(alloc, manner, text, trace, &gate, stop)?)),
+        }
+    }
+
+    /// Adds the trace that a text means, or tells its first illegal request, or the first fault of a text that means none.
     fn take_text(
         &mut self,
         alloc: Global,
@@ -140,10 +163,7 @@ impl Traces {
         ensures fault { IfErr result (λ fault. (fault ≡ CliFault.Memory) ⊎ IsUntoldTrace text.now fault) }
     {
         match Trace::parse(alloc, text) {
-            Ok(trace) => {
-                self.add(alloc, manner, text, &trace)?;
-                Ok(None)
-            }
+            Ok(trace) => self.take_trace(alloc, manner, text, &trace),
             Err(TextFault::Memory) => Err(CliFault::Memory),
             Err(TextFault::At { line, why }) => Ok(Some(fault_message(
                 alloc,
@@ -157,11 +177,11 @@ impl Traces {
         }
     }
 
-    /// Reads a text to its end, and adds the trace that it means, by the name of its file. The first fault of a text that means none is told,
-    /// which is the answer then.
+    /// Reads a text to its end, and adds the trace that it means, by the name of its file. What is told of an illegal request, or of the
+    /// first fault of a text that means no trace, is the answer then.
     ///
-    /// It answers [`CliFault::Read`] exactly where the reader has failed, [`CliFault::TooLong`] for more than 67,108,864 bytes, by the first
-    /// request that a gate does not answer [`CliFault::Limit`] or [`CliFault::Illegal`], and [`CliFault::Memory`] where a growth was refused.
+    /// It answers [`CliFault::Read`] exactly where the reader has failed, [`CliFault::TooLong`] for more than 67,108,864 bytes,
+    /// [`CliFault::Limit`] for more than 1,000,000 requests, and [`CliFault::Memory`] where a growth was refused.
     pub fn read<T: Read>(
         &mut self,
         alloc: Global,

@@ -13,6 +13,8 @@
 //! dag, its red ones the refusals with their witnesses.
 #![tactic(auto)]
 
+mod ask;
+mod clean;
 mod declarations;
 mod draw;
 mod elide;

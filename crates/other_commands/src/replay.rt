@@ -9,10 +9,11 @@ ghost use Rattle.other_commands.specs.Replays.{fault_of_request as request_fault
 ghost use Rattle.other_commands.specs.Replays.{ReplaysContents, StopsReplay, IsReplayed, HasReplayCause};
 ghost use Rattle.command_streams.specs.Readings.{reading};
 
+use crate::ask::ask_all;
 use crate::declarations::declare_same;
 use command_streams::{
-    CliFault, MOST_ENTRIES, Watched, outcome_line, outcome_of, outcome_status, parse_program,
-    parse_trace, read_text, write_text,
+    CliFault, Watched, outcome_line, outcome_of, outcome_status, parse_program, parse_trace,
+    read_text, write_text,
 };
 use program_text::Program;
 use race_gate::{Gate, GateFault};
@@ -21,7 +22,7 @@ use std::io::{Read, Write};
 use trace_text::Trace;
 
 /// The fault of a command for an illegal request of this number.
-fn fault_of_request(number: u32, fault: GateFault) -> CliFault
+pub(crate) fn fault_of_request(number: u32, fault: GateFault) -> CliFault
     ensures { result ≡ request_fault_spec number fault }
 {
     match fault {
@@ -36,17 +37,10 @@ pub fn answered<A: Allocator + Copy>(alloc: A, trace: &Trace<A>) -> Result<Gate<
     ensures ok { IfOk result (AnswersAll (trace_contents trace.now)) }
     ensures fault { IfErr result (λ fault. (fault ≡ CliFault.Memory) ⊎ StopsGate (trace_contents trace.now) fault) }
 {
-    let shape = trace.shape(alloc)?;
-    let mut gate = Gate::new(alloc, &shape, MOST_ENTRIES)?;
-    let mut number = 0;
-    for line in trace.lines.iter() {
-        number += 1;
-        match gate.judge(line.request) {
-            Ok(_) => {}
-            Err(fault) => return Err(fault_of_request(number, fault)),
-        }
+    match ask_all(alloc, trace)? {
+        (gate, None) => Ok(gate),
+        (_, Some(stop)) => Err(fault_of_request(stop.number, stop.fault)),
     }
-    Ok(gate)
 }
 
 /// The line that tells what a trace is as a run of a program, and the exit status.

@@ -5,7 +5,7 @@ use Rattle.command_streams.specs.declared.fault.CliFault.{CliFault}
 use Rattle.command_streams.specs.declared.fault.CliFault.TheVariants.{Read, Write, Memory}
 use Rattle.command_streams.specs.Readings.{reading}
 use Rattle.command_streams.specs.Streams.{IsRead}
-use Rattle.other_commands.specs.Explanations.{Manner, IsTraceFaultTold}
+use Rattle.other_commands.specs.Explanations.{Manner, IsUnjudgedTold}
 use Rattle.other_commands.specs.Together.{Together, none_together, together_text, together_status, AddsText, StopsTaking}
 
 abbrev pub manner_in : (is_painted : Bool) → (file : List ℕ) → Manner
@@ -25,7 +25,7 @@ pub record TellsAll (is_painted : Bool) (files : List ℕ → Option (List ℕ))
   pub told_is : told ≡ together_text together
   pub status_is : status ≡ together_status together
 
--- The first fault is told of the first text that means no trace.
+-- Of the first text whose trace is not judged to its end it is told why: by a fault of the text, or by an illegal request.
 pub record TellsFaulty (is_painted : Bool) (files : List ℕ → Option (List ℕ)) (names : List (List ℕ)) (told : List ℕ) (status : ℕ) : Type 0 where
   pub earlier : List (List ℕ)
   pub name : List ℕ
@@ -36,7 +36,7 @@ pub record TellsFaulty (is_painted : Bool) (files : List ℕ → Option (List �
   pub text : List ℕ
   pub behind : Option (List ℕ)
   pub read : IsRead (files name) behind text
-  pub tells : IsTraceFaultTold (manner_in is_painted name) text told status
+  pub tells : IsUnjudgedTold (manner_in is_painted name) text told status
 
 abbrev pub TellsSeveral : (is_painted : Bool) → (files : List ℕ → Option (List ℕ)) → (names : List (List ℕ)) → (told : List ℕ) → (status : ℕ) → Type 0
 TellsSeveral is_painted files names told status = TellsAll is_painted files names told status ⊎ TellsFaulty is_painted files names told status

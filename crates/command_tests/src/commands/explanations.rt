@@ -111,8 +111,121 @@ const NO_TRACE_TOLD: &str = "error: no cell has this name
   = help: declare it before the first request, by `mem NAME`
 ";
 
+/// A strand that ended at its spawn, at its sync, and at its return.
+const SPAWNED_TRACE: &str = "cilk 1\nmem x\nspawn 0\nwrite 0 x 1 # its own\n";
+
+const SPAWNED_TRACE_TOLD: &str = "error: this strand has ended
+ --> p.cilk:4
+  |
+4 | write 0 x 1 # its own
+  | ^^^^^^^^^^^
+  = request 2: strand 0 ended at line 3: `spawn 0`
+  = help: a spawn and a sync end their strand: `judge` prints the number by which the function goes on. Behind a return there is none
+";
+
+const SYNCED_TRACE: &str =
+    "cilk 1\nmem x\nspawn 0 @7\nsync 2 @8\n# the child\nreturn 1 @9\nread 2 x @8\n";
+
+const SYNCED_TRACE_TOLD: &str = "error: this strand has ended
+ --> p.cilk:7
+  |
+7 | read 2 x @8
+  | ^^^^^^^^^^^
+  = request 4: strand 2 ended at line 4: `sync 2 @8`
+  = help: a spawn and a sync end their strand: `judge` prints the number by which the function goes on. Behind a return there is none
+";
+
+const RETURNED_TRACE: &str = "cilk 1\nspawn 0\nreturn 1\nreturn 1\n";
+
+const RETURNED_TRACE_TOLD: &str = "error: this strand has ended
+ --> p.cilk:4
+  |
+4 | return 1
+  | ^^^^^^^^
+  = request 3: strand 1 ended at line 3: `return 1`
+  = help: a spawn and a sync end their strand: `judge` prints the number by which the function goes on. Behind a return there is none
+";
+
+/// A join that has not begun, since its block is not synced.
+const JOIN_TRACE: &str = "cilk 1\nmem x\nspawn 0\nreturn 1\nread 3 x\n";
+
+const JOIN_TRACE_TOLD: &str = "error: this strand has not begun
+ --> p.cilk:5
+  |
+5 | read 3 x
+  | ^^^^^^^^
+  = request 3: strand 3 is the join of the block that opened at line 3: `spawn 0`
+  = help: it begins when its block is synced and each function that was spawned there has returned
+";
+
+/// A number that the two spawns before it have not given: the first gives 1, 2 and 3, and the second, of the same block, 4 and 5.
+const UNKNOWN_TRACE: &str = "cilk 1\nspawn 0\nspawn 2\nreturn 6\n";
+
+const UNKNOWN_TRACE_TOLD: &str = "error: no strand has this number
+ --> p.cilk:4
+  |
+4 | return 6
+  | ^^^^^^^^
+  = request 3: strand 6 is none of those that have begun: the numbers below 6 are given
+  = help: a spawn gives the next numbers to its child, to what follows it, and, where it opens a block, to the join
+";
+
+/// A return from a function with an open block.
+const OPEN_TRACE: &str = "cilk 1\nspawn 0\nreturn 2\n";
+
+const OPEN_TRACE_TOLD: &str = "error: this function has an open block
+ --> p.cilk:3
+  |
+3 | return 2
+  | ^^^^^^^^
+  = request 2: strand 2 returns from a function that has spawned and not synced
+  = help: ask for a `sync` of this strand, and let the join return
+";
+
+/// One location has two cells, of which each races once, and another location has one.
+const ALIKE_TRACE: &str =
+    "cilk 1\nmem a 2\nmem x\n#of a[*] best, 4 bytes\nspawn 0 @5\nwrite 1 a[0] 7 @9\nwrite 1 a[1] 7 @9\nwrite 1 x 7 @8\nread 2 a[0] @6\nread 2 a[1] @6\nread 2 x @6\n";
+
+const ALIKE_TRACE_TOLD: &str = "race: write-read on best, 4 bytes, 2 times
+  --> line 9
+   = this write
+   = spawned at line 5
+  --> line 6
+   = this read, may run before it or after it
+  --> line 5
+   = here they part: what is spawned comes to line 9, while the spawner goes on to line 6
+   = help: a `sync` in the spawner before line 6 would order them
+
+race: write-read on x, 1 time
+  --> line 8
+   = this write
+   = spawned at line 5
+  --> line 6
+   = this read, may run before it or after it
+  --> line 5
+   = here they part: what is spawned comes to line 8, while the spawner goes on to line 6
+   = help: a `sync` in the spawner before line 6 would order them
+
+3 refusals at 2 pairs of places, among 7 requests
+";
+
+/// Illegal requests, and why they are.
+const ILLEGAL_EXPLAINED: &[Case<'static>] = &[
+    (Explain(2, 713), SPAWNED_TRACE, Text(2, SPAWNED_TRACE_TOLD)),
+    (Explain(2, 713), SYNCED_TRACE, Text(2, SYNCED_TRACE_TOLD)),
+    (
+        Explain(2, 713),
+        RETURNED_TRACE,
+        Text(2, RETURNED_TRACE_TOLD),
+    ),
+    (Explain(2, 713), JOIN_TRACE, Text(2, JOIN_TRACE_TOLD)),
+    (Explain(2, 713), UNKNOWN_TRACE, Text(2, UNKNOWN_TRACE_TOLD)),
+    (Explain(2, 713), OPEN_TRACE, Text(2, OPEN_TRACE_TOLD)),
+];
+
 /// Traces and what is told of them.
 const TRACES_EXPLAINED: &[Case<'static>] = &[
+    (Explain(2, 713), ALIKE_TRACE, Text(1, ALIKE_TRACE_TOLD)),
     (Explain(2, 713), NOTED_TRACE, Text(1, NOTED_TRACE_TOLD)),
     (Explain(2, 713), PLAIN_TRACE, Text(1, PLAIN_TRACE_TOLD)),
     (Explain(2, 713), VIEW_TRACE, Text(1, VIEW_TRACE_TOLD)),
@@ -143,4 +256,10 @@ fn clean_racy_cut_and_meaningless_programs_are_explained(rt: HostRuntime) {
 #[test]
 fn clean_racy_and_meaningless_traces_are_explained(rt: HostRuntime) {
     check_all(&rt, rt.alloc(), TRACES_EXPLAINED);
+}
+
+/// An illegal request is told with its line, and why it is illegal.
+#[test]
+fn illegal_requests_are_explained(rt: HostRuntime) {
+    check_all(&rt, rt.alloc(), ILLEGAL_EXPLAINED);
 }

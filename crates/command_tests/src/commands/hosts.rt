@@ -5,7 +5,7 @@ ghost use Rattle.command_words.specs.Jobs.{IsInRange};
 ghost use Rattle.tool_commands.specs.Performed.{IsAlone};
 ghost use Rattle.command_streams.specs.Sources.{unknown_sources};
 
-use super::Wanted::{Fault, Lacking, Text};
+use super::Wanted::{Lacking, Text};
 use super::worked::{FIB, PAIR};
 use super::{MOST, Outcome, Wanted, manned, meets, outcome_of};
 use crate::devices::{Breaking, Filling};
@@ -292,6 +292,18 @@ const PARTS: &[(&str, &str)] = &[
     ("bad", "cilk 1\nmem x\nread 0 y\n"),
     ("program", "cilk 1\nfunc main z\nend\n"),
     ("ended", "cilk 1\nmem x\nreturn 0\nread 0 x\n"),
+    (
+        "noted",
+        "cilk 1\nmem x\nmem y\n#of x best\n#of y best\nspawn 0 @5\nwrite 1 x 7 @9\nwrite 1 y 7 @9\nread 2 x @6\nread 2 y @6\n",
+    ),
+    (
+        "alike",
+        "cilk 1\nmem z\nmem top\n#of z best\nspawn 0 @5\nwrite 1 z 3 @9\nwrite 1 top 3 @9\nread 2 z @6\nread 2 top @6\n",
+    ),
+    (
+        "other",
+        "cilk 1\nmem z\nspawn 0 @5\nwrite 1 z 3 @9\nread 2 z @6\n",
+    ),
 ];
 
 /// What is told of the parts where the first two race.
@@ -345,6 +357,30 @@ const BAD: &str = "error: no cell has this name
   = help: declare it before the first request, by `mem NAME`
 ";
 
+/// The second of two parts has a request behind the return of the root function.
+const ENDED: &str = "error: this strand has ended
+ --> ended:4
+  |
+4 | read 0 x
+  | ^^^^^^^^
+  = request 2: strand 0 ended at line 3: `return 0`
+  = help: a spawn and a sync end their strand: `judge` prints the number by which the function goes on. Behind a return there is none
+";
+
+/// Three parts in which the same two places race on five cells, of which three are of one location, and one of another.
+const NOTED: &str = "race: write-read on best and 2 more, 5 times
+  --> line 9
+   = this write
+   = spawned at line 5
+  --> line 6
+   = this read, may run before it or after it
+  --> line 5
+   = here they part: what is spawned comes to line 9, while the spawner goes on to line 6
+   = help: a `sync` in the spawner before line 6 would order them
+
+5 refusals at 1 pair of places, among 13 requests in 3 traces
+";
+
 /// What is done with several parts of a recording.
 const EXPLAINED: &[(Texts<'static>, Deed, Wanted<'static>)] = &[
     (
@@ -363,8 +399,13 @@ const EXPLAINED: &[(Texts<'static>, Deed, Wanted<'static>)] = &[
     (PARTED, Deed::Explain(&["three", "gone"]), Lacking),
     (
         PARTED,
-        Deed::Explain(&["one", "ended"]),
-        Fault(2, "illegal request 2"),
+        Deed::Explain(&["one", "ended", "gone"]),
+        Text(2, ENDED),
+    ),
+    (
+        PARTED,
+        Deed::Explain(&["noted", "alike", "other"]),
+        Text(1, NOTED),
     ),
 ];
 

@@ -11,20 +11,20 @@ use Rattle.other_commands.proofs.explain_traces.Traces.add.Goals as goal
 pub add-requires : goal.add-requires
 add-requires c = record {
   legal = (
-    c.in_ok-gate.gate.shape,
-    subst (λ (xs : List Entry). IsLegal c.in_ok-gate.gate.shape xs) (sym c.history-entries.ensures.entries) c.history-entries.ensures.judged.legal,
+    c.args.gate.now.shape,
+    subst (λ (xs : List Entry). IsLegal c.args.gate.now.shape xs) (sym c.history-entries.ensures.entries) c.history-entries.ensures.judged.legal,
   );
 }
 
-pub returns-clause-ok : goal.returns-clause-ok
-returns-clause-ok c = record {
+pub returns : goal.returns
+returns c = record {
   trace = trace_contents c.args.trace.now;
-  means = c.requires;
-  gate = c.in_ok-gate.gate;
-  answers = c.in_ok-gate.ensures.ok;
+  means = c.requires.means;
+  gate = c.args.gate.now;
+  answers = c.requires.answers;
   entries = c.history-entries.result.now;
   history = c.history-entries.ensures.entries;
-  speaks = clean_trace_law c.in_ok-gate.gate.shape c.in_ok-gate.gate.history c.in_ok-gate.ensures.ok.judges.judged;
+  speaks = clean_trace_law c.args.gate.now.shape c.args.gate.now.history c.requires.answers.judges.judged;
   notes = c.in_ok-notes.notes;
   are_notes = c.in_ok-notes.ensures;
   adds = subst (λ (m : Manner). AddsTrace m.file

@@ -6,7 +6,7 @@ use Rattle.race_gate.specs.Shapes.{shape_of}
 use Rattle.model_histories.specs.Shapes.{most_entries}
 use Rattle.command_streams.specs.Streams.{IsJudgedBy}
 use Rattle.other_commands.specs.Replays.{IsDone}
-use Rattle.other_commands.proofs.replay.answered.Given as goal
+use Rattle.other_commands.proofs.ask.ask_all.Given as goal
 
 -- the requests of the lines so far were answered, and the number is that of the last of them
 abbrev pub invariant-loop-line : goal.invariant-loop-line

@@ -1,17 +1,16 @@
-use Rattle.std.proofs.Common.{◌+◌, ◌++◌, inr, ap, arith, ◌∙◌}
+use Rattle.std.proofs.Common.{◌+◌, ◌++◌, ap, refl, arith, ◌∙◌}
 use Rattle.std.proofs.lemmas.List.{length_push}
 use Rattle.trace_text.specs.Traces.{contents}
 use Rattle.other_commands.proofs.Answering.{answered_more, answers_end}
 use Rattle.command_streams.proofs.TakenLines.{taken_more}
-use Rattle.other_commands.proofs.replay.answered.Goals as goal
+use Rattle.other_commands.proofs.ask.ask_all.Goals as goal
 
-pub returns-in-Err-clause-fault : goal.returns-in-Err-clause-fault
-returns-in-Err-clause-fault g c =
+pub returns-in-Err : goal.returns-in-Err
+returns-in-Err g c =
     let was = c.loop-line.invariant in
-    inr
-    (answers_end c.loop-line.yielded _ _ (contents c.args.trace.now) _ c.loop-line.gate (c.loop-line.number + 1) c.in-Err.fault c.fault_of_request.result
+    rw c.in-Err.ensures.replies.0 (answers_end c.loop-line.yielded _ _ (contents c.args.trace.now) _ c.loop-line.gate _
     (was.whole ∙ ap (λ l. c.loop-line.yielded ++ l) c.in-Some.ensures.steps) (λ j. record { cells = c.in_ok-shape.ensures.cells j; monoids = c.in_ok-shape.ensures.monoids j })
-    was.answered c.in-Err.ensures.replies.1 (omega (arith, was.number)) c.fault_of_request.ensures)
+    was.answered c.in-Err.ensures.replies.1 refl (omega (arith, was.number)))
 
 pub loop-line-preserved : goal.loop-line-preserved
 loop-line-preserved g c =
