@@ -121,8 +121,7 @@ fn tell_unread(rt: &HostRuntime, files: &[String]) {
 fn tell_failure(rt: &HostRuntime, system: &System<'_>, job: &Job, fault: &CliFault) {
     match (job, fault) {
         (Job::Explain { file, .. } | Job::Draw { file, .. }, CliFault::Read)
-            if file.as_str() != INPUT =>
-        {
+            if file.as_str() != INPUT => {
             tell_file(rt, "read", file.as_str(), reason_unread(rt, file.as_str()));
         }
         (Job::ExplainTraces { files, .. }, CliFault::Read) => tell_unread(rt, files.as_slice()),

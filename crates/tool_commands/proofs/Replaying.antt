@@ -11,8 +11,12 @@ pub replayed_so : (program p trace t pb tb wrote writes : Option (List ℕ)) (an
     IfOk answer (λ status. (x : Option (List ℕ)) × (y : Option (List ℕ)) × IsReplayed (reading p x) (reading t y) wrote writes status)
 replayed_so program p trace t pb tb wrote writes answer first second =
     IfOk-weaker answer _ (λ status. (x : Option (List ℕ)) × (y : Option (List ℕ)) × IsReplayed (reading p x) (reading t y) wrote writes status)
-    (λ status is. (pb, tb, subst (λ (a : Option (List ℕ)). IsReplayed (reading a pb) (reading t tb) wrote writes status) first
-    (subst (λ (b : Option (List ℕ)). IsReplayed (reading program pb) (reading b tb) wrote writes status) second is)))
+    (λ status is. (
+      pb,
+      tb,
+      subst (λ (a : Option (List ℕ)). IsReplayed (reading a pb) (reading t tb) wrote writes status) first
+          (subst (λ (b : Option (List ℕ)). IsReplayed (reading program pb) (reading b tb) wrote writes status) second is),
+    ))
 
 -- and the same of what stops it
 pub stopped_so : (program p trace t pb tb wrote writes : Option (List ℕ)) (answer : Result ℕ CliFault) → program ≡ p → trace ≡ t →
@@ -20,5 +24,9 @@ pub stopped_so : (program p trace t pb tb wrote writes : Option (List ℕ)) (ans
     IfErr answer (λ fault. (x : Option (List ℕ)) × (y : Option (List ℕ)) × HasReplayCause (reading p x) (reading t y) wrote writes fault)
 stopped_so program p trace t pb tb wrote writes answer first second =
     IfErr-weaker answer _ (λ fault. (x : Option (List ℕ)) × (y : Option (List ℕ)) × HasReplayCause (reading p x) (reading t y) wrote writes fault)
-    (λ fault is. (pb, tb, subst (λ (a : Option (List ℕ)). HasReplayCause (reading a pb) (reading t tb) wrote writes fault) first
-    (subst (λ (b : Option (List ℕ)). HasReplayCause (reading program pb) (reading b tb) wrote writes fault) second is)))
+    (λ fault is. (
+      pb,
+      tb,
+      subst (λ (a : Option (List ℕ)). HasReplayCause (reading a pb) (reading t tb) wrote writes fault) first
+          (subst (λ (b : Option (List ℕ)). HasReplayCause (reading program pb) (reading b tb) wrote writes fault) second is),
+    ))
