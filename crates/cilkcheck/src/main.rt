@@ -2,25 +2,28 @@
 //!
 //! [`read_args`] reads what the words of the command line ask for; [`check_names`] refuses what would write over a program; [`perform`], or
 //! [`perform_alone`] for what starts no thread, does the job, and carries in its contract what is written for what standard input and the
-//! files hold; [`exit_of`] gives the exit status. What is trusted here is that [`System`] gives the bytes of standard input, and of the
+//! files hold; [`exit_of`] gives the exit status. The clauses of these calls are those of what calls them here. What is trusted here is that [`System`] gives the bytes of standard input, and of the
 //! file with the name that it is asked for, that a file which it creates is empty and then holds what is written, and that it tells two
 //! names of one file.
 #![tactic(auto)]
 
-ghost use Rattle.std.specs.Prelude.{⊤, None, IfOk, ◌≡◌, ◌≤◌, false};
+ghost use Rattle.std.specs.Prelude.{⊤, None, IfOk, IfErr, OnOk, ◌≡◌, ◌≤◌, false, true};
+ghost use Rattle.command_words.specs.Asked.{IsJobOf};
 ghost use Rattle.command_words.specs.Jobs.{IsInRange};
 ghost use Rattle.command_words.specs.Names.{SparesProgram};
 ghost use Rattle.command_streams.specs.Sources.{unknown_sources};
-ghost use Rattle.command_streams.specs.Watched.{has_failed};
+ghost use Rattle.command_streams.specs.Watched.{held, has_failed, is_delivered};
+ghost use Rattle.tool_commands.specs.Performed.{IsPerformed, HasJobCause, IsRecorded};
 
+use std::alloc::Global;
 use std::fs::{self, File};
-use std::io::{self, IsTerminal, Read};
+use std::io::{self, IsTerminal, Read, Write};
 use std::os::unix::fs::MetadataExt;
 use std::process::ExitCode;
 use std::sync::Wait;
 use std::thread::Threads;
 use tool_commands::{
-    CliFault, Host, Job, Watched, check_names, exit_of, perform, perform_alone, read_args,
+    CliFault, Host, INPUT, Job, Watched, check_names, exit_of, perform, perform_alone, read_args,
 };
 
 /// The system's standard input and files. No contract knows what they hold, or whether one can be created.
@@ -117,7 +120,8 @@ fn tell_unread(rt: &HostRuntime, files: &[String]) {
 /// Tells why a job is not done. Of what `judge`, `elide`, `run` and `replay` read their one word tells.
 fn tell_failure(rt: &HostRuntime, system: &System<'_>, job: &Job, fault: &CliFault) {
     match (job, fault) {
-        (Job::Explain { file, .. } | Job::Draw { file, .. }, CliFault::Read) => {
+        (Job::Explain { file, .. } | Job::Draw { file, .. }, CliFault::Read)
+            if file.as_str() != INPUT => {
             tell_file(rt, "read", file.as_str(), reason_unread(rt, file.as_str()));
         }
         (Job::ExplainTraces { files, .. }, CliFault::Read) => tell_unread(rt, files.as_slice()),
@@ -139,6 +143,7 @@ fn tell_input(rt: &HostRuntime, job: &Job) {
 
 /// What the words of the command line ask for: a job whose trace is not written over its program.
 fn job_of(rt: &HostRuntime, host: &Watched<System<'_>>) -> Result<Job, CliFault>
+    ensures job { IfOk result (λ job. (words : _) × IsJobOf words job) }
     ensures ranges { IfOk result IsInRange }
     ensures spared { IfOk result (SparesProgram (λ _ _ _. ⊤)) }
 {
@@ -147,23 +152,31 @@ fn job_of(rt: &HostRuntime, host: &Watched<System<'_>>) -> Result<Job, CliFault>
     Ok(job)
 }
 
-/// Does the job. What starts no thread is done without the leave to start one.
-fn done<R: Threads + Wait + Sync>(
+/// Does the job as [`perform`] does it. What starts no thread is done without the leave to start one.
+fn done<R: Threads + Wait + Sync, H: Host, W: Write>(
     threads: &R,
-    rt: &HostRuntime,
-    host: &mut Watched<System<'_>>,
+    alloc: Global,
+    host: &mut Watched<H>,
     job: &Job,
+    output: &mut Watched<W>,
 ) -> Result<u8, CliFault>
     requires host { has_failed host.old ≡ false }
+    requires writer { has_failed output.old ≡ false }
     requires ranges { IsInRange job.now }
-    ensures { IfOk result (λ status. status ≤ 4) }
+    ensures done { IfOk result (IsPerformed (H.sources (held host.old)) job.now
+        (W.contents (held output.old)) (W.contents (held output.new))) }
+    ensures fault { IfErr result (HasJobCause (H.sources (held host.old)) job.now
+        (W.contents (held output.old)) (W.contents (held output.new))) }
+    ensures status { IfOk result (λ status. status ≤ 4) }
+    ensures delivered { OnOk result (is_delivered output.new ≡ true) }
+    ensures recorded { IfOk result (IsRecorded (H.sources (held host.old)) job.now (H.blank (held host.old)) (H.made (held host.new))
+        (W.contents (held output.old)) (W.contents (held output.new))) }
 {
-    let mut output = Watched::new(io::writer(rt));
     match job {
         Job::Run { .. } | Job::Record { .. } | Job::Explain { .. } | Job::ExplainInput { .. } => {
-            perform(threads, rt.alloc(), host, job, &mut output)
+            perform(threads, alloc, host, job, output)
         }
-        job => perform_alone(rt.alloc(), host, job, &mut output),
+        job => perform_alone(alloc, host, job, output),
     }
 }
 
@@ -183,7 +196,8 @@ fn answer_of<R: Threads + Wait + Sync>(threads: &R, rt: &HostRuntime) -> Result<
         }
     };
     tell_input(rt, &job);
-    let answer = done(threads, rt, &mut host, &job);
+    let mut output = Watched::new(io::writer(rt));
+    let answer = done(threads, rt.alloc(), &mut host, &job, &mut output);
     if let Err(fault) = &answer {
         tell_failure(rt, &host.into_inner(), &job, fault);
     }

@@ -114,7 +114,9 @@ impl Deed {
     fn names(self) -> (&'static str, &'static str) {
         match self {
             Deed::JudgeInput | Deed::Explain(_) => ("", ""),
-            Deed::Judge(name) | Deed::Elide(name) | Deed::Draw(name) | Deed::Show(name) => (name, ""),
+            Deed::Judge(name) | Deed::Elide(name) | Deed::Draw(name) | Deed::Show(name) => (
+                name, "",
+            ),
             Deed::Replay(program, trace) => (program, trace),
         }
     }

@@ -16,8 +16,7 @@ const NO_FILE: &str = "no file is given; see 'cilkcheck --help'";
 const OVER_PROGRAM: &str =
     "the trace would be written over the program: name another file with '--trace <OUT>'";
 
-const OVER_REPORT: &str =
-    "standard output has the report: name a file with '--trace <OUT>'";
+const OVER_REPORT: &str = "standard output has the report: name a file with '--trace <OUT>'";
 
 const OF_INPUT: &str =
     "a trace belongs to a program that is in a file, which is not standard input: name it";
@@ -199,10 +198,7 @@ const LINES: &[(&str, Asks<'static>)] = &[
         "judge -",
         Does("Judge { file: Some(\"-\"), limit: 1000000 }"),
     ),
-    (
-        "elide - --limit 4",
-        Does("Elide { file: \"-\", limit: 4 }"),
-    ),
+    ("elide - --limit 4", Does("Elide { file: \"-\", limit: 4 }")),
     (
         "run - --workers 3",
         Does("Run { file: \"-\", workers: 3, limit: 1000000 }"),
