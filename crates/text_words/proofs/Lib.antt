@@ -2,5 +2,3 @@ pub mod Pieces
 pub mod WordsOfLine
 pub mod IndexLemmas
 pub mod Decided
-pub mod Numbers
-pub mod SlotLemmas

@@ -5,4 +5,3 @@ pub mod Causes
 pub mod Names
 pub mod Declarations
 pub mod Index
-pub mod Slots
