@@ -195,3 +195,17 @@ loop-text-smaller g c =
     let within = (rw slice at (c.in-Ok.ensures first.bytes first.begun_with)).0 in
     let left = ap length c.remove_front.ensures in
     omega (arith, inv.size, pieces.reached (search rules), pieces.short, left, length-drop c.in-Ok.taken new, within)
+
+pub overflow_add-count : goal.overflow_add-count
+overflow_add-count g c =
+    let inv = c.loop-text.invariant in
+    let before = g.R.Read.remaining (held c.args.input.now) in
+    let now = g.R.Read.remaining (held c.loop-text.input) in
+    let next = g.R.Read.remaining (held c.read_until.new.input) in
+    let pieces = c.in_ok-read_until.ensures.taken in
+    let new : List ℕ = c.read_until.new.text.items in
+    let slice : c.as_slice.result.now ≡ new = c.as_slice.ensures.value in
+    let first = on_read (c.requires.begun.0 ++ c.args.text.items) before now next c.loop-text.count c.loop-text.size c.loop-text.begun c.loop-text.text.items new _ pieces
+    (inv.read c.requires.begun.0 c.requires.begun.1 c.requires.begun.2) in
+    let within = (rw slice at (c.in-Ok.ensures first.bytes first.begun_with)).0 in
+    omega (arith, pieces.short, within)
