@@ -1,5 +1,5 @@
 -- Faults that are told behind others.
-use Rattle.std.proofs.Common.{◌≡◌, ℕ, ◌-◌, ◌<◌, Bool, true, false, List, [], ◌∷◌, ◌++◌, refl, sym, subst, ap, ◌∙◌, append_assoc, append-nil}
+use Rattle.std.proofs.Common.{◌≡◌, ℕ, ◌-◌, ◌<◌, Bool, true, false, List, [], ◌∷◌, ◌++◌, sym, subst, ap, ◌∙◌, append_assoc, append-nil}
 use Rattle.text_words.specs.Text.{lines}
 use Rattle.std.specs.Prelude.{Option, Some, None, MatchOption}
 use Rattle.source_quotes.specs.declared.meant.Meant.{Meant}

@@ -8,7 +8,7 @@ use Rattle.source_quotes.specs.declared.meant.Meant.{Meant}
 use Rattle.source_quotes.specs.declared.meant.Meant.TheVariants.{Program, Trace}
 use Rattle.source_quotes.specs.Lines.{line_in}
 use Rattle.fault_lists.specs.declared.opening.Opening.{Opening}
-use Rattle.fault_lists.specs.declared.opening.Opening.TheVariants.{Declares, Begins, Ends, Turns, Assigns, Gets, Acts, Other}
+use Rattle.fault_lists.specs.declared.opening.Opening.TheVariants.{Declares, Begins, Ends, Turns, Assigns, Gets, Other}
 use Rattle.fault_lists.specs.declared.doubt.Structure.{Structure}
 use Rattle.fault_lists.specs.declared.doubt.LineSort.{LineSort}
 use Rattle.fault_lists.specs.declared.doubt.LineSort.TheVariants.{Beginning, Ending, OfProgram}
