@@ -1,40 +1,31 @@
 -- Names in a list: how they are found and added.
-use Rattle.std.proofs.Common.{◌≡◌, ℕ, ◌+◌, ◌∷◌, ◌++◌, [], List, Bool, true, false, cond, map, refl, sym, ap, ◌∙◌}
-use Rattle.std.specs.Prelude.{Option, Some, option_map, position, ◌||◌}
+use Rattle.std.proofs.Common.{◌≡◌, ℕ, ◌+◌, ◌∷◌, ◌++◌, [], List, Bool, true, false, cond, refl, sym, ap, ◌∙◌}
+use Rattle.std.specs.Prelude.{Option, Some, None, Result, Ok, Err, OnOk, option_map, is_some, position, ◌||◌}
 use Rattle.std.specs.List.{list_any, position_from}
 use Rattle.std.specs.Str.{bytes_eq}
 use Rattle.std.proofs.lemmas.Iterator.Adapters.{position_from-zero}
-use Rattle.indexmap.specs.IndexSet.{insert_key}
-use denote.Ref.{Bor}
 use Rattle.program_lines.specs.Scopes.{ok_word, register_named, function_named, with_name}
 
-abbrev pub now_of : Bor (List ℕ) → List ℕ
-now_of key = key.now
+any_by : (b : Bool) (from : ℕ) (rest : Bool) (o : Option ℕ) → rest ≡ is_some o → (b || rest) ≡ is_some (cond b (Some from) o)
+any_by true from rest o e = refl
+any_by false from rest o e = e
 
-any_now : (test : List ℕ → Bool) (keys : List (Bor (List ℕ))) → list_any (λ (key : Bor (List ℕ)). test key.now) keys ≡ list_any test (map now_of keys)
-any_now test [] = refl
-any_now test (key ∷ keys) = ap (λ (b : Bool). test key.now || b) (any_now test keys)
+any_position : {X : Type 0} (test : X → Bool) (from : ℕ) (xs : List X) → list_any test xs ≡ is_some (position_from test from xs)
+any_position test from [] = refl
+any_position test from (x ∷ xs) = any_by (test x) from (list_any test xs) (position_from test (from + 1) xs) (any_position test (from + 1) xs)
 
-push_now : (keys : List (Bor (List ℕ))) (key : Bor (List ℕ)) → map now_of (keys ++ key ∷ []) ≡ map now_of keys ++ key.now ∷ []
-push_now [] key = refl
-push_now (first ∷ keys) key = ap (λ (names : List (List ℕ)). first.now ∷ names) (push_now keys key)
+added_by : (names : List (List ℕ)) (name : List ℕ) (o : Option ℕ) → function_named names name ≡ o → cond (is_some o) names (names ++ name ∷ []) ≡ with_name names name
+added_by names name o e = sym (ap (λ (b : Bool). cond b names (names ++ name ∷ [])) (any_position (bytes_eq name) 0 names ∙ ap is_some e))
 
-added_by : (b : Bool) (keys : List (Bor (List ℕ))) (key : Bor (List ℕ)) → map now_of (cond b keys (keys ++ key ∷ [])) ≡ cond b (map now_of keys) (map now_of keys ++ key.now ∷ [])
-added_by true keys key = refl
-added_by false keys key = push_now keys key
+pub name_there : (names : List (List ℕ)) (name : List ℕ) (number : ℕ) → function_named names name ≡ Some number → names ≡ with_name names name
+name_there names name number e = added_by names name (Some number) e
 
-pub names_added : (keys more : List (Bor (List ℕ))) (key : Bor (List ℕ)) → more ≡ insert_key (λ (x y : Bor (List ℕ)). bytes_eq x.now y.now) keys key → map now_of more ≡ with_name (map now_of keys) key.now
-names_added keys more key e =
-    ap (map now_of) e
-    ∙ (added_by (list_any (λ (x : Bor (List ℕ)). bytes_eq key.now x.now) keys) keys key
-    ∙ ap (λ (b : Bool). cond b (map now_of keys) (map now_of keys ++ key.now ∷ [])) (any_now (bytes_eq key.now) keys))
+pub name_new : (names : List (List ℕ)) (name : List ℕ) → function_named names name ≡ None → names ++ name ∷ [] ≡ with_name names name
+name_new names name e = added_by names name None e
 
-position_now : (test : List ℕ → Bool) (from : ℕ) (keys : List (Bor (List ℕ))) → position_from (λ (key : Bor (List ℕ)). test key.now) from keys ≡ position_from test from (map now_of keys)
-position_now test from [] = refl
-position_now test from (key ∷ keys) = ap (λ (o : Option ℕ). cond (test key.now) (Some from) o) (position_now test (from + 1) keys)
-
-pub function_found : (keys : List (Bor (List ℕ))) (name : List ℕ) (o : Option ℕ) → o ≡ position (λ (key : Bor (List ℕ)). bytes_eq name key.now) keys → o ≡ function_named (map now_of keys) name
-function_found keys name o e = e ∙ (position_from-zero (λ (key : Bor (List ℕ)). bytes_eq name key.now) keys ∙ position_now (bytes_eq name) 0 keys)
+pub on_ok : {T E : Type 0} (r : Result T E) (P Q : Type 0) → (P → Q) → OnOk r P → OnOk r Q
+on_ok (Ok x) P Q f h = f h
+on_ok (Err e) P Q f h = tt
 
 shifted_by : (b : Bool) (from : ℕ) (o p : Option ℕ) → p ≡ option_map (λ n. n + 1) o → cond b (Some (from + 1)) p ≡ option_map (λ n. n + 1) (cond b (Some from) o)
 shifted_by true from o p e = refl

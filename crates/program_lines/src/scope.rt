@@ -4,33 +4,30 @@ ghost use Rattle.std.specs.Prelude.{◌≡◌, ◌≤◌, [], OnOk, OnErr, lengt
 ghost use Rattle.std.specs.Str.{bytes_eq};
 ghost use Rattle.program_lines.specs.Scopes.{max_functions_named, max_registers, register_named, function_named, with_name};
 
-use indexmap::IndexSet;
 use model_bodies::Register;
 use std::alloc::{AllocError, Allocator};
-use std::hash::{BuildHasherDefault, FoldHasher};
 use std::marker::Model;
-use text_words::{Name, Names};
+use text_words::{Name, NameIndex, Names};
 
 /// The most names of functions that are kept, since they are numbered by 32 bits.
 pub const FUNCTION_NAMES: usize = 4_294_967_295;
 
-/// The names of a text's functions, each once, in the order of the lines that make them known. They are found in constant time. Contracts
-/// see the list of the names.
+/// The names of a text's functions, each once, in the order of the lines that make them known. They are found in logarithmic time.
+/// Contracts see the list of the names.
 #[derive(Drop)]
 pub struct FunctionNames<'a, A: Allocator> {
-    names: IndexSet<&'a str, BuildHasherDefault<FoldHasher>, A>,
+    names: NameIndex<'a, A>,
 }
 
 impl<'a, A: Allocator> Model for FunctionNames<'a, A> {
-    ghost use Rattle.std.specs.Prelude.{ℕ, ◌≤◌, List, map, length};
+    ghost use Rattle.std.specs.Prelude.{ℕ, ◌≤◌, List, length};
     ghost use Rattle.program_lines.specs.Scopes.{max_functions_named};
-    ghost use denote.Ref.{Bor};
 
     ghost Value = { List (List ℕ) };
 
-    ghost view = { λ functions. map (λ (name : Bor (List ℕ)). name.now) functions.names.keys };
+    ghost view = { λ functions. functions.names };
 
-    ghost invariant = { λ functions. length functions.names.keys ≤ max_functions_named };
+    ghost invariant = { λ functions. length functions.names ≤ max_functions_named };
 }
 
 impl<'a, A: Allocator + Copy> FunctionNames<'a, A> {
@@ -39,7 +36,7 @@ impl<'a, A: Allocator + Copy> FunctionNames<'a, A> {
         ensures { result ≡ [] }
     {
         FunctionNames {
-            names: IndexSet::new(alloc),
+            names: NameIndex::new(alloc),
         }
     }
 
@@ -59,15 +56,17 @@ impl<'a, A: Allocator + Copy> FunctionNames<'a, A> {
         if self.names.len() >= FUNCTION_NAMES {
             return Err(AllocError);
         }
-        self.names.insert(name)?;
-        Ok(())
+        match self.names.find(name.as_bytes()) {
+            Some(_) => Ok(()),
+            None => self.names.add(name.as_bytes()),
+        }
     }
 
     /// The number of the function of that name, from 0 on.
     pub fn find(&self, name: &str) -> Option<u32>
         ensures { result ≡ function_named self.now name.now }
     {
-        match self.names.get_index_of(name) {
+        match self.names.find(name.as_bytes()) {
             Some(number) => Some(number as u32),
             None => None,
         }

@@ -1,9 +1,6 @@
 -- The index of names, which finds what a name stands for.
-use Rattle.std.specs.Prelude.{◌≡◌, ℕ, ◌+◌, ◌≤◌, cond, ◌⊎◌, Option, Some, None, List, length, option_map}
+use Rattle.std.specs.Prelude.{◌≡◌, ℕ, ◌+◌, ◌≤◌, cond, ◌⊎◌, Option, Some, None, List, length, slice_get, option_map}
 use Rattle.std.specs.List.{All}
-use Rattle.std.specs.Map.{lookup}
-use Rattle.std.specs.Str.{bytes_eq}
-use denote.Ref.{Bor}
 use Rattle.text_words.specs.declared.names.Named.{Named}
 use Rattle.text_words.specs.declared.names.Named.TheVariants.{Single, Array, Reducer}
 use Rattle.text_words.specs.declared.value.Mem.{Mem}
@@ -13,6 +10,7 @@ use Rattle.model_reducers.specs.Limits.{most_reducers}
 use Rattle.text_words.specs.Values.{Known}
 use Rattle.text_words.specs.Names.{memory_named, reducer_named}
 use Rattle.text_words.specs.Declarations.{cells_of}
+use Rattle.text_words.specs.Slots.{number_of}
 
 -- its cells are among the most that a text has
 abbrev pub IsInRange : Mem → Type 0
@@ -33,11 +31,17 @@ named known name = named_by (memory_named known.mems name) (reducer_named known.
 abbrev pub IsApart : Known → List ℕ → Type 0
 IsApart known name = (memory_named known.mems name ≡ None) ⊎ (reducer_named known.reducers name ≡ None)
 
+-- what the name with that number stands for
+abbrev pub meaning_at : List Named → Option ℕ → Option Named
+meaning_at meanings None = None
+meaning_at meanings (Some number) = slice_get meanings number
+
 -- the index finds what each name stands for, what is found is a name, and the cells are counted
-pub record IsIndexed (known : Known) (cells : ℕ) (entries : List (Bor (List ℕ) × Named)) : Type 0 where
-  pub finds : (name : List ℕ) → lookup (λ (key : Bor (List ℕ)). bytes_eq name key.now) entries ≡ named known name
+pub record IsIndexed (known : Known) (cells : ℕ) (names : List (List ℕ)) (meanings : List Named) : Type 0 where
+  pub finds : (name : List ℕ) → meaning_at meanings (number_of names name) ≡ named known name
+  pub paired : length names ≡ length meanings
   pub apart : (name : List ℕ) → IsApart known name
-  pub names : (name : List ℕ) (found : Named) → named known name ≡ Some found → IsName name
+  pub named_only : (name : List ℕ) (found : Named) → named known name ≡ Some found → IsName name
   pub counted : cells ≡ cells_of known.mems
   pub few_cells : cells ≤ most_cells
   pub few_reducers : length known.reducers ≤ most_reducers

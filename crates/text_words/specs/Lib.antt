@@ -5,3 +5,4 @@ pub mod Causes
 pub mod Names
 pub mod Declarations
 pub mod Index
+pub mod Slots

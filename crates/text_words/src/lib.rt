@@ -12,6 +12,7 @@
 mod asked;
 mod fault;
 mod name;
+mod name_index;
 mod names;
 mod spelling;
 mod value;
@@ -22,6 +23,7 @@ pub use fault::{Cause, TextFault, both};
 pub use model_accesses::{Act, Asked, Request};
 pub use model_reducers::Monoid;
 pub use name::{NAME_LEN, Name, is_name};
+pub use name_index::{MOST_NAMES, NameIndex};
 pub use names::{Named, Names};
 pub use spelling::{monoid_of, monoid_word, version_word};
 pub use value::{Items, Mem, Mems, Monoids, Reducer, Reducers, Shape, TraceLine, Version};

@@ -10,11 +10,10 @@ ghost use Rattle.text_words.specs.Declarations.{cells_of, memory_from, with_memo
 ghost use Rattle.text_words.specs.Index.{named, name_of_memory, IsApart, IsInRange};
 
 use crate::name::Name;
+use crate::name_index::NameIndex;
 use crate::value::{Mem, Reducer, Version};
-use indexmap::IndexMap;
 use model_reducers::Monoid;
 use std::alloc::{AllocError, Allocator};
-use std::hash::{BuildHasherDefault, FoldHasher};
 use std::marker::Model;
 
 /// What a name stands for.
@@ -74,14 +73,16 @@ fn hint_of(name: &[u8]) -> usize
     usize::from(hint)
 }
 
-/// The declarations of a text, whose names are found in constant time. Contracts see the version and the lists of declarations.
+/// The declarations of a text, whose names are found in logarithmic time. Contracts see the version and the lists of declarations.
 #[derive(Drop)]
 pub struct Names<'a, A: Allocator> {
     version: Version,
     mems: Vec<Mem, A>,
     reducers: Vec<Reducer, A>,
     cells: u32,
-    index: IndexMap<&'a str, Named, BuildHasherDefault<FoldHasher>, A>,
+    index: NameIndex<'a, A>,
+    // What each name of the index stands for.
+    meanings: Vec<Named, A>,
     // Where in the index the newest name with that hint stands. Nothing rests on it but speed.
     hints: [usize; HINTS],
 }
@@ -96,7 +97,7 @@ impl<'a, A: Allocator> Model for Names<'a, A> {
 
     ghost invariant = { λ names.
         IsIndexed (record { version = names.version; mems = names.mems.items; reducers = names.reducers.items })
-        names.cells names.index.entries };
+        names.cells names.index names.meanings.items };
 }
 
 impl<'a, A: Allocator + Copy> Names<'a, A> {
@@ -109,7 +110,8 @@ impl<'a, A: Allocator + Copy> Names<'a, A> {
             mems: Vec::new(alloc),
             reducers: Vec::new(alloc),
             cells: 0,
-            index: IndexMap::new(alloc),
+            index: NameIndex::new(alloc),
+            meanings: Vec::new(alloc),
             hints: [0; HINTS],
         }
     }
@@ -138,8 +140,9 @@ impl<'a, A: Allocator + Copy> Names<'a, A> {
         ensures apart { IsApart self.now name.now }
         ensures in_range { All IsInRange self.now.mems }
     {
-        match self.index.get_index(self.hints[hint_of(name)]) {
-            Some((key, found)) if key.as_bytes() == name => Some(*found),
+        let number = self.hints[hint_of(name)];
+        match (self.index.get(number), self.meanings.get(number)) {
+            (Some(key), Some(found)) if key == name => Some(*found),
             _ => self.searched(name),
         }
     }
@@ -149,9 +152,9 @@ impl<'a, A: Allocator + Copy> Names<'a, A> {
     fn searched(&self, name: &[u8]) -> Option<Named>
         ensures { result ≡ named self.now name.now }
     {
-        match str::from_utf8(name) {
-            Ok(name) => self.index.get(name).copied(),
-            Err(_) => None,
+        match self.index.find(name) {
+            Some(number) => self.meanings.get(number).copied(),
+            None => None,
         }
     }
 
@@ -185,21 +188,17 @@ impl<'a, A: Allocator + Copy> Names<'a, A> {
         ensures err { OnErr result (self.new ≡ self.old) }
     {
         let mem = memory(at, self.cells, name, length);
-        let named = named_of(&mem);
+        let meaning = named_of(&mem);
         let cells = mem.cells;
-        let place = self.index.len();
-        self.mems.push(mem)?;
-        match self.index.insert(name, named) {
-            Ok(_) => {
-                self.hints[hint_of(name.as_bytes())] = place;
-                self.cells += cells;
-                Ok(())
-            }
-            Err(_) => {
-                self.mems.pop();
-                Err(AllocError)
-            }
-        }
+        let number = self.index.len();
+        self.mems.reserve(1)?;
+        self.meanings.reserve(1)?;
+        self.index.add(name.as_bytes())?;
+        self.mems.push_reserved(mem);
+        self.meanings.push_reserved(meaning);
+        self.hints[hint_of(name.as_bytes())] = number;
+        self.cells += cells;
+        Ok(())
     }
 
     /// Adds a reducer.
@@ -210,23 +209,19 @@ impl<'a, A: Allocator + Copy> Names<'a, A> {
         ensures ok { OnOk result (self.new ≡ with_reducer at self.old name.now monoid) }
         ensures err { OnErr result (self.new ≡ self.old) }
     {
-        let number = self.reducers.len() as u32;
-        let place = self.index.len();
-        self.reducers.push(Reducer {
+        let meaning = Named::Reducer(self.reducers.len() as u32);
+        let number = self.index.len();
+        self.reducers.reserve(1)?;
+        self.meanings.reserve(1)?;
+        self.index.add(name.as_bytes())?;
+        self.reducers.push_reserved(Reducer {
             name: Name::new(name),
             monoid,
             line: at,
-        })?;
-        match self.index.insert(name, Named::Reducer(number)) {
-            Ok(_) => {
-                self.hints[hint_of(name.as_bytes())] = place;
-                Ok(())
-            }
-            Err(_) => {
-                self.reducers.pop();
-                Err(AllocError)
-            }
-        }
+        });
+        self.meanings.push_reserved(meaning);
+        self.hints[hint_of(name.as_bytes())] = number;
+        Ok(())
     }
 
     /// The version and the declarations.
@@ -239,6 +234,7 @@ impl<'a, A: Allocator + Copy> Names<'a, A> {
             reducers,
             cells: _,
             index: _,
+            meanings: _,
             hints: _,
         } = self;
         (version, mems, reducers)

@@ -1,9 +1,10 @@
-use Rattle.std.specs.Prelude.{Some, None}
-use Rattle.program_lines.proofs.NameLists.{function_found}
+use Rattle.std.proofs.Common.{◌≤◌, length, sym, arith}
+use Rattle.text_words.proofs.Numbers.{number_at}
 use Rattle.program_lines.proofs.scope.FunctionNames.find.Goals as goal
 
-pub returns-in-Some : goal.returns-in-Some
-returns-in-Some g c = rw (← c.self.view_is) (function_found c.self.inside.names.keys c.args.name.now (Some c.in-Some.number) c.in-Some.ensures.index)
-
-pub returns-in-None : goal.returns-in-None
-returns-in-None g c = rw (← c.self.view_is) (function_found c.self.inside.names.keys c.args.name.now None c.in-None.ensures.index)
+pub overflow_cast-result : goal.overflow_cast-result
+overflow_cast-result g c =
+    let names = c.self.inside.names in
+    let at = number_at names c.as_bytes.result.now c.in-Some.number (sym c.in-Some.ensures) in
+    let few : length names ≤ 4294967295 = c.self.invariant in
+    omega (arith, at.0, few)
