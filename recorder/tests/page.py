@@ -1,5 +1,5 @@
 #!/usr/bin/env python3
-"""Runs the commands of docs/C-PROGRAMS.md in an empty folder, by gcc, and compares what they print.
+"""Runs the commands of docs/GUIDE.md for C programs in an empty folder, by gcc, and compares what they print.
 
     page.py [--cilkcheck PATH] [--wrappers FOLDER] [--expect N]
 
@@ -8,6 +8,7 @@
   on the PATH; `$?` is the status of the one before.
 - A block ```diff has the lines that the mended example FILE_mended.c takes out of FILE and puts into it, which is then done in the folder.
 - Each block ```sh-session of README.md stands on that page, too.
+- .ci/pages runs and compares the other kinds of blocks (OTHERS).
 """
 import difflib
 import os
@@ -19,8 +20,9 @@ from pathlib import Path
 
 import harness
 
-README, PAGE = (harness.RECORDER.parent / it for it in ("README.md", "docs/C-PROGRAMS.md"))
+README, PAGE = (harness.RECORDER.parent / it for it in ("README.md", "docs/GUIDE.md"))
 EXAMPLES = harness.RECORDER / "examples"
+OTHERS = ("cilk", "console")
 
 
 class Reader:
@@ -38,7 +40,7 @@ class Reader:
     def check(self, line, holds, said):
         self.checks += 1
         if not holds:
-            self.failures += harness.shown([f"C-PROGRAMS.md:{line}: {said}"])
+            self.failures += harness.shown([f"GUIDE.md:{line}: {said}"])
 
     def take_file(self, line, name, text):
         self.source = name
@@ -88,7 +90,7 @@ def main():
             elif words[0] == "sh-session":
                 for it in commands(line, text):
                     reader.run(*it)
-            else:
+            elif words[0] not in OTHERS:
                 reader.check(line, False, f"a block of another kind: {words}")
         page = [text for _, _, text in blocks(PAGE.read_text())]
         for line, words, text in blocks(README.read_text()):
