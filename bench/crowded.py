@@ -1,4 +1,4 @@
-"""Names that were chosen to fall into the same places of the index of names, which hashes with a fixed seed."""
+"""Names that are chosen to collide in the index of names, which hashes with a fixed seed."""
 import subprocess
 
 # Prints so many names of eight letters, digits and underscores, whose places agree as is asked.
