@@ -1,5 +1,4 @@
-"""What the measures of this folder share: the plain-Rust program beside ours, and what the two cost. The least of several runs counts, taken
-in turns."""
+"""What the benchmarks share: the plain-Rust program, and the costs of both programs. The least of several runs in turns counts."""
 import hashlib
 import math
 import os
@@ -16,7 +15,7 @@ RUNS = int(os.environ.get("RUNS", "7"))
 
 
 def instructions(command, given=os.devnull):
-    """How many instructions a run takes that reads this file, which no load of the machine changes. None without valgrind."""
+    """How many instructions a run takes that reads this file, independent of the machine's load. None without valgrind."""
     if not shutil.which("valgrind"):
         return None
     words = ["valgrind", "--tool=callgrind", "--callgrind-out-file=/dev/null", *map(str, command)]
@@ -26,8 +25,8 @@ def instructions(command, given=os.devnull):
 
 
 def peer():
-    """The independent plain-Rust program of the folder PEER (../shared/peer), which has the same command line: the file that it is built
-    into, and the folder of the inputs that it makes. None where it is not there."""
+    """The independent plain-Rust program of the folder PEER (../shared/peer), with the same command line: its file, and the folder of the
+    inputs that it makes. None without that folder."""
     folder = os.environ.get("PEER", f"{ROOT}/../shared/peer")
     if not os.path.isdir(folder) or not shutil.which("cargo"):
         return None

@@ -1,4 +1,4 @@
-"""The programs that are run and elided: each in two sizes, clean, and of another shape."""
+"""The programs of bench/run and bench/elide: clean, each of another shape, in two sizes."""
 from pathlib import Path
 
 HERE = Path(__file__).resolve().parent

@@ -1,4 +1,4 @@
-"""Traces to be judged: of each of seven shapes, and of one at which no order list is to be slow, legal requests from a seed."""
+"""Traces for `judge`, with legal requests from a seed: of seven shapes, and of one that is hard for order lists."""
 import random
 from collections import deque
 from pathlib import Path
