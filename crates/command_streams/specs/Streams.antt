@@ -14,7 +14,7 @@ use Rattle.model_races.specs.Judged.{IsJudged}
 use Rattle.model_histories.specs.Replies.{JudgesAll}
 use Rattle.command_streams.specs.declared.fault.CliFault.{CliFault}
 use Rattle.command_streams.specs.declared.fault.CliFault.TheVariants.{Usage, Read, Write, TooLong, Trace, Memory}
-use Rattle.race_report.specs.VerdictText.{verdict_text}
+use Rattle.verdict_lines.specs.VerdictText.{verdict_text}
 
 -- the most bytes that are read, and how often a reader is asked for them
 abbrev pub most_bytes : ℕ

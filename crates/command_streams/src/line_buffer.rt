@@ -2,7 +2,7 @@
 
 ghost use Rattle.std.specs.Prelude.{◌≡◌, ◌↔◌, ◌+◌, ◌≤◌, ◌++◌, [], length, take, IfOk, IsTrue};
 ghost use Rattle.trace_text.specs.Shapes.{name_in};
-ghost use Rattle.race_report.specs.VerdictText.{HasWords, line_of_reply};
+ghost use Rattle.verdict_lines.specs.VerdictText.{HasWords, line_of_reply};
 ghost use Rattle.command_streams.specs.ElisionText.{cell_line, requests_line, HasShortName};
 ghost use Rattle.command_streams.specs.Watched.{held, has_failed};
 ghost use Rattle.command_streams.specs.LineBuffers.{most_filled};
@@ -11,11 +11,11 @@ ghost use Rattle.command_streams.specs.Tellings.{TellsMore};
 use crate::streams::write_bytes;
 use crate::watched::Watched;
 use race_gate::Reply;
-use race_report::{Counted, LINE_ROOM, put_told, put_verdict, put_word};
 use std::alloc::{AllocError, Allocator};
 use std::io::Write;
 use std::marker::Model;
 use text_words::Mem;
+use verdict_lines::{Counted, LINE_ROOM, put_told, put_verdict, put_word};
 
 /// How many bytes of lines wait at most before they are written.
 const MOST_HELD: usize = 65_536;

@@ -6,7 +6,7 @@ use Rattle.model_accesses.specs.Table.{spelling}
 use Rattle.model_accesses.specs.declared.request.Act.{Act}
 use Rattle.model_histories.specs.declared.answer.Answer.{Answer}
 use Rattle.model_histories.specs.declared.answer.Answer.TheVariants.{Refused, Unset}
-use Rattle.race_report.specs.VerdictText.{kind_asked, refusal_word}
+use Rattle.verdict_lines.specs.VerdictText.{kind_asked, refusal_word}
 use Rattle.dag_drawing.specs.declared.drawing.Access.{Access}
 use Rattle.dag_drawing.specs.declared.drawing.Edge.{Edge}
 use Rattle.dag_drawing.specs.declared.drawing.EdgeKind.{EdgeKind}

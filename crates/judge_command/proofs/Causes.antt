@@ -4,7 +4,7 @@ use Rattle.std.specs.Prelude.{Bool, Result, Ok, Err, IfOk, IfErr}
 use Rattle.std.specs.Io.KnownBytes.{Appends}
 use Rattle.text_words.specs.Values.{Contents}
 use Rattle.model_histories.specs.declared.reply.Reply.{Reply}
-use Rattle.race_report.specs.VerdictText.{verdict_text}
+use Rattle.verdict_lines.specs.VerdictText.{verdict_text}
 use Rattle.command_streams.specs.declared.fault.CliFault.{CliFault}
 use Rattle.command_streams.specs.declared.fault.CliFault.TheVariants.{Read, Write, TooLong, Trace, Memory}
 use Rattle.judge_command.specs.declared.judge.Verdicts.{Verdicts}

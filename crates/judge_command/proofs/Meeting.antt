@@ -13,8 +13,8 @@ use Rattle.model_histories.specs.Replies.{Judges, JudgesAll}
 use Rattle.model_races.specs.Judged.{IsJudged}
 use Rattle.race_gate.specs.Cores.{CoreState, IsCoreOf}
 use Rattle.race_gate.proofs.Lists.{JudgesAll-more}
-use Rattle.race_report.specs.VerdictText.{HasWords, line_of_reply, verdict_text}
-use Rattle.race_report.proofs.GateWords.{replies_have_words}
+use Rattle.verdict_lines.specs.VerdictText.{HasWords, line_of_reply, verdict_text}
+use Rattle.verdict_lines.proofs.GateWords.{replies_have_words}
 use Rattle.judge_command.specs.declared.status.Met.{Met}
 use Rattle.judge_command.specs.declared.judge.Verdicts.{Verdicts}
 use Rattle.command_streams.specs.Streams.{declared_shape, requests_of}

@@ -7,7 +7,7 @@ use Rattle.model_histories.specs.declared.reply.Reply.{Reply}
 use Rattle.model_histories.specs.States.{State}
 use Rattle.race_gate.specs.Cores.{CoreState, IsCoreOf}
 use Rattle.model_histories.specs.Replies.{JudgesAll}
-use Rattle.race_report.specs.VerdictText.{verdict_text}
+use Rattle.verdict_lines.specs.VerdictText.{verdict_text}
 use Rattle.judge_command.specs.declared.status.Met.{Met}
 use Rattle.judge_command.specs.declared.judge.Verdicts.{Verdicts}
 use Rattle.command_streams.specs.Tellings.{IsTold}

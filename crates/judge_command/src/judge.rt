@@ -17,7 +17,7 @@ ghost use Rattle.model_histories.specs.declared.reply.Reply.TheVariants.{Illegal
 ghost use Rattle.model_accesses.specs.declared.request.Request.{Request as SpecRequest};
 ghost use Rattle.command_streams.specs.Watched.{held, has_failed, is_delivered, calls_of, IsCalledAtMost};
 ghost use Rattle.judge_command.specs.Meetings.{HasJudged, Tells, TellsTrace};
-ghost use Rattle.race_report.specs.VerdictText.{verdict_text, HasWords};
+ghost use Rattle.verdict_lines.specs.VerdictText.{verdict_text, HasWords};
 ghost use Rattle.race_gate.specs.Accesses.{sort_of};
 ghost use Rattle.race_gate.specs.declared.access.Sort.{Sort};
 ghost use Rattle.model_races.specs.declared.access.CellAccess.{CellAccess};

@@ -23,7 +23,7 @@ use Rattle.model_races.specs.ReducerVerdicts.{IsRightFor}
 use Rattle.model_races.specs.Judged.{IsJudged}
 use Rattle.race_gate.proofs.Races.{none-listed}
 use Rattle.race_report.specs.Conditions.{IsGetWhereUnset, HasWitness, IsTellable, AreTellable}
-use Rattle.race_report.proofs.GateWords.{answer_has_word}
+use Rattle.verdict_lines.proofs.GateWords.{answer_has_word}
 use Rattle.race_report.proofs.Reversed.{all_reversed}
 
 -- ---- what is granted has the number of its entry

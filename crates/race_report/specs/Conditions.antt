@@ -9,7 +9,7 @@ use Rattle.model_histories.specs.declared.answer.Answer.{Answer}
 use Rattle.model_histories.specs.declared.answer.Answer.TheVariants.{Refused, Unset}
 use Rattle.model_histories.specs.declared.answer.Entry.{Entry}
 use Rattle.model_histories.specs.Shapes.{Shape, IsInRange}
-use Rattle.race_report.specs.VerdictText.{HasWord}
+use Rattle.verdict_lines.specs.VerdictText.{HasWord}
 
 -- what is declared, as the shape of a gate
 abbrev pub shape_known : Known → Shape

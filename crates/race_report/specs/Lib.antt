@@ -1,7 +1,3 @@
-pub mod VerdictText
-pub mod RefusedText
-pub mod Rooms
-pub mod Counted
 pub mod Refusals
 pub mod RefusalValues
 pub mod ReportText

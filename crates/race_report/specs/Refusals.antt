@@ -12,7 +12,7 @@ use Rattle.model_accesses.specs.declared.witness.Witness.{Witness}
 use Rattle.model_histories.specs.declared.answer.Answer.{Answer}
 use Rattle.model_histories.specs.declared.answer.Answer.TheVariants.{Refused, Unset}
 use Rattle.model_histories.specs.declared.answer.Entry.{Entry}
-use Rattle.race_report.specs.VerdictText.{refusal_word}
+use Rattle.verdict_lines.specs.VerdictText.{refusal_word}
 
 -- the name of the reducer with this number
 abbrev pub name_of_reducer : List Reducer → ℕ → List ℕ

@@ -9,14 +9,13 @@ ghost use Rattle.text_words.specs.Declarations.{cells_of};
 ghost use Rattle.program_text.specs.Programs.{contents};
 ghost use Rattle.model_histories.specs.Shapes.{IsInRange};
 ghost use Rattle.model_histories.specs.Extensions.{IsClean};
-ghost use Rattle.race_report.specs.VerdictText.{kind_asked};
+ghost use Rattle.verdict_lines.specs.VerdictText.{kind_asked};
 ghost use Rattle.race_report.specs.Refusals.{name_asked, line_of_entry, answer_told, refusals_told};
 ghost use Rattle.race_report.specs.RefusalValues.{refusal_in};
 ghost use Rattle.race_report.specs.ReportText.{cells_told, memory_told, report_with, report_text};
 ghost use Rattle.race_report.specs.Conditions.{shape_known, IsTellable, AreTellable};
 
 use crate::refusal::{LinedWitness, Refusal};
-use crate::verdict::rule_of_refusal;
 use locked_replay::{Entries, Whole};
 use model_accesses::Witness;
 use program_text::Program;
@@ -25,6 +24,7 @@ use serde_json::{Map, Value, json, put, to_vec};
 use std::alloc::{AllocError, Allocator, Global};
 use text_words::{Act, Mem};
 use trace_text::cell_name;
+use verdict_lines::rule_of_refusal;
 
 /// The name of the cell or the reducer that an act asks for.
 fn name_of<A: Allocator>(

@@ -6,11 +6,11 @@ use super::{Heap, lacks_text};
 use crate::refusing::Refusing;
 use model_accesses::{Kind, Rule};
 use race_gate::{Answer, Entry, Gate, GateFault, Receipt, Reply, judge_all};
-use race_report::verdict_lines;
 use shadow_history::Witness;
 use sp_labels::Spawned;
 use std::alloc::{AllocError, Global};
 use text_words::{Act, Monoid, Monoids, Request, Shape};
+use verdict_lines::verdict_lines;
 
 /// A call of a gate, or what is made of its replies.
 #[derive(Clone, Copy)]

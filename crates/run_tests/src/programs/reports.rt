@@ -6,16 +6,17 @@ ghost use Rattle.text_words.specs.Declarations.{cells_of};
 ghost use Rattle.program_text.specs.Programs.{contents};
 ghost use Rattle.model_histories.specs.Extensions.{IsCleanAnswer, IsClean};
 ghost use Rattle.race_report.specs.Conditions.{shape_known, AreTellable};
-ghost use Rattle.race_report.specs.VerdictText.{HasWords};
+ghost use Rattle.verdict_lines.specs.VerdictText.{HasWords};
 
 use super::openings::gate_for;
 use locked_replay::Whole;
 use program_text::Program;
 use race_gate::{Answer, GateFault, Receipt, Reply, ShortGate};
-use race_report::{report, verdict_lines};
+use race_report::report;
 use short_receipts::Entries;
 use std::alloc::{AllocError, Global};
 use text_words::{Act, Request};
+use verdict_lines::verdict_lines;
 
 fn is_clean_answer(answer: Answer) -> bool
     ensures { IsTrue result ↔ IsCleanAnswer answer }

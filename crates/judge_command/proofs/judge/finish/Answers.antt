@@ -1,6 +1,6 @@
 use Rattle.std.proofs.Common.{sym, ◌∙◌}
 use Rattle.std.proofs.lemmas.Result.{err_from_is_err_and}
-use Rattle.race_report.specs.VerdictText.{verdict_text}
+use Rattle.verdict_lines.specs.VerdictText.{verdict_text}
 use Rattle.command_streams.specs.Watched.{held, has_failed}
 use Rattle.command_streams.proofs.Buffering.{told_still}
 use Rattle.command_streams.proofs.Telling.{told_whole, told_cut}

@@ -1,5 +1,5 @@
 use Rattle.std.proofs.Common.{ℕ, List, subst}
-use Rattle.race_report.specs.VerdictText.{verdict_text}
+use Rattle.verdict_lines.specs.VerdictText.{verdict_text}
 use Rattle.command_streams.specs.Watched.{held, has_failed}
 use Rattle.command_streams.specs.Tellings.{IsTold}
 use Rattle.judge_command.proofs.Meeting.{lines_more}

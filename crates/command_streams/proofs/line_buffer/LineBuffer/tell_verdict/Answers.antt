@@ -1,4 +1,4 @@
-use Rattle.race_report.specs.VerdictText.{line_of_reply}
+use Rattle.verdict_lines.specs.VerdictText.{line_of_reply}
 use Rattle.command_streams.specs.Watched.{held, has_failed}
 use Rattle.command_streams.proofs.Buffering.{tells_added}
 use Rattle.command_streams.proofs.line_buffer.LineBuffer.tell_verdict.Goals as goal

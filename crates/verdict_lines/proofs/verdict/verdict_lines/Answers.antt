@@ -1,6 +1,6 @@
 use Rattle.std.proofs.Common.{arith}
 use Rattle.std.proofs.lemmas.Grind.{common_steps}
-use Rattle.race_report.proofs.verdict.verdict_lines.Goals as goal
+use Rattle.verdict_lines.proofs.verdict.verdict_lines.Goals as goal
 
 pub loop-reply-preserved : goal.loop-reply-preserved
 loop-reply-preserved g c = grind (arith, common_steps)

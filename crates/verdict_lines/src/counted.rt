@@ -21,7 +21,7 @@ impl Model for Counted {
     ghost use Rattle.std.specs.Prelude.{◌≡◌, ◌≤◌, take};
     ghost use Rattle.std.specs.Prelude.{ℕ};
     ghost use Rattle.text_buffers.specs.Rooms.{number_room};
-    ghost use Rattle.race_report.specs.Counted.{leading};
+    ghost use Rattle.verdict_lines.specs.Counted.{leading};
 
     ghost Value = { ℕ };
 

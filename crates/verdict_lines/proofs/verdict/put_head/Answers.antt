@@ -1,6 +1,6 @@
 use Rattle.std.proofs.Common.{rules, ◌+◌, ◌≡◌, ◌≤◌, length, take, ap, arith, ◌∙◌}
-use Rattle.race_report.proofs.Digits.{part_put}
-use Rattle.race_report.proofs.verdict.put_head.Goals as goal
+use Rattle.verdict_lines.proofs.Digits.{part_put}
+use Rattle.verdict_lines.proofs.verdict.put_head.Goals as goal
 
 pub returns-clause-put : goal.returns-clause-put
 returns-clause-put g c =

@@ -1,6 +1,6 @@
 use Rattle.std.proofs.Common.{arith, append_assoc}
 use Rattle.itoa.proofs.Decimal.{decimal_pair}
-use Rattle.race_report.proofs.placed.put_four.Goals as goal
+use Rattle.verdict_lines.proofs.placed.put_four.Goals as goal
 
 pub returns-clause-put : goal.returns-clause-put
 returns-clause-put c =

@@ -2,7 +2,7 @@ use Rattle.std.proofs.Common.{◌+◌, arith}
 use Rattle.std.proofs.lemmas.Fmt.{decimal_digit}
 use Rattle.std.proofs.lemmas.List.{take_more_set}
 use Rattle.itoa.proofs.Decimal.{decimal_two}
-use Rattle.race_report.proofs.placed.put_two.Goals as goal
+use Rattle.verdict_lines.proofs.placed.put_two.Goals as goal
 
 pub returns-then-number-lt10-clause-put : goal.returns-then-number-lt10-clause-put
 returns-then-number-lt10-clause-put c =

@@ -2,10 +2,10 @@ use Rattle.std.proofs.Common.{rules, ◌≡◌, ◌+◌, ◌/◌, ◌≤◌, ◌
 use Rattle.std.specs.Prelude.{◌==◌, decimal, false}
 use Rattle.std.proofs.lemmas.Bool.Decides.{nat_tests}
 use Rattle.itoa.proofs.Decimal.{decimal_pair}
-use Rattle.race_report.specs.Counted.{leading}
-use Rattle.race_report.proofs.Digits.{part_put}
-use Rattle.race_report.proofs.counted.Counted.put.Goals.{then-above-self, else-above-self}
-use Rattle.race_report.proofs.counted.Counted.put.Goals as goal
+use Rattle.verdict_lines.specs.Counted.{leading}
+use Rattle.verdict_lines.proofs.Digits.{part_put}
+use Rattle.verdict_lines.proofs.counted.Counted.put.Goals.{then-above-self, else-above-self}
+use Rattle.verdict_lines.proofs.counted.Counted.put.Goals as goal
 
 pub returns-clause-put : goal.returns-clause-put
 returns-clause-put c =

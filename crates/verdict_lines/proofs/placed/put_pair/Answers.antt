@@ -1,6 +1,6 @@
 use Rattle.std.proofs.Common.{◌+◌, ◌/◌, ◌%◌}
-use Rattle.race_report.proofs.Digits.{pair_at, two_put}
-use Rattle.race_report.proofs.placed.put_pair.Goals as goal
+use Rattle.verdict_lines.proofs.Digits.{pair_at, two_put}
+use Rattle.verdict_lines.proofs.placed.put_pair.Goals as goal
 
 pub returns-clause-put : goal.returns-clause-put
 returns-clause-put c =

@@ -24,7 +24,7 @@ use Rattle.model_races.specs.ReducerVerdicts.{IsRightFor}
 use Rattle.model_races.specs.Judged.{IsJudged}
 use Rattle.model_histories.specs.States.{State}
 use Rattle.model_histories.specs.Replies.{JudgesAll}
-use Rattle.race_report.specs.VerdictText.{HasWord, HasWords}
+use Rattle.verdict_lines.specs.VerdictText.{HasWord, HasWords}
 
 -- two kinds that race have a word for it, and so have two kinds of reads of reducers
 race_word : (earlier new : Kind) → rule_between earlier new ≡ Race → IsSome (rule_spelling earlier new (rule_between earlier new))

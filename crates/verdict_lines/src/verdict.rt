@@ -3,10 +3,10 @@
 ghost use Rattle.std.specs.Prelude.{◌≡◌, ◌++◌, ◌∷◌, ◌+◌, ◌≤◌, ℕ, [], List, IfOk, OnOk, IsOk};
 ghost use Rattle.std.specs.Prelude.{IsSome, codes, decimal, length, take, unwrap_or, vec_capacity};
 ghost use Rattle.std.specs.List.{All};
-ghost use Rattle.race_report.specs.VerdictText.{refusal_word, HasWord, HasWords, answer_text};
-ghost use Rattle.race_report.specs.VerdictText.{fault_word, numbers_text, line_of_reply, verdict_text};
-ghost use Rattle.race_report.specs.RefusedText.{earlier_told, new_told};
-ghost use Rattle.race_report.specs.Rooms.{line_room};
+ghost use Rattle.verdict_lines.specs.VerdictText.{refusal_word, HasWord, HasWords, answer_text};
+ghost use Rattle.verdict_lines.specs.VerdictText.{fault_word, numbers_text, line_of_reply, verdict_text};
+ghost use Rattle.verdict_lines.specs.RefusedText.{earlier_told, new_told};
+ghost use Rattle.verdict_lines.specs.Rooms.{line_room};
 
 use crate::counted::Counted;
 use crate::placed::{put_bytes, put_mostly_small, put_number, put_word};
@@ -21,7 +21,7 @@ use text_words::{Act, access_asked};
 pub const LINE_ROOM: usize = 96;
 
 /// The word of the rule that an act and an earlier access of this kind come under.
-pub(crate) fn rule_of_refusal(act: Act, witness: Kind) -> &'static str
+pub fn rule_of_refusal(act: Act, witness: Kind) -> &'static str
     requires { IsSome (refusal_word act witness) }
     ensures word { refusal_word act witness ≡ Some result.now }
     ensures short { length result.now ≤ 16 }

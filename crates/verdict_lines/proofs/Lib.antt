@@ -1,0 +1,2 @@
+pub mod GateWords
+pub mod Digits

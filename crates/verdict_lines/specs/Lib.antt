@@ -1,0 +1,4 @@
+pub mod VerdictText
+pub mod RefusedText
+pub mod Rooms
+pub mod Counted
