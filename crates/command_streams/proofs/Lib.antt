@@ -2,6 +2,5 @@ pub mod Buffering
 pub mod Bytes
 pub mod Failing
 mod Reading
-pub mod RunStatuses
 pub mod TakenLines
 pub mod Telling

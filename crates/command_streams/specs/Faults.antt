@@ -25,11 +25,6 @@ abbrev pub fault_of_text : TextFault → CliFault
 fault_of_text TextMemory = Memory
 fault_of_text fault = Trace fault
 
--- the same of the text of a program
-abbrev pub fault_of_program : TextFault → CliFault
-fault_of_program TextMemory = Memory
-fault_of_program fault = Program fault
-
 -- a fault of the words of the command line
 abbrev pub IsUsageFault : CliFault → Type 0
 IsUsageFault (Usage text) = Unit {0}

@@ -6,4 +6,3 @@ pub mod Readings
 pub mod LineBuffers
 pub mod Tellings
 pub mod ElisionText
-pub mod Outcomes

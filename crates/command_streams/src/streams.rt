@@ -8,17 +8,12 @@ ghost use Rattle.trace_text.specs.Drafts.{IsTextFault};
 ghost use Rattle.trace_text.specs.Grammar.{TextMeans as TraceMeans};
 ghost use Rattle.trace_text.specs.Pieces.{IsBegun};
 ghost use Rattle.trace_text.specs.Traces.{contents as trace_contents};
-ghost use Rattle.program_text.specs.Grammar.{TextMeans};
-ghost use Rattle.program_text.specs.Programs.{contents};
-ghost use Rattle.command_streams.specs.Faults.{fault_of_program};
-ghost use Rattle.command_streams.specs.Readings.{IsProgramFault};
 ghost use Rattle.command_streams.specs.Watched.{held, has_failed, is_delivered, calls_of, one_more, IsCalledAtMost};
 ghost use Rattle.command_streams.specs.Streams.{most_bytes, most_reads, IsRead, IsMeant, IsMeantBehind, IsFaultOf};
 ghost use Rattle.command_streams.specs.Streams.{TakesPiece, TakesPieces, StopsPiece, StopsReading, StopsTrace, StopsBehind, StopsWriting};
 
 use crate::fault::CliFault;
 use crate::watched::Watched;
-use program_text::Program;
 use std::alloc::{AllocError, Allocator};
 use std::io::{Read, Write};
 use text_words::TextFault;
@@ -282,28 +277,4 @@ pub fn write_text<W: Write>(output: &mut Watched<W>, text: &[u8]) -> Result<(), 
 {
     write_bytes(output, text)?;
     deliver(output)
-}
-
-/// The fault of a program's text as one of the command. Want of memory is want of memory wherever it comes.
-fn program_fault(fault: TextFault) -> CliFault
-    ensures { result ≡ fault_of_program fault }
-{
-    match fault {
-        TextFault::Memory => CliFault::Memory,
-        fault => CliFault::Program(fault),
-    }
-}
-
-/// The program that a text means, which is let go.
-pub fn parse_program<A: Allocator + Copy>(
-    alloc: A,
-    text: Vec<u8, A>,
-) -> Result<Program<A>, CliFault>
-    ensures ok { IfOk result (λ program. TextMeans text.items (contents program)) }
-    ensures fault { IfErr result (IsProgramFault text.items) }
-{
-    match Program::parse(alloc, text.as_slice()) {
-        Ok(program) => Ok(program),
-        Err(fault) => Err(program_fault(fault)),
-    }
 }

@@ -4,7 +4,7 @@ use Rattle.std.specs.List.{list_any}
 use Rattle.model_histories.specs.declared.reply.Reply.{Reply}
 use Rattle.model_histories.specs.declared.reply.Reply.TheVariants.{Done, Illegal}
 use Rattle.model_histories.specs.declared.fault.GateFault.TheVariants.{Limit, Memory}
-use Rattle.command_streams.specs.Outcomes.{is_refused}
+use Rattle.verdict_lines.specs.VerdictText.{is_refused}
 
 -- a request that was not answered for want of memory
 abbrev pub is_memory : Reply → Bool

@@ -4,7 +4,8 @@ use Rattle.std.specs.List.{list_any}
 use Rattle.model_histories.specs.declared.answer.Entry.{Entry}
 use Rattle.command_streams.specs.declared.fault.CliFault.{CliFault}
 use Rattle.command_streams.specs.declared.fault.CliFault.TheVariants.{Write, Memory}
-use Rattle.command_streams.specs.Outcomes.{is_refused, refusal_status}
+use Rattle.verdict_lines.specs.VerdictText.{is_refused}
+use Rattle.run_command.specs.Outcomes.{refusal_status}
 use Rattle.command_streams.specs.Streams.{IsRead, StopsWriting}
 use Rattle.command_streams.specs.Readings.{Reading}
 use Rattle.other_commands.specs.declared.explain.End.{End}

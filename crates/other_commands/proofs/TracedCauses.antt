@@ -17,7 +17,7 @@ use Rattle.trace_text.specs.Grammar.{TextMeans as TraceMeans}
 use Rattle.trace_text.specs.Printing.{plain_text}
 use Rattle.run_traces.specs.Traces.{trace_contents}
 use Rattle.run_traces.specs.Laws.{IsRunOf}
-use Rattle.command_streams.specs.Outcomes.{refusal_status}
+use Rattle.run_command.specs.Outcomes.{refusal_status}
 use Rattle.run_command.proofs.CleanReports.{tells_run}
 
 -- there is no run to be told

@@ -16,7 +16,7 @@ use Rattle.trace_notes.specs.declared.notes.Notes.{Notes}
 use Rattle.trace_notes.specs.Notes.{AreNotes}
 use Rattle.command_streams.specs.declared.fault.CliFault.{CliFault}
 use Rattle.command_streams.specs.declared.fault.CliFault.TheVariants.{Read, Write, TooLong, Trace, Illegal, Limit, TooManyStrands, Memory}
-use Rattle.command_streams.specs.Outcomes.{refusal_status}
+use Rattle.run_command.specs.Outcomes.{refusal_status}
 use Rattle.command_streams.specs.Readings.{Reading, StopsReader}
 use Rattle.other_commands.specs.Replays.{AnswersAll, StopsGate}
 use Rattle.command_streams.specs.Streams.{IsRead, IsFaulty}

@@ -9,7 +9,7 @@ use Rattle.command_streams.specs.declared.fault.CliFault.{CliFault}
 use Rattle.command_streams.specs.declared.fault.CliFault.TheVariants.{Usage, Read, Write, TooLong, Limit, Memory}
 use Rattle.command_streams.specs.Streams.{IsRead, IsReadTooLong}
 use Rattle.command_streams.specs.ElisionText.{elision_text}
-use Rattle.command_streams.specs.Readings.{monoids_of, IsFaultyProgram}
+use Rattle.run_command.specs.Programs.{monoids_of, IsFaultyProgram}
 
 -- The program ends with a memory after a number of requests within the limit, and these are the lines of both.
 pub record ElidesContents (contents : Contents) (limit : ℕ) (lines : List ℕ) : Type 0 where

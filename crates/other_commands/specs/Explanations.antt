@@ -30,10 +30,11 @@ use Rattle.command_streams.specs.declared.fault.CliFault.TheVariants.{Read, Writ
 use Rattle.other_commands.specs.declared.explain.End.{End}
 use Rattle.other_commands.specs.declared.explain.End.TheVariants.{Clean, Raced, Cut, CutRaced}
 use Rattle.command_streams.specs.ElisionText.{memory_text}
-use Rattle.command_streams.specs.Readings.{Reading, StopsReader, shape_of_program}
+use Rattle.command_streams.specs.Readings.{Reading, StopsReader}
+use Rattle.run_command.specs.Programs.{shape_of_program}
 use Rattle.run_command.specs.Runs.{IsRunFault}
 use Rattle.command_streams.specs.Streams.{IsRead}
-use Rattle.command_streams.specs.Outcomes.{refusal_status}
+use Rattle.run_command.specs.Outcomes.{refusal_status}
 use Rattle.model_histories.specs.States.{State}
 use Rattle.other_commands.specs.declared.ask.Stop.{Stop}
 use Rattle.other_commands.specs.Replays.{AnswersAll, StopsAt, StopsGate}

@@ -18,14 +18,15 @@ use Rattle.model_histories.specs.States.{State}
 use Rattle.command_streams.specs.declared.fault.CliFault.{CliFault}
 use Rattle.command_streams.specs.declared.fault.CliFault.TheVariants.{Usage, Read, Write, TooLong, Trace, Program}
 use Rattle.command_streams.specs.declared.fault.CliFault.TheVariants.{Shape as ShapeFault, Illegal, Limit, Memory}
-use Rattle.command_streams.specs.declared.outcome.Outcome.{Outcome}
+use Rattle.run_command.specs.declared.outcome.Outcome.{Outcome}
 use Rattle.other_commands.specs.declared.ask.Stop.{Stop}
 use Rattle.other_commands.specs.Declarations.{DeclareSame}
-use Rattle.command_streams.specs.Readings.{IsFaultyProgram}
+use Rattle.run_command.specs.Programs.{IsFaultyProgram}
 use Rattle.run_command.specs.Runs.{IsProgramRead}
-use Rattle.command_streams.specs.Outcomes.{IsSo, line_of_outcome, status_of}
+use Rattle.run_command.specs.Outcomes.{IsSo, line_of_outcome, status_of}
 use Rattle.command_streams.specs.Streams.{declared_shape, requests_of, IsJudgedBy, JudgesTrace, IsFaulty, IsRead}
-use Rattle.command_streams.specs.Readings.{Reading, StopsReader, shape_of_program}
+use Rattle.command_streams.specs.Readings.{Reading, StopsReader}
+use Rattle.run_command.specs.Programs.{shape_of_program}
 
 -- ---- the gate that judges the requests of a trace
 

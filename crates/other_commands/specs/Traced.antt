@@ -7,7 +7,7 @@ use Rattle.program_text.specs.Drafts.{Contents}
 use Rattle.run_traces.specs.Traces.{trace_contents}
 use Rattle.command_streams.specs.declared.fault.CliFault.{CliFault}
 use Rattle.command_streams.specs.declared.fault.CliFault.TheVariants.{Read, Write, Unwritten, TooLong, Program, Memory}
-use Rattle.command_streams.specs.Readings.{IsFaultyProgram}
+use Rattle.run_command.specs.Programs.{IsFaultyProgram}
 use Rattle.command_streams.specs.Readings.{Reading, StopsReader}
 use Rattle.run_command.specs.Runs.{TellsRun, IsProgramRead, IsRunStopped}
 use Rattle.command_streams.specs.Streams.{StopsWriting}

@@ -14,9 +14,10 @@ ghost use Rattle.other_commands.specs.Drawings.{StopsEntries, DrawsContents, Sto
 
 use crate::explain_trace::notes_of;
 use crate::replay::answered;
-use command_streams::{CliFault, Watched, parse_trace, read_text, refusal_status, write_text};
+use command_streams::{CliFault, Watched, parse_trace, read_text, write_text};
 use dag_drawing::{Drawing, Form, Names, draw, write_drawing};
 use race_gate::Entry;
+use run_command::refusal_status;
 use std::alloc::Allocator;
 use std::io::{Read, Write};
 use trace_notes::Notes;

@@ -21,15 +21,15 @@ ghost use Rattle.other_commands.specs.Explanations.{TellsEnd, status_of_end, Exp
 use crate::elide::push_memory;
 use crate::explain_trace::trace_text_told;
 use crate::sort::is_program;
-use command_streams::{
-    CliFault, Outcome, Watched, outcome_of, read_text, refusal_status, write_text,
-};
+use command_streams::{CliFault, Watched, read_text, write_text};
 use fault_lists::{Fault, faults_message};
 use locked_replay::{RunFault, Whole};
 use program_text::Program;
 use race_explanations::explanation;
 use race_gate::{Entry, ShortGate};
-use run_command::{Door, PARTS, fault_of, serial_run, some_run};
+use run_command::{
+    Door, Outcome, PARTS, fault_of, outcome_of, refusal_status, serial_run, some_run,
+};
 use source_quotes::Meant;
 use std::alloc::{AllocError, Global};
 use std::io::{Read, Write};

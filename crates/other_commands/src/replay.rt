@@ -11,12 +11,10 @@ ghost use Rattle.command_streams.specs.Readings.{reading};
 
 use crate::ask::ask_all;
 use crate::declarations::declare_same;
-use command_streams::{
-    CliFault, Watched, outcome_line, outcome_of, outcome_status, parse_program, parse_trace,
-    read_text, write_text,
-};
+use command_streams::{CliFault, Watched, parse_trace, read_text, write_text};
 use program_text::Program;
 use race_gate::{Gate, GateFault};
+use run_command::{outcome_line, outcome_of, outcome_status, parse_program};
 use std::alloc::Allocator;
 use std::io::{Read, Write};
 use trace_text::Trace;

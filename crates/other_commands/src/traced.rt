@@ -10,9 +10,9 @@ ghost use Rattle.command_streams.specs.Readings.{reading};
 ghost use Rattle.run_command.specs.Runs.{IsRunFault};
 ghost use Rattle.other_commands.specs.Traced.{TellsTraced, IsReadTraced, IsTraced, StopsRun, StopsTrace, StopsTelling, HasTracedCause};
 
-use command_streams::{CliFault, Watched, parse_program, read_text, whole_status, write_text};
+use command_streams::{CliFault, Watched, read_text, write_text};
 use program_text::Program;
-use run_command::{Door, PARTS, fault_of, report_line, whole_run};
+use run_command::{Door, PARTS, fault_of, parse_program, report_line, whole_run, whole_status};
 use run_traces::trace_of;
 use std::alloc::Global;
 use std::io::{Read, Write};

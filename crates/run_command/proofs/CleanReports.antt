@@ -23,12 +23,12 @@ use Rattle.race_report.specs.Refusals.{refusals_told}
 use Rattle.race_report.specs.ReportText.{is_clean, memory_told, report_with}
 use Rattle.race_report.specs.Laws.{TellsSchedules}
 use Rattle.race_report.proofs.CleanRuns.{clean_told}
-use Rattle.command_streams.specs.Outcomes.{refusal_status}
-use Rattle.command_streams.specs.Readings.{monoids_of}
-use Rattle.command_streams.specs.Readings.{shape_of_program}
+use Rattle.run_command.specs.Outcomes.{refusal_status}
+use Rattle.run_command.specs.Programs.{monoids_of}
+use Rattle.run_command.specs.Programs.{shape_of_program}
 use Rattle.run_command.specs.Runs.{run_line, TellsRun}
 use Rattle.run_command.specs.Laws.{TellsEverySchedule, CleanReportLaw}
-use Rattle.command_streams.proofs.RunStatuses.{clean_status}
+use Rattle.run_command.proofs.RunStatuses.{clean_status}
 
 -- ---- the key `schedules`
 

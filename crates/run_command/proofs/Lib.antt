@@ -1,3 +1,4 @@
+pub mod RunStatuses
 pub mod CleanReports
 pub mod RunCauses
 mod RunFaults

@@ -5,7 +5,7 @@ use Rattle.model_histories.specs.declared.answer.Entry.{Entry}
 use Rattle.program_text.specs.Drafts.{Contents}
 use Rattle.command_streams.specs.declared.fault.CliFault.{CliFault}
 use Rattle.command_streams.specs.declared.fault.CliFault.TheVariants.{Write, Limit, Stopped, Torn, Strange, Memory}
-use Rattle.command_streams.specs.Outcomes.{is_refused}
+use Rattle.verdict_lines.specs.VerdictText.{is_refused}
 use Rattle.command_streams.specs.Streams.{StopsWriting}
 use Rattle.command_streams.specs.Readings.{Reading}
 use Rattle.run_command.specs.Runs.{IsRunFault, TellsRun, IsProgramRead, IsRan, HasRunCause}

@@ -12,8 +12,8 @@ use Rattle.model_programs.specs.Evaluation.{Effect}
 use Rattle.model_programs.specs.Elisions.{HasMain, EvaluatesProgram, Elides}
 use Rattle.model_runs.specs.Runs.{IsRun, IsFinishedRun}
 use Rattle.race_report.specs.Laws.{TellsSchedules}
-use Rattle.command_streams.specs.Readings.{monoids_of}
-use Rattle.command_streams.specs.Readings.{shape_of_program}
+use Rattle.run_command.specs.Programs.{monoids_of}
+use Rattle.run_command.specs.Programs.{shape_of_program}
 use Rattle.run_command.specs.Runs.{run_line, TellsRun}
 
 -- The line tells so many entries and this memory, and that the program is clean for every schedule. And so it is: the program's serial

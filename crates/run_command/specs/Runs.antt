@@ -23,9 +23,10 @@ use Rattle.race_report.specs.ReportText.{report_text}
 use Rattle.race_report.specs.Laws.{TellsSchedules}
 use Rattle.command_streams.specs.declared.fault.CliFault.{CliFault}
 use Rattle.command_streams.specs.declared.fault.CliFault.TheVariants.{Read, Write, TooLong, Program, Limit, Stopped, Torn, Strange, Memory}
-use Rattle.command_streams.specs.Readings.{IsFaultyProgram}
-use Rattle.command_streams.specs.Outcomes.{refusal_status}
-use Rattle.command_streams.specs.Readings.{Reading, StopsReader, shape_of_program}
+use Rattle.run_command.specs.Programs.{IsFaultyProgram}
+use Rattle.run_command.specs.Outcomes.{refusal_status}
+use Rattle.command_streams.specs.Readings.{Reading, StopsReader}
+use Rattle.run_command.specs.Programs.{shape_of_program}
 use Rattle.command_streams.specs.Streams.{IsRead}
 
 abbrev pub fault_of_run : RunFault → CliFault

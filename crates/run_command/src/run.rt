@@ -13,10 +13,9 @@ ghost use Rattle.command_streams.specs.Streams.{most_reads};
 ghost use Rattle.command_streams.specs.Readings.{reading};
 ghost use Rattle.run_command.specs.Runs.{fault_of_run, run_line, IsRunFault, TellsRun, IsRan, HasRunCause};
 
-use command_streams::{
-    CliFault, Outcome, Watched, outcome_of, parse_program, read_text, refusal_status, whole_status,
-    write_text,
-};
+use crate::outcome::{Outcome, outcome_of, refusal_status, whole_status};
+use crate::program::parse_program;
+use command_streams::{CliFault, Watched, read_text, write_text};
 use locked_replay::{
     Ask, LockedGate, RunFault, Seat, Whole, WorkerLog, check_run, gate_for, gather,
 };

@@ -1,5 +1,5 @@
 -- The text of verdicts.
-use Rattle.std.specs.Prelude.{ℕ, Option, List, [], ◌∷◌, ◌++◌, codes, decimal, flat_map, unwrap_or, option_and_then, option_map, IsSome}
+use Rattle.std.specs.Prelude.{ℕ, Bool, true, false, Option, List, [], ◌∷◌, ◌++◌, codes, decimal, flat_map, unwrap_or, option_and_then, option_map, IsSome}
 use Rattle.model_accesses.specs.declared.kind.Kind.{Kind}
 use Rattle.model_accesses.specs.Table.{rule_between, rule_spelling}
 use Rattle.model_accesses.specs.declared.request.Act.{Act}
@@ -34,6 +34,12 @@ answer_word act Granted = codes "granted"
 answer_word act (Value value) = codes "value"
 answer_word act (Refused rule witness) = codes "refused " ++ unwrap_or (refusal_word act witness.kind) []
 answer_word act Unset = codes "refused unset"
+
+-- the answers whose word begins with `refused`
+abbrev pub is_refused : Answer → Bool
+is_refused (Refused rule witness) = true
+is_refused Unset = true
+is_refused answer = false
 
 -- the numbers behind it
 abbrev pub answer_numbers : Answer → List ℕ

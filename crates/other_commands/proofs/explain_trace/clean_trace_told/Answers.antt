@@ -4,7 +4,7 @@ use Rattle.trace_text.specs.Traces.{contents as trace_contents}
 use Rattle.model_histories.specs.Entries.{Entries}
 use Rattle.model_histories.specs.Extensions.{IsClean}
 use Rattle.law_traces.proofs.CleanTraces.{clean_trace_law}
-use Rattle.command_streams.proofs.RunStatuses.{status_clean}
+use Rattle.run_command.proofs.RunStatuses.{status_clean}
 use Rattle.other_commands.specs.Explanations.{clean_trace_words, judged_text}
 use Rattle.other_commands.proofs.explain_trace.clean_trace_told.Goals as goal
 

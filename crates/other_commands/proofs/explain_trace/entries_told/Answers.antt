@@ -2,7 +2,7 @@ use Rattle.std.proofs.Common.{rules, ◌≡◌, ◌++◌, ◌∙◌, inl, inr, s
 use Rattle.std.proofs.lemmas.Result.{IfOk-weaker}
 use Rattle.trace_text.specs.Traces.{contents as trace_contents}
 use Rattle.race_explanations.specs.Explained.{IsTraceExplanation}
-use Rattle.command_streams.proofs.RunStatuses.{clean_status, status_clean}
+use Rattle.run_command.proofs.RunStatuses.{clean_status, status_clean}
 use Rattle.other_commands.specs.Explanations.{clean_trace_words, judged_text, TellsEntries}
 use Rattle.other_commands.proofs.explain_trace.entries_told.Goals as goal
 

@@ -4,7 +4,7 @@ use Rattle.std.proofs.lemmas.Result.{err_from_is_err_and}
 use Rattle.model_histories.specs.declared.answer.Entry.{Entry}
 use Rattle.model_histories.specs.Extensions.{IsClean}
 use Rattle.locked_replay.specs.declared.fault.RunFault.{RunFault}
-use Rattle.command_streams.proofs.RunStatuses.{clean_status, status_clean}
+use Rattle.run_command.proofs.RunStatuses.{clean_status, status_clean}
 use Rattle.run_command.proofs.RunFaults.{left_fault}
 use Rattle.run_command.proofs.run.whole_alone.Goals as goal
 

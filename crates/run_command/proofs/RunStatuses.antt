@@ -7,7 +7,8 @@ use Rattle.model_histories.specs.declared.answer.Answer.TheVariants.{Refused, Un
 use Rattle.model_histories.specs.declared.answer.Entry.{Entry}
 use Rattle.model_histories.specs.Extensions.{IsCleanAnswer, IsClean}
 use Rattle.race_report.proofs.Reversed.{all_reversed, all_reverses}
-use Rattle.command_streams.specs.Outcomes.{is_refused, refusal_status}
+use Rattle.verdict_lines.specs.VerdictText.{is_refused}
+use Rattle.run_command.specs.Outcomes.{refusal_status}
 
 clean_answer : (answer : Answer) → is_refused answer ≡ false → IsCleanAnswer answer
 clean_answer (Refused rule witness) none = absurd cc

@@ -4,19 +4,16 @@ ghost use Rattle.std.specs.Prelude.{◌≡◌, ◌↔◌, IfOk, IfErr, IsTrue, r
 ghost use Rattle.std.specs.List.{list_any};
 ghost use Rattle.model_histories.specs.Extensions.{IsClean};
 ghost use Rattle.program_text.specs.Shapes.{shape_in};
-ghost use Rattle.command_streams.specs.Outcomes.{is_refused as refused_spec};
-ghost use Rattle.command_streams.specs.Outcomes.{IsSo, line_of_outcome as line_spec, refusal_status as status_of_run, status_of};
+ghost use Rattle.verdict_lines.specs.VerdictText.{is_refused as refused_spec};
+ghost use Rattle.run_command.specs.Outcomes.{IsSo, line_of_outcome as line_spec, refusal_status as status_of_run, status_of};
 
-use crate::fault::CliFault;
+use command_streams::CliFault;
 use locked_replay::Whole;
 use program_text::Program;
 use race_gate::{Answer, Entry};
 use run_replay::{ReplayFault, replay};
 use std::alloc::{AllocError, Allocator};
 use text_buffers::{push_number, push_words};
-
-/// The most entries that a history may have, and the limit where none is given.
-pub const MOST_ENTRIES: u32 = 1_000_000;
 
 /// What the replay of entries tells.
 #[derive(Clone, Copy, Debug, PartialEq, Eq)]

@@ -1,6 +1,6 @@
 use Rattle.std.proofs.Common.{◌≡◌, true}
-use Rattle.command_streams.proofs.RunStatuses.{status_clean, status_refused}
-use Rattle.command_streams.proofs.outcome.whole_status.Goals as goal
+use Rattle.run_command.proofs.RunStatuses.{status_clean, status_refused}
+use Rattle.run_command.proofs.outcome.whole_status.Goals as goal
 
 pub returns-then-whole : goal.returns-then-whole
 returns-then-whole c = status_clean c.args.whole.now.entries.items (c.requires.0 c.if-whole.true)

@@ -1,15 +1,14 @@
 -- What a replay tells, and when it is so.
-use Rattle.std.specs.Prelude.{ℕ, ◌≡◌, Bool, true, false, List, ◌++◌, length, reverse, codes, decimal, if◌then◌else◌}
+use Rattle.std.specs.Prelude.{ℕ, ◌≡◌, List, ◌++◌, length, reverse, codes, decimal, if◌then◌else◌}
 use Rattle.std.specs.List.{list_any}
-use Rattle.model_histories.specs.declared.answer.Answer.{Answer}
-use Rattle.model_histories.specs.declared.answer.Answer.TheVariants.{Refused, Unset}
 use Rattle.model_histories.specs.declared.answer.Entry.{Entry}
 use Rattle.model_histories.specs.Shapes.{Shape}
 use Rattle.model_bodies.specs.Codes.{Code}
 use Rattle.model_runs.specs.Runs.{IsFinishedRun}
 use Rattle.run_replay.specs.Replays.{IsUnfinishedRun, IsStrange}
-use Rattle.command_streams.specs.declared.outcome.Outcome.{Outcome}
-use Rattle.command_streams.specs.declared.outcome.Outcome.TheVariants.{Replayed, Strange, Unfinished}
+use Rattle.verdict_lines.specs.VerdictText.{is_refused}
+use Rattle.run_command.specs.declared.outcome.Outcome.{Outcome}
+use Rattle.run_command.specs.declared.outcome.Outcome.TheVariants.{Replayed, Strange, Unfinished}
 
 -- of the entries, the oldest first, as a run of these functions
 abbrev pub IsSo : List Code → Shape → List Entry → Outcome → Type 0
@@ -21,11 +20,6 @@ abbrev pub line_of_outcome : Outcome → List ℕ
 line_of_outcome (Replayed number) = codes "replayed " ++ decimal number ++ codes "\n"
 line_of_outcome (Strange number) = codes "strange " ++ decimal number ++ codes "\n"
 line_of_outcome Unfinished = codes "unfinished\n"
-
-abbrev pub is_refused : Answer → Bool
-is_refused (Refused rule witness) = true
-is_refused Unset = true
-is_refused answer = false
 
 -- 1 where an entry is refused or unset, else 0
 abbrev pub refusal_status : List Entry → ℕ
