@@ -28,10 +28,9 @@ use std::marker::Brand;
 use std::sync::Wait;
 use std::sync::ledger::{Blank, Ledger};
 use std::thread::Threads;
-use steal_workers::run;
+use steal_workers::{run, run_serially};
 use text_buffers::push_words;
 use text_words::Request;
-use worker_steps::run_serially;
 
 /// The parts of a seat, one for each worker that there may be.
 pub const PARTS: u64 = 64;

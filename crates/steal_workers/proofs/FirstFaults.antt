@@ -4,8 +4,8 @@ use Rattle.std.specs.Prelude.{Contains}
 use Rattle.std.proofs.lemmas.List.Elements.{All-head, All-weaker, All-push, Contains-append_left, Contains-push}
 use Rattle.locked_replay.specs.declared.fault.RunFault.{RunFault}
 use Rattle.locked_replay.specs.declared.fault.RunFault.TheVariants.{Memory}
-use Rattle.worker_steps.specs.Faults.{rank_or_last, refused_thread, IsFirst, IsFirstOf}
-use Rattle.worker_steps.specs.declared.worker.Worker.{Worker}
+use Rattle.steal_workers.specs.Faults.{rank_or_last, refused_thread, IsFirst, IsFirstOf}
+use Rattle.steal_workers.specs.declared.worker.Worker.{Worker}
 use Rattle.steal_workers.specs.Ending.{faults_of}
 
 pub first_more : (faults : List (Option RunFault)) (first other next : Option RunFault) → IsFirstOf faults first → IsFirst first other next → IsFirstOf (faults ++ other ∷ []) next

@@ -11,15 +11,15 @@ use Rattle.locked_replay.specs.declared.worker.WorkerLog.{WorkerLog}
 use Rattle.std.specs.Global.{Vec}
 use Rattle.short_receipts.specs.Lists.{Listed}
 use Rattle.std.specs.List.{list_any}
-use Rattle.worker_steps.specs.declared.hand.Hand.{Hand}
-use Rattle.worker_steps.specs.declared.ends.Ends.{Ends}
-use Rattle.worker_steps.specs.declared.worker.Worker.{Worker}
+use Rattle.steal_workers.specs.declared.hand.Hand.{Hand}
+use Rattle.steal_workers.specs.declared.ends.Ends.{Ends}
+use Rattle.steal_workers.specs.declared.worker.Worker.{Worker}
 use Rattle.steal_workers.specs.Beginning.{own_hands, HaveRoot, IsReady}
 use Rattle.steal_workers.specs.Ending.{saw_end}
 use Rattle.steal_workers.specs.Finishing.{finishes, some_finished}
-use Rattle.worker_steps.specs.Hands.{hand, pushing}
-use Rattle.worker_steps.specs.Reaches.{own_deque, own_view, deques_of, AllLeadTo}
-use Rattle.worker_steps.specs.Workers.{station_of, stations_of, owns_of, others_of}
+use Rattle.steal_workers.specs.Hands.{hand, pushing}
+use Rattle.steal_workers.specs.Reaches.{own_deque, own_view, deques_of, AllLeadTo}
+use Rattle.steal_workers.specs.Workers.{station_of, stations_of, owns_of, others_of}
 use Rattle.steal_workers.proofs.Sums.{sum_by-map, list_any-map}
 
 -- the first of some idle owners pushes the first strand

@@ -1,10 +1,10 @@
 -- Workers as they are hired, and as the first of them begins.
 use Rattle.std.specs.Prelude.{◌≡◌, ◌<◌, List, [], ◌∷◌, length, map, All}
-use Rattle.worker_steps.specs.declared.hand.Hand.{Hand}
-use Rattle.worker_steps.specs.declared.worker.Worker.{Worker}
-use Rattle.worker_steps.specs.Hands.{hand}
-use Rattle.worker_steps.specs.Reaches.{own_view, AllLeadTo}
-use Rattle.worker_steps.specs.Workers.{stations_of, owns_of, others_of}
+use Rattle.steal_workers.specs.declared.hand.Hand.{Hand}
+use Rattle.steal_workers.specs.declared.worker.Worker.{Worker}
+use Rattle.steal_workers.specs.Hands.{hand}
+use Rattle.steal_workers.specs.Reaches.{own_view, AllLeadTo}
+use Rattle.steal_workers.specs.Workers.{stations_of, owns_of, others_of}
 
 -- the first owner has pushed the first strand, and nothing else was done
 abbrev pub HaveRoot : List Hand → Type 0

@@ -5,9 +5,9 @@ use Rattle.std.specs.Global.{Vec}
 use Rattle.locked_replay.specs.declared.fault.RunFault.{RunFault}
 use Rattle.locked_replay.specs.declared.fault.RunFault.TheVariants.{Strange, Memory}
 use Rattle.locked_replay.specs.declared.worker.WorkerLog.{WorkerLog}
-use Rattle.worker_steps.specs.declared.worker.Worker.{Worker}
-use Rattle.worker_steps.specs.Faults.{refused_thread, IsFirstOf}
-use Rattle.worker_steps.specs.Workers.{stations_of, TornAtJoin}
+use Rattle.steal_workers.specs.declared.worker.Worker.{Worker}
+use Rattle.steal_workers.specs.Faults.{refused_thread, IsFirstOf}
+use Rattle.steal_workers.specs.Workers.{stations_of, TornAtJoin}
 use Rattle.steal_workers.specs.Beginning.{own_hands, HaveRoot, IsReady}
 use Rattle.steal_workers.specs.Finishing.{finishes}
 

@@ -1,3 +1,11 @@
 pub mod Beginning
 pub mod Ending
+pub mod Faults
 pub mod Finishing
+pub mod Goings
+pub mod Hands
+pub mod Places
+pub mod Reaches
+pub mod Standing
+pub mod Tasks
+pub mod Workers

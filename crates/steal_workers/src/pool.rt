@@ -3,14 +3,19 @@
 ghost use Rattle.std.specs.Prelude.{◌≡◌, ◌+◌, ◌<◌, ◌≤◌, [], ◌∷◌, true, false, length, map, All, IfOk, OnOk, vec_len, vec_capacity};
 ghost use Rattle.std.specs.List.{list_any, sum_by};
 ghost use Rattle.locked_replay.specs.Logs.{all_receipts, all_asked};
-ghost use Rattle.worker_steps.specs.Faults.{IsFirstOf};
-ghost use Rattle.worker_steps.specs.Hands.{hand};
-ghost use Rattle.worker_steps.specs.Reaches.{own_deque, own_view, deques_of, AllLeadTo};
-ghost use Rattle.worker_steps.specs.Workers.{station_of, stations_of, owns_of, others_of, HasRoom, TornAtJoin};
+ghost use Rattle.steal_workers.specs.Faults.{IsFirstOf};
+ghost use Rattle.steal_workers.specs.Hands.{hand};
+ghost use Rattle.steal_workers.specs.Reaches.{own_deque, own_view, deques_of, AllLeadTo};
+ghost use Rattle.steal_workers.specs.Workers.{station_of, stations_of, owns_of, others_of, HasRoom, TornAtJoin};
 ghost use Rattle.steal_workers.specs.Beginning.{own_hands, HaveRoot, IsReady};
 ghost use Rattle.steal_workers.specs.Ending.{AreSomeOf, IsEnded, IsAnswered, IsTold, faults_of};
 ghost use Rattle.steal_workers.specs.Finishing.{finishes, some_finished};
 
+use crate::ends::{Ends, make_ends};
+use crate::fault::{first_of, of_threads};
+use crate::joining::Room;
+use crate::lot::Lot;
+use crate::worker::Worker;
 use locked_replay::{Ask, RunFault, Seat, WorkerLog};
 use program_text::Program;
 use race_gate::{Answer, Receipt};
@@ -21,7 +26,6 @@ use std::sync::Wait;
 use std::sync::ledger::Ledger;
 use std::thread;
 use std::thread::{Promise, PromisedHandle, Scope, Threads};
-use worker_steps::{Ends, Lot, Room, Worker, first_of, make_ends, of_threads};
 
 /// A worker as it was before its thread began.
 struct Hired<'p, L: Ledger>(Snapshot<Worker<'p, L>>);

@@ -3,8 +3,8 @@ use Rattle.std.specs.Prelude.{vec_len}
 use Rattle.std.proofs.Math.Seq.{map-set_same}
 use Rattle.std.proofs.lemmas.List.{length-map, length-set}
 use Rattle.steal_workers.specs.Ending.{AreSomeOf}
-use Rattle.worker_steps.specs.Reaches.{AllLeadTo}
-use Rattle.worker_steps.specs.Workers.{station_of, stations_of, owns_of, others_of, HasRoom}
+use Rattle.steal_workers.specs.Reaches.{AllLeadTo}
+use Rattle.steal_workers.specs.Workers.{station_of, stations_of, owns_of, others_of, HasRoom}
 use Rattle.steal_workers.proofs.Endings.{some-map}
 use Rattle.steal_workers.proofs.Ready.{root_begun, same_many, as_many, counted_as}
 use Rattle.steal_workers.proofs.pool.all_work.Goals as goal

@@ -6,8 +6,8 @@ use Rattle.std.proofs.lemmas.Iterator.Consumers.{YieldsList-end}
 use Rattle.std.proofs.lemmas.List.Elements.{All-push}
 use Rattle.std.specs.declared.thread.PromisedHandle.{PromisedHandle}
 use Rattle.steal_workers.specs.declared.pool.Hired.{Hired}
-use Rattle.worker_steps.specs.declared.worker.Worker.{Worker}
-use Rattle.worker_steps.specs.Workers.{station_of, stations_of, TornAtJoin}
+use Rattle.steal_workers.specs.declared.worker.Worker.{Worker}
+use Rattle.steal_workers.specs.Workers.{station_of, stations_of, TornAtJoin}
 use Rattle.steal_workers.proofs.pool.finish.Goals as goal
 
 pub loop-thread-preserved : goal.loop-thread-preserved

@@ -1,6 +1,6 @@
 use Rattle.std.specs.Prelude.{◌≡◌, ◌+◌, ◌≤◌, All, map, vec_len, vec_capacity}
 use Rattle.std.specs.Vec.Iter.{into_iter_len}
-use Rattle.worker_steps.specs.Workers.{stations_of, TornAtJoin}
+use Rattle.steal_workers.specs.Workers.{stations_of, TornAtJoin}
 use Rattle.steal_workers.proofs.pool.finish.Given as goal
 
 abbrev pub invariant-loop-thread : goal.invariant-loop-thread

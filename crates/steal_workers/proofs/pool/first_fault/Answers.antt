@@ -1,6 +1,6 @@
 use Rattle.std.proofs.Common.{rules, ◌≡◌, ◌<◌, ◌∷◌, ◌++◌, [], length, get_or, take, sym, subst, ap, arith, ◌∙◌}
 use Rattle.std.proofs.lemmas.List.{take_more, take_all, get_or-map, length-map}
-use Rattle.worker_steps.specs.Faults.{IsFirstOf}
+use Rattle.steal_workers.specs.Faults.{IsFirstOf}
 use Rattle.steal_workers.specs.Ending.{faults_of}
 use Rattle.steal_workers.proofs.FirstFaults.{first_more}
 use Rattle.steal_workers.proofs.pool.first_fault.Goals as goal

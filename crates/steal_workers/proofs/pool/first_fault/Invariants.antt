@@ -1,5 +1,5 @@
 use Rattle.std.specs.Prelude.{◌∷◌, take}
-use Rattle.worker_steps.specs.Faults.{IsFirstOf}
+use Rattle.steal_workers.specs.Faults.{IsFirstOf}
 use Rattle.steal_workers.specs.Ending.{faults_of}
 use Rattle.steal_workers.proofs.pool.first_fault.Given as goal
 

@@ -4,7 +4,7 @@ use Rattle.std.proofs.lemmas.Iterator.Adapters.{YieldsList-from_vec}
 use Rattle.std.proofs.lemmas.Iterator.Consumers.{YieldsList-end}
 use Rattle.std.specs.declared.thread.PromisedHandle.{PromisedHandle}
 use Rattle.steal_workers.specs.declared.pool.Hired.{Hired}
-use Rattle.worker_steps.specs.declared.worker.Worker.{Worker}
+use Rattle.steal_workers.specs.declared.worker.Worker.{Worker}
 use Rattle.steal_workers.specs.Ending.{AreSomeOf}
 use Rattle.steal_workers.proofs.Endings.{some-push, some-less}
 use Rattle.steal_workers.proofs.pool.start.Goals as goal

@@ -1,0 +1,27 @@
+-- What a task asks next.
+use Rattle.std.proofs.Common.{◌≡◌, ℕ, Bool, List, [], ◌∷◌, ◌++◌, Result, Ok, Err}
+use Rattle.std.specs.Prelude.{IfOk, OnOk}
+use Rattle.model_bodies.specs.Codes.{Code}
+use Rattle.model_histories.specs.declared.reply.Receipt.{Receipt}
+use Rattle.model_programs.specs.Exchanges.{Exchange}
+use Rattle.frame_steps.specs.States.{State}
+use Rattle.frame_steps.specs.Frames.{IsAfter}
+use Rattle.locked_replay.specs.declared.fault.RunFault.{RunFault}
+use Rattle.steal_workers.specs.declared.worker.Going.{Going}
+use Rattle.steal_workers.specs.Goings.{IsAtJoin}
+use Rattle.steal_workers.specs.Workers.{MeetsJoin, EndsAtJoin}
+
+pub on_ok : {T E : Type 0} (result : Result T E) (P : Type 0) → P → OnOk result P
+on_ok (Ok value) P holds = holds
+on_ok (Err fault) P holds = tt
+
+-- room for a call says nothing of what was said
+pub roomy : (functions : List Code) (function argument : ℕ) (history : List Exchange) (frame : State) (room : Bool) → IsAfter functions function argument history frame
+    → IsAfter functions function argument history (record frame { has_room = room })
+roomy functions function argument history frame room after = record { goes_on = after.goes_on; joins = after.joins }
+
+-- where the answer is one at a join, the receipts end at a join
+pub ends_at_join : (result : Result Going RunFault) (receipts before : List Receipt) (receipt : Receipt) → receipts ≡ before ++ receipt ∷ [] → IfOk result (λ going. IsAtJoin going → MeetsJoin receipt.answer)
+    → IfOk result (λ going. IsAtJoin going → EndsAtJoin receipts)
+ends_at_join (Ok going) receipts before receipt kept meets = λ at. (before, receipt, kept, meets at)
+ends_at_join (Err fault) receipts before receipt kept meets = tt

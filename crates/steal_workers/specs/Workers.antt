@@ -1,0 +1,86 @@
+-- What a worker keeps, and what it does at a request.
+use Rattle.std.specs.Prelude.{◌≡◌, ◌≢◌, ◌⊎◌, ◌≤◌, ℕ, List, [], ◌∷◌, ◌++◌, map, Some, Result, Ok, Err, vec_len, vec_capacity}
+use Rattle.model_accesses.specs.declared.request.Request.{Request}
+use Rattle.model_histories.specs.declared.fault.GateFault.{GateFault}
+use Rattle.model_histories.specs.declared.answer.Answer.{Answer}
+use Rattle.model_histories.specs.declared.answer.Answer.TheVariants.{Split, Waits, EndedJoined}
+use Rattle.model_histories.specs.declared.reply.Receipt.{Receipt}
+use Rattle.model_programs.specs.Exchanges.{Exchange}
+use Rattle.frame_steps.specs.Frames.{IsAfter, CanFollow}
+use Rattle.locked_replay.specs.declared.fault.RunFault.{RunFault}
+use Rattle.locked_replay.specs.declared.fault.RunFault.TheVariants.{Torn, Strange}
+use Rattle.steal_workers.specs.declared.task.Task.{Task}
+use Rattle.steal_workers.specs.declared.worker.Worker.{Worker}
+use Rattle.steal_workers.specs.declared.joining.Room.{Room}
+use Rattle.steal_workers.specs.Faults.{fault_of}
+use Rattle.steal_workers.specs.Reaches.{Deque, own_deque, deques_of}
+
+-- the answers at which a task comes to a join, or the last child that ends there
+abbrev pub MeetsJoin : Answer → Type 0
+MeetsJoin answer = (answer ≡ Waits) ⊎ ((join : ℕ) × (answer ≡ EndedJoined join))
+
+-- the last of these receipts is answered so
+abbrev pub EndsAtJoin : List Receipt → Type 0
+EndsAtJoin receipts = (before : List Receipt) × (receipt : Receipt) × (receipts ≡ before ++ receipt ∷ []) × MeetsJoin receipt.answer
+
+-- what a worker began with: how much was asked on its seat, its place, and the deques of its ends
+pub record Station : Type 0 where
+  pub before : ℕ
+  pub place : ℕ
+  pub own : Deque
+  pub others : List Deque
+
+abbrev pub owns_of : List Station → List Deque
+owns_of = map (λ station. station.own)
+
+abbrev pub others_of : List Station → List (List Deque)
+others_of = map (λ station. station.others)
+
+module _ {L : Type 0} where
+  abbrev pub station_of : Worker L → Station
+  station_of worker = record {
+    before = worker.before;
+    place = worker.ends.place;
+    own = own_deque worker.ends;
+    others = deques_of worker.ends;
+  }
+
+  abbrev pub stations_of : List (Worker L) → List Station
+  stations_of = map station_of
+
+  -- room for what so many workers bring back
+  abbrev pub HasRoom : ℕ → Room L → Type 0
+  HasRoom workers room =
+      (vec_len room.logs ≡ 0) × (vec_len room.owners ≡ 0) × (vec_len room.passes ≡ 0)
+      × (workers ≤ vec_capacity room.logs) × (workers ≤ vec_capacity room.owners) × (workers ≤ vec_capacity room.passes)
+
+  -- a join that was met twice shows in what the worker was told last
+  abbrev pub TornAtJoin : Worker L → Type 0
+  TornAtJoin worker = worker.fault ≡ Some Torn → EndsAtJoin worker.receipts.items
+
+-- At Ok a receipt of that request was kept, with the answer. At Err nothing was kept, and the gate's fault or want of memory is told; or
+-- the receipt that was kept is of another request, which is strange.
+abbrev pub KeepsReceipt : Request → List Receipt → List Receipt → Result Answer RunFault → Type 0
+KeepsReceipt request before after (Ok answer) =
+    (number : ℕ) × (after ≡ before ++ record { number = number; request = request; answer = answer } ∷ [])
+KeepsReceipt request before after (Err fault) =
+    ((after ≡ before) × ((cause : GateFault) × (fault ≡ fault_of cause)))
+    ⊎ ((fault ≡ Strange) × ((receipt : Receipt) × (after ≡ before ++ receipt ∷ []) × (receipt.request ≢ request)))
+
+-- the only request that the function of a task can go on with
+abbrev pub IsWanted : Task → Request → Type 0
+IsWanted task request =
+    (function argument : ℕ) (history : List Exchange) (x : Exchange)
+    → IsAfter task.program.now.functions function argument history task.frame.value
+    → CanFollow task.program.now.functions function argument history x
+    → (x.act ≡ request.act) × (x.line ≡ request.line)
+
+-- a receipt was kept of what the task asks next, on its strand
+abbrev pub AsksFor : Task → List Receipt → List Receipt → Type 0
+AsksFor task before after =
+    (receipt : Receipt) × (after ≡ before ++ receipt ∷ []) × (receipt.request.strand ≡ task.strand) × IsWanted task receipt.request
+
+-- the strand of a child that a spawn has begun
+abbrev pub child_of : Answer → List ℕ
+child_of (Split strands) = strands.child ∷ []
+child_of _ = []

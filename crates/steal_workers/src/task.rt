@@ -1,0 +1,125 @@
+//! Tasks.
+
+ghost use Rattle.std.specs.Prelude.{◌≡◌, ◌<◌, [], length, IfOk};
+ghost use Rattle.std.proofs.Props.{props};
+ghost use Rattle.frame_steps.specs.Frames.{IsAfter, Stands};
+ghost use Rattle.steal_workers.specs.Standing.{stands_once};
+
+use frame_steps::Frame;
+use function_steps::Target;
+use program_text::Program;
+use std::alloc::{AllocError, Global};
+
+/// Frames of tasks that have ended, to be used again.
+pub(crate) type Spare = Vec<Box<Frame<Global>>>;
+
+/// How many frames a worker keeps to be used again.
+const MOST_SPARE: usize = 256;
+
+/// A frame of a program, and the strand on which it goes on. The frame is boxed, since a task goes from deques to workers and to the lot.
+pub struct Task<'p> {
+    /// The strand.
+    pub strand: u32,
+    /// The program of the frame.
+    pub program: &'p Program<Global>,
+    /// The frame.
+    pub frame: Box<Frame<Global>>,
+    ghost stands: { Stands program.now.functions frame.value } by { stands_once (Prim.hlevel props) (Prim.hlevel props) _ _ },
+}
+
+/// Written out, so that what lets a task go calls one function; so it is with the types that own tasks or deques.
+impl<'p> Drop for Task<'p> {
+    fn drop(self) {
+        let Task {
+            strand: _,
+            program: _,
+            frame: _,
+        } = self;
+    }
+}
+
+/// A function at its begin, in a frame of the reserve where there is one.
+fn begun(
+    alloc: Global,
+    program: &Program<Global>,
+    target: Target,
+    spare: &mut Spare,
+) -> Result<Box<Frame<Global>>, AllocError>
+    requires { target.function < length program.now.functions }
+    ensures stands { IfOk result (λ frame. Stands program.now.functions frame.value) }
+    ensures begun { IfOk result (λ frame. IsAfter program.now.functions target.function target.argument [] frame.value) }
+{
+    match spare.pop() {
+        Some(mut frame) => {
+            frame.restart(program, target.function, target.argument);
+            Ok(frame)
+        }
+        None => {
+            let frame = Frame::new(alloc, program, target.function, target.argument);
+            Ok(Box::new(alloc, frame)?)
+        }
+    }
+}
+
+impl<'p> Task<'p> {
+    ghost use Rattle.steal_workers.specs.Tasks.{IsBegun, IsOn};
+
+    /// The function `main` with argument 0, on the first strand.
+    pub(crate) fn root(
+        alloc: Global,
+        program: &'p Program<Global>,
+        spare: &mut Spare,
+    ) -> Result<Task<'p>, AllocError>
+        ensures strand { IfOk result (λ task. task.strand ≡ 0) }
+        ensures program { IfOk result (λ task. task.program ≡ program.entry) }
+        ensures begun { IfOk result (IsBegun program.now.main 0) }
+    {
+        let function = program.main();
+        let target = Target {
+            function,
+            argument: 0,
+        };
+        Task::spawned(alloc, program, 0, target, spare)
+    }
+
+    /// A function at its begin, on this strand. It takes memory only where no frame is in reserve.
+    pub(crate) fn spawned(
+        alloc: Global,
+        program: &'p Program<Global>,
+        strand: u32,
+        target: Target,
+        spare: &mut Spare,
+    ) -> Result<Task<'p>, AllocError>
+        requires { target.function < length program.now.functions }
+        ensures strand { IfOk result (λ task. task.strand ≡ strand) }
+        ensures program { IfOk result (λ task. task.program ≡ program.entry) }
+        ensures begun { IfOk result (IsBegun target.function target.argument) }
+    {
+        let frame = begun(alloc, program, target, spare)?;
+        Ok(Task {
+            strand,
+            program,
+            frame,
+        })
+    }
+
+    /// The frame goes on on this strand.
+    pub(crate) fn on(mut self, strand: u32) -> Task<'p>
+        ensures { IsOn strand self.entry result }
+    {
+        self.strand = strand;
+        self
+    }
+
+    /// Keeps the frame in reserve, where there is room for it.
+    pub(crate) fn retire(self, spare: &mut Spare) {
+        let Task {
+            strand: _,
+            program: _,
+            frame,
+        } = self;
+        if spare.len() < MOST_SPARE {
+            let _kept = spare.push(frame);
+        }
+    }
+}

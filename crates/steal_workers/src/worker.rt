@@ -1,0 +1,378 @@
+//! A worker.
+
+ghost use Rattle.std.specs.Prelude.{◌≡◌, ◌↔◌, ◌+◌, ◌<◌, [], ◌∷◌, ◌++◌, Err, IfErr, IfOk};
+ghost use Rattle.std.specs.Prelude.{IfSome, IsTrue, MatchOption, OnOk, length, vec_len};
+ghost use Rattle.frame_steps.specs.Frames.{Stands};
+ghost use Rattle.locked_replay.specs.declared.fault.RunFault.{RunFault};
+ghost use Rattle.steal_workers.specs.Hands.{pushing};
+ghost use Rattle.steal_workers.specs.Goings.{GoesOn, HandsOut, IsAtJoin};
+
+use crate::ends::Ends;
+use crate::fault::{fault_of, meeting_of, refusal_of};
+use crate::lot::{DOZE, Lot};
+use crate::task::{Spare, Task};
+use crossbeam_utils::Backoff;
+use frame_steps::Frame;
+use function_steps::Target;
+use locked_replay::{Ask, RunFault, Seat, WorkerLog};
+use program_text::Program;
+use race_gate::Answer;
+use short_receipts::Receipts;
+use std::alloc::{AllocError, Global};
+use std::sync::Wait;
+use std::sync::ledger::Ledger;
+use text_words::{Act, Request};
+
+/// The function that a frame spawns, which wants this act. The frame is not asked where it can be none.
+pub(crate) fn spawned(frame: &Frame<Global>, program: &Program<Global>, act: Act) -> Option<Target>
+    requires { Stands program.now.functions frame.now }
+    ensures { IfSome result (λ target. target.function < length program.now.functions) }
+{
+    match act {
+        Act::Spawn => frame.spawns(program),
+        _ => None,
+    }
+}
+
+/// What a frame knew of its request before it was answered.
+#[derive(Clone, Copy)]
+struct Asked {
+    /// The function that the request spawns.
+    target: Option<Target>,
+    /// The join of the block that was open.
+    join: Option<u32>,
+}
+
+/// Where a worker goes on after an answer.
+#[derive(Clone, Copy)]
+enum Going {
+    /// With the task that it has.
+    Ahead,
+    /// With another: the task waits for this join.
+    Parks(u32),
+    /// With the task that waits for this join, if it has come: the one that it has ended last of the join's children.
+    Wakes(u32),
+    /// With another: the task has ended.
+    Ends,
+}
+
+/// Hands out a task that does not go ahead. What comes out goes on in its place, and the frame of a task that has ended is kept in reserve.
+fn hand_out<'p, R: Wait>(
+    rt: &R,
+    lot: &Lot<'p>,
+    going: Going,
+    task: Task<'p>,
+    spare: &mut Spare,
+) -> Result<Option<Task<'p>>, RunFault>
+    ensures handed { HandsOut going task.entry result }
+    ensures torn { result ≡ Err RunFault.Torn → IsAtJoin going }
+{
+    match going {
+        Going::Ahead => Ok(Some(task)),
+        Going::Parks(join) => lot.park(rt, join, task).map_err(meeting_of),
+        Going::Wakes(join) => {
+            task.retire(spare);
+            lot.wake(rt, join).map_err(meeting_of)
+        }
+        Going::Ends => {
+            task.retire(spare);
+            Ok(None)
+        }
+    }
+}
+
+fn is_same_act(one: Act, other: Act) -> bool
+    ensures { IsTrue result ↔ one ≡ other }
+{
+    one == other
+}
+
+/// Whether the two are one request. Field by field, since the search for one proof of all of them passes its limit.
+fn is_same_request(one: Request, other: Request) -> bool
+    ensures { IsTrue result ↔ one ≡ other }
+{
+    one.strand == other.strand && one.line == other.line && is_same_act(one.act, other.act)
+}
+
+/// A worker: what was asked on its seat before it began, what it was told since, its ends of the deques, and frames to be used again.
+pub struct Worker<'p, L: Ledger> {
+    pub(crate) before: u64,
+    seat: Seat<L>,
+    pub(crate) receipts: Receipts,
+    pub(crate) ends: Ends<'p>,
+    spare: Spare,
+    /// The fault that it met, once it has run.
+    pub fault: Option<RunFault>,
+    ghost counted: { seat.asked ≡ before + length receipts.items },
+}
+
+impl<'p, L: Ledger> Drop for Worker<'p, L> {
+    fn drop(self) {
+        let Worker {
+            before: _,
+            seat: _,
+            receipts: _,
+            ends: _,
+            spare: _,
+            fault: _,
+        } = self;
+    }
+}
+
+impl<'p, L: Ledger> Worker<'p, L> {
+    ghost use Rattle.steal_workers.specs.Reaches.{own_view};
+    ghost use Rattle.steal_workers.specs.Workers.{station_of, AsksFor, KeepsReceipt, MeetsJoin, EndsAtJoin, TornAtJoin, child_of};
+
+    /// A worker on this seat, with these ends, which has done nothing yet.
+    pub fn new(alloc: Global, seat: Seat<L>, ends: Ends<'p>) -> Worker<'p, L>
+        ensures before { result.before ≡ seat.asked }
+        ensures ends { result.ends ≡ ends.entry }
+    {
+        Worker {
+            before: seat.asked(),
+            seat,
+            receipts: Receipts::new(alloc),
+            ends,
+            spare: Vec::new(alloc),
+            fault: None,
+        }
+    }
+
+    /// The task of the program's begin becomes one of this worker's deque.
+    pub fn begin(&mut self, alloc: Global, program: &'p Program<Global>) -> Result<(), AllocError>
+        ensures station { station_of self.new ≡ station_of self.old }
+        ensures ok { OnOk result (own_view self.new.ends ≡ pushing 0 (own_view self.old.ends)) }
+    {
+        let root = Task::root(alloc, program, &mut self.spare)?;
+        self.ends.push(root)
+    }
+
+    /// Asks, and keeps the receipt, which has to be of that request.
+    fn ask<G: Ask<L>, R: Wait>(
+        &mut self,
+        rt: &R,
+        gate: &G,
+        request: Request,
+    ) -> Result<Answer, RunFault>
+        ensures station { station_of self.new ≡ station_of self.old }
+        ensures ends { self.new.ends ≡ self.old.ends }
+        ensures kept { KeepsReceipt request self.old.receipts.items self.new.receipts.items result }
+    {
+        let Worker { seat, receipts, .. } = self;
+        receipts.reserve()?;
+        let receipt = gate.ask(rt, seat, request).map_err(fault_of)?;
+        receipts.push_reserved(receipt);
+        if is_same_request(receipt.request, request) {
+            Ok(receipt.answer)
+        } else {
+            Err(RunFault::Strange)
+        }
+    }
+
+    /// Asks what a task asks next, and goes on with it in place as far as the answer says so. Whoever is told to hand it out does that.
+    fn step<G: Ask<L>, R: Wait>(
+        &mut self,
+        rt: &R,
+        alloc: Global,
+        gate: &G,
+        lot: &Lot<'p>,
+        task: &mut Task<'p>,
+    ) -> Result<Going, RunFault>
+        ensures station { station_of self.new ≡ station_of self.old }
+        ensures asks { OnOk result (AsksFor task.old self.old.receipts.items self.new.receipts.items) }
+        ensures joins { IfOk result (λ going. IsAtJoin going → EndsAtJoin self.new.receipts.items) }
+        ensures torn { result ≡ Err RunFault.Torn → EndsAtJoin self.new.receipts.items }
+    {
+        let Task {
+            strand,
+            program,
+            frame,
+        } = task;
+        if frame.is_over() {
+            return Err(RunFault::Strange);
+        }
+        frame.reserve_call()?;
+        let want = frame.next(program);
+        let asked = Asked {
+            target: spawned(frame, program, want.act),
+            join: frame.block_join(),
+        };
+        let request = Request {
+            strand: *strand,
+            act: want.act,
+            line: want.line,
+        };
+        let answer = self.ask(rt, gate, request)?;
+        frame.answer(program, &answer).map_err(refusal_of)?;
+        self.follow(rt, alloc, lot, program, strand, answer, asked)
+    }
+
+    /// Where the worker goes on after an answer that the frame took, and on which strand.
+    fn follow<R: Wait>(
+        &mut self,
+        rt: &R,
+        alloc: Global,
+        lot: &Lot<'p>,
+        program: &'p Program<Global>,
+        strand: &mut u32,
+        answer: Answer,
+        asked: Asked,
+    ) -> Result<Going, RunFault>
+        requires { IfSome asked.target (λ t. t.function < length program.now.functions) }
+        ensures station { station_of self.new ≡ station_of self.old }
+        ensures pushed { OnOk result ((own_view self.new.ends).pushed ≡ (own_view self.old.ends).pushed ++ child_of answer) }
+        ensures receipts { self.new.receipts ≡ self.old.receipts }
+        ensures goes_on { GoesOn answer asked.join strand.old strand.new result }
+        ensures joins { IfOk result (λ going. IsAtJoin going → MeetsJoin answer) }
+        ensures torn { result ≡ Err RunFault.Torn → ⊥ }
+    {
+        match answer {
+            Answer::Split(strands) => {
+                self.spawn(alloc, program, strands.child, asked.target)?;
+                *strand = strands.next;
+                Ok(Going::Ahead)
+            }
+            Answer::Joined(join) => {
+                *strand = join;
+                Ok(Going::Ahead)
+            }
+            Answer::Waits => match asked.join {
+                Some(join) => Ok(Going::Parks(join)),
+                None => Err(RunFault::Strange),
+            },
+            Answer::Ended => Ok(Going::Ends),
+            Answer::EndedJoined(join) => Ok(Going::Wakes(join)),
+            Answer::Finished => {
+                lot.close(rt);
+                Ok(Going::Ends)
+            }
+            Answer::Same
+            | Answer::Resumed
+            | Answer::Granted
+            | Answer::Value(_)
+            | Answer::Refused { .. }
+            | Answer::Unset => Ok(Going::Ahead),
+        }
+    }
+
+    /// The child's frame becomes a task of this worker's deque.
+    fn spawn(
+        &mut self,
+        alloc: Global,
+        program: &'p Program<Global>,
+        child: u32,
+        target: Option<Target>,
+    ) -> Result<(), RunFault>
+        requires { IfSome target (λ t. t.function < length program.now.functions) }
+        ensures station { station_of self.new ≡ station_of self.old }
+        ensures receipts { self.new.receipts ≡ self.old.receipts }
+        ensures ok { OnOk result ((own_view self.new.ends).pushed ≡ (own_view self.old.ends).pushed ++ child ∷ []) }
+        ensures err { MatchOption target (result ≡ Err RunFault.Strange) (λ _. IfErr result (λ fault. fault ≡ RunFault.Memory)) }
+    {
+        match target {
+            Some(target) => {
+                let task = Task::spawned(alloc, program, child, target, &mut self.spare)?;
+                self.ends.push(task)?;
+                Ok(())
+            }
+            None => Err(RunFault::Strange),
+        }
+    }
+
+    /// Goes on with a task, and with those that the lot gives in its place, until there is none.
+    fn walk<G: Ask<L>, R: Wait>(
+        &mut self,
+        rt: &R,
+        alloc: Global,
+        gate: &G,
+        lot: &Lot<'p>,
+        mut task: Task<'p>,
+    ) -> Result<(), RunFault>
+        ensures station { station_of self.new ≡ station_of self.old }
+        ensures torn { result ≡ Err RunFault.Torn → EndsAtJoin self.new.receipts.items }
+    {
+        for _ in rt.forever() {
+            match self.step(rt, alloc, gate, lot, &mut task)? {
+                Going::Ahead => {}
+                going => match hand_out(rt, lot, going, task, &mut self.spare)? {
+                    Some(next) => task = next,
+                    None => return Ok(()),
+                },
+            }
+        }
+        Ok(())
+    }
+
+    fn work<G: Ask<L>, R: Wait>(
+        &mut self,
+        rt: &R,
+        alloc: Global,
+        gate: &G,
+        lot: &Lot<'p>,
+    ) -> Result<(), RunFault>
+        ensures station { station_of self.new ≡ station_of self.old }
+        ensures torn { result ≡ Err RunFault.Torn → EndsAtJoin self.new.receipts.items }
+    {
+        let backoff = Backoff::new();
+        let mut doze = DOZE;
+        for _ in rt.forever() {
+            match self.ends.find() {
+                Some(task) => {
+                    backoff.reset();
+                    doze = DOZE;
+                    self.walk(rt, alloc, gate, lot, task)?;
+                }
+                None => {
+                    if lot.look(rt) {
+                        break;
+                    }
+                    if backoff.is_completed() {
+                        doze = lot.doze(rt, doze);
+                    } else {
+                        backoff.snooze();
+                    }
+                }
+            }
+        }
+        Ok(())
+    }
+
+    /// Works until the lot is closed. A fault stops the gate and closes the lot.
+    pub fn run<G: Ask<L>, R: Wait>(
+        mut self,
+        rt: &R,
+        alloc: Global,
+        gate: &G,
+        lot: &Lot<'p>,
+    ) -> Worker<'p, L>
+        ensures station { station_of result ≡ station_of self.entry }
+        ensures torn { TornAtJoin result }
+    {
+        match self.work(rt, alloc, gate, lot) {
+            Ok(()) => self.fault = None,
+            Err(fault) => {
+                gate.stop(rt);
+                lot.close(rt);
+                self.fault = Some(fault);
+            }
+        }
+        self
+    }
+
+    /// What the worker brings back, and its ends of the deques.
+    pub(crate) fn ended(self) -> (WorkerLog<L>, Ends<'p>)
+        ensures log { (result.0.seat.asked ≡ self.entry.before + length result.0.receipts.items)
+            × (result.0.receipts ≡ self.entry.receipts) }
+        ensures ends { result.1 ≡ self.entry.ends }
+    {
+        let Worker {
+            before: _,
+            seat,
+            receipts,
+            ends,
+            spare: _,
+            fault: _,
+        } = self;
+        (WorkerLog { seat, receipts }, ends)
+    }
+}

@@ -1,8 +1,0 @@
-use Rattle.worker_steps.proofs.Balances.{takes, pops}
-use Rattle.worker_steps.proofs.ends.Ends.find.Goals as goal
-
-pub pop_as-requires-clause-fifo : goal.pop_as-requires-clause-fifo
-pop_as-requires-clause-fifo c fifo = takes 1 _ _
-
-pub pop_as-requires-clause-lifo : goal.pop_as-requires-clause-lifo
-pop_as-requires-clause-lifo c lifo = pops _ _
