@@ -5,7 +5,7 @@ _cilkcheck() {
     COMPREPLY=()
     for ((i = 1; i < COMP_CWORD; i++)); do
         case ${COMP_WORDS[i]} in
-            --workers | --limit | --trace | --color) ((i++)) ;;
+            --workers | --limit | --trace | --color | --format) ((i++)) ;;
             -*) ;;
             *) if [ -z "$command" ]; then command=${COMP_WORDS[i]}; else ((place++)); fi ;;
         esac
@@ -15,7 +15,7 @@ _cilkcheck() {
         judge) options='--limit -h --help' kinds=trace ;;
         run) options='--workers --limit --trace -h --help' kinds=cilk ;;
         explain)
-            options='--workers --serial --limit --color -h --help' kinds='cilk|trace'
+            options='--workers --serial --limit --color --format -h --help' kinds='cilk|trace'
             # behind the first file stand traces
             for ((i = 0; i < place; i++)); do kinds+=' trace'; done
             ;;
@@ -26,6 +26,7 @@ _cilkcheck() {
     esac
     case $before in
         --color) COMPREPLY=($(compgen -W 'auto always never' -- "$current")); return ;;
+        --format) COMPREPLY=($(compgen -W 'text json' -- "$current")); return ;;
         --trace)
             compopt -o filenames 2> /dev/null
             mapfile -t COMPREPLY < <(compgen -f -- "$current")

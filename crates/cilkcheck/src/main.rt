@@ -16,6 +16,7 @@ ghost use Rattle.command_streams.specs.Watched.{held, has_failed, is_delivered};
 ghost use Rattle.tool_commands.specs.Performed.{IsPerformed, HasJobCause, IsRecorded};
 
 use std::alloc::Global;
+use std::env;
 use std::fs::{self, File};
 use std::io::{self, IsTerminal, Read, Write};
 use std::os::unix::fs::MetadataExt;
@@ -79,10 +80,23 @@ impl<'a> Host for System<'a> {
     }
 
     fn is_terminal(&self) -> bool {
-        self.rt.stdout().is_terminal()
+        self.rt.stdout().is_terminal() && !wants_no_color(self.rt)
     }
 
     fn close(&mut self, _name: &str, _file: File) {}
+}
+
+/// Whether the environment wants no colours: NO_COLOR is not empty, or the terminal is dumb.
+fn wants_no_color(rt: &HostRuntime) -> bool {
+    let says_no = match env::var(rt, "NO_COLOR") {
+        Ok(value) => !value.is_empty(),
+        Err(_) => false,
+    };
+    let is_dumb = match env::var(rt, "TERM") {
+        Ok(terminal) => terminal.as_str() == "dumb",
+        Err(_) => false,
+    };
+    says_no || is_dumb
 }
 
 /// Tells a fault in one line on standard error.

@@ -11,6 +11,7 @@ mod failures;
 mod hosts;
 mod pieces;
 mod recorded;
+mod records;
 mod replays;
 mod runs;
 mod schedules;
@@ -25,8 +26,8 @@ use std::process::Abort;
 use std::sync::Wait;
 use std::thread::Threads;
 use tool_commands::{
-    CliFault, Form, Manner, OpenDoor, Watched, draw_text, elide_text, explain_text, judge_stream,
-    replay_text, run_text,
+    CliFault, Form, Manner, OpenDoor, Rendering, Watched, draw_text, elide_text, explain_text,
+    judge_stream, replay_text, run_text,
 };
 
 const MOST: u32 = 1_000_000;
@@ -44,6 +45,8 @@ enum Command<'a> {
     Explain(usize, u32),
     /// The same of a run in the serial order, with this limit.
     ExplainSerially(u32),
+    /// The same, told to a program as JSON.
+    ExplainAsJson(u32),
     /// Replays this trace as a run of the program that is read.
     Replay(&'a str),
     /// Replays the trace that is read as a run of this program.
@@ -54,7 +57,9 @@ enum Command<'a> {
     Picture,
 }
 
-use Command::{Draw, Elide, Explain, ExplainSerially, Follow, Judge, Picture, Replay, Run};
+use Command::{
+    Draw, Elide, Explain, ExplainAsJson, ExplainSerially, Follow, Judge, Picture, Replay, Run,
+};
 
 /// A limit that commands take.
 fn limited(rt: &impl Abort, limit: u32) -> u32
@@ -107,13 +112,14 @@ fn followed<P: Read>(
     answer
 }
 
-/// Tells a person, on paper, of a run of the program that is read.
+/// Tells of a run of the program that is read, in this form, on paper.
 fn explained<P: Read, R: Abort + Threads + Wait + Sync>(
     rt: &R,
     alloc: Global,
     program: &mut Watched<P>,
     workers: usize,
     is_serial: bool,
+    rendering: Rendering,
     output: &mut Watched<Filling>,
     limit: u32,
 ) -> Result<u8, CliFault>
@@ -123,6 +129,7 @@ fn explained<P: Read, R: Abort + Threads + Wait + Sync>(
     let (workers, limit) = (manned(rt, workers), limited(rt, limit));
     let manner = Manner {
         is_painted: false,
+        rendering,
         file: "p.cilk",
     };
     explain_text(
@@ -154,8 +161,24 @@ fn answered<P: Read, R: Abort + Threads + Wait + Sync>(
             let (workers, limit) = (manned(rt, workers), limited(rt, limit));
             run_text(rt, alloc, input, workers, &OpenDoor, output, limit)
         }
-        Explain(workers, limit) => explained(rt, alloc, input, workers, false, output, limit),
-        ExplainSerially(limit) => explained(rt, alloc, input, 1, true, output, limit),
+        Explain(workers, limit) => {
+            explained(
+                rt,
+                alloc,
+                input,
+                workers,
+                false,
+                Rendering::Text,
+                output,
+                limit,
+            )
+        }
+        ExplainSerially(limit) => {
+            explained(rt, alloc, input, 1, true, Rendering::Text, output, limit)
+        }
+        ExplainAsJson(limit) => {
+            explained(rt, alloc, input, 1, true, Rendering::Json, output, limit)
+        }
         Replay(trace) => replayed(rt, alloc, input, trace, output),
         Follow(program) => followed(rt, alloc, input, program, output),
         Draw => draw_text(alloc, Form::Dot, input, output),

@@ -16,6 +16,8 @@ use Rattle.command_words.specs.declared.words.Job.{Job}
 use Rattle.command_words.specs.declared.words.Job.TheVariants.{Judge, Elide, Run, Record, Explain, ExplainInput, ExplainTraces, Replay, Draw, Show}
 use Rattle.command_words.specs.declared.words.Color.{Color}
 use Rattle.command_words.specs.declared.words.Color.TheVariants.{Auto, Always, Never}
+use Rattle.command_words.specs.declared.words.Format.{Format}
+use Rattle.command_words.specs.declared.words.Format.TheVariants.{Text as TextFormat, Json}
 use Rattle.command_words.specs.declared.words.Language.{Language}
 use Rattle.command_words.specs.declared.words.Language.TheVariants.{Dot, Svg}
 
@@ -62,6 +64,18 @@ IsColorOf (Some text) color = text ≡ color_word color
 abbrev pub IsColor : List Row → Color → Type 0
 IsColor rows color = IsColorOf (first_of (codes "color") rows) color
 
+abbrev pub format_word : Format → Text
+format_word TextFormat = codes "text"
+format_word Json = codes "json"
+
+-- `--format FORM`
+abbrev pub IsFormatOf : Option Text → Format → Type 0
+IsFormatOf None format = format ≡ TextFormat
+IsFormatOf (Some text) format = text ≡ format_word format
+
+abbrev pub IsFormat : List Row → Format → Type 0
+IsFormat rows format = IsFormatOf (first_of (codes "format") rows) format
+
 -- `--NAME`
 abbrev pub has_flag : (name : Text) → List Row → Bool
 has_flag name rows = option_map_or (λ text. bytes_eq text (codes "true")) (first_of name rows) false
@@ -103,15 +117,15 @@ IsAsked command rows (Run file workers limit) =
 IsAsked command rows (Record file workers limit trace) =
     (command ≡ codes "run") × IsName (codes "file") rows (string_bytes file) × IsWorkers rows workers × IsLimit rows limit
     × IsName (codes "trace") rows (string_bytes trace) × IsOut (string_bytes file) (string_bytes trace)
-IsAsked command rows (Explain file workers is_serial limit color) =
+IsAsked command rows (Explain file workers is_serial limit color format) =
     (command ≡ codes "explain") × (all_of (codes "file") rows ≡ Some (string_bytes file ∷ [])) × (string_bytes file ≢ input_word)
-    × IsWorkers rows workers × IsSerial rows is_serial × IsLimit rows limit × IsColor rows color
-IsAsked command rows (ExplainInput workers is_serial limit color) =
+    × IsWorkers rows workers × IsSerial rows is_serial × IsLimit rows limit × IsColor rows color × IsFormat rows format
+IsAsked command rows (ExplainInput workers is_serial limit color format) =
     (command ≡ codes "explain") × (all_of (codes "file") rows ≡ Some (input_word ∷ []))
-    × IsWorkers rows workers × IsSerial rows is_serial × IsLimit rows limit × IsColor rows color
-IsAsked command rows (ExplainTraces files color) =
+    × IsWorkers rows workers × IsSerial rows is_serial × IsLimit rows limit × IsColor rows color × IsFormat rows format
+IsAsked command rows (ExplainTraces files color format) =
     (command ≡ codes "explain") × (all_of (codes "file") rows ≡ Some (map string_bytes files.items)) × (1 < length files.items)
-    × All (λ file. string_bytes file ≢ input_word) files.items × IsColor rows color × (first_of (codes "workers") rows ≡ None)
+    × All (λ file. string_bytes file ≢ input_word) files.items × IsColor rows color × IsFormat rows format × (first_of (codes "workers") rows ≡ None)
     × (first_of (codes "limit") rows ≡ None) × (has_flag (codes "serial") rows ≡ false)
 IsAsked command rows (Replay file trace) =
     (command ≡ codes "replay") × IsName (codes "file") rows (string_bytes file) × IsName (codes "trace") rows (string_bytes trace)

@@ -50,7 +50,8 @@ run = command (codes "run")
 
 abbrev pub explain : Shape
 explain = command (codes "explain")
-    (several (codes "file") ∷ option (codes "workers") ∷ flag (codes "serial") ∷ option (codes "limit") ∷ option (codes "color") ∷ [])
+    (several (codes "file") ∷ option (codes "workers") ∷ flag (codes "serial") ∷ option (codes "limit") ∷ option (codes "color") ∷
+    option (codes "format") ∷ [])
 
 abbrev pub replay : Shape
 replay = command (codes "replay") (wanted (codes "file") ∷ wanted (codes "trace") ∷ [])

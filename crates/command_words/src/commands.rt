@@ -148,13 +148,20 @@ fn explain<'a>(alloc: Global) -> Result<Command<'a>, AllocError>
         "WHEN",
         "When words are painted: auto, always or never [default: auto]",
     );
+    let format = option(
+        alloc,
+        "format",
+        "FORM",
+        "The form of the explanation: text or json [default: text]",
+    );
     command(alloc, "explain", help::EXPLAIN, help::LANGUAGE)
         .long_about(help::EXPLANATION)
         .arg(file)?
         .arg(workers(alloc))?
         .arg(serial)?
         .arg(entries(alloc))?
-        .arg(color)
+        .arg(color)?
+        .arg(format)
 }
 
 fn replay<'a>(alloc: Global) -> Result<Command<'a>, AllocError>

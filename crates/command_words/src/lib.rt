@@ -12,4 +12,4 @@ mod names;
 mod words;
 
 pub use names::check_names;
-pub use words::{Color, INPUT, Job, Language, read_args, read_words, usage};
+pub use words::{Color, Format, INPUT, Job, Language, read_args, read_words, usage};

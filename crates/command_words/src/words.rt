@@ -6,7 +6,7 @@ ghost use Rattle.std.specs.String.{string_bytes};
 ghost use Rattle.clap.specs.Words.{app_of, kind_of, first_of, all_of, subcommand_rows_of};
 ghost use Rattle.command_words.specs.Commands.{cilkcheck};
 ghost use Rattle.command_words.specs.Jobs.{IsInRange};
-ghost use Rattle.command_words.specs.Asked.{rows_in, IsWorkers, IsLimit, IsName, IsColor, IsSerial, has_flag, language_of, input_word, IsOut};
+ghost use Rattle.command_words.specs.Asked.{rows_in, IsWorkers, IsLimit, IsName, IsColor, IsFormat, IsSerial, has_flag, language_of, input_word, IsOut};
 ghost use Rattle.command_words.specs.Asked.{IsAsked, IsAskedBy, IsShown, IsJobOf};
 ghost use Rattle.command_streams.specs.Faults.{IsUsageFault, TellsUsage};
 
@@ -53,6 +53,15 @@ pub enum Color {
     Never,
 }
 
+/// The form of an explanation.
+#[derive(Clone, Copy, Debug, PartialEq, Eq)]
+pub enum Format {
+    /// Text, for a person.
+    Text,
+    /// JSON, for a program.
+    Json,
+}
+
 /// The language of a drawing.
 #[derive(Clone, Copy, Debug, PartialEq, Eq)]
 pub enum Language {
@@ -89,13 +98,14 @@ pub enum Job {
         limit: u32,
         trace: String,
     },
-    /// To run the program in this file by so many workers, with this limit on the entries of its history, and to tell a person of the run.
+    /// To run the program in this file by so many workers, with this limit on the entries of its history, and to tell of the run in this form.
     Explain {
         file: String,
         workers: usize,
         is_serial: bool,
         limit: u32,
         color: Color,
+        format: Format,
     },
     /// To do so with what standard input gives.
     ExplainInput {
@@ -103,11 +113,13 @@ pub enum Job {
         is_serial: bool,
         limit: u32,
         color: Color,
+        format: Format,
     },
-    /// To judge the traces in these files, and to tell a person of them together.
+    /// To judge the traces in these files, and to tell of them together in this form.
     ExplainTraces {
         files: Vec<String>,
         color: Color,
+        format: Format,
     },
     /// To replay the trace in the second file as a run of the program in the first.
     Replay {
@@ -148,14 +160,20 @@ impl Drop for Job {
                 is_serial: _,
                 limit: _,
                 color: _,
+                format: _,
             } => {}
             Job::ExplainInput {
                 workers: _,
                 is_serial: _,
                 limit: _,
                 color: _,
+                format: _,
             } => {}
-            Job::ExplainTraces { files: _, color: _ } => {}
+            Job::ExplainTraces {
+                files: _,
+                color: _,
+                format: _,
+            } => {}
             Job::Replay { file: _, trace: _ } => {}
             Job::Draw {
                 file: _,
@@ -369,6 +387,21 @@ fn color_of(alloc: Global, matches: &ArgMatches<'_>) -> Result<Color, CliFault>
     }
 }
 
+/// The form that the words of a command want an explanation in.
+fn format_of(alloc: Global, matches: &ArgMatches<'_>) -> Result<Format, CliFault>
+    ensures format { IfOk result (IsFormat (rows_in matches.now)) }
+    ensures fault { IfErr result IsUsageFault }
+{
+    match text_of(matches, "format") {
+        None | Some("text") => Ok(Format::Text),
+        Some("json") => Ok(Format::Json),
+        Some(_) => Err(usage(
+            alloc,
+            "invalid value for '--format <FORM>': text or json is wanted",
+        )),
+    }
+}
+
 /// Whether the words of a command want one worker in the serial order, which is no number of workers that steal.
 fn is_serial(alloc: Global, matches: &ArgMatches<'_>) -> Result<bool, CliFault>
     ensures serial { IfOk result (IsSerial (rows_in matches.now)) }
@@ -394,12 +427,14 @@ fn explain_one(alloc: Global, matches: &ArgMatches<'_>, name: &str) -> Result<Jo
     let limit = limit_of(alloc, matches)?;
     let is_serial = is_serial(alloc, matches)?;
     let color = color_of(alloc, matches)?;
+    let format = format_of(alloc, matches)?;
     if name == INPUT {
         return Ok(Job::ExplainInput {
             workers,
             is_serial,
             limit,
             color,
+            format,
         });
     }
     let file = String::from_str(alloc, name)?;
@@ -409,6 +444,7 @@ fn explain_one(alloc: Global, matches: &ArgMatches<'_>, name: &str) -> Result<Jo
         is_serial,
         limit,
         color,
+        format,
     })
 }
 
@@ -464,7 +500,12 @@ fn explain_several(alloc: Global, matches: &ArgMatches<'_>, names: &[&str]) -> R
     }
     let files = several_files(alloc, names)?;
     let color = color_of(alloc, matches)?;
-    Ok(Job::ExplainTraces { files, color })
+    let format = format_of(alloc, matches)?;
+    Ok(Job::ExplainTraces {
+        files,
+        color,
+        format,
+    })
 }
 
 fn explain_job(alloc: Global, matches: &ArgMatches<'_>) -> Result<Job, CliFault>

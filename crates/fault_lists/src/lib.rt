@@ -13,4 +13,5 @@ mod names;
 mod opening;
 
 pub use fault::Fault;
+pub use list::{Others, list_others};
 pub use message::faults_message;

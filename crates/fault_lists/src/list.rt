@@ -194,10 +194,10 @@ fn list_from<'a>(
 
 /// The faults that are told behind the first one of a text.
 #[derive(Debug, Drop)]
-pub(crate) struct Others {
-    pub(crate) faults: Vec<Fault>,
+pub struct Others {
+    pub faults: Vec<Fault>,
     /// Whether there are more.
-    pub(crate) is_more: bool,
+    pub is_more: bool,
 }
 
 /// Nothing is told behind the first fault.
@@ -241,7 +241,7 @@ fn list_behind(
 }
 
 /// The faults that can be told apart behind the first one of a text, in order of their lines.
-pub(crate) fn list_others(
+pub fn list_others(
     alloc: Global,
     meant: Meant,
     text: &[u8],

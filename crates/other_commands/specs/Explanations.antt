@@ -1,5 +1,5 @@
--- What is told to a person of a program's text: of a run of the program, or of the text's fault.
-use Rattle.std.specs.Prelude.{ℕ, ◌≡◌, ◌≤◌, ◌⊎◌, Bool, true, false, Option, List, ◌++◌, length, flat_map, reverse, codes, decimal}
+-- What is told of a program's text: of a run of the program, or of the text's fault.
+use Rattle.std.specs.Prelude.{ℕ, zero, suc, ◌≡◌, ◌≤◌, ◌⊎◌, Bool, true, false, Option, List, [], ◌++◌, length, flat_map, reverse, codes, decimal}
 use Rattle.std.specs.Global.{Global}
 use Rattle.std.specs.Io.KnownBytes.{Appends}
 use Rattle.text_words.specs.declared.fault.Cause.{Cause}
@@ -19,10 +19,21 @@ use Rattle.model_histories.specs.Extensions.{IsFinished, IsClean}
 use Rattle.model_runs.specs.Runs.{IsRun, IsFinishedRun}
 use Rattle.locked_replay.specs.Laws.{SpeaksForAll}
 use Rattle.law_traces.specs.CleanTraces.{SpeaksForOrders}
+use Rattle.serde_json.specs.Data.{null}
+use Rattle.source_quotes.specs.declared.meant.Meant.{Meant}
 use Rattle.source_quotes.specs.declared.meant.Meant.TheVariants.{Program, Trace}
+use Rattle.fault_lists.specs.declared.fault.Fault.{Fault}
+use Rattle.race_records.specs.Values.{IsTextOf}
+use Rattle.race_records.specs.declared.document.Outcome.{Outcome as Ending}
+use Rattle.race_records.specs.declared.document.Outcome.TheVariants.{Clean as CleanEnding, Raced as RacedEnding, Unfinished as UnfinishedEnding}
+use Rattle.race_records.specs.Documents.{RecordsEntries}
+use Rattle.race_records.specs.Unjudged.{RecordsText, illegal_told}
+use Rattle.other_commands.specs.Memories.{memory_told}
+use Rattle.other_commands.specs.declared.explain.Rendering.{Rendering}
+use Rattle.other_commands.specs.declared.explain.Rendering.TheVariants.{Text, Json}
 use Rattle.fault_lists.specs.Messages.{TellsFaults}
 use Rattle.source_quotes.specs.Quotes.{counted}
-use Rattle.race_explanations.specs.Explained.{IsExplanation, IsTraceExplanation}
+use Rattle.race_explanations.specs.Explained.{IsExplanation, IsTraceExplanation, program_setting, trace_setting}
 use Rattle.race_explanations.specs.declared.illegal.Illegality.{Illegality}
 use Rattle.race_explanations.specs.Illegal.{HasReason, illegal_text}
 use Rattle.command_streams.specs.declared.fault.CliFault.{CliFault}
@@ -40,9 +51,10 @@ use Rattle.other_commands.specs.declared.ask.Stop.{Stop}
 use Rattle.other_commands.specs.Replays.{AnswersAll, StopsAt, StopsGate}
 use Rattle.other_commands.specs.Sorts.{is_program_text}
 
--- how it is told: whether words are painted, and by which name the text's file is called
+-- how it is told: whether words are painted, in which form, and by which name the text's file is called
 pub record Manner : Type 0 where
   pub is_painted : Bool
+  pub rendering : Rendering
   pub file : List ℕ
 
 -- ---- texts
@@ -64,10 +76,44 @@ cut_behind = codes " requests, and there may be more to tell\n"
 abbrev pub cut_text : ℕ → List ℕ
 cut_text limit = (cut_words ++ decimal limit) ++ cut_behind
 
+-- ---- in each form
+
+-- where nothing was refused in a run that left this memory
+abbrev pub TellsClean : Rendering → Manner → (text : List ℕ) → Contents → List Entry → (memory told : List ℕ) → Type 0
+TellsClean Text manner text program entries memory told = told ≡ clean_text program memory
+TellsClean Json manner text program entries memory told =
+    RecordsEntries CleanEnding 0 (program_setting false manner.file (lines text) program entries) (memory_told program.known.mems memory) [] told
+
+-- where something was refused
+abbrev pub TellsRaces : Rendering → Manner → (text : List ℕ) → Contents → List Entry → (told : List ℕ) → Type 0
+TellsRaces Text manner text program entries told = IsExplanation manner.is_painted manner.file (lines text) program entries told
+TellsRaces Json manner text program entries told =
+    RecordsEntries RacedEnding 0 (program_setting false manner.file (lines text) program entries) null [] told
+
+-- where the limit ended the run: the races until then, and that it is no whole run
+abbrev pub TellsCut : Rendering → Manner → (text : List ℕ) → Contents → List Entry → (told : List ℕ) → Type 0
+TellsCut Text manner text program entries told =
+    (explanation : List ℕ) × (_ : IsExplanation manner.is_painted manner.file (lines text) program entries explanation) ×
+    (told ≡ explanation ++ cut_text (length entries))
+TellsCut Json manner text program entries told =
+    RecordsEntries UnfinishedEnding 0 (program_setting false manner.file (lines text) program entries) null [] told
+
+-- the faults of the text that can be told apart, the first of which is this one
+abbrev pub TellsFaulty : Rendering → Manner → Meant → (text : List ℕ) → Fault → (told : List ℕ) → Type 0
+TellsFaulty Text manner meant text fault told = TellsFaults manner.is_painted manner.file meant text fault told
+TellsFaulty Json manner meant text fault told = RecordsText manner.file meant text fault told
+
+-- why the request with this number of a trace is illegal
+abbrev pub TellsIllegal : Rendering → Manner → (text : List ℕ) → TraceContents → ℕ → Illegality → (told : List ℕ) → Type 0
+TellsIllegal Text manner text trace number why told =
+    told ≡ illegal_text manner.is_painted manner.file (lines text) trace.lines number why
+TellsIllegal Json manner text trace number why told =
+    IsTextOf (illegal_told manner.file (lines text) trace.lines number why) told
+
 -- ---- a run
 
 -- A finished run in which nothing was refused is told, which speaks for every schedule.
-pub record IsCleanTold (program : Contents) (limit : ℕ) (told : List ℕ) : Type 0 where
+pub record IsCleanTold (manner : Manner) (text : List ℕ) (program : Contents) (limit : ℕ) (told : List ℕ) : Type 0 where
   pub entries : List Entry
   pub memory : List ℕ
   pub run : IsFinishedRun program.functions (shape_of_program program) (reverse entries)
@@ -75,7 +121,7 @@ pub record IsCleanTold (program : Contents) (limit : ℕ) (told : List ℕ) : Ty
   pub left : IsMemory (cells_of program.known.mems) (reverse entries) memory
   pub clean : IsClean (reverse entries)
   pub speaks : SpeaksForAll program.functions (shape_of_program program) (reverse entries)
-  pub told_is : told ≡ clean_text program memory
+  pub tells : TellsClean manner.rendering manner text program entries memory told
 
 -- The races of a finished run are told.
 pub record IsRacedTold (manner : Manner) (text : List ℕ) (program : Contents) (limit : ℕ) (told : List ℕ) : Type 0 where
@@ -83,7 +129,7 @@ pub record IsRacedTold (manner : Manner) (text : List ℕ) (program : Contents) 
   pub run : IsFinishedRun program.functions (shape_of_program program) (reverse entries)
   pub within : length entries ≤ limit
   pub raced : IsClean (reverse entries) → ⊥
-  pub explains : IsExplanation manner.is_painted manner.file (lines text) program entries told
+  pub explains : TellsRaces manner.rendering manner text program entries told
 
 -- The races are told of a run that has just as many entries as the limit and has not come to its end, and that it is no whole run.
 pub record IsCutTold (manner : Manner) (text : List ℕ) (program : Contents) (limit : ℕ) (told : List ℕ) (refused : ℕ) : Type 0 where
@@ -91,14 +137,12 @@ pub record IsCutTold (manner : Manner) (text : List ℕ) (program : Contents) (l
   pub run : IsRun program.functions (shape_of_program program) (reverse entries)
   pub full : length entries ≡ limit
   pub unfinished : IsFinished (reverse entries) → ⊥
-  pub explanation : List ℕ
-  pub explains : IsExplanation manner.is_painted manner.file (lines text) program entries explanation
-  pub told_is : told ≡ explanation ++ cut_text (length entries)
+  pub explains : TellsCut manner.rendering manner text program entries told
   pub refused_is : refused ≡ refusal_status entries
 
 -- A run with this end is told.
 abbrev pub TellsEnd : Manner → (text : List ℕ) → Contents → (limit : ℕ) → (told : List ℕ) → End → Type 0
-TellsEnd manner text program limit told Clean = IsCleanTold program limit told
+TellsEnd manner text program limit told Clean = IsCleanTold manner text program limit told
 TellsEnd manner text program limit told Raced = IsRacedTold manner text program limit told
 TellsEnd manner text program limit told Cut = IsCutTold manner text program limit told 0
 TellsEnd manner text program limit told CutRaced = IsCutTold manner text program limit told 1
@@ -122,7 +166,7 @@ pub record IsFaultTold (manner : Manner) (text : List ℕ) (told : List ℕ) (st
   pub number : ℕ
   pub why : Cause
   pub faults : TextFaults text number why
-  pub tells : TellsFaults manner.is_painted manner.file Program text (record { line = number; why = why }) told
+  pub tells : TellsFaulty manner.rendering manner Program text (record { line = number; why = why }) told
   pub status_is : status ≡ 2
 
 -- ---- a trace
@@ -137,6 +181,11 @@ recorded_line run = codes "recorded: " ++ run ++ codes "\n"
 abbrev pub recorded_text : Notes Global → List ℕ
 recorded_text notes = flat_map recorded_line (kept_runs notes)
 
+-- how a trace that was judged came out, by its status
+abbrev pub ending_of : (status : ℕ) → Ending
+ending_of zero = CleanEnding
+ending_of (suc status) = RacedEnding
+
 -- how many requests were judged
 abbrev pub judged_text : ℕ → List ℕ
 judged_text count = codes "judged: " ++ counted count (codes "request") ++ codes "\n"
@@ -146,6 +195,17 @@ abbrev pub TellsEntries : Manner → Notes Global → TraceContents → List Ent
 TellsEntries manner notes trace entries told =
     (IsClean (reverse entries) × (told ≡ clean_trace_words ++ judged_text (length entries))) ⊎
     ((IsClean (reverse entries) → ⊥) × IsTraceExplanation manner.is_painted notes trace.known entries told)
+
+-- The value tells of the trace, and what was recorded.
+abbrev pub RecordsTrace : Notes Global → TraceContents → List Entry → (told : List ℕ) → Type 0
+RecordsTrace notes trace entries told =
+    RecordsEntries (ending_of (refusal_status entries)) 1 (trace_setting false notes trace.known entries) null (kept_runs notes) told
+
+-- The trace is told, and what was recorded.
+abbrev pub TellsTrace : Rendering → Manner → Notes Global → TraceContents → List Entry → (told : List ℕ) → Type 0
+TellsTrace Text manner notes trace entries told =
+    (verdict : List ℕ) × (_ : TellsEntries manner notes trace entries verdict) × (told ≡ verdict ++ recorded_text notes)
+TellsTrace Json manner notes trace entries told = RecordsTrace notes trace entries told
 
 -- A gate answered each request of the trace that the text means, and its entries are told by the notes of that very text. Where nothing was
 -- refused, that speaks for each order in which the strands can come.
@@ -159,9 +219,7 @@ pub record IsTraceTold (manner : Manner) (text : List ℕ) (told : List ℕ) (st
   pub speaks : IsClean gate.history → SpeaksForOrders gate.shape gate.history
   pub notes : Notes Global
   pub are_notes : AreNotes (lines text) notes
-  pub verdict : List ℕ
-  pub tells : TellsEntries manner notes trace entries verdict
-  pub told_is : told ≡ verdict ++ recorded_text notes
+  pub tells : TellsTrace manner.rendering manner notes trace entries told
   pub status_is : status ≡ refusal_status entries
 
 -- The faults of the text as a trace that can be told apart are told, the first of which is its fault.
@@ -169,7 +227,7 @@ pub record IsTraceFaultTold (manner : Manner) (text : List ℕ) (told : List ℕ
   pub number : ℕ
   pub why : Cause
   pub faults : TraceFaults text number why
-  pub tells : TellsFaults manner.is_painted manner.file Trace text (record { line = number; why = why }) told
+  pub tells : TellsFaulty manner.rendering manner Trace text (record { line = number; why = why }) told
   pub status_is : status ≡ 2
 
 -- The text means a trace, and of its first request that a gate does not answer it is told why it is illegal in the history of that gate.
@@ -181,7 +239,7 @@ pub record IsIllegalTold (manner : Manner) (text : List ℕ) (told : List ℕ) (
   pub stops : StopsAt trace gate stop
   pub why : Illegality
   pub reason : HasReason gate stop.request why
-  pub told_is : told ≡ illegal_text manner.is_painted manner.file (lines text) trace.lines stop.number why
+  pub tells : TellsIllegal manner.rendering manner text trace stop.number why told
   pub status_is : status ≡ 2
 
 -- It is told why no trace is judged to its end: by a fault of the text, or by an illegal request.

@@ -3,6 +3,7 @@ pub mod Elided
 pub mod Replays
 pub mod Drawings
 pub mod Traced
+pub mod Memories
 pub mod Explanations
 pub mod Sorts
 pub mod Together

@@ -26,7 +26,11 @@ use text_buffers::{push_number, push_words};
 use text_words::{Mem, TextFault};
 
 /// Adds the name of a memory's cell with this index.
-fn push_name<A: Allocator>(text: &mut Vec<u8, A>, mem: &Mem, index: usize) -> Result<(), AllocError>
+pub(crate) fn push_name<A: Allocator>(
+    text: &mut Vec<u8, A>,
+    mem: &Mem,
+    index: usize,
+) -> Result<(), AllocError>
     ensures { OnOk result (text.new.items ≡ text.old.items ++ name_in mem.now index) }
 {
     push_words(text, mem.name.as_str())?;

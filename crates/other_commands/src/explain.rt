@@ -5,7 +5,7 @@ ghost use Rattle.std.specs.Prelude.{reverse, decimal, IfOk, IfErr, OnOk, IsErrOf
 ghost use Rattle.program_text.specs.Grammar.{TextMeans};
 ghost use Rattle.program_text.specs.Faults.{TextFaults};
 ghost use Rattle.program_text.specs.Programs.{contents};
-ghost use Rattle.model_histories.specs.Shapes.{most_entries};
+ghost use Rattle.model_histories.specs.Shapes.{Shape, most_entries};
 ghost use Rattle.model_races.specs.Memory.{IsMemory};
 ghost use Rattle.model_histories.specs.Extensions.{IsClean};
 ghost use Rattle.program_text.specs.Shapes.{shape_in};
@@ -16,10 +16,14 @@ ghost use Rattle.command_streams.specs.Streams.{most_reads};
 ghost use Rattle.command_streams.specs.Readings.{reading};
 ghost use Rattle.run_command.specs.Runs.{IsRunFault, WantsMore};
 ghost use Rattle.other_commands.specs.Explanations.{Manner as SpecManner, clean_words, clean_text, cut_words, cut_behind, cut_text};
+ghost use Rattle.other_commands.specs.Explanations.{TellsClean, TellsRaces, TellsCut, TellsFaulty};
+ghost use Rattle.fault_lists.specs.FaultLists.{HasFault};
+ghost use Rattle.model_histories.specs.Legal.{IsLegal};
 ghost use Rattle.other_commands.specs.Explanations.{TellsEnd, status_of_end, ExplainsAs, Explains, IsUntold, StopsTelling, IsExplained, HasExplanationCause};
 
 use crate::elide::push_memory;
 use crate::explain_trace::trace_text_told;
+use crate::memory::memory_value;
 use crate::sort::is_program;
 use command_streams::{CliFault, Watched, read_text, write_text};
 use fault_lists::{Fault, faults_message};
@@ -27,9 +31,11 @@ use locked_replay::{RunFault, Whole};
 use program_text::Program;
 use race_explanations::explanation;
 use race_gate::{Entry, ShortGate};
+use race_records::{Outcome as Ending, faults_record, run_record};
 use run_command::{
     Door, Outcome, PARTS, fault_of, outcome_of, refusal_status, serial_run, some_run,
 };
+use serde_json::Value;
 use source_quotes::Meant;
 use std::alloc::{AllocError, Global};
 use std::io::{Read, Write};
@@ -40,11 +46,22 @@ use std::thread::Threads;
 use text_buffers::{push_number, push_words};
 use text_words::TextFault;
 
-/// How something is told to a person.
+/// The form of what is told.
+#[derive(Clone, Copy, Debug, PartialEq, Eq)]
+pub enum Rendering {
+    /// Text, for a person.
+    Text,
+    /// JSON, for a program.
+    Json,
+}
+
+/// How something is told.
 #[derive(Debug, Drop)]
 pub struct Manner<'a> {
-    /// Whether words are painted, as on a terminal.
+    /// Whether words of a text are painted, as on a terminal.
     pub is_painted: bool,
+    /// The form of what is told.
+    pub rendering: Rendering,
     /// The name of the program's file.
     pub file: &'a str,
 }
@@ -54,7 +71,7 @@ impl<'a> Model for Manner<'a> {
 
     ghost Value = { SpecManner };
 
-    ghost view = { λ manner. record { is_painted = manner.is_painted; file = manner.file.now } };
+    ghost view = { λ manner. record { is_painted = manner.is_painted; rendering = manner.rendering; file = manner.file.now } };
 }
 
 /// How a run that is told ended.
@@ -104,8 +121,8 @@ fn cut_behind() -> &'static str
     " requests, and there may be more to tell\n"
 }
 
-/// What is told where nothing was refused.
-fn clean_told(
+/// What a person is told where nothing was refused.
+fn clean_text_told(
     alloc: Global,
     program: &Program<Global>,
     memory: &[u64],
@@ -116,6 +133,79 @@ fn clean_told(
     push_words(&mut told, clean_words())?;
     push_memory(&mut told, program.mems.as_slice(), memory)?;
     Ok(told)
+}
+
+/// The record of a run in which nothing was refused.
+fn clean_record(
+    alloc: Global,
+    manner: &Manner<'_>,
+    text: &[u8],
+    program: &Program<Global>,
+    whole: &Whole,
+) -> Result<Vec<u8>, AllocError>
+    requires legal { (shape : Shape) × IsLegal shape (reverse whole.now.entries.items) }
+    ensures { IfOk result (λ told. TellsClean Rendering.Json manner.now text.now (contents program.now) whole.now.entries.items whole.now.memory.items told.items) }
+{
+    let memory = memory_value(alloc, program.mems.as_slice(), whole.memory.as_slice())?;
+    let entries = whole.entries.to_vec(alloc)?;
+    run_record(
+        alloc,
+        Ending::Clean,
+        memory,
+        manner.file,
+        text,
+        program,
+        entries.as_slice(),
+    )
+}
+
+/// What is told where nothing was refused.
+fn clean_told(
+    alloc: Global,
+    manner: &Manner<'_>,
+    text: &[u8],
+    program: &Program<Global>,
+    whole: &Whole,
+) -> Result<Vec<u8>, AllocError>
+    requires legal { (shape : Shape) × IsLegal shape (reverse whole.now.entries.items) }
+    ensures { IfOk result (λ told. TellsClean manner.now.rendering manner.now text.now (contents program.now) whole.now.entries.items whole.now.memory.items told.items) }
+{
+    match manner.rendering {
+        Rendering::Text => clean_text_told(alloc, program, whole.memory.as_slice()),
+        Rendering::Json => clean_record(alloc, manner, text, program, whole),
+    }
+}
+
+/// What is told of the races of a run.
+fn races_told(
+    alloc: Global,
+    manner: &Manner<'_>,
+    text: &[u8],
+    program: &Program<Global>,
+    entries: &[Entry],
+) -> Result<Vec<u8>, AllocError>
+    requires legal { (shape : Shape) × IsLegal shape (reverse entries.now) }
+    ensures { IfOk result (λ told. TellsRaces manner.now.rendering manner.now text.now (contents program.now) entries.now told.items) }
+{
+    match manner.rendering {
+        Rendering::Text => explanation(
+            alloc,
+            manner.is_painted,
+            manner.file,
+            text,
+            program,
+            entries,
+        ),
+        Rendering::Json => run_record(
+            alloc,
+            Ending::Raced,
+            Value::Null,
+            manner.file,
+            text,
+            program,
+            entries,
+        ),
+    }
 }
 
 /// Adds that the limit ended a run after so many requests.
@@ -142,19 +232,60 @@ fn whole_told(
     ensures { IfOk result (λ told. TellsEnd manner.now text.now (contents program.now) limit told.0.items told.1) }
 {
     if whole.clean {
-        let told = clean_told(alloc, program, whole.memory.as_slice())?;
+        let told = clean_told(alloc, manner, text, program, whole)?;
         return Ok((told, End::Clean));
     }
     let entries = whole.entries.to_vec(alloc)?;
-    let told = explanation(
+    let told = races_told(alloc, manner, text, program, entries.as_slice())?;
+    Ok((told, End::Raced))
+}
+
+/// What a person is told of a run that the limit ended.
+fn cut_text_told(
+    alloc: Global,
+    manner: &Manner<'_>,
+    text: &[u8],
+    program: &Program<Global>,
+    entries: &[Entry],
+) -> Result<Vec<u8>, AllocError>
+    requires legal { (shape : Shape) × IsLegal shape (reverse entries.now) }
+    ensures { IfOk result (λ told. TellsCut Rendering.Text manner.now text.now (contents program.now) entries.now told.items) }
+{
+    let mut told = explanation(
         alloc,
         manner.is_painted,
         manner.file,
         text,
         program,
-        entries.as_slice(),
+        entries,
     )?;
-    Ok((told, End::Raced))
+    push_cut(&mut told, entries.len())?;
+    Ok(told)
+}
+
+/// What is told of a run that the limit ended.
+fn limit_told(
+    alloc: Global,
+    manner: &Manner<'_>,
+    text: &[u8],
+    program: &Program<Global>,
+    entries: &[Entry],
+) -> Result<Vec<u8>, AllocError>
+    requires legal { (shape : Shape) × IsLegal shape (reverse entries.now) }
+    ensures { IfOk result (λ told. TellsCut manner.now.rendering manner.now text.now (contents program.now) entries.now told.items) }
+{
+    match manner.rendering {
+        Rendering::Text => cut_text_told(alloc, manner, text, program, entries),
+        Rendering::Json => run_record(
+            alloc,
+            Ending::Unfinished,
+            Value::Null,
+            manner.file,
+            text,
+            program,
+            entries,
+        ),
+    }
 }
 
 /// What is told of a run that came to the limit and not to its end.
@@ -170,15 +301,7 @@ fn unfinished_told(
     requires full { length entries.now ≡ limit }
     ensures { IfOk result (λ told. TellsEnd manner.now text.now (contents program.now) limit told.0.items told.1) }
 {
-    let mut told = explanation(
-        alloc,
-        manner.is_painted,
-        manner.file,
-        text,
-        program,
-        entries,
-    )?;
-    push_cut(&mut told, entries.len())?;
+    let told = limit_told(alloc, manner, text, program, entries)?;
     if refusal_status(entries) == 0 {
         return Ok((told, End::Cut));
     }
@@ -241,6 +364,25 @@ fn run_told<D: Door + Sync, R: Threads + Wait + Sync>(
     }
 }
 
+/// What is told of the faults of a text.
+pub(crate) fn faults_told(
+    alloc: Global,
+    manner: &Manner<'_>,
+    text: &[u8],
+    meant: Meant,
+    fault: Fault,
+) -> Result<Vec<u8>, AllocError>
+    requires { HasFault meant text.now fault }
+    ensures { IfOk result (λ told. TellsFaulty manner.now.rendering manner.now meant text.now fault told.items) }
+{
+    match manner.rendering {
+        Rendering::Text => {
+            faults_message(alloc, manner.is_painted, manner.file, text, meant, fault)
+        }
+        Rendering::Json => faults_record(alloc, manner.file, text, meant, fault),
+    }
+}
+
 /// What is told of a text that is to mean a program, and the exit status.
 fn program_text_told<D: Door + Sync, R: Threads + Wait + Sync>(
     rt: &R,
@@ -261,14 +403,7 @@ fn program_text_told<D: Door + Sync, R: Threads + Wait + Sync>(
         Ok(program) => program,
         Err(TextFault::Memory) => return Err(CliFault::Memory),
         Err(TextFault::At { line, why }) => {
-            let told = faults_message(
-                alloc,
-                manner.is_painted,
-                manner.file,
-                text,
-                Meant::Program,
-                Fault { line, why },
-            )?;
+            let told = faults_told(alloc, manner, text, Meant::Program, Fault { line, why })?;
             return Ok((told, 2));
         }
     };
@@ -306,7 +441,8 @@ fn told_of<D: Door + Sync, R: Threads + Wait + Sync>(
 /// order them. Where nothing was refused it tells that this is so for every schedule, and the memory. Where the limit ended the run it
 /// tells the races until then, and that it is no whole run. A text whose first word behind its declarations is not `func` is a trace: its
 /// requests are judged in their order, and the pairs that raced are told by its notes, or the first illegal request. Of a text that means
-/// neither it tells the faults that can be told apart, the first of which is that of the other commands. The exit status is 0 where nothing
+/// neither it tells the faults that can be told apart, the first of which is that of the other commands. As JSON it tells the same, as one
+/// value. The exit status is 0 where nothing
 /// was refused, 1 where something was, 2 for a fault of the text or an illegal request, and 4 where the limit ended the run and nothing was
 /// refused until then.
 ///

@@ -11,16 +11,17 @@ ghost use Rattle.run_command.specs.Outcomes.{refusal_status};
 ghost use Rattle.other_commands.specs.Cleanness.{IsAllClean};
 ghost use Rattle.other_commands.specs.Replays.{AnswersAll, StopsAt, StopsGate};
 ghost use Rattle.other_commands.specs.Explanations.{clean_trace_words, recorded_line, recorded_text, judged_text, TellsEntries, IsTraceTold, IsIllegalTold, IsUnjudgedTold};
-ghost use Rattle.other_commands.specs.Explanations.{Manner as SpecManner, IsUntoldTrace};
+ghost use Rattle.other_commands.specs.Explanations.{Manner as SpecManner, IsUntoldTrace, ending_of, RecordsTrace, TellsTrace, TellsIllegal};
 
 use crate::ask::{Stop, ask_all};
 use crate::clean::clean_count;
-use crate::explain::Manner;
+use crate::explain::{Manner, Rendering, faults_told};
 use crate::replay::fault_of_request;
 use command_streams::CliFault;
-use fault_lists::{Fault, faults_message};
-use race_explanations::{find_illegality, illegal_explanation, trace_explanation};
+use fault_lists::Fault;
+use race_explanations::{Illegality, find_illegality, illegal_explanation, trace_explanation};
 use race_gate::{Entry, Gate};
+use race_records::{Outcome as Ending, illegal_record, trace_record};
 use run_command::refusal_status;
 use source_quotes::{Meant, push_count};
 use std::alloc::{AllocError, Allocator, Global};
@@ -48,7 +49,7 @@ fn clean_told(alloc: Global, count: usize) -> Result<Vec<u8>, AllocError>
     Ok(told)
 }
 
-/// What is told of the entries of a trace.
+/// What a person is told of the entries of a trace.
 fn entries_told(
     alloc: Global,
     manner: &Manner<'_>,
@@ -74,6 +75,35 @@ pub(crate) fn push_run(told: &mut Vec<u8>, run: &str) -> Result<(), AllocError>
     push_words(told, "\n")
 }
 
+/// How a trace came out that was judged with this status.
+fn ending_of(status: u8) -> Ending
+    ensures { result ≡ ending_of status }
+{
+    match status {
+        0 => Ending::Clean,
+        _ => Ending::Raced,
+    }
+}
+
+/// The record of a trace.
+fn entries_record(
+    alloc: Global,
+    notes: &Notes<Global>,
+    trace: &Trace<Global>,
+    entries: &[Entry],
+) -> Result<Vec<u8>, AllocError>
+    requires legal { (shape : Shape) × IsLegal shape (reverse entries.now) }
+    ensures { IfOk result (λ told. RecordsTrace notes.now (trace_contents trace.now) entries.now told.items) }
+{
+    trace_record(
+        alloc,
+        ending_of(refusal_status(entries)),
+        notes,
+        trace,
+        entries,
+    )
+}
+
 /// Adds what was recorded.
 fn push_recorded(told: &mut Vec<u8>, notes: &Notes<Global>) -> Result<(), AllocError>
     ensures { OnOk result (told.new.items ≡ told.old.items ++ recorded_text notes.now) }
@@ -93,6 +123,31 @@ pub(crate) fn notes_of<A: Allocator + Copy>(alloc: A, text: &[u8]) -> Result<Not
     Ok(notes)
 }
 
+/// What is told of an illegal request.
+fn illegal_told(
+    alloc: Global,
+    manner: &Manner<'_>,
+    text: &[u8],
+    trace: &Trace<Global>,
+    number: usize,
+    why: Illegality,
+) -> Result<Vec<u8>, AllocError>
+    ensures { IfOk result (λ told. TellsIllegal manner.now.rendering manner.now text.now (trace_contents trace.now) number why told.items) }
+{
+    match manner.rendering {
+        Rendering::Text => illegal_explanation(
+            alloc,
+            manner.is_painted,
+            manner.file,
+            text,
+            trace,
+            number,
+            why,
+        ),
+        Rendering::Json => illegal_record(alloc, manner.file, text, trace, number, why),
+    }
+}
+
 /// What is told of the first request that a gate does not answer: why it is illegal. The fault of a command for one that is not illegal.
 pub(crate) fn stop_told(
     alloc: Global,
@@ -110,18 +165,43 @@ pub(crate) fn stop_told(
     let entries = gate.history();
     match find_illegality(alloc, entries, stop.request, stop.fault)? {
         Some(why) => {
-            let told = illegal_explanation(
-                alloc,
-                manner.is_painted,
-                manner.file,
-                text,
-                trace,
-                stop.number as usize,
-                why,
-            )?;
+            let told = illegal_told(alloc, manner, text, trace, stop.number as usize, why)?;
             Ok(told)
         }
         None => Err(fault_of_request(stop.number, stop.fault)),
+    }
+}
+
+/// What a person is told of the entries of a trace, and what was recorded.
+fn verdict_text(
+    alloc: Global,
+    manner: &Manner<'_>,
+    notes: &Notes<Global>,
+    trace: &Trace<Global>,
+    entries: &[Entry],
+) -> Result<Vec<u8>, AllocError>
+    requires legal { (shape : Shape) × IsLegal shape (reverse entries.now) }
+    ensures { IfOk result (λ told. TellsTrace Rendering.Text manner.now notes.now (trace_contents trace.now) entries.now told.items) }
+{
+    let mut told = entries_told(alloc, manner, notes, trace, entries)?;
+    push_recorded(&mut told, notes)?;
+    Ok(told)
+}
+
+/// What is told of the entries of a trace, and what was recorded.
+fn verdict_told(
+    alloc: Global,
+    manner: &Manner<'_>,
+    notes: &Notes<Global>,
+    trace: &Trace<Global>,
+    entries: &[Entry],
+) -> Result<Vec<u8>, AllocError>
+    requires legal { (shape : Shape) × IsLegal shape (reverse entries.now) }
+    ensures { IfOk result (λ told. TellsTrace manner.now.rendering manner.now notes.now (trace_contents trace.now) entries.now told.items) }
+{
+    match manner.rendering {
+        Rendering::Text => verdict_text(alloc, manner, notes, trace, entries),
+        Rendering::Json => entries_record(alloc, notes, trace, entries),
     }
 }
 
@@ -139,12 +219,11 @@ fn judged_told(
 {
     let notes = notes_of(alloc, text)?;
     let entries = gate.history();
-    let mut told = entries_told(alloc, manner, &notes, trace, entries)?;
-    push_recorded(&mut told, &notes)?;
+    let told = verdict_told(alloc, manner, &notes, trace, entries)?;
     Ok((told, refusal_status(entries)))
 }
 
-/// What is told of a trace that a text means, in which nothing is refused among so many requests.
+/// What a person is told of a trace that a text means, in which nothing is refused among so many requests.
 fn clean_trace_told(
     alloc: Global,
     text: &[u8],
@@ -153,7 +232,7 @@ fn clean_trace_told(
 ) -> Result<Vec<u8>, AllocError>
     requires means { TraceMeans text.now (trace_contents trace.now) }
     requires clean { IsAllClean (trace_contents trace.now) count }
-    ensures { IfOk result (λ told. (manner : SpecManner) → IsTraceTold manner text.now told.items 0) }
+    ensures { IfOk result (λ told. (manner : SpecManner) → manner.rendering ≡ Rendering.Text → IsTraceTold manner text.now told.items 0) }
 {
     let _trace = trace;
     let notes = notes_of(alloc, text)?;
@@ -183,7 +262,28 @@ fn history_told(
     }
 }
 
-/// What is told of a trace that a text means, and the exit status. A history is kept only where something is refused or illegal.
+/// What a person is told of a trace that a text means, and the exit status. A history is kept only where something is refused or illegal.
+fn trace_text_by(
+    alloc: Global,
+    manner: &Manner<'_>,
+    text: &[u8],
+    trace: &Trace<Global>,
+) -> Result<(Vec<u8>, u8), CliFault>
+    requires means { TraceMeans text.now (trace_contents trace.now) }
+    requires rendering { manner.now.rendering ≡ Rendering.Text }
+    ensures ok { IfOk result (λ told. IsTraceTold manner.now text.now told.0.items told.1 ⊎ IsUnjudgedTold manner.now text.now told.0.items told.1) }
+    ensures fault { IfErr result (λ fault. (fault ≡ CliFault.Memory) ⊎ StopsGate (trace_contents trace.now) fault) }
+{
+    match clean_count(alloc, trace)? {
+        Some(count) => {
+            let told = clean_trace_told(alloc, text, trace, count)?;
+            Ok((told, 0))
+        }
+        None => history_told(alloc, manner, text, trace),
+    }
+}
+
+/// What is told of a trace that a text means, and the exit status.
 fn trace_told(
     alloc: Global,
     manner: &Manner<'_>,
@@ -194,12 +294,9 @@ fn trace_told(
     ensures ok { IfOk result (λ told. IsTraceTold manner.now text.now told.0.items told.1 ⊎ IsUnjudgedTold manner.now text.now told.0.items told.1) }
     ensures fault { IfErr result (λ fault. (fault ≡ CliFault.Memory) ⊎ StopsGate (trace_contents trace.now) fault) }
 {
-    match clean_count(alloc, trace)? {
-        Some(count) => {
-            let told = clean_trace_told(alloc, text, trace, count)?;
-            Ok((told, 0))
-        }
-        None => history_told(alloc, manner, text, trace),
+    match manner.rendering {
+        Rendering::Text => trace_text_by(alloc, manner, text, trace),
+        Rendering::Json => history_told(alloc, manner, text, trace),
     }
 }
 
@@ -217,14 +314,7 @@ pub(crate) fn trace_text_told(
         Ok(trace) => trace_told(alloc, manner, text, &trace),
         Err(TextFault::Memory) => Err(CliFault::Memory),
         Err(TextFault::At { line, why }) => {
-            let told = faults_message(
-                alloc,
-                manner.is_painted,
-                manner.file,
-                text,
-                Meant::Trace,
-                Fault { line, why },
-            )?;
+            let told = faults_told(alloc, manner, text, Meant::Trace, Fault { line, why })?;
             Ok((told, 2))
         }
     }

@@ -1,6 +1,6 @@
 //! Explaining several traces together.
 
-ghost use Rattle.std.specs.Prelude.{◌≡◌, ◌↔◌, ◌⊎◌, ◌==◌, ◌++◌, [], true, false, IfOk, IfErr, OnOk, IsErrOf, IsTrue, List, ℕ, map, flat_map, string_bytes};
+ghost use Rattle.std.specs.Prelude.{◌≡◌, ◌↔◌, ◌⊎◌, ◌==◌, ◌++◌, [], reverse, true, false, IfOk, IfErr, OnOk, IsErrOf, IsTrue, List, ℕ, map, flat_map, string_bytes};
 ghost use Rattle.std.specs.List.{list_any};
 ghost use Rattle.std.specs.Str.{bytes_eq};
 ghost use Rattle.trace_text.specs.Traces.{contents as trace_contents};
@@ -10,16 +10,19 @@ ghost use Rattle.command_streams.specs.Watched.{held, has_failed};
 ghost use Rattle.command_streams.specs.Readings.{reading};
 ghost use Rattle.other_commands.specs.Replays.{AnswersAll, StopsGate};
 ghost use Rattle.other_commands.specs.Explanations.{IsUntoldTrace, recorded_line};
-ghost use Rattle.other_commands.specs.Together.{together_of, none_together, with_run, with_runs, together_text, together_status};
+ghost use Rattle.other_commands.specs.Together.{together_of, none_together, with_run, with_runs, together_text, together_status, AddsFound, TellsTogether};
+ghost use Rattle.model_histories.specs.Legal.{IsLegal};
+ghost use Rattle.model_histories.specs.Shapes.{Shape};
 ghost use Rattle.other_commands.specs.Together.{AddsText, TakesText, TakesReading, StopsTaking};
 
 use crate::ask::ask_all;
-use crate::explain::Manner;
+use crate::explain::{Manner, Rendering, faults_told};
 use crate::explain_trace::{notes_of, push_run, stop_told};
 use command_streams::{CliFault, Watched, read_text};
-use fault_lists::{Fault, faults_message};
+use fault_lists::Fault;
 use race_explanations::Findings;
-use race_gate::Gate;
+use race_gate::{Entry, Gate};
+use race_records::Records;
 use source_quotes::Meant;
 use std::alloc::{AllocError, Global};
 use std::io::Read;
@@ -29,7 +32,10 @@ use trace_text::Trace;
 
 /// What is found in several traces, and what was recorded. The traces are not kept.
 pub struct Traces {
+    /// What is found where text is told.
     findings: Findings,
+    /// What is found where JSON is told.
+    records: Records,
     runs: Vec<String>,
 }
 
@@ -38,6 +44,7 @@ impl Drop for Traces {
     fn drop(self) {
         let Traces {
             findings: _,
+            records: _,
             runs: _,
         } = self;
     }
@@ -100,7 +107,34 @@ impl Traces {
     {
         Traces {
             findings: Findings::new(alloc),
+            records: Records::new(alloc),
             runs: Vec::new(alloc),
+        }
+    }
+
+    /// Adds what is found in a trace with these notes and these entries.
+    fn add_entries(
+        &mut self,
+        alloc: Global,
+        manner: &Manner<'_>,
+        notes: &Notes<Global>,
+        trace: &Trace<Global>,
+        entries: &[Entry],
+    ) -> Result<(), AllocError>
+        requires legal { (shape : Shape) × IsLegal shape (reverse entries.now) }
+        ensures found { OnOk result (AddsFound manner.now.rendering manner.now notes.now (trace_contents trace.now) entries.now (together_of self.old) (together_of self.new)) }
+        ensures runs { (together_of self.new).runs ≡ (together_of self.old).runs }
+    {
+        match manner.rendering {
+            Rendering::Text => self.findings.add(
+                alloc,
+                manner.is_painted,
+                manner.file,
+                notes,
+                trace,
+                entries,
+            ),
+            Rendering::Json => self.records.add(alloc, manner.file, notes, trace, entries),
         }
     }
 
@@ -119,14 +153,7 @@ impl Traces {
     {
         let notes = notes_of(alloc, text)?;
         let entries = gate.history();
-        self.findings.add(
-            alloc,
-            manner.is_painted,
-            manner.file,
-            &notes,
-            trace,
-            entries,
-        )?;
+        self.add_entries(alloc, manner, &notes, trace, entries)?;
         keep_runs(alloc, &mut self.runs, &notes)?;
         Ok(())
     }
@@ -166,10 +193,9 @@ impl Traces {
         match Trace::parse(alloc, text) {
             Ok(trace) => self.take_trace(alloc, manner, text, &trace),
             Err(TextFault::Memory) => Err(CliFault::Memory),
-            Err(TextFault::At { line, why }) => Ok(Some(faults_message(
+            Err(TextFault::At { line, why }) => Ok(Some(faults_told(
                 alloc,
-                manner.is_painted,
-                manner.file,
+                manner,
                 text,
                 Meant::Trace,
                 Fault { line, why },
@@ -202,15 +228,28 @@ impl Traces {
     pub fn status(&self) -> u8
         ensures { result ≡ together_status (together_of self.now) }
     {
-        if self.findings.is_clean() { 0 } else { 1 }
+        if self.findings.is_clean() && self.records.is_clean() {
+            0
+        } else {
+            1
+        }
     }
 
-    /// What is told of the traces together: each pair of places that raced, or that nothing was refused, and what was recorded.
-    pub fn told(&self, alloc: Global) -> Result<Vec<u8>, AllocError>
+    /// What a person is told of the traces together.
+    fn text_told(&self, alloc: Global) -> Result<Vec<u8>, AllocError>
         ensures { IfOk result (λ told. told.items ≡ together_text (together_of self.now)) }
     {
         let mut told = self.findings.told(alloc)?;
         push_kept(&mut told, self.runs.as_slice())?;
         Ok(told)
+    }
+    /// What is told of the traces together: each pair of places that raced, or that nothing was refused, and what was recorded.
+    pub fn told(&self, alloc: Global, rendering: Rendering) -> Result<Vec<u8>, AllocError>
+        ensures { IfOk result (λ told. TellsTogether rendering (together_of self.now) told.items) }
+    {
+        match rendering {
+            Rendering::Text => self.text_told(alloc),
+            Rendering::Json => self.records.record(alloc, self.runs.as_slice()),
+        }
     }
 }

@@ -8,7 +8,7 @@
 //! written tells of the gate's entries that they are a finished run, a run that is not finished, or which of them is the first strange
 //! one. [`explain_text`] carries that of `explain`: at status 0, 1 or 4 the bytes that were read mean a program, and what was written tells
 //! a person of a run of it, which is finished and clean, finished with races, or cut by the limit; at 2 they mean none, and the faults
-//! that can be told apart are told. [`draw_text`] carries that of `draw`: at a status the bytes that were read mean a trace, a gate
+//! that can be told apart are told; all of it as text for a person, or as JSON for a program. [`draw_text`] carries that of `draw`: at a status the bytes that were read mean a trace, a gate
 //! answered each request of it, and what was written is the drawing of that gate's history: its nodes are the strands that have begun, its
 //! black edges those of the dag, its red ones the refusals with their witnesses.
 #![tactic(auto)]
@@ -21,13 +21,14 @@ mod elide;
 mod explain;
 mod explain_trace;
 mod explain_traces;
+mod memory;
 mod replay;
 mod sort;
 mod traced;
 
 pub use draw::draw_text;
 pub use elide::elide_text;
-pub use explain::{End, Manner, explain_text};
+pub use explain::{End, Manner, Rendering, explain_text};
 pub use explain_traces::Traces;
 pub use replay::replay_text;
 pub use sort::is_program;

@@ -32,7 +32,7 @@ pub(crate) fn push_between(account: &mut Account, scene: &Scene<'_, '_>)
 }
 
 /// The line of the one of a pair's two entries which is on this strand: the refused one, or else its witness.
-fn line_on(scene: &Scene<'_, '_>, pair: &Pair, strand: u32) -> u32
+pub fn line_on(scene: &Scene<'_, '_>, pair: &Pair, strand: u32) -> u32
     ensures { result ≡ line_on (setting_of scene.now) pair.now strand }
 {
     match strand_at(scene.entries, pair.first) {

@@ -8,7 +8,7 @@ ghost use Rattle.race_explanations.specs.Scenes.{setting_of};
 ghost use Rattle.race_explanations.specs.Findings.{kind_text, name_text, body_text, IsOfTrace, IsFinding, AddsAll, AddsPairs};
 
 use crate::account::Account;
-use crate::merge::merge;
+use crate::merge::join_finding;
 use crate::message::{push_advice, push_earlier, push_refused};
 use crate::scene::Scene;
 use crate::title::{push_list, push_reason, sort_word, told_names};
@@ -106,7 +106,7 @@ fn body_of(
 }
 
 /// The finding of a pair of places.
-fn finding_of(
+pub fn finding_of(
     alloc: Global,
     scene: &Scene<'_, '_>,
     lineage: &Lineage<Global>,
@@ -148,7 +148,7 @@ fn add_all(
 {
     for pair in pairs {
         let finding = finding_of(alloc, scene, lineage, pair)?;
-        merge(findings, finding)?;
+        join_finding(findings, finding)?;
     }
     Ok(())
 }

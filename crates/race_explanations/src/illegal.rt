@@ -77,7 +77,7 @@ pub fn find_illegality(
 }
 
 /// The line of the request with this number, from 1 on.
-fn request_line(trace: &Trace<Global>, number: usize) -> Option<TraceLine>
+pub fn request_line(trace: &Trace<Global>, number: usize) -> Option<TraceLine>
     ensures { result ≡ request_line (trace_contents trace.now).lines number }
 {
     let mut left = number;
@@ -111,7 +111,7 @@ fn strand_of(line: Option<TraceLine>) -> u32
 }
 
 /// What is wrong.
-fn title_words(why: Illegality) -> &'static str
+pub fn title_words(why: Illegality) -> &'static str
     ensures { result.now ≡ title_words why }
 {
     match why {
@@ -124,7 +124,7 @@ fn title_words(why: Illegality) -> &'static str
 }
 
 /// What to do.
-fn help_words(why: Illegality) -> &'static str
+pub fn help_words(why: Illegality) -> &'static str
     ensures { result.now ≡ help_words why }
 {
     match why {

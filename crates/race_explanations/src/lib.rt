@@ -20,8 +20,14 @@ mod title;
 mod told;
 mod words;
 
-pub use finding::Finding;
+pub use advice::line_on;
+pub use finding::{Finding, finding_of};
 pub use findings::Findings;
-pub use illegal::{Illegality, find_illegality, illegal_explanation};
+pub use illegal::{
+    Illegality, find_illegality, help_words, illegal_explanation, request_line, title_words,
+};
+pub use merge::join_finding;
 pub use scene::{Origin, Scene};
-pub use told::{explanation, trace_explanation};
+pub use title::told_names;
+pub use told::{explanation, refusal_count, trace_explanation, trace_scene};
+pub use words::{function_in, line_of, way_at, word_at};

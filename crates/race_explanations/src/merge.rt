@@ -47,7 +47,7 @@ fn join(one: &mut Finding, other: Finding) -> Result<(), AllocError>
 }
 
 /// Adds a finding: to the first that is told alike, or behind all.
-pub(crate) fn merge(findings: &mut Vec<Finding>, other: Finding) -> Result<(), AllocError>
+pub fn join_finding(findings: &mut Vec<Finding>, other: Finding) -> Result<(), AllocError>
     ensures { OnOk result (findings.new.items ≡ with_finding findings.old.items other) }
 {
     if let Some(place) = place_among(findings.as_slice(), &other) {

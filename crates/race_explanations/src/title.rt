@@ -163,7 +163,7 @@ fn told_name(
 }
 
 /// What the places are told as, each once.
-pub(crate) fn told_names(
+pub fn told_names(
     alloc: Global,
     scene: &Scene<'_, '_>,
     reason: Reason,

@@ -90,7 +90,7 @@ fn push_left_out(account: &mut Account, scene: &Scene<'_, '_>, count: usize)
 }
 
 /// How many entries are refusals.
-pub(crate) fn refusal_count(entries: &[Entry]) -> usize
+pub fn refusal_count(entries: &[Entry]) -> usize
     ensures { result ≡ refusals_among entries.now }
 {
     entries
@@ -169,7 +169,7 @@ pub fn explanation<'s>(
 const WIDTH: usize = 2;
 
 /// The scene of a trace with these notes.
-pub(crate) fn trace_scene<'s>(
+pub fn trace_scene<'s>(
     is_painted: bool,
     notes: &'s Notes<Global>,
     trace: &'s Trace<Global>,

@@ -14,7 +14,7 @@ use std::alloc::{Allocator, Global};
 use text_words::{Act, access_asked};
 
 /// The name of the function of a program in which a line stands.
-pub(crate) fn function_in<A: Allocator>(program: &Program<A>, line: u32) -> &str
+pub fn function_in<A: Allocator>(program: &Program<A>, line: u32) -> &str
     ensures { result.now ≡ function_at (contents program.now).functions line }
 {
     let mut name = "";
@@ -28,14 +28,14 @@ pub(crate) fn function_in<A: Allocator>(program: &Program<A>, line: u32) -> &str
 }
 
 /// The line of the entry with this number.
-pub(crate) fn line_of(scene: &Scene<'_, '_>, number: usize) -> u32
+pub fn line_of(scene: &Scene<'_, '_>, number: usize) -> u32
     ensures { result ≡ line_at scene.now.entries.now number }
 {
     race_pairs::line_at(scene.entries, number)
 }
 
 /// What the access did that is the entry with this number.
-pub(crate) fn word_at(scene: &Scene<'_, '_>, number: usize) -> &'static str
+pub fn word_at(scene: &Scene<'_, '_>, number: usize) -> &'static str
     ensures { result.now ≡ word_at scene.now.entries.now number }
 {
     match entry_at(scene.entries, number) {
@@ -48,7 +48,7 @@ pub(crate) fn word_at(scene: &Scene<'_, '_>, number: usize) -> &'static str
 }
 
 /// How the entry with this number came to a function.
-pub(crate) fn way_at(scene: &Scene<'_, '_>, number: usize) -> &'static str
+pub fn way_at(scene: &Scene<'_, '_>, number: usize) -> &'static str
     ensures { result.now ≡ way_at scene.now.entries.now number }
 {
     match entry_at(scene.entries, number) {

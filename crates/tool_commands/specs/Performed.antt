@@ -13,6 +13,10 @@ use Rattle.command_words.specs.declared.words.Color.{Color}
 use Rattle.command_words.specs.declared.words.Color.TheVariants.{Auto, Always, Never}
 use Rattle.command_words.specs.declared.words.Language.{Language}
 use Rattle.command_words.specs.declared.words.Language.TheVariants.{Dot, Svg}
+use Rattle.command_words.specs.declared.words.Format.{Format}
+use Rattle.command_words.specs.declared.words.Format.TheVariants.{Text, Json}
+use Rattle.other_commands.specs.declared.explain.Rendering.{Rendering}
+use Rattle.other_commands.specs.declared.explain.Rendering.TheVariants.{Text as TextTold, Json as JsonTold}
 use Rattle.dag_drawing.specs.declared.form.Form.{Form}
 use Rattle.dag_drawing.specs.declared.form.Form.TheVariants.{Dot as InDot, Svg as InSvg}
 use Rattle.other_commands.specs.Explanations.{Manner, IsExplained, HasExplanationCause}
@@ -33,15 +37,20 @@ abbrev pub form_of : Language → Form
 form_of Dot = InDot
 form_of Svg = InSvg
 
+-- the form of an explanation, as the words of the command line name it
+abbrev pub rendering_of : Format → Rendering
+rendering_of Text = TextTold
+rendering_of Json = JsonTold
+
 -- whether words are painted, as these words ask for: on a terminal, of which nothing is said here, always, or never
 abbrev pub IsPaintedBy : Color → Bool → Type 0
 IsPaintedBy Auto is_painted = Unit {0}
 IsPaintedBy Always is_painted = is_painted ≡ true
 IsPaintedBy Never is_painted = is_painted ≡ false
 
--- it is told by the name of the file
-abbrev pub IsMannerOf : (file : List ℕ) → Color → Manner → Type 0
-IsMannerOf file color manner = (manner.file ≡ file) × IsPaintedBy color manner.is_painted
+-- it is told by the name of the file, in this form
+abbrev pub IsMannerOf : (file : List ℕ) → Color → Format → Manner → Type 0
+IsMannerOf file color format manner = (manner.file ≡ file) × IsPaintedBy color manner.is_painted × (manner.rendering ≡ rendering_of format)
 
 -- what standard input is called where a file's name would stand
 abbrev pub input_name : List ℕ
@@ -79,14 +88,14 @@ IsPerformed sources (Run file workers limit) wrote writes status = (behind : Opt
     IsRan (reading (named sources (string_bytes file)) behind) wrote writes limit status
 IsPerformed sources (Record file workers limit trace) wrote writes status = (behind : Option (List ℕ)) ×
     IsRan (reading (sources.file (string_bytes file)) behind) wrote writes limit status
-IsPerformed sources (Explain file workers is_serial limit color) wrote writes status = (behind : Option (List ℕ)) × (manner : Manner) ×
-    IsMannerOf (string_bytes file) color manner ×
+IsPerformed sources (Explain file workers is_serial limit color format) wrote writes status = (behind : Option (List ℕ)) × (manner : Manner) ×
+    IsMannerOf (string_bytes file) color format manner ×
     IsExplained manner (reading (sources.file (string_bytes file)) behind) wrote writes limit status
-IsPerformed sources (ExplainInput workers is_serial limit color) wrote writes status = (behind : Option (List ℕ)) × (manner : Manner) ×
-    IsMannerOf input_name color manner ×
+IsPerformed sources (ExplainInput workers is_serial limit color format) wrote writes status = (behind : Option (List ℕ)) × (manner : Manner) ×
+    IsMannerOf input_name color format manner ×
     IsExplained manner (reading sources.input behind) wrote writes limit status
-IsPerformed sources (ExplainTraces files color) wrote writes status = (is_painted : Bool) × IsPaintedBy color is_painted ×
-    AreExplained is_painted sources.file (map string_bytes files.items) wrote writes status
+IsPerformed sources (ExplainTraces files color format) wrote writes status = (is_painted : Bool) × IsPaintedBy color is_painted ×
+    AreExplained is_painted (rendering_of format) sources.file (map string_bytes files.items) wrote writes status
 IsPerformed sources (Replay file trace) wrote writes status = (program_behind : Option (List ℕ)) × (trace_behind : Option (List ℕ)) ×
     IsReplayed (reading (named sources (string_bytes file)) program_behind)
     (reading (replayed sources (string_bytes file) (string_bytes trace)) trace_behind)
@@ -106,14 +115,14 @@ HasJobCause sources (Run file workers limit) wrote writes fault = (behind : Opti
 HasJobCause sources (Record file workers limit trace) wrote writes fault =
     (behind : Option (List ℕ)) × (traced : Option (List ℕ)) × (traces : Option (List ℕ)) ×
     HasTracedCause (reading (sources.file (string_bytes file)) behind) traced traces wrote writes limit fault
-HasJobCause sources (Explain file workers is_serial limit color) wrote writes fault = (behind : Option (List ℕ)) × (manner : Manner) ×
-    IsMannerOf (string_bytes file) color manner ×
+HasJobCause sources (Explain file workers is_serial limit color format) wrote writes fault = (behind : Option (List ℕ)) × (manner : Manner) ×
+    IsMannerOf (string_bytes file) color format manner ×
     HasExplanationCause manner (reading (sources.file (string_bytes file)) behind) wrote writes limit fault
-HasJobCause sources (ExplainInput workers is_serial limit color) wrote writes fault = (behind : Option (List ℕ)) × (manner : Manner) ×
-    IsMannerOf input_name color manner ×
+HasJobCause sources (ExplainInput workers is_serial limit color format) wrote writes fault = (behind : Option (List ℕ)) × (manner : Manner) ×
+    IsMannerOf input_name color format manner ×
     HasExplanationCause manner (reading sources.input behind) wrote writes limit fault
-HasJobCause sources (ExplainTraces files color) wrote writes fault = (is_painted : Bool) × IsPaintedBy color is_painted ×
-    HasSeveralCause is_painted sources.file (map string_bytes files.items) wrote writes fault
+HasJobCause sources (ExplainTraces files color format) wrote writes fault = (is_painted : Bool) × IsPaintedBy color is_painted ×
+    HasSeveralCause is_painted (rendering_of format) sources.file (map string_bytes files.items) wrote writes fault
 HasJobCause sources (Replay file trace) wrote writes fault = (program_behind : Option (List ℕ)) × (trace_behind : Option (List ℕ)) ×
     HasReplayCause (reading (named sources (string_bytes file)) program_behind)
     (reading (replayed sources (string_bytes file) (string_bytes trace)) trace_behind)
@@ -151,8 +160,8 @@ LacksFile lacks (Judge (Some file) limit) = lacks_named lacks (string_bytes file
 LacksFile lacks (Elide file limit) = lacks_named lacks (string_bytes file)
 LacksFile lacks (Run file workers limit) = lacks_named lacks (string_bytes file)
 LacksFile lacks (Record file workers limit trace) = lacks (string_bytes file)
-LacksFile lacks (Explain file workers is_serial limit color) = lacks (string_bytes file)
-LacksFile lacks (ExplainTraces files color) = lacks_first lacks (map string_bytes files.items)
+LacksFile lacks (Explain file workers is_serial limit color format) = lacks (string_bytes file)
+LacksFile lacks (ExplainTraces files color format) = lacks_first lacks (map string_bytes files.items)
 LacksFile lacks (Replay file trace) =
     lacks_named lacks (string_bytes file) ⊎ lacks_replayed lacks (string_bytes file) (string_bytes trace)
 LacksFile lacks (Draw file language) = lacks_named lacks (string_bytes file)
@@ -162,8 +171,8 @@ LacksFile lacks job = ⊥
 abbrev pub IsAlone : Job → Type 0
 IsAlone (Run file workers limit) = ⊥
 IsAlone (Record file workers limit trace) = ⊥
-IsAlone (Explain file workers is_serial limit color) = ⊥
-IsAlone (ExplainInput workers is_serial limit color) = ⊥
+IsAlone (Explain file workers is_serial limit color format) = ⊥
+IsAlone (ExplainInput workers is_serial limit color format) = ⊥
 IsAlone job = Unit {0}
 
 -- the exit status of the process: that of the job, or that of the fault

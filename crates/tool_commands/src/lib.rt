@@ -12,12 +12,14 @@ mod performing;
 mod several;
 
 pub use command_streams::{CliFault, Host, Watched, write_text};
-pub use command_words::{Color, INPUT, Job, Language, check_names, read_args, read_words, usage};
+pub use command_words::{
+    Color, Format, INPUT, Job, Language, check_names, read_args, read_words, usage,
+};
 pub use dag_drawing::Form;
 pub use judge_command::{judge_stream, status_of};
 pub use other_commands::{
-    End, Manner, Traced, Traces, draw_text, elide_text, explain_text, replay_text, run_traced_text,
-    traced_run, traced_text, write_traced,
+    End, Manner, Rendering, Traced, Traces, draw_text, elide_text, explain_text, replay_text,
+    run_traced_text, traced_run, traced_text, write_traced,
 };
 pub use performing::{exit_of, perform, perform_alone};
 pub use run_command::{Door, OpenDoor, laws, run_text};

@@ -7,17 +7,17 @@ ghost use Rattle.std.specs.Io.KnownBytes.{Appends};
 ghost use Rattle.command_words.specs.Jobs.{IsInRange};
 ghost use Rattle.command_streams.specs.Streams.{StopsWriting};
 ghost use Rattle.command_streams.specs.Watched.{held, has_failed, is_delivered};
-ghost use Rattle.tool_commands.specs.Performed.{form_of, IsPerformed, IsPaintedBy, HasJobCause, IsRecorded};
+ghost use Rattle.tool_commands.specs.Performed.{form_of, rendering_of, IsPerformed, IsPaintedBy, HasJobCause, IsRecorded};
 ghost use Rattle.tool_commands.specs.Performed.{IsRecordedFirst, BarsTrace, LacksFile, IsAlone, status_of_answer};
 
 use crate::named::open_named;
 use crate::several::explain_files;
 use command_streams::{CliFault, Host, Watched, write_text};
-use command_words::{Color, INPUT, Job, Language};
+use command_words::{Color, Format, INPUT, Job, Language};
 use dag_drawing::Form;
 use judge_command::judge_stream;
 use other_commands::{
-    Manner, draw_text, elide_text, explain_text, replay_text, traced_text, write_traced,
+    Manner, Rendering, draw_text, elide_text, explain_text, replay_text, traced_text, write_traced,
 };
 use run_command::{OpenDoor, run_text};
 use std::alloc::Global;
@@ -145,6 +145,16 @@ fn run_file<H: Host, W: Write, R: Threads + Wait + Sync>(
     answer
 }
 
+/// The form of an explanation, as the words of the command line name it.
+fn rendering_of(format: Format) -> Rendering
+    ensures { result ≡ rendering_of format }
+{
+    match format {
+        Format::Text => Rendering::Text,
+        Format::Json => Rendering::Json,
+    }
+}
+
 /// Whether words are painted.
 fn is_painted<H: Host>(host: &Watched<H>, color: Color) -> bool
     ensures { IsPaintedBy color result }
@@ -166,25 +176,27 @@ fn explain_file<H: Host, W: Write, R: Threads + Wait + Sync>(
     is_serial: bool,
     limit: u32,
     color: Color,
+    format: Format,
     output: &mut Watched<W>,
 ) -> Result<u8, CliFault>
     requires host { has_failed host.old ≡ false }
     requires writer { has_failed output.old ≡ false }
     requires workers { (0 < workers) × (workers ≤ 64) }
     requires limit { limit ≤ most_entries }
-    ensures done { IfOk result (IsPerformed (H.sources (held host.old)) (Job.Explain file.now workers is_serial limit color)
+    ensures done { IfOk result (IsPerformed (H.sources (held host.old)) (Job.Explain file.now workers is_serial limit color format)
         (W.contents (held output.old)) (W.contents (held output.new))) }
-    ensures fault { IfErr result (HasJobCause (H.sources (held host.old)) (Job.Explain file.now workers is_serial limit color)
+    ensures fault { IfErr result (HasJobCause (H.sources (held host.old)) (Job.Explain file.now workers is_serial limit color format)
         (W.contents (held output.old)) (W.contents (held output.new))) }
     ensures delivered { OnOk result (is_delivered output.new ≡ true) }
     ensures read_failed { IsErrOf result CliFault.Read ↔ IsTrue (has_failed host.new) }
     ensures write_failed { IsErrOf result CliFault.Write ↔ IsTrue (has_failed output.new) }
     ensures unwritten { IfErr result (λ fault. fault ≢ CliFault.Write → output.new ≡ output.old) }
-    ensures lacking { LacksFile (H.lacks (held host.old)) (Job.Explain file.now workers is_serial limit color) → IsErrOf result CliFault.Read }
+    ensures lacking { LacksFile (H.lacks (held host.old)) (Job.Explain file.now workers is_serial limit color format) → IsErrOf result CliFault.Read }
 {
     let mut program = host.open(file.as_str())?;
     let manner = Manner {
         is_painted: is_painted(host, color),
+        rendering: rendering_of(format),
         file: file.as_str(),
     };
     let answer = explain_text(
@@ -211,15 +223,16 @@ fn explain_input<H: Host, W: Write, R: Threads + Wait + Sync>(
     is_serial: bool,
     limit: u32,
     color: Color,
+    format: Format,
     output: &mut Watched<W>,
 ) -> Result<u8, CliFault>
     requires host { has_failed host.old ≡ false }
     requires writer { has_failed output.old ≡ false }
     requires workers { (0 < workers) × (workers ≤ 64) }
     requires limit { limit ≤ most_entries }
-    ensures done { IfOk result (IsPerformed (H.sources (held host.old)) (Job.ExplainInput workers is_serial limit color)
+    ensures done { IfOk result (IsPerformed (H.sources (held host.old)) (Job.ExplainInput workers is_serial limit color format)
         (W.contents (held output.old)) (W.contents (held output.new))) }
-    ensures fault { IfErr result (HasJobCause (H.sources (held host.old)) (Job.ExplainInput workers is_serial limit color)
+    ensures fault { IfErr result (HasJobCause (H.sources (held host.old)) (Job.ExplainInput workers is_serial limit color format)
         (W.contents (held output.old)) (W.contents (held output.new))) }
     ensures delivered { OnOk result (is_delivered output.new ≡ true) }
     ensures read_failed { IsErrOf result CliFault.Read ↔ IsTrue (has_failed host.new) }
@@ -228,6 +241,7 @@ fn explain_input<H: Host, W: Write, R: Threads + Wait + Sync>(
 {
     let manner = Manner {
         is_painted: is_painted(host, color),
+        rendering: rendering_of(format),
         file: INPUT_NAME,
     };
     let mut input = host.input();
@@ -244,23 +258,31 @@ fn explain_traces<H: Host, W: Write>(
     host: &mut Watched<H>,
     files: &Vec<String>,
     color: Color,
+    format: Format,
     output: &mut Watched<W>,
 ) -> Result<u8, CliFault>
     requires host { has_failed host.old ≡ false }
     requires writer { has_failed output.old ≡ false }
-    ensures done { IfOk result (IsPerformed (H.sources (held host.old)) (Job.ExplainTraces files.now color)
+    ensures done { IfOk result (IsPerformed (H.sources (held host.old)) (Job.ExplainTraces files.now color format)
         (W.contents (held output.old)) (W.contents (held output.new))) }
-    ensures fault { IfErr result (HasJobCause (H.sources (held host.old)) (Job.ExplainTraces files.now color)
+    ensures fault { IfErr result (HasJobCause (H.sources (held host.old)) (Job.ExplainTraces files.now color format)
         (W.contents (held output.old)) (W.contents (held output.new))) }
     ensures status { IfOk result (λ status. status ≤ 4) }
     ensures delivered { OnOk result (is_delivered output.new ≡ true) }
     ensures read_failed { IsErrOf result CliFault.Read ↔ IsTrue (has_failed host.new) }
     ensures write_failed { IsErrOf result CliFault.Write ↔ IsTrue (has_failed output.new) }
     ensures unwritten { IfErr result (λ fault. fault ≢ CliFault.Write → output.new ≡ output.old) }
-    ensures lacking { LacksFile (H.lacks (held host.old)) (Job.ExplainTraces files.now color) → IsErrOf result CliFault.Read }
+    ensures lacking { LacksFile (H.lacks (held host.old)) (Job.ExplainTraces files.now color format) → IsErrOf result CliFault.Read }
 {
     let is_painted = is_painted(host, color);
-    explain_files(alloc, host, is_painted, files.as_slice(), output)
+    explain_files(
+        alloc,
+        host,
+        is_painted,
+        rendering_of(format),
+        files.as_slice(),
+        output,
+    )
 }
 
 /// Runs the program in a file by so many workers, and writes the trace of the run into a file and the report. The trace's file is
@@ -432,7 +454,11 @@ pub fn perform_alone<H: Host, W: Write>(
         Job::Replay { file, trace } => replay_files(alloc, host, file, trace, output),
         Job::Draw { file, language } => draw_file(alloc, host, file, *language, output),
         Job::Show { text } => show(text, output),
-        Job::ExplainTraces { files, color } => explain_traces(alloc, host, files, *color, output),
+        Job::ExplainTraces {
+            files,
+            color,
+            format,
+        } => explain_traces(alloc, host, files, *color, *format, output),
         Job::Run { .. } | Job::Record { .. } | Job::Explain { .. } | Job::ExplainInput { .. } => {
             unreachable!()
         }
@@ -493,16 +519,18 @@ pub fn perform<H: Host, W: Write, R: Threads + Wait + Sync>(
             is_serial,
             limit,
             color,
+            format,
         } => explain_file(
-            threads, alloc, host, file, *workers, *is_serial, *limit, *color, output,
+            threads, alloc, host, file, *workers, *is_serial, *limit, *color, *format, output,
         ),
         Job::ExplainInput {
             workers,
             is_serial,
             limit,
             color,
+            format,
         } => explain_input(
-            threads, alloc, host, *workers, *is_serial, *limit, *color, output,
+            threads, alloc, host, *workers, *is_serial, *limit, *color, *format, output,
         ),
         job => perform_alone(alloc, host, job, output),
     }

@@ -9,7 +9,7 @@ ghost use Rattle.tool_commands.specs.Several.{TellsSeveral, StopsSeveral, AreExp
 ghost use Rattle.tool_commands.specs.Performed.{lacks_first};
 
 use command_streams::{CliFault, Host, Watched, write_text};
-use other_commands::{Manner, Traces};
+use other_commands::{Manner, Rendering, Traces};
 use std::alloc::Global;
 use std::io::Write;
 
@@ -42,11 +42,12 @@ fn told_of_files<H: Host>(
     alloc: Global,
     host: &mut Watched<H>,
     is_painted: bool,
+    rendering: Rendering,
     files: &[String],
 ) -> Result<(Vec<u8>, u8), CliFault>
     requires { has_failed host.old ≡ false }
-    ensures ok { IfOk result (λ told. TellsSeveral is_painted (H.sources (held host.old)).file (map string_bytes files.now) told.0.items told.1) }
-    ensures fault { IfErr result (StopsSeveral is_painted (H.sources (held host.old)).file (map string_bytes files.now)) }
+    ensures ok { IfOk result (λ told. TellsSeveral is_painted rendering (H.sources (held host.old)).file (map string_bytes files.now) told.0.items told.1) }
+    ensures fault { IfErr result (StopsSeveral is_painted rendering (H.sources (held host.old)).file (map string_bytes files.now)) }
     ensures read_failed { IsErrOf result CliFault.Read ↔ IsTrue (has_failed host.new) }
     ensures not_write { IsErrOf result CliFault.Write → ⊥ }
     ensures lacking { lacks_first (H.lacks (held host.old)) (map string_bytes files.now) → IsErrOf result CliFault.Read }
@@ -55,13 +56,14 @@ fn told_of_files<H: Host>(
     for file in files {
         let manner = Manner {
             is_painted,
+            rendering,
             file: file.as_str(),
         };
         if let Some(told) = take_file(alloc, host, &manner, &mut traces)? {
             return Ok((told, 2));
         }
     }
-    Ok((traces.told(alloc)?, traces.status()))
+    Ok((traces.told(alloc, rendering)?, traces.status()))
 }
 
 /// Explains the traces in some files together.
@@ -69,14 +71,15 @@ pub(crate) fn explain_files<H: Host, W: Write>(
     alloc: Global,
     host: &mut Watched<H>,
     is_painted: bool,
+    rendering: Rendering,
     files: &[String],
     output: &mut Watched<W>,
 ) -> Result<u8, CliFault>
     requires host { has_failed host.old ≡ false }
     requires writer { has_failed output.old ≡ false }
-    ensures done { IfOk result (AreExplained is_painted (H.sources (held host.old)).file (map string_bytes files.now)
+    ensures done { IfOk result (AreExplained is_painted rendering (H.sources (held host.old)).file (map string_bytes files.now)
         (W.contents (held output.old)) (W.contents (held output.new))) }
-    ensures fault { IfErr result (HasSeveralCause is_painted (H.sources (held host.old)).file (map string_bytes files.now)
+    ensures fault { IfErr result (HasSeveralCause is_painted rendering (H.sources (held host.old)).file (map string_bytes files.now)
         (W.contents (held output.old)) (W.contents (held output.new))) }
     ensures status { IfOk result (λ status. status ≤ 2) }
     ensures delivered { OnOk result (is_delivered output.new ≡ true) }
@@ -85,7 +88,7 @@ pub(crate) fn explain_files<H: Host, W: Write>(
     ensures unwritten { IfErr result (λ fault. fault ≢ CliFault.Write → output.new ≡ output.old) }
     ensures lacking { lacks_first (H.lacks (held host.old)) (map string_bytes files.now) → IsErrOf result CliFault.Read }
 {
-    let (told, status) = told_of_files(alloc, host, is_painted, files)?;
+    let (told, status) = told_of_files(alloc, host, is_painted, rendering, files)?;
     write_text(output, told.as_slice())?;
     Ok(status)
 }

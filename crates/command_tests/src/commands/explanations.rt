@@ -6,7 +6,7 @@ use super::worked::{ENDLESS, FIB};
 use super::{Case, check_all};
 
 /// A write beside a spawned function that writes the same cell, and then no end. One worker goes on with `main` first.
-const RACE_AND_NO_END: &str =
+pub(super) const RACE_AND_NO_END: &str =
     "cilk 1\nmem x\nfunc main z\nspawn f 1\nwrite x 2\nsync\ncall main 0\nend\nfunc f v\nwrite x v\nend\n";
 
 const RACE_TOLD: &str = "race: write-write on x, 1 time
@@ -28,7 +28,7 @@ this is no whole run: the limit ended it after 6 requests, and there may be more
 ";
 
 /// Two names that are wrong.
-const NO_PROGRAM: &str = "cilk 1\nfunc main z\nwrite x 1\nwrite y 2\nend\n";
+pub(super) const NO_PROGRAM: &str = "cilk 1\nfunc main z\nwrite x 1\nwrite y 2\nend\n";
 
 const NO_PROGRAM_TOLD: &str = "error: no cell has this name
  --> p.cilk:3
@@ -91,7 +91,7 @@ const PLAIN_TRACE_TOLD: &str = "race: write-read on x, 1 time
 ";
 
 /// A get while a spawn is outstanding that was not at the put.
-const VIEW_TRACE: &str = "cilk 1\nreducer h sum\nput 0 h 1\nspawn 0\nget 2 h\n";
+pub(super) const VIEW_TRACE: &str = "cilk 1\nreducer h sum\nput 0 h 1\nspawn 0\nget 2 h\n";
 
 const VIEW_TRACE_TOLD: &str = "view-read race: reads with other peers of h, 1 time
   --> line 3
@@ -105,7 +105,7 @@ const VIEW_TRACE_TOLD: &str = "view-read race: reads with other peers of h, 1 ti
 1 refusal at 1 pair of places, among 3 requests
 ";
 
-const CLEAN_TRACE: &str = "cilk 1\nmem x\n#run one write\nwrite 0 x 1\nreturn 0\n";
+pub(super) const CLEAN_TRACE: &str = "cilk 1\nmem x\n#run one write\nwrite 0 x 1\nreturn 0\n";
 
 const CLEAN_TRACE_TOLD: &str =
     "clean: no two of the accesses of this trace race, in whatever order its strands run\njudged: 2 requests\nrecorded: one write\n";
@@ -190,7 +190,7 @@ const UNKNOWN_TRACE_TOLD: &str = "error: no strand has this number
 ";
 
 /// A return from a function with an open block.
-const OPEN_TRACE: &str = "cilk 1\nspawn 0\nreturn 2\n";
+pub(super) const OPEN_TRACE: &str = "cilk 1\nspawn 0\nreturn 2\n";
 
 const OPEN_TRACE_TOLD: &str = "error: this function has an open block
  --> p.cilk:3
@@ -202,7 +202,7 @@ const OPEN_TRACE_TOLD: &str = "error: this function has an open block
 ";
 
 /// One location has two cells, of which each races once, and another location has one.
-const ALIKE_TRACE: &str =
+pub(super) const ALIKE_TRACE: &str =
     "cilk 1\nmem a 2\nmem x\n#of a[*] best, 4 bytes\nspawn 0 @5\nwrite 1 a[0] 7 @9\nwrite 1 a[1] 7 @9\nwrite 1 x 7 @8\nread 2 a[0] @6\nread 2 a[1] @6\nread 2 x @6\n";
 
 const ALIKE_TRACE_TOLD: &str = "race: write-read on best, 4 bytes, 2 times

@@ -15,7 +15,7 @@ use std::process::Abort;
 use std::sync::Wait;
 use std::test::Fail;
 use std::thread::Threads;
-use tool_commands::{Color, Host, Job, Language, Watched, perform, perform_alone};
+use tool_commands::{Color, Format, Host, Job, Language, Watched, perform, perform_alone};
 
 /// A file with the name that stands for standard input.
 const DASH: &[(&str, &str)] = &[("-", "no text of any kind\n")];
@@ -105,6 +105,8 @@ enum Deed {
     Draw(&'static str),
     /// To explain the traces in these files together.
     Explain(&'static [&'static str]),
+    /// The same as JSON.
+    ExplainAsJson(&'static [&'static str]),
     /// To show this text.
     Show(&'static str),
 }
@@ -113,7 +115,7 @@ impl Deed {
     /// The one or two names, or the text.
     fn names(self) -> (&'static str, &'static str) {
         match self {
-            Deed::JudgeInput | Deed::Explain(_) => ("", ""),
+            Deed::JudgeInput | Deed::Explain(_) | Deed::ExplainAsJson(_) => ("", ""),
             Deed::Judge(name) | Deed::Elide(name) | Deed::Draw(name) | Deed::Show(name) => (
                 name, "",
             ),
@@ -123,7 +125,7 @@ impl Deed {
 }
 
 /// The job that explains the traces in these files together.
-fn explain_job(alloc: Global, names: &[&str]) -> Result<Job, AllocError>
+fn explain_job(alloc: Global, names: &[&str], format: Format) -> Result<Job, AllocError>
     ensures ranges { IfOk result IsInRange }
     ensures alone { IfOk result IsAlone }
 {
@@ -134,6 +136,7 @@ fn explain_job(alloc: Global, names: &[&str]) -> Result<Job, AllocError>
     Ok(Job::ExplainTraces {
         files,
         color: Color::Never,
+        format,
     })
 }
 
@@ -160,7 +163,8 @@ fn job_alone(alloc: Global, deed: Deed) -> Result<Job, AllocError>
             file,
             language: Language::Dot,
         }),
-        Deed::Explain(names) => explain_job(alloc, names),
+        Deed::Explain(names) => explain_job(alloc, names, Format::Text),
+        Deed::ExplainAsJson(names) => explain_job(alloc, names, Format::Json),
         Deed::Show(_) => Ok(Job::Show { text: file }),
     }
 }
@@ -390,6 +394,37 @@ const NOTED: &str = "race: write-read on best and 2 more, 5 times
 
 5 refusals at 1 pair of places, among 13 requests in 3 traces
 ";
+
+/// The same as JSON.
+const NOTED_RECORD: &str =
+    r#"{"memory":null,"outcome":"raced","pairs":1,"races":[{"help":"a `sync` in the spawner before line 6 would order them","kind":"write-read","locations":["best","top","z"],"outstanding":null,"parting":{"child":{"code":null,"column":null,"file":null,"function":null,"line":9},"next":{"code":null,"column":null,"file":null,"function":null,"line":6},"spawn":{"code":null,"column":null,"file":null,"function":null,"line":5}},"refused":{"further":0,"place":{"code":null,"column":null,"file":null,"function":null,"line":6},"within":[],"word":"read"},"rule":"determinacy-race","times":5,"witness":{"further":0,"place":{"code":null,"column":null,"file":null,"function":null,"line":9},"within":[{"place":{"code":null,"column":null,"file":null,"function":null,"line":5},"way":"spawned"}],"word":"write"}}],"recorded":[],"refusals":5,"requests":13,"traces":3,"untold":[],"version":1}"#;
+
+const UNSET_AND_RACED_RECORD: &str =
+    r#"{"memory":null,"outcome":"raced","pairs":2,"races":[{"help":"a `put` into it has to come first in the serial order","kind":"unset","locations":["h"],"outstanding":null,"parting":null,"refused":{"further":0,"place":{"code":null,"column":null,"file":null,"function":null,"line":3},"within":[],"word":"get"},"rule":"unset-get","times":1,"witness":null},{"help":"a `sync` in the spawner before line 6 would order them","kind":"write-read","locations":["y"],"outstanding":null,"parting":{"child":{"code":null,"column":null,"file":null,"function":null,"line":9},"next":{"code":null,"column":null,"file":null,"function":null,"line":6},"spawn":{"code":null,"column":null,"file":null,"function":null,"line":5}},"refused":{"further":0,"place":{"code":null,"column":null,"file":null,"function":null,"line":6},"within":[],"word":"read"},"rule":"determinacy-race","times":1,"witness":{"further":0,"place":{"code":null,"column":null,"file":null,"function":null,"line":9},"within":[{"place":{"code":null,"column":null,"file":null,"function":null,"line":5},"way":"spawned"}],"word":"write"}}],"recorded":["one write"],"refusals":2,"requests":4,"traces":2,"untold":[],"version":1}"#;
+
+/// What is told as JSON of several parts of a recording.
+const RECORDED: &[(Texts<'static>, Deed, Wanted<'static>)] = &[
+    (
+        PARTED,
+        Deed::ExplainAsJson(&["noted", "alike", "other"]),
+        Text(1, NOTED_RECORD),
+    ),
+    (
+        PARTED,
+        Deed::ExplainAsJson(&["unset", "two"]),
+        Text(1, UNSET_AND_RACED_RECORD),
+    ),
+    (PARTED, Deed::ExplainAsJson(&["three", "gone"]), Lacking),
+];
+
+/// As JSON, too, pairs that are told alike are told once, with the counts and the names of all parts.
+#[test]
+fn parts_of_a_recording_are_told_as_json(rt: HostRuntime) -> Result<(), Fail> {
+    for case in RECORDED {
+        check_either(&rt, rt.alloc(), case)?;
+    }
+    Ok(())
+}
 
 /// What is done with several parts of a recording.
 const EXPLAINED: &[(Texts<'static>, Deed, Wanted<'static>)] = &[

@@ -11,6 +11,8 @@ const NO_WORKERS: &str = "invalid value for '--workers <N>': a number from 1 to 
 
 const NO_COLOR: &str = "invalid value for '--color <WHEN>': auto, always or never is wanted";
 
+const NO_FORMAT: &str = "invalid value for '--format <FORM>': text or json is wanted";
+
 const NO_FILE: &str = "no file is given; see 'cilkcheck --help'";
 
 const OVER_PROGRAM: &str =
@@ -161,33 +163,63 @@ const LINES: &[(&str, Asks<'static>)] = &[
     ),
     (
         "explain f",
-        Does("Explain { file: \"f\", workers: 2, is_serial: false, limit: 1000000, color: Auto }"),
+        Does(
+            "Explain { file: \"f\", workers: 2, is_serial: false, limit: 1000000, color: Auto, format: Text }",
+        ),
     ),
     (
         "explain f --color always --workers 8",
         Does(
-            "Explain { file: \"f\", workers: 8, is_serial: false, limit: 1000000, color: Always }",
+            "Explain { file: \"f\", workers: 8, is_serial: false, limit: 1000000, color: Always, format: Text }",
         ),
     ),
     (
         "explain --color=never f --limit 5",
-        Does("Explain { file: \"f\", workers: 2, is_serial: false, limit: 5, color: Never }"),
+        Does(
+            "Explain { file: \"f\", workers: 2, is_serial: false, limit: 5, color: Never, format: Text }",
+        ),
     ),
     (
         "explain - --workers 8",
-        Does("ExplainInput { workers: 8, is_serial: false, limit: 1000000, color: Auto }"),
+        Does(
+            "ExplainInput { workers: 8, is_serial: false, limit: 1000000, color: Auto, format: Text }",
+        ),
     ),
     (
         "explain f g h --color never",
-        Does("ExplainTraces { files: [\"f\", \"g\", \"h\"], color: Never }"),
+        Does("ExplainTraces { files: [\"f\", \"g\", \"h\"], color: Never, format: Text }"),
     ),
     (
         "explain --color always f g",
-        Does("ExplainTraces { files: [\"f\", \"g\"], color: Always }"),
+        Does("ExplainTraces { files: [\"f\", \"g\"], color: Always, format: Text }"),
     ),
     (
         "explain --serial f",
-        Does("Explain { file: \"f\", workers: 2, is_serial: true, limit: 1000000, color: Auto }"),
+        Does(
+            "Explain { file: \"f\", workers: 2, is_serial: true, limit: 1000000, color: Auto, format: Text }",
+        ),
+    ),
+    (
+        "explain --format json f",
+        Does(
+            "Explain { file: \"f\", workers: 2, is_serial: false, limit: 1000000, color: Auto, format: Json }",
+        ),
+    ),
+    (
+        "explain - --format=json",
+        Does(
+            "ExplainInput { workers: 2, is_serial: false, limit: 1000000, color: Auto, format: Json }",
+        ),
+    ),
+    (
+        "explain f g --format json",
+        Does("ExplainTraces { files: [\"f\", \"g\"], color: Auto, format: Json }"),
+    ),
+    (
+        "explain f --format text",
+        Does(
+            "Explain { file: \"f\", workers: 2, is_serial: false, limit: 1000000, color: Auto, format: Text }",
+        ),
     ),
     ("replay f g", Does("Replay { file: \"f\", trace: \"g\" }")),
     ("draw g", Does("Draw { file: \"g\", language: Dot }")),
@@ -217,6 +249,8 @@ const LINES: &[(&str, Asks<'static>)] = &[
     ("run f --workers 0", Refused(NO_WORKERS)),
     ("run f --workers 65", Refused(NO_WORKERS)),
     ("explain f --color red", Refused(NO_COLOR)),
+    ("explain f --format xml", Refused(NO_FORMAT)),
+    ("explain f g --format JSON", Refused(NO_FORMAT)),
     ("elide", Refused(NO_FILE)),
     ("elide f g", Refused("unexpected argument 'g' found")),
     ("explain", Refused(NO_FILE)),

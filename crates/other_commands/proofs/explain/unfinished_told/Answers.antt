@@ -8,9 +8,7 @@ returns-then-refusal_status-eq0 c = record {
   run = c.requires.run.0;
   full = c.requires.full;
   unfinished = c.requires.run.1;
-  explanation = c.in_ok-told.told.items;
-  explains = search rules;
-  told_is = c.in_ok-push_cut.ensures;
+  explains = c.in_ok-told.ensures;
   refused_is = sym c.if-refusal_status-eq0.true ∙ c.refusal_status.ensures;
 }
 
@@ -20,8 +18,6 @@ returns c = record {
   run = c.requires.run.0;
   full = c.requires.full;
   unfinished = c.requires.run.1;
-  explanation = c.in_ok-told.told.items;
-  explains = search rules;
-  told_is = c.in_ok-push_cut.ensures;
+  explains = c.in_ok-told.ensures;
   refused_is = some_refused c.args.entries.now (λ none. c.if-refusal_status-eq0.false (c.refusal_status.ensures ∙ none));
 }

@@ -14,14 +14,17 @@ returns-then-whole c = record {
   left = c.requires.memory;
   clean = c.requires.clean.0 c.if-whole.true;
   speaks = program_law c.args.program.now (reverse c.args.whole.now.entries.items) c.requires.run (c.requires.clean.0 c.if-whole.true);
-  told_is = search rules;
+  tells = search rules;
 }
 
-pub explanation-requires : goal.explanation-requires
-explanation-requires c = record {
+pub clean_told-requires : goal.clean_told-requires
+clean_told-requires c = (shape_in c.args.program.now, c.requires.run.0.run.judged.legal)
+
+pub races_told-requires : goal.races_told-requires
+races_told-requires c = record {
   legal = (
     shape_in c.args.program.now,
-    subst (λ (entries : List Entry). IsLegal (shape_in c.args.program.now) (reverse entries)) (sym (c.as_slice-2.ensures.value ∙ c.in_ok-entries.ensures))
+    subst (λ (entries : List Entry). IsLegal (shape_in c.args.program.now) (reverse entries)) (sym (c.as_slice.ensures.value ∙ c.in_ok-entries.ensures))
         c.requires.run.0.run.judged.legal,
   );
 }

@@ -9,7 +9,7 @@ use Rattle.other_commands.specs.Explanations.{clean_trace_words, judged_text}
 use Rattle.other_commands.proofs.explain_trace.clean_trace_told.Goals as goal
 
 pub returns : goal.returns
-returns c = λ manner.
+returns c = λ manner is_text.
     let all = c.requires.clean in
     let history = all.gate.history in
     let entries = reverse history in
@@ -24,8 +24,10 @@ returns c = λ manner.
       speaks = clean_trace_law all.gate.shape history all.answers.judges.judged;
       notes = c.in_ok-notes.notes;
       are_notes = c.in_ok-notes.ensures;
-      verdict = c.in_ok-told.told.items;
-      tells = inl (clean, c.in_ok-told.ensures ∙ ap (λ n. clean_trace_words ++ judged_text n) (all.count_is ∙ sym (length-reverse history)));
-      told_is = c.in_ok-push_recorded.ensures;
+      tells = rw is_text (
+        c.in_ok-told.told.items,
+        inl (clean, c.in_ok-told.ensures ∙ ap (λ n. clean_trace_words ++ judged_text n) (all.count_is ∙ sym (length-reverse history))),
+        c.in_ok-push_recorded.ensures,
+      );
       status_is = status_clean entries clean;
     }

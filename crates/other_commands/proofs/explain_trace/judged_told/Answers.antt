@@ -5,8 +5,8 @@ use Rattle.model_histories.specs.Legal.{IsLegal}
 use Rattle.law_traces.proofs.CleanTraces.{clean_trace_law}
 use Rattle.other_commands.proofs.explain_trace.judged_told.Goals as goal
 
-pub entries_told-requires : goal.entries_told-requires
-entries_told-requires c = record {
+pub verdict_told-requires : goal.verdict_told-requires
+verdict_told-requires c = record {
   legal = (
     c.args.gate.now.shape,
     subst (λ (xs : List Entry). IsLegal c.args.gate.now.shape xs) (sym c.history-entries.ensures.entries) c.history-entries.ensures.judged.legal,
@@ -24,8 +24,6 @@ returns c = record {
   speaks = clean_trace_law c.args.gate.now.shape c.args.gate.now.history c.requires.answers.judges.judged;
   notes = c.in_ok-notes.notes;
   are_notes = c.in_ok-notes.ensures;
-  verdict = c.in_ok-told.told.items;
   tells = c.in_ok-told.ensures;
-  told_is = c.in_ok-push_recorded.ensures;
   status_is = c.refusal_status.ensures;
 }

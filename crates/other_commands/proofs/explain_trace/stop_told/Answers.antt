@@ -19,6 +19,6 @@ returns-in_ok-told-in-Some-clause-ok c = record {
   stops = c.requires.stops;
   why = c.in-Some.why;
   reason = (rw c.in-Some.is at c.in_ok-why.ensures) c.args.gate.now (sym c.history-entries.ensures.entries) c.requires.stops.first.0;
-  told_is = search rules;
+  tells = c.in_ok-told.ensures;
   status_is = refl;
 }

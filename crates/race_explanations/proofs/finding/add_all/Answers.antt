@@ -10,4 +10,4 @@ loop-pair-init c = none_added (setting_of c.args.scene.now) c.args.findings.now.
 pub loop-pair-preserved : goal.loop-pair-preserved
 loop-pair-preserved c =
     one_added (setting_of c.args.scene.now) c.args.pairs.now c.loop-pair.pair-index _ _ _ _ _ (first_of (search rules, grind (arith, common_steps)))
-    c.loop-pair.invariant c.in_ok-finding.ensures c.in_ok-merge.ensures
+    c.loop-pair.invariant c.in_ok-finding.ensures c.in_ok-join_finding.ensures

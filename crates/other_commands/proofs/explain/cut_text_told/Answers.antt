@@ -1,0 +1,5 @@
+use Rattle.std.proofs.Common.{rules}
+use Rattle.other_commands.proofs.explain.cut_text_told.Goals as goal
+
+pub returns : goal.returns
+returns c = (c.in_ok-told.told.items, search rules, c.in_ok-push_cut.ensures)

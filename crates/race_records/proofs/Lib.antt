@@ -1,0 +1,4 @@
+mod Recording
+mod Keeping
+mod Faulty
+mod Named

@@ -1,0 +1,12 @@
+pub mod Values
+pub mod Sites
+pub mod SiteViews
+pub mod Accesses
+pub mod Advice
+pub mod Races
+pub mod RaceViews
+pub mod Documents
+pub mod SummaryViews
+pub mod Unjudged
+pub mod Several
+pub mod SeveralViews

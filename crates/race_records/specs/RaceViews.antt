@@ -1,0 +1,14 @@
+-- The parts of a race as data.
+use Rattle.serde_json.specs.View.{view}
+use Rattle.race_records.specs.declared.race.Race.{Race}
+use Rattle.race_records.specs.Races.{RaceParts}
+
+abbrev pub race_parts : Race → RaceParts
+race_parts race = record {
+  reason = race.reason;
+  help = view race.help;
+  outstanding = view race.outstanding;
+  parting = view race.parting;
+  refused = view race.refused;
+  witness = view race.witness;
+}

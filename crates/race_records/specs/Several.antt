@@ -1,0 +1,111 @@
+-- What is told of several traces together.
+use Rattle.std.specs.Prelude.{ℕ, ◌≡◌, ◌-◌, nat_lt, List, [], ◌∷◌, ◌++◌, codes, length, map, take, Option, Some, None, cond, if◌then◌else◌}
+use Rattle.std.specs.Global.{Global, Vec}
+use Rattle.serde_json.specs.Data.{Data, null, object, member, no_members}
+use Rattle.race_pairs.specs.Pairs.{ArePairs}
+use Rattle.race_pairs.specs.declared.tally.Pair.{Pair}
+use Rattle.race_pairs.specs.declared.encounter.Encounter.{Encounter}
+use Rattle.race_explanations.specs.declared.finding.Finding.{Finding}
+use Rattle.race_explanations.specs.Settings.{Setting}
+use Rattle.race_explanations.specs.Explained.{IsEncounter, refusals_among}
+use Rattle.race_explanations.specs.Findings.{added_up, with_finding, IsFinding}
+use Rattle.race_records.specs.declared.document.Outcome.{Outcome}
+use Rattle.race_records.specs.declared.document.Outcome.TheVariants.{Clean, Raced}
+use Rattle.race_records.specs.Values.{text_told, count_told}
+use Rattle.race_records.specs.Races.{RaceParts, parts_of, race_told}
+use Rattle.race_records.specs.Documents.{SummaryParts, document_told}
+
+-- ---- what is kept
+
+-- The findings that are told to a person, and of each what is told of its first pair.
+pub record Kept : Type 0 where
+  pub findings : List Finding
+  pub races : List RaceParts
+
+-- a race more, where its finding is told as none before, and so stands behind all
+abbrev pub with_race : (before after : List Finding) → List RaceParts → RaceParts → List RaceParts
+with_race before after races race = cond (nat_lt (length before) (length after)) (races ++ race ∷ []) races
+
+-- one finding more: joined to the first that is told alike, or behind all with its race
+abbrev pub with_kept : Kept → Finding → RaceParts → Kept
+with_kept kept finding race = record {
+  findings = with_finding kept.findings finding;
+  races = with_race kept.findings (with_finding kept.findings finding) kept.races race;
+}
+
+-- The race tells of the pair.
+pub record IsRace (setting : Setting) (pair : Pair) (race : RaceParts) : Type 0 where
+  pub encounter : Encounter Global
+  pub is_encounter : IsEncounter setting.entries pair encounter
+  pub parts_are : race ≡ parts_of setting pair encounter
+
+-- The findings and the races of these pairs were added, one pair after another.
+pub data AddsKept (setting : Setting) (old : Kept) : List Pair → Kept → Type 0 where
+  none : AddsKept setting old [] old
+  more : {pairs : List Pair} {kept : Kept} (pair : Pair) (finding : Finding) (race : RaceParts) → AddsKept setting old pairs kept →
+      IsFinding setting pair finding → IsRace setting pair race → AddsKept setting old (pairs ++ pair ∷ []) (with_kept kept finding race)
+
+-- What is kept of several traces: also the files of which not all pairs are kept, and how many refusals, requests and traces there were.
+pub record Recorded : Type 0 where
+  pub kept : Kept
+  pub untold : List Data
+  pub refusals : ℕ
+  pub requests : ℕ
+  pub traces : ℕ
+
+abbrev pub nothing_recorded : Recorded
+nothing_recorded = record { kept = record { findings = []; races = [] }; untold = []; refusals = 0; requests = 0; traces = 0 }
+
+-- a file of which not all pairs are kept, and how many are not
+abbrev pub untold_told : (file : List ℕ) → (count : ℕ) → Data
+untold_told file count =
+    object (member (codes "file") (text_told file) (member (codes "pairs") (count_told count) no_members))
+
+abbrev pub untold_in : (file : List ℕ) → (count : ℕ) → List Data
+untold_in file count = if nat_lt 20 count then untold_told file (count - 20) ∷ [] else []
+
+-- The first twenty of so many pairs were added, and nothing else has changed.
+pub record AddsPairs (setting : Setting) (old new : Recorded) (count : ℕ) : Type 0 where
+  pub pairs : List Pair
+  pub are_pairs : ArePairs setting.entries pairs
+  pub count_is : count ≡ length pairs
+  pub kept : AddsKept setting old.kept (take 20 pairs) new.kept
+  pub rest : new ≡ record old { kept = new.kept }
+
+-- A trace was added: its first twenty pairs.
+pub record AddsTrace (file : List ℕ) (setting : Setting) (old new : Recorded) : Type 0 where
+  pub pairs : List Pair
+  pub are_pairs : ArePairs setting.entries pairs
+  pub kept : AddsKept setting old.kept (take 20 pairs) new.kept
+  pub untold_is : new.untold ≡ old.untold ++ untold_in file (length pairs)
+  pub refusals_are : new.refusals ≡ added_up old.refusals (refusals_among setting.entries)
+  pub requests_are : new.requests ≡ added_up old.requests (length setting.entries)
+  pub traces_are : new.traces ≡ added_up old.traces 1
+
+-- ---- what is told of it
+
+abbrev pub names_of : Finding → List (List ℕ)
+names_of finding = map (λ (name : Vec ℕ). name.items) finding.names.keys
+
+-- the races, each with the names and the count of its finding
+abbrev pub races_told : List Finding → List RaceParts → List Data
+races_told (finding ∷ findings) (race ∷ races) = race_told race (names_of finding) finding.times ∷ races_told findings races
+races_told findings races = []
+
+-- how many findings there are, where all are kept
+abbrev pub all_of : List Data → ℕ → Option ℕ
+all_of [] count = Some count
+all_of (file ∷ untold) count = None
+
+abbrev pub outcome_of : (refusals : ℕ) → Outcome
+outcome_of refusals = if nat_lt 0 refusals then Raced else Clean
+
+-- The first twenty races, how many there are, and how many refusals there were.
+abbrev pub recorded_told : Recorded → (runs : List (List ℕ)) → Data
+recorded_told recorded runs = document_told (record {
+  outcome = outcome_of recorded.refusals;
+  pairs = all_of recorded.untold (length recorded.kept.findings);
+  refusals = recorded.refusals;
+  requests = recorded.requests;
+  traces = recorded.traces;
+}) null (races_told (take 20 recorded.kept.findings) (take 20 recorded.kept.races)) runs recorded.untold

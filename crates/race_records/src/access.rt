@@ -1,0 +1,68 @@
+//! An access, and the spawns and calls that led there.
+
+ghost use Rattle.std.specs.Prelude.{◌≡◌, IfOk, map};
+ghost use Rattle.serde_json.specs.View.{view};
+ghost use Rattle.race_explanations.specs.Scenes.{setting_of};
+ghost use Rattle.race_records.specs.Accesses.{place_told, link_told, access_told};
+
+use crate::site::line_value;
+use race_explanations::{Scene, line_of, way_at, word_at};
+use serde_json::{Value, json};
+use std::alloc::{AllocError, Global};
+
+/// How many spawns and calls are told at most.
+const LINKS: usize = 8;
+
+/// Where the entry with this number stands.
+pub(crate) fn place_value(
+    alloc: Global,
+    scene: &Scene<'_, '_>,
+    number: usize,
+) -> Result<Value, AllocError>
+    ensures { IfOk result (λ value. view value ≡ place_told (setting_of scene.now) number) }
+{
+    line_value(alloc, scene, line_of(scene, number))
+}
+
+/// A spawn or a call on the way to an access.
+fn link_value(alloc: Global, scene: &Scene<'_, '_>, number: usize) -> Result<Value, AllocError>
+    ensures { IfOk result (λ value. view value ≡ link_told (setting_of scene.now) number) }
+{
+    let place = place_value(alloc, scene, number)?;
+    json!(in alloc; {"place": place, "way": way_at(scene, number)})
+}
+
+/// Spawns and calls on the way to an access.
+fn link_values(
+    alloc: Global,
+    scene: &Scene<'_, '_>,
+    chain: &[usize],
+) -> Result<Vec<Value>, AllocError>
+    ensures { IfOk result (λ values. map view values.items ≡ map (link_told (setting_of scene.now)) chain.now) }
+{
+    let mut values = Vec::new(alloc);
+    for number in chain {
+        values.push(link_value(alloc, scene, *number)?)?;
+    }
+    Ok(values)
+}
+
+/// The access that is the entry with this number, with the innermost of the spawns and calls that led there.
+pub(crate) fn access_value(
+    alloc: Global,
+    scene: &Scene<'_, '_>,
+    number: usize,
+    chain: &[usize],
+) -> Result<Value, AllocError>
+    ensures { IfOk result (λ value. view value ≡ access_told (setting_of scene.now) number chain.now) }
+{
+    let (told, _) = chain.split_at(chain.len().min(LINKS));
+    let within = Value::from(link_values(alloc, scene, told)?);
+    let place = place_value(alloc, scene, number)?;
+    json!(in alloc; {
+        "further": chain.len().saturating_sub(LINKS),
+        "place": place,
+        "within": within,
+        "word": word_at(scene, number)
+    })
+}

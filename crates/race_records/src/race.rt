@@ -1,0 +1,179 @@
+//! What is told of a pair of places that raced.
+
+ghost use Rattle.std.specs.Prelude.{◌≡◌, ℕ, IfOk, map, reverse, string_bytes};
+ghost use Rattle.std.specs.Global.{Vec};
+ghost use Rattle.model_histories.specs.Shapes.{Shape};
+ghost use Rattle.model_histories.specs.Legal.{IsLegal};
+ghost use Rattle.spawn_chains.specs.Makers.{IsLineage};
+ghost use Rattle.serde_json.specs.View.{view};
+ghost use Rattle.race_explanations.specs.Scenes.{setting_of};
+ghost use Rattle.race_records.specs.Values.{list_told};
+ghost use Rattle.race_records.specs.Races.{rule_word, kind_word, witness_told, name_told, parts_of, race_told, Records};
+ghost use Rattle.race_records.specs.RaceViews.{race_parts};
+
+use crate::access::access_value;
+use crate::advice::{help_value, outstanding_of, parting_of};
+use crate::value::text_value;
+use access_table::word;
+use race_explanations::{Scene, told_names};
+use race_pairs::{Encounter, Pair, Reason, places};
+use serde_json::{Value, json};
+use spawn_chains::Lineage;
+use std::alloc::{AllocError, Global};
+use std::collections::BTreeSet;
+
+/// What is told of a pair but for the names of what it raced on, and how often.
+pub(crate) struct Race {
+    pub(crate) reason: Reason,
+    pub(crate) help: Value,
+    pub(crate) outstanding: Value,
+    pub(crate) parting: Value,
+    pub(crate) refused: Value,
+    pub(crate) witness: Value,
+}
+
+/// Written out, so that what lets it go calls one function.
+impl Drop for Race {
+    fn drop(self) {
+        let Race {
+            reason: _,
+            help: _,
+            outstanding: _,
+            parting: _,
+            refused: _,
+            witness: _,
+        } = self;
+    }
+}
+
+/// The rule that was broken.
+pub(crate) fn rule_word(reason: Reason) -> &'static str
+    ensures { result.now ≡ rule_word reason }
+{
+    match reason {
+        Reason::Race { .. } => "determinacy-race",
+        Reason::ViewRead => "view-read-race",
+        Reason::Unset => "unset-get",
+    }
+}
+
+/// What was wrong, in one word.
+pub(crate) fn kind_word(alloc: Global, reason: Reason) -> Result<String, AllocError>
+    ensures { IfOk result (λ kind. string_bytes kind ≡ kind_word reason) }
+{
+    match reason {
+        Reason::Race { earlier, refused } => {
+            let mut kind = String::from_str(alloc, word(earlier))?;
+            kind.push_str("-")?;
+            kind.push_str(word(refused))?;
+            Ok(kind)
+        }
+        Reason::ViewRead => String::from_str(alloc, "view-read"),
+        Reason::Unset => String::from_str(alloc, "unset"),
+    }
+}
+
+/// The earlier access, where there is one.
+fn witness_value(
+    alloc: Global,
+    scene: &Scene<'_, '_>,
+    pair: &Pair,
+    encounter: &Encounter<Global>,
+) -> Result<Value, AllocError>
+    ensures { IfOk result (λ value. view value ≡ witness_told pair.now.lines.reason (setting_of scene.now) pair.now encounter.now) }
+{
+    match pair.lines.reason {
+        Reason::Race { .. } | Reason::ViewRead => access_value(
+            alloc,
+            scene,
+            pair.witness,
+            encounter.witness_chain.as_slice(),
+        ),
+        Reason::Unset => Ok(Value::Null),
+    }
+}
+
+/// What is told of a pair but for the names of what it raced on, and how often.
+pub(crate) fn race_of(
+    alloc: Global,
+    scene: &Scene<'_, '_>,
+    pair: &Pair,
+    encounter: &Encounter<Global>,
+) -> Result<Race, AllocError>
+    ensures { IfOk result (λ race. race_parts race ≡ parts_of (setting_of scene.now) pair.now encounter.now) }
+{
+    let help = help_value(alloc, scene, pair, encounter)?;
+    let outstanding = outstanding_of(alloc, scene, pair, encounter)?;
+    let parting = parting_of(alloc, scene, pair, encounter)?;
+    let refused = access_value(alloc, scene, pair.first, encounter.chain.as_slice())?;
+    let witness = witness_value(alloc, scene, pair, encounter)?;
+    Ok(Race {
+        reason: pair.lines.reason,
+        help,
+        outstanding,
+        parting,
+        refused,
+        witness,
+    })
+}
+
+/// A name that stands behind a space.
+fn name_value(alloc: Global, spaced: &[u8]) -> Result<Value, AllocError>
+    ensures { IfOk result (λ value. view value ≡ name_told spaced.now) }
+{
+    let (_, name) = spaced.split_at(spaced.len().min(1));
+    text_value(alloc, name)
+}
+
+/// Names, in the order of their bytes.
+fn names_value(alloc: Global, names: &BTreeSet<Vec<u8>>) -> Result<Value, AllocError>
+    ensures { IfOk result (λ value. view value ≡ list_told name_told (map (λ (name : Vec ℕ). name.items) names.now.keys)) }
+{
+    let mut values = Vec::new(alloc);
+    for name in names.iter() {
+        values.push(name_value(alloc, name.as_slice())?)?;
+    }
+    Ok(Value::from(values))
+}
+
+/// All that is told of a pair, with the names of what it raced on, and how often.
+pub(crate) fn race_value(
+    alloc: Global,
+    race: &Race,
+    names: &BTreeSet<Vec<u8>>,
+    times: usize,
+) -> Result<Value, AllocError>
+    ensures { IfOk result (λ value. view value ≡ race_told (race_parts race.now) (map (λ (name : Vec ℕ). name.items) names.now.keys) times) }
+{
+    let locations = names_value(alloc, names)?;
+    let kind = kind_word(alloc, race.reason)?;
+    json!(in alloc; {
+        "help": &race.help,
+        "kind": kind,
+        "locations": locations,
+        "outstanding": &race.outstanding,
+        "parting": &race.parting,
+        "refused": &race.refused,
+        "rule": rule_word(race.reason),
+        "times": times,
+        "witness": &race.witness
+    })
+}
+
+/// What is told of a pair.
+pub(crate) fn pair_value(
+    alloc: Global,
+    scene: &Scene<'_, '_>,
+    lineage: &Lineage<Global>,
+    pair: &Pair,
+) -> Result<Value, AllocError>
+    requires lineage { IsLineage lineage.now (reverse scene.now.entries.now) }
+    requires legal { (shape : Shape) × IsLegal shape (reverse scene.now.entries.now) }
+    ensures { IfOk result (λ value. Records (setting_of scene.now) pair.now (view value)) }
+{
+    let found = places(alloc, scene.entries, pair)?;
+    let encounter = Encounter::new(alloc, lineage, scene.entries, pair)?;
+    let names = told_names(alloc, scene, pair.lines.reason, found.as_slice())?;
+    let race = race_of(alloc, scene, pair, &encounter)?;
+    race_value(alloc, &race, &names, pair.times)
+}

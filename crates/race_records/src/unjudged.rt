@@ -1,0 +1,204 @@
+//! What is told of a text that means nothing, and of an illegal request.
+
+ghost use Rattle.std.specs.Prelude.{◌≡◌, ◌++◌, List, IfOk, OnOk, map};
+ghost use Rattle.serde_json.specs.Data.{Data};
+ghost use Rattle.text_words.specs.Text.{lines};
+ghost use Rattle.trace_text.specs.Traces.{contents as trace_contents};
+ghost use Rattle.serde_json.specs.View.{view};
+ghost use Rattle.fault_lists.specs.FaultLists.{HasFault};
+ghost use Rattle.race_explanations.specs.Illegal.{at_of, strand_of};
+ghost use Rattle.race_records.specs.Values.{IsTextOf};
+ghost use Rattle.race_records.specs.Unjudged.{cause_word, fault_told, RecordsFault, RecordsFaults, RecordsText, faulty_told, illegal_told};
+
+use crate::value::{text_value, value_text};
+use fault_lists::{Fault, list_others};
+use race_explanations::{Illegality, help_words, illegal_explanation, request_line, title_words};
+use serde_json::{Value, json};
+use source_quotes::{Meant, Source, fault_message};
+use std::alloc::{AllocError, Global};
+use text_words::{Cause, TraceLine};
+use trace_text::Trace;
+
+/// The name of a cause.
+fn cause_word(why: Cause) -> &'static str
+    ensures { result.now ≡ cause_word why }
+{
+    match why {
+        Cause::NotText => "NotText",
+        Cause::BadHeader => "BadHeader",
+        Cause::BadWord => "BadWord",
+        Cause::BadNumber => "BadNumber",
+        Cause::UnknownName => "UnknownName",
+        Cause::TwiceNamed => "TwiceNamed",
+        Cause::BadNesting => "BadNesting",
+        Cause::NoMain => "NoMain",
+        Cause::TooMany => "TooMany",
+    }
+}
+
+/// A fault, with what a person is told of it.
+fn rendered_value(
+    alloc: Global,
+    file: &str,
+    source: &Source<'_, Global>,
+    fault: Fault,
+    rendered: &[u8],
+) -> Result<Value, AllocError>
+    ensures { IfOk result (λ value. view value ≡ fault_told file.now source.now fault rendered.now) }
+{
+    let rendered = text_value(alloc, rendered)?;
+    let code = text_value(alloc, source.line(fault.line))?;
+    let file = text_value(alloc, file.as_bytes())?;
+    json!(in alloc; {
+        "cause": cause_word(fault.why),
+        "code": code,
+        "file": file,
+        "line": fault.line,
+        "rendered": rendered
+    })
+}
+
+/// What is told of a fault.
+fn fault_value(
+    alloc: Global,
+    file: &str,
+    text: &[u8],
+    source: &Source<'_, Global>,
+    meant: Meant,
+    fault: Fault,
+) -> Result<Value, AllocError>
+    requires { source.now ≡ lines text.now }
+    ensures { IfOk result (λ value. RecordsFault file.now source.now fault (view value)) }
+{
+    let rendered = fault_message(alloc, false, file, text, fault.line, fault.why, meant)?;
+    rendered_value(alloc, file, source, fault, rendered.as_slice())
+}
+
+/// Adds faults.
+fn push_faults(
+    alloc: Global,
+    values: &mut Vec<Value>,
+    file: &str,
+    text: &[u8],
+    source: &Source<'_, Global>,
+    meant: Meant,
+    faults: &[Fault],
+) -> Result<(), AllocError>
+    requires { source.now ≡ lines text.now }
+    ensures { OnOk result ((added : List Data) × (map view values.new.items ≡ map view values.old.items ++ added) × RecordsFaults file.now source.now faults.now added) }
+{
+    let [fault, rest @ ..] = faults else {
+        return Ok(());
+    };
+    values.push(fault_value(alloc, file, text, source, meant, *fault)?)?;
+    push_faults(alloc, values, file, text, source, meant, rest)
+}
+
+/// The faults of a text, as one value.
+fn faulty_value(alloc: Global, faults: Vec<Value>, is_more: bool) -> Result<Value, AllocError>
+    ensures { IfOk result (λ value. view value ≡ faulty_told (map view faults.items) is_more) }
+{
+    json!(in alloc; {
+        "faults": faults,
+        "more": is_more,
+        "outcome": "faulty",
+        "version": 1_u8
+    })
+}
+
+/// Tells as JSON of the text of a program or a trace that has this fault: of it and of each fault behind it that
+/// [`faults_message`](fault_lists::faults_message) tells. Errors where there is no memory.
+pub fn faults_record(
+    alloc: Global,
+    file: &str,
+    text: &[u8],
+    meant: Meant,
+    first: Fault,
+) -> Result<Vec<u8>, AllocError>
+    requires { HasFault meant text.now first }
+    ensures { IfOk result (λ told. RecordsText file.now meant text.now first told.items) }
+{
+    let source = Source::new(alloc, text)?;
+    let others = list_others(alloc, meant, text, first)?;
+    let mut values = Vec::new(alloc);
+    values.push(fault_value(alloc, file, text, &source, meant, first)?)?;
+    push_faults(
+        alloc,
+        &mut values,
+        file,
+        text,
+        &source,
+        meant,
+        others.faults.as_slice(),
+    )?;
+    let document = faulty_value(alloc, values, others.is_more)?;
+    value_text(alloc, &document)
+}
+
+/// The number of a line.
+fn at_of(line: Option<TraceLine>) -> u32
+    ensures { result ≡ at_of line }
+{
+    match line {
+        Some(line) => line.at,
+        None => 0,
+    }
+}
+
+/// The strand that asks on a line.
+fn strand_of(line: Option<TraceLine>) -> u32
+    ensures { result ≡ strand_of line }
+{
+    match line {
+        Some(line) => line.request.strand,
+        None => 0,
+    }
+}
+
+/// An illegal request, as one value.
+fn illegal_value(
+    alloc: Global,
+    file: &str,
+    text: &[u8],
+    trace: &Trace<Global>,
+    number: usize,
+    why: Illegality,
+) -> Result<Value, AllocError>
+    ensures { IfOk result (λ value. view value ≡ illegal_told file.now (lines text.now) (trace_contents trace.now).lines number why) }
+{
+    let rendered = illegal_explanation(alloc, false, file, text, trace, number, why)?;
+    let rendered = text_value(alloc, rendered.as_slice())?;
+    let source = Source::new(alloc, text)?;
+    let line = request_line(trace, number);
+    let at = at_of(line);
+    let code = text_value(alloc, source.line(at))?;
+    let file = text_value(alloc, file.as_bytes())?;
+    json!(in alloc; {
+        "code": code,
+        "file": file,
+        "help": help_words(why),
+        "line": at,
+        "message": title_words(why),
+        "outcome": "illegal",
+        "rendered": rendered,
+        "request": number,
+        "strand": strand_of(line),
+        "version": 1_u8
+    })
+}
+
+/// Tells as JSON why the request with this number, from 1 on, of the trace that a text means is illegal, as
+/// [`illegal_explanation`](race_explanations::illegal_explanation) tells a person. Errors where there is no memory.
+pub fn illegal_record(
+    alloc: Global,
+    file: &str,
+    text: &[u8],
+    trace: &Trace<Global>,
+    number: usize,
+    why: Illegality,
+) -> Result<Vec<u8>, AllocError>
+    ensures { IfOk result (λ told. IsTextOf (illegal_told file.now (lines text.now) (trace_contents trace.now).lines number why) told.items) }
+{
+    let document = illegal_value(alloc, file, text, trace, number, why)?;
+    value_text(alloc, &document)
+}
