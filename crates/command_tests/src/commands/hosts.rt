@@ -5,9 +5,9 @@ ghost use Rattle.command_words.specs.Jobs.{IsInRange};
 ghost use Rattle.tool_commands.specs.Performed.{IsAlone};
 ghost use Rattle.command_streams.specs.Sources.{unknown_sources};
 
-use super::Wanted::{Lacking, Text};
+use super::Wanted::{Lacking, Status, Text};
 use super::worked::{FIB, PAIR};
-use super::{MOST, Outcome, Wanted, manned, meets, outcome_of};
+use super::{MOST, Outcome, Wanted, is_ended, manned, meets, outcome_of};
 use crate::devices::{Breaking, Filling};
 use std::alloc::{AllocError, Global};
 use std::io::{self, Error, ErrorKind};
@@ -584,5 +584,60 @@ fn a_run_of_a_program_that_is_there_or_not(rt: HostRuntime) -> Result<(), Fail> 
     for case in RUNS {
         check_run(&rt, rt.alloc(), case)?;
     }
+    Ok(())
+}
+
+/// A program that spawns a write and, behind 10,001 calls, reads what is written: there is the time to steal the child.
+const STOLEN: Texts<'static> = Texts {
+    input: "",
+    files: &[(
+        "program",
+        "cilk 1\nmem x\nfunc main z\n  spawn f 7\n  call g 10000\n  read r x\nend\nfunc f v\n  write x v\nend\nfunc g n\n  if n\n    let m = n - 1\n    call g m\n  end\nend\n",
+    )],
+};
+
+/// The report of its run by one worker, which goes on with the spawner: the read comes first.
+const ALONE_REPORT: &str =
+    "{\"clean\":false,\"entries\":30010,\"memory\":{\"x\":0},\"refusals\":[{\"entry\":30007,\"line\":9,\"name\":\"x\",\"rule\":\"read-write\",\"strand\":1,\"witness\":{\"entry\":30005,\"line\":6,\"strand\":2}}]}\n";
+
+/// How its report begins where another worker has stolen the child: the write comes first.
+const STOLEN_REPORT: &str =
+    "{\"clean\":false,\"entries\":30010,\"memory\":{\"x\":7},\"refusals\":[{\"entry\":";
+
+/// Whether the report of the job's run begins so.
+fn is_stolen<R: Threads + Wait + Sync>(rt: &R, alloc: Global, job: &Job) -> bool
+    requires { IsInRange job.now }
+{
+    let outcome = performed(rt, alloc, STOLEN, job, Status(1));
+    is_ended(&outcome, 1)
+        && outcome
+            .output
+            .held
+            .as_slice()
+            .starts_with(STOLEN_REPORT.as_bytes())
+}
+
+/// How often the run is tried in which the child is stolen.
+const TRIES: u32 = 20;
+
+/// Whether it is so in one of some runs.
+fn is_stolen_once<R: Threads + Wait + Sync>(rt: &R, alloc: Global, job: &Job) -> bool
+    requires { IsInRange job.now }
+{
+    for _ in 0..TRIES {
+        if is_stolen(rt, alloc, job) {
+            return true;
+        }
+    }
+    false
+}
+
+/// Of two workers the second steals what the first has spawned, and one alone never does.
+#[test]
+fn a_second_worker_steals(rt: HostRuntime) -> Result<(), Fail> {
+    let alone = (STOLEN, "program", 1, Text(1, ALONE_REPORT));
+    check_run(&rt, rt.alloc(), &alone)?;
+    let job = run_job(&rt, rt.alloc(), "program", 2)?;
+    assert!(rt; is_stolen_once(&rt, rt.alloc(), &job));
     Ok(())
 }

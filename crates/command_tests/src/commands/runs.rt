@@ -5,7 +5,10 @@ use super::Wanted::{Fault, Text};
 use super::worked::{ENDLESS, FIB, LASTS, NESTED, NO_TURNS, SERIES, TURNS};
 use super::{Case, MOST, check, check_all};
 use std::alloc::{AllocError, Global};
+use std::process::Abort;
+use std::sync::Wait;
 use std::test::Fail;
+use std::thread::Threads;
 
 const FIB_REPORT: &str =
     "{\"clean\":true,\"entries\":713,\"memory\":{\"x\":55},\"refusals\":[],\"schedules\":\"clean for every schedule\"}\n";
@@ -92,24 +95,58 @@ fn more_than_1_024_functions_wait_at_once(rt: HostRuntime) {
     check_all(&rt, rt.alloc(), NESTED_RUNS);
 }
 
-/// A program that writes the last of 40,000 cells.
-const MANY_CELLS: &str = "cilk 1\nmem a 40000\nfunc main z\nwrite a[39999] 7\nend\n";
+/// A program that writes 7 into the last of 40,000 cells, the exit status of its run, and what stands before and behind the cells in the
+/// report, of some 80,000 bytes.
+#[derive(Clone, Copy)]
+struct Many {
+    program: &'static str,
+    status: u8,
+    before: &'static str,
+    behind: &'static str,
+}
 
-/// The report of its run, of some 80,000 bytes.
-fn report_of_many(alloc: Global) -> Result<String, AllocError> {
-    let mut report = String::new(alloc);
-    report.push_str("{\"clean\":true,\"entries\":3,\"memory\":{\"a\":[")?;
+const MANY: &[Many] = &[
+    Many {
+        program: "cilk 1\nmem a 40000\nfunc main z\nwrite a[39999] 7\nend\n",
+        status: 0,
+        before: "{\"clean\":true,\"entries\":3,\"memory\":{\"a\":[",
+        behind: "7]},\"refusals\":[],\"schedules\":\"clean for every schedule\"}\n",
+    },
+    // Behind a get that finds nothing.
+    Many {
+        program: "cilk 1\nmem a 40000\nreducer h sum\nfunc main z\nget r h\nwrite a[39999] 7\nend\n",
+        status: 1,
+        before: "{\"clean\":false,\"entries\":4,\"memory\":{\"a\":[",
+        behind: "7]},\"refusals\":[{\"entry\":1,\"line\":5,\"name\":\"h\",\"rule\":\"unset\",\"strand\":0,\"witness\":null}]}\n",
+    },
+];
+
+/// The report.
+fn report_of_many(alloc: Global, many: Many) -> Result<String, AllocError> {
+    let mut report = String::from_str(alloc, many.before)?;
     for _ in 0..39_999 {
         report.push_str("0,")?;
     }
-    report.push_str("7]},\"refusals\":[],\"schedules\":\"clean for every schedule\"}\n")?;
+    report.push_str(many.behind)?;
     Ok(report)
+}
+
+/// The run of the program is reported so.
+fn check_many<R: Abort + Threads + Wait + Sync>(
+    rt: &R,
+    alloc: Global,
+    many: Many,
+) -> Result<(), AllocError> {
+    let report = report_of_many(alloc, many)?;
+    let wanted = Text(many.status, report.as_str());
+    check(rt, alloc, Run(2, MOST), many.program.as_bytes(), wanted);
+    Ok(())
 }
 
 #[test]
 fn a_report_of_more_than_64_kib(rt: HostRuntime) -> Result<(), Fail> {
-    let report = report_of_many(rt.alloc())?;
-    let wanted = Text(0, report.as_str());
-    check(&rt, rt.alloc(), Run(2, MOST), MANY_CELLS.as_bytes(), wanted);
+    for many in MANY {
+        check_many(&rt, rt.alloc(), *many)?;
+    }
     Ok(())
 }
