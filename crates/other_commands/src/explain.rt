@@ -16,7 +16,7 @@ ghost use Rattle.command_streams.specs.Streams.{most_reads};
 ghost use Rattle.command_streams.specs.Readings.{reading};
 ghost use Rattle.run_command.specs.Runs.{IsRunFault, WantsMore};
 ghost use Rattle.other_commands.specs.Explanations.{Manner as SpecManner, clean_words, clean_text, cut_words, cut_behind, cut_text};
-ghost use Rattle.other_commands.specs.Explanations.{TellsEnd, status_of_end, ExplainsAs, Explains, IsUntold, StopsTelling, IsExplained, HasExplanationCause};
+ghost use Rattle.other_commands.specs.Explanations.{TellsEnd, IsBehindWarnings, status_of_end, ExplainsAs, Explains, IsUntold, StopsTelling, IsExplained, HasExplanationCause};
 
 use crate::elide::push_memory;
 use crate::explain_trace::trace_text_told;
@@ -27,6 +27,7 @@ use command_streams::{
 use fault_lists::{Fault, faults_message};
 use locked_replay::{RunFault, Whole};
 use program_text::Program;
+use program_warnings::program_warnings;
 use race_explanations::explanation;
 use race_gate::{Entry, ShortGate};
 use run_command::{Door, PARTS, fault_of, serial_run, some_run};
@@ -241,6 +242,21 @@ fn run_told<D: Door + Sync, R: Threads + Wait + Sync>(
     }
 }
 
+/// What is told of a run of a program, behind the warnings of the program.
+fn behind_warnings(
+    alloc: Global,
+    manner: &Manner<'_>,
+    text: &[u8],
+    program: &Program<Global>,
+    run: Vec<u8>,
+) -> Result<Vec<u8>, AllocError>
+    ensures { IfOk result (λ told. IsBehindWarnings manner.now text.now (contents program.now) run.items told.items) }
+{
+    let mut told = program_warnings(alloc, manner.is_painted, manner.file, text, program)?;
+    told.extend_from_slice(run.as_slice())?;
+    Ok(told)
+}
+
 /// What is told of a text that is to mean a program, and the exit status.
 fn program_text_told<D: Door + Sync, R: Threads + Wait + Sync>(
     rt: &R,
@@ -272,9 +288,10 @@ fn program_text_told<D: Door + Sync, R: Threads + Wait + Sync>(
             return Ok((told, 2));
         }
     };
-    let (told, end) = run_told(
+    let (run, end) = run_told(
         rt, alloc, manner, text, &program, workers, is_serial, door, limit,
     )?;
+    let told = behind_warnings(alloc, manner, text, &program, run)?;
     Ok((told, end.status()))
 }
 
@@ -303,7 +320,8 @@ fn told_of<D: Door + Sync, R: Threads + Wait + Sync>(
 
 /// Reads a program to its end, runs it by so many workers as [`run_text`](run_command::run_text) does, or by one that runs each child before
 /// what follows its spawn, and tells a person of the run, in lines of text: each pair of lines that raced, with both lines, the spawns and calls that led there, the spawn where the two part, and what would
-/// order them. Where nothing was refused it tells that this is so for every schedule, and the memory. Where the limit ended the run it
+/// order them. Where nothing was refused it tells that this is so for every schedule, and the memory. Before all this it tells the warnings of
+/// the program, as [`program_warnings`] does. Where the limit ended the run it
 /// tells the races until then, and that it is no whole run. A text whose first word behind its declarations is not `func` is a trace: its
 /// requests are judged in their order, and the pairs that raced are told by its notes, or the first illegal request. Of a text that means
 /// neither it tells the faults that can be told apart, the first of which is that of the other commands. The exit status is 0 where nothing
