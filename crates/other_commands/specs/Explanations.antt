@@ -32,6 +32,7 @@ use Rattle.other_commands.specs.Memories.{memory_told}
 use Rattle.other_commands.specs.declared.explain.Rendering.{Rendering}
 use Rattle.other_commands.specs.declared.explain.Rendering.TheVariants.{Text, Json}
 use Rattle.fault_lists.specs.Messages.{TellsFaults}
+use Rattle.program_warnings.specs.Messages.{TellsWarnings}
 use Rattle.source_quotes.specs.Quotes.{counted}
 use Rattle.race_explanations.specs.Explained.{IsExplanation, IsTraceExplanation, program_setting, trace_setting}
 use Rattle.race_explanations.specs.declared.illegal.Illegality.{Illegality}
@@ -153,12 +154,25 @@ status_of_end Raced = 1
 status_of_end Cut = 4
 status_of_end CutRaced = 1
 
--- A run of the program is told that the text means.
+-- The warnings of the program are told, and behind them what is told of a run.
+pub record WarnsBefore (manner : Manner) (text : List ℕ) (program : Contents) (run told : List ℕ) : Type 0 where
+  pub warnings : List ℕ
+  pub warns : TellsWarnings manner.is_painted manner.file (lines text) program warnings
+  pub told_is : told ≡ warnings ++ run
+
+-- To a person the warnings are told before the run; as JSON the run alone is told.
+abbrev pub IsBehindWarnings : Rendering → Manner → (text : List ℕ) → Contents → (run told : List ℕ) → Type 0
+IsBehindWarnings Text manner text program run told = WarnsBefore manner text program run told
+IsBehindWarnings Json manner text program run told = told ≡ run
+
+-- The warnings of the program are told that the text means, and a run of it.
 pub record IsRunTold (manner : Manner) (text : List ℕ) (limit : ℕ) (told : List ℕ) (status : ℕ) : Type 0 where
   pub program : Contents
   pub end : End
   pub means : TextMeans text program
-  pub tells : TellsEnd manner text program limit told end
+  pub run : List ℕ
+  pub tells : TellsEnd manner text program limit run end
+  pub behind : IsBehindWarnings manner.rendering manner text program run told
   pub status_is : status ≡ status_of_end end
 
 -- The faults of the text that can be told apart are told, the first of which is its fault.

@@ -19,7 +19,7 @@ ghost use Rattle.other_commands.specs.Explanations.{Manner as SpecManner, clean_
 ghost use Rattle.other_commands.specs.Explanations.{TellsClean, TellsRaces, TellsCut, TellsFaulty};
 ghost use Rattle.fault_lists.specs.FaultLists.{HasFault};
 ghost use Rattle.model_histories.specs.Legal.{IsLegal};
-ghost use Rattle.other_commands.specs.Explanations.{TellsEnd, status_of_end, ExplainsAs, Explains, IsUntold, StopsTelling, IsExplained, HasExplanationCause};
+ghost use Rattle.other_commands.specs.Explanations.{TellsEnd, IsBehindWarnings, status_of_end, ExplainsAs, Explains, IsUntold, StopsTelling, IsExplained, HasExplanationCause};
 
 use crate::elide::push_memory;
 use crate::explain_trace::trace_text_told;
@@ -29,6 +29,7 @@ use command_streams::{CliFault, Watched, read_text, write_text};
 use fault_lists::{Fault, faults_message};
 use locked_replay::{RunFault, Whole};
 use program_text::Program;
+use program_warnings::program_warnings;
 use race_explanations::explanation;
 use race_gate::{Entry, ShortGate};
 use race_records::{Outcome as Ending, faults_record, run_record};
@@ -383,6 +384,26 @@ pub(crate) fn faults_told(
     }
 }
 
+/// What is told of a run of a program to a person, behind the warnings of the program. As JSON it stands alone.
+fn behind_warnings(
+    alloc: Global,
+    manner: &Manner<'_>,
+    text: &[u8],
+    program: &Program<Global>,
+    run: Vec<u8>,
+) -> Result<Vec<u8>, AllocError>
+    ensures { IfOk result (λ told. IsBehindWarnings manner.now.rendering manner.now text.now (contents program.now) run.items told.items) }
+{
+    match manner.rendering {
+        Rendering::Text => {
+            let mut told = program_warnings(alloc, manner.is_painted, manner.file, text, program)?;
+            told.extend_from_slice(run.as_slice())?;
+            Ok(told)
+        }
+        Rendering::Json => Ok(run),
+    }
+}
+
 /// What is told of a text that is to mean a program, and the exit status.
 fn program_text_told<D: Door + Sync, R: Threads + Wait + Sync>(
     rt: &R,
@@ -407,9 +428,10 @@ fn program_text_told<D: Door + Sync, R: Threads + Wait + Sync>(
             return Ok((told, 2));
         }
     };
-    let (told, end) = run_told(
+    let (run, end) = run_told(
         rt, alloc, manner, text, &program, workers, is_serial, door, limit,
     )?;
+    let told = behind_warnings(alloc, manner, text, &program, run)?;
     Ok((told, end.status()))
 }
 
@@ -436,15 +458,15 @@ fn told_of<D: Door + Sync, R: Threads + Wait + Sync>(
     }
 }
 
-/// Reads a program to its end, runs it by so many workers as [`run_text`](run_command::run_text) does, or by one that runs each child before
-/// what follows its spawn, and tells a person of the run, in lines of text: each pair of lines that raced, with both lines, the spawns and calls that led there, the spawn where the two part, and what would
-/// order them. Where nothing was refused it tells that this is so for every schedule, and the memory. Where the limit ended the run it
-/// tells the races until then, and that it is no whole run. A text whose first word behind its declarations is not `func` is a trace: its
-/// requests are judged in their order, and the pairs that raced are told by its notes, or the first illegal request. Of a text that means
-/// neither it tells the faults that can be told apart, the first of which is that of the other commands. As JSON it tells the same, as one
-/// value. The exit status is 0 where nothing
-/// was refused, 1 where something was, 2 for a fault of the text or an illegal request, and 4 where the limit ended the run and nothing was
-/// refused until then.
+/// Reads a program to its end, runs it by so many workers as [`run_text`](run_command::run_text) does, or by one that runs each child
+/// before what follows its spawn, and tells a person of the run, in lines of text: each pair of lines that raced, with both lines, the
+/// spawns and calls that led there, the spawn where the two part, and what would order them. Where nothing was refused it tells that this
+/// is so for every schedule, and the memory. Before all this it tells the warnings of the program, as [`program_warnings`] does. Where the
+/// limit ended the run it tells the races until then, and that it is no whole run. A text whose first word behind its declarations is not
+/// `func` is a trace: its requests are judged in their order, and the pairs that raced are told by its notes, or the first illegal request.
+/// Of a text that means neither it tells the faults that can be told apart, the first of which is that of the other commands. As JSON it
+/// tells the same, as one value. The exit status is 0 where nothing was refused, 1 where something was, 2 for a fault of the text or an
+/// illegal request, and 4 where the limit ended the run and nothing was refused until then.
 ///
 /// It answers [`CliFault::Read`] or [`CliFault::Write`] exactly where the reader or the writer has failed, [`CliFault::TooLong`] for more
 /// than 67,108,864 bytes, [`CliFault::Stopped`], [`CliFault::Torn`] or [`CliFault::Strange`] where the workers brought no finished run, and

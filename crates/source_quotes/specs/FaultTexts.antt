@@ -16,7 +16,7 @@ fault_title look mistake = painted look Red (codes "error") ++ codes ": " ++ tit
 
 -- the faulty line, and a sign below a part of it
 abbrev pub fault_quote : Look → List (List ℕ) → ℕ → Span → List ℕ
-fault_quote look source number span = quote look source number ++ sign_below look (line_in source number) span 94
+fault_quote look source number span = quote look source number ++ sign_below look Red (line_in source number) span 94
 
 -- the mistake, the place, and the faulty line with a sign below the part that is wrong
 abbrev pub fault_text : Look → List ℕ → List (List ℕ) → ℕ → Mistake → Span → List ℕ

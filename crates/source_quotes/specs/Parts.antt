@@ -1,7 +1,7 @@
 -- A part of a line, and the sign below it.
 use Rattle.std.specs.Prelude.{ℕ, ◌+◌, ◌≤◌, ◌==◌, if◌then◌else◌, List, ◌++◌, length, map, take, codes, replicate}
 use Rattle.source_quotes.specs.declared.look.Look.{Look}
-use Rattle.source_quotes.specs.declared.look.Paint.TheVariants.{Red}
+use Rattle.source_quotes.specs.declared.look.Paint.{Paint}
 use Rattle.source_quotes.specs.declared.part.Span.{Span}
 use Rattle.source_quotes.specs.Quotes.{gutter, painted}
 
@@ -13,7 +13,7 @@ IsWithin span line = span.from + span.count ≤ length line
 abbrev pub indent : List ℕ → List ℕ
 indent bytes = map (λ byte. if byte == 9 then 9 else 32) bytes
 
--- below a line, this sign under a part of it
-abbrev pub sign_below : Look → List ℕ → Span → ℕ → List ℕ
-sign_below look line span mark =
-    gutter look ++ codes " " ++ indent (take span.from line) ++ painted look Red (replicate span.count mark)
+-- below a line, this sign in a paint under a part of it
+abbrev pub sign_below : Look → Paint → List ℕ → Span → ℕ → List ℕ
+sign_below look paint line span mark =
+    gutter look ++ codes " " ++ indent (take span.from line) ++ painted look paint (replicate span.count mark)

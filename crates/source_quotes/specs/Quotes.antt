@@ -2,7 +2,7 @@
 use Rattle.std.specs.Prelude.{ℕ, ◌-◌, ◌==◌, if◌then◌else◌, Bool, true, false, List, [], ◌∷◌, ◌++◌, length, take, codes, decimal, replicate}
 use Rattle.source_quotes.specs.declared.look.Look.{Look}
 use Rattle.source_quotes.specs.declared.look.Paint.{Paint}
-use Rattle.source_quotes.specs.declared.look.Paint.TheVariants.{Red, Blue, Bold}
+use Rattle.source_quotes.specs.declared.look.Paint.TheVariants.{Red, Yellow, Blue, Bold}
 use Rattle.source_quotes.specs.Lines.{line_in, blanks, statement_length}
 
 -- the look of quotes from a source: the column of numbers is as wide as the number of its lines
@@ -12,6 +12,7 @@ look_of is_painted source = record { is_painted = is_painted; width = length (de
 -- how a terminal is told, behind an escape, to paint what follows
 abbrev pub paint_code : Paint → List ℕ
 paint_code Red = codes "[1;31m"
+paint_code Yellow = codes "[1;33m"
 paint_code Blue = codes "[1;34m"
 paint_code Bold = codes "[1m"
 

@@ -30,7 +30,7 @@ fn push_fault_quote<A: Allocator, B: Allocator>(
     ensures { OnOk result (text.new.items ≡ text.old.items ++ fault_quote look source.now number span) }
 {
     push_quote(text, look, source, number)?;
-    push_sign_below(text, look, source.line(number), span, b'^')
+    push_sign_below(text, look, Paint::Red, source.line(number), span, b'^')
 }
 
 /// Adds the mistake, the place, the faulty line with a sign below the part that is wrong, and what may help.

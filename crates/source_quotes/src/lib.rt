@@ -27,7 +27,8 @@ mod words;
 pub use fault::fault_message;
 pub use look::{
     Look, Paint, push_count, push_gutter, push_left, push_marked, push_noted, push_painted,
-    push_place, push_quote, push_sign, statement_of,
+    push_place, push_quote, push_sign, push_sign_below, statement_of,
 };
 pub use meant::Meant;
+pub use part::{Part, Span, span_of};
 pub use source::Source;

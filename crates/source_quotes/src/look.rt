@@ -18,6 +18,8 @@ use text_buffers::{push_number, push_words};
 pub enum Paint {
     /// What is wrong.
     Red,
+    /// What may be wrong.
+    Yellow,
     /// What stands at the left.
     Blue,
     /// What is to be read first.
@@ -54,6 +56,7 @@ fn before(look: Look, paint: Paint) -> &'static str
     }
     match paint {
         Paint::Red => "\u{1b}[1;31m",
+        Paint::Yellow => "\u{1b}[1;33m",
         Paint::Blue => "\u{1b}[1;34m",
         Paint::Bold => "\u{1b}[1m",
     }
@@ -233,22 +236,23 @@ fn push_indent<A: Allocator>(text: &mut Vec<u8, A>, front: &[u8]) -> Result<(), 
     Ok(())
 }
 
-/// Adds, below a line, this sign under a part of it.
-pub(crate) fn push_sign_below<A: Allocator>(
+/// Adds, below a line, this sign in a paint under a part of it.
+pub fn push_sign_below<A: Allocator>(
     text: &mut Vec<u8, A>,
     look: Look,
+    paint: Paint,
     line: &[u8],
     span: Span,
     mark: u8,
 ) -> Result<(), AllocError>
     requires { IsWithin span line.now }
-    ensures { OnOk result (text.new.items ≡ text.old.items ++ sign_below look line.now span mark) }
+    ensures { OnOk result (text.new.items ≡ text.old.items ++ sign_below look paint line.now span mark) }
 {
     let (front, _) = line.split_at(span.from);
     push_gutter(text, look)?;
     push_words(text, " ")?;
     push_indent(text, front)?;
-    push_words(text, before(look, Paint::Red))?;
+    push_words(text, before(look, paint))?;
     push_repeated(text, span.count, mark)?;
     push_words(text, behind(look))
 }

@@ -16,7 +16,7 @@ pub struct Span {
 
 /// Which part of a line is meant.
 #[derive(Clone, Copy)]
-pub(crate) enum Part {
+pub enum Part {
     /// All of its statement.
     Statement,
     /// The word with this number, from 0 on.
@@ -136,7 +136,7 @@ fn byte_span(line: &[u8], at: usize) -> Span
 }
 
 /// The bytes of a part of a line. Where the line has no such part, all of its statement.
-pub(crate) fn span_of(line: &[u8], part: Part) -> Span
+pub fn span_of(line: &[u8], part: Part) -> Span
     ensures { IsWithin result line.now }
 {
     let span = match part {

@@ -228,6 +228,298 @@ race: write-read on x, 1 time
 3 refusals at 2 pairs of places, among 7 requests
 ";
 
+/// Each warning but that of a reducer. `x` in line 7 is the register, and a register is told once in its function.
+const WARNED: &str = "cilk 1
+mem x
+mem a 4
+reducer h sum
+func main z
+let x = 1
+write a[5] x
+read y a[4]
+call sum_up 3
+end
+func sum_up h
+let a = h + 1
+let a = a + 1
+end
+func unused z
+get r h
+write a[9] 1
+end
+";
+
+const WARNED_TOLD: &str =
+    "warning: `x` is a register here, and a memory by the declaration at line 2
+  --> p.cilk:6
+   |
+ 6 | let x = 1
+   |     ^
+
+warning: the index 5 wraps at the length of the array, 4
+  --> p.cilk:7
+   |
+ 7 | write a[5] x
+   |         ^
+
+warning: the index 4 wraps at the length of the array, 4
+  --> p.cilk:8
+   |
+ 8 | read y a[4]
+   |          ^
+
+warning: `h` is a register here, and a reducer by the declaration at line 4
+  --> p.cilk:11
+   |
+11 | func sum_up h
+   |             ^
+
+warning: `a` is a register here, and a memory by the declaration at line 3
+  --> p.cilk:12
+   |
+12 | let a = h + 1
+   |     ^
+
+warning: no spawn or call leads from `main` to `unused`
+  --> p.cilk:15
+   |
+15 | func unused z
+   |      ^^^^^^
+
+clean for every schedule: no run of this program has a race, and each leaves this memory
+x 0
+a[0] 0
+a[1] 1
+a[2] 0
+a[3] 0
+";
+
+/// A reducer that is put in a function alone that is not reached.
+const NEVER_PUT: &str =
+    "cilk 1\nreducer s last\nfunc main z\nget a s\nend\nfunc f v\nput s v\nend\n";
+
+const NEVER_PUT_TOLD: &str =
+    "warning: `s` is read here, and no function that `main` reaches has a `put` of it
+ --> p.cilk:4
+  |
+4 | get a s
+  |       ^
+
+warning: no spawn or call leads from `main` to `f`
+ --> p.cilk:6
+  |
+6 | func f v
+  |      ^
+
+unset get: nothing was put before into s, 1 time
+ --> p.cilk:4
+  |
+4 | get a s
+  | ^^^^^^^ this get, in `main`, finds nothing
+  = help: a `put` into it has to come first in the serial order
+
+1 refusal at 1 pair of lines, among 3 requests
+";
+
+/// Functions that a `pfor`, a spawn and a call reach, the last from one that the text has behind it; one that calls itself alone; a
+/// reducer that a reached function puts; and an index that is just below the length.
+const REACHED: &str = "cilk 2
+mem a 2
+reducer h sum
+func second v
+put h v
+get r h
+end
+func alone v
+call alone v
+end
+func first v
+write a[1] v
+end
+func main z
+pfor i 1 first
+spawn third 1
+sync
+end
+func third v
+call second v
+end
+";
+
+const REACHED_TOLD: &str = "warning: no spawn or call leads from `main` to `alone`
+  --> p.cilk:8
+   |
+ 8 | func alone v
+   |      ^^^^^
+
+clean for every schedule: no run of this program has a race, and each leaves this memory
+a[0] 0
+a[1] 0
+";
+
+/// One warning more than are told with their lines.
+const MANY: &str = "cilk 1
+mem a
+func main z
+end
+func f1 a
+end
+func f2 a
+end
+func f3 a
+end
+func f4 a
+end
+func f5 a
+end
+func f6 a
+end
+func f7 a
+end
+func f8 a
+end
+func f9 a
+end
+func g1 a
+end
+func g2 z
+end
+";
+
+const MANY_TOLD: &str = "warning: no spawn or call leads from `main` to `f1`
+  --> p.cilk:5
+   |
+ 5 | func f1 a
+   |      ^^
+
+warning: `a` is a register here, and a memory by the declaration at line 2
+  --> p.cilk:5
+   |
+ 5 | func f1 a
+   |         ^
+
+warning: no spawn or call leads from `main` to `f2`
+  --> p.cilk:7
+   |
+ 7 | func f2 a
+   |      ^^
+
+warning: `a` is a register here, and a memory by the declaration at line 2
+  --> p.cilk:7
+   |
+ 7 | func f2 a
+   |         ^
+
+warning: no spawn or call leads from `main` to `f3`
+  --> p.cilk:9
+   |
+ 9 | func f3 a
+   |      ^^
+
+warning: `a` is a register here, and a memory by the declaration at line 2
+  --> p.cilk:9
+   |
+ 9 | func f3 a
+   |         ^
+
+warning: no spawn or call leads from `main` to `f4`
+  --> p.cilk:11
+   |
+11 | func f4 a
+   |      ^^
+
+warning: `a` is a register here, and a memory by the declaration at line 2
+  --> p.cilk:11
+   |
+11 | func f4 a
+   |         ^
+
+warning: no spawn or call leads from `main` to `f5`
+  --> p.cilk:13
+   |
+13 | func f5 a
+   |      ^^
+
+warning: `a` is a register here, and a memory by the declaration at line 2
+  --> p.cilk:13
+   |
+13 | func f5 a
+   |         ^
+
+warning: no spawn or call leads from `main` to `f6`
+  --> p.cilk:15
+   |
+15 | func f6 a
+   |      ^^
+
+warning: `a` is a register here, and a memory by the declaration at line 2
+  --> p.cilk:15
+   |
+15 | func f6 a
+   |         ^
+
+warning: no spawn or call leads from `main` to `f7`
+  --> p.cilk:17
+   |
+17 | func f7 a
+   |      ^^
+
+warning: `a` is a register here, and a memory by the declaration at line 2
+  --> p.cilk:17
+   |
+17 | func f7 a
+   |         ^
+
+warning: no spawn or call leads from `main` to `f8`
+  --> p.cilk:19
+   |
+19 | func f8 a
+   |      ^^
+
+warning: `a` is a register here, and a memory by the declaration at line 2
+  --> p.cilk:19
+   |
+19 | func f8 a
+   |         ^
+
+warning: no spawn or call leads from `main` to `f9`
+  --> p.cilk:21
+   |
+21 | func f9 a
+   |      ^^
+
+warning: `a` is a register here, and a memory by the declaration at line 2
+  --> p.cilk:21
+   |
+21 | func f9 a
+   |         ^
+
+warning: no spawn or call leads from `main` to `g1`
+  --> p.cilk:23
+   |
+23 | func g1 a
+   |      ^^
+
+warning: `a` is a register here, and a memory by the declaration at line 2
+  --> p.cilk:23
+   |
+23 | func g1 a
+   |         ^
+
+and 1 more warning
+
+clean for every schedule: no run of this program has a race, and each leaves this memory
+a 0
+";
+
+/// Programs with warnings.
+const WARNED_OF: &[Case<'static>] = &[
+    (Explain(2, 713), WARNED, Text(0, WARNED_TOLD)),
+    (Explain(2, 713), NEVER_PUT, Text(1, NEVER_PUT_TOLD)),
+    (Explain(2, 713), REACHED, Text(0, REACHED_TOLD)),
+    (Explain(2, 713), MANY, Text(0, MANY_TOLD)),
+];
+
 /// Illegal requests, and why they are.
 const ILLEGAL_EXPLAINED: &[Case<'static>] = &[
     (Explain(2, 713), SPAWNED_TRACE, Text(2, SPAWNED_TRACE_TOLD)),
@@ -281,4 +573,10 @@ fn clean_racy_and_meaningless_traces_are_explained(rt: HostRuntime) {
 #[test]
 fn illegal_requests_are_explained(rt: HostRuntime) {
     check_all(&rt, rt.alloc(), ILLEGAL_EXPLAINED);
+}
+
+/// The warnings of a program stand before what is told of its run.
+#[test]
+fn warnings_are_told_before_the_run(rt: HostRuntime) {
+    check_all(&rt, rt.alloc(), WARNED_OF);
 }

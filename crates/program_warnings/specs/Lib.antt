@@ -1,0 +1,4 @@
+pub mod Reach
+pub mod Declarations
+pub mod Warnings
+pub mod Messages

@@ -1,0 +1,282 @@
+//! What is told of the warnings of a program.
+
+ghost use Rattle.std.specs.Prelude.{◌≡◌, ◌++◌, ℕ, List, IfOk, OnOk, codes, decimal, slice_get};
+ghost use Rattle.text_words.specs.Text.{lines};
+ghost use Rattle.program_text.specs.Programs.{contents};
+ghost use Rattle.source_quotes.specs.Lines.{line_in};
+ghost use Rattle.source_quotes.specs.Quotes.{look_of, painted, place, quote};
+ghost use Rattle.source_quotes.specs.Parts.{IsWithin, sign_below};
+ghost use Rattle.source_quotes.specs.declared.look.Paint.TheVariants.{Yellow};
+ghost use Rattle.program_warnings.specs.Messages.{register_in, name_in, reducer_in, sort_word, line_of_warning, title, warning_text};
+ghost use Rattle.program_warnings.specs.Messages.{TellsWarning, TellsEach, more_text, TellsFirst, AreWarnings, TellsWarnings};
+
+use crate::declarations::{Declared, Sort, declarations};
+use crate::puts::reducers_put;
+use crate::reach::reached;
+use crate::warning::{Warning, warnings_of};
+use program_text::{Function, Program};
+use source_quotes::{
+    Look, Paint, Part, Source, Span, push_count, push_painted, push_place, push_quote,
+    push_sign_below, span_of, statement_of,
+};
+use std::alloc::{AllocError, Global};
+use text_buffers::{push_number, push_words};
+use text_words::Reducer;
+
+/// The most warnings that are told with their lines.
+const MOST_TOLD: usize = 20;
+
+/// The name of a function's register.
+fn register_name<'p>(functions: &'p [Function<Global>], function: usize, register: usize) -> &'p str
+    ensures { result.now ≡ register_in (slice_get functions.now function) register }
+{
+    let Some(code) = functions.get(function) else {
+        return "";
+    };
+    match code.registers.as_slice().get(register.saturating_sub(1)) {
+        Some(name) => name.as_str(),
+        None => "",
+    }
+}
+
+/// The name of a function.
+fn function_name(functions: &[Function<Global>], function: usize) -> &str
+    ensures { result.now ≡ name_in (slice_get functions.now function) }
+{
+    match functions.get(function) {
+        Some(code) => code.name.as_str(),
+        None => "",
+    }
+}
+
+/// The name of a reducer.
+fn reducer_name(reducers: &[Reducer], reducer: usize) -> &str
+    ensures { result.now ≡ reducer_in (slice_get reducers.now reducer) }
+{
+    match reducers.get(reducer) {
+        Some(declared) => declared.name.as_str(),
+        None => "",
+    }
+}
+
+/// What a declaration declares.
+fn sort_word(sort: Sort) -> &'static str
+    ensures { result.now ≡ sort_word sort }
+{
+    match sort {
+        Sort::Memory => "memory",
+        Sort::Reducer => "reducer",
+    }
+}
+
+/// Adds words behind others.
+fn push_three(text: &mut Vec<u8>, first: &str, second: &str, third: &str) -> Result<(), AllocError>
+    ensures { OnOk result (text.new.items ≡ text.old.items ++ (first.now ++ second.now ++ third.now)) }
+{
+    push_words(text, first)?;
+    push_words(text, second)?;
+    push_words(text, third)
+}
+
+/// Adds that a register bears a name that is declared.
+fn push_register(text: &mut Vec<u8>, name: &str, declared: Declared) -> Result<(), AllocError>
+    ensures { OnOk result (text.new.items ≡ text.old.items ++ (codes "`" ++ name.now ++ codes "` is a register here, and a " ++ sort_word declared.sort ++
+        (codes " by the declaration at line " ++ decimal declared.line))) }
+{
+    push_three(text, "`", name, "` is a register here, and a ")?;
+    push_words(text, sort_word(declared.sort))?;
+    push_number(
+        text,
+        " by the declaration at line ",
+        u64::from(declared.line),
+    )?;
+    Ok(())
+}
+
+/// Adds that an index wraps.
+fn push_wrapped(text: &mut Vec<u8>, index: u64, length: u32) -> Result<(), AllocError>
+    ensures { OnOk result (text.new.items ≡ text.old.items ++ ((codes "the index " ++ decimal index) ++
+        (codes " wraps at the length of the array, " ++ decimal length))) }
+{
+    push_number(text, "the index ", index)?;
+    push_number(
+        text,
+        " wraps at the length of the array, ",
+        u64::from(length),
+    )?;
+    Ok(())
+}
+
+/// Adds what a warning is of.
+fn push_title(
+    text: &mut Vec<u8>,
+    program: &Program<Global>,
+    warning: Warning,
+) -> Result<(), AllocError>
+    ensures { OnOk result (text.new.items ≡ text.old.items ++ title (contents program.now) warning) }
+{
+    let functions = program.functions.as_slice();
+    match warning {
+        Warning::Register {
+            function,
+            register,
+            declared,
+            ..
+        } => push_register(text, register_name(functions, function, register), declared),
+        Warning::Unreached { function, .. } => push_three(
+            text,
+            "no spawn or call leads from `main` to `",
+            function_name(functions, function),
+            "`",
+        ),
+        Warning::Unput { reducer, .. } => push_three(
+            text,
+            "`",
+            reducer_name(program.reducers.as_slice(), reducer as usize),
+            "` is read here, and no function that `main` reaches has a `put` of it",
+        ),
+        Warning::Wrapped { index, length, .. } => push_wrapped(text, index, length),
+    }
+}
+
+fn line_of(warning: Warning) -> u32
+    ensures { result ≡ line_of_warning warning }
+{
+    match warning {
+        Warning::Register { line, .. }
+        | Warning::Unreached { line, .. }
+        | Warning::Unput { line, .. }
+        | Warning::Wrapped { line, .. } => line,
+    }
+}
+
+/// The part of its line that a warning is of.
+fn part_of(warning: Warning, line: &[u8]) -> Part {
+    match warning {
+        Warning::Register { register: 1, .. } | Warning::Unput { .. } => Part::Word(2),
+        Warning::Register { .. } | Warning::Unreached { .. } => Part::Word(1),
+        Warning::Wrapped { .. } if statement_of(line).starts_with(b"read") => Part::Index(2),
+        Warning::Wrapped { .. } => Part::Index(1),
+    }
+}
+
+/// Adds the warning's line, with a sign below a part of it.
+fn push_sign(
+    text: &mut Vec<u8>,
+    look: Look,
+    source: &Source<'_, Global>,
+    number: u32,
+    span: Span,
+) -> Result<(), AllocError>
+    requires { IsWithin span (line_in source.now number) }
+    ensures { OnOk result (text.new.items ≡ text.old.items ++
+        (quote look source.now number ++ sign_below look Yellow (line_in source.now number) span 94 ++ codes "\n\n")) }
+{
+    push_quote(text, look, source, number)?;
+    push_sign_below(text, look, Paint::Yellow, source.line(number), span, b'^')?;
+    push_words(text, "\n\n")
+}
+
+/// Adds what is told of a warning.
+fn push_warning(
+    text: &mut Vec<u8>,
+    look: Look,
+    file: &str,
+    source: &Source<'_, Global>,
+    program: &Program<Global>,
+    warning: Warning,
+) -> Result<(), AllocError>
+    ensures { OnOk result ((one : List ℕ) × (text.new.items ≡ text.old.items ++ one) × TellsWarning look file.now source.now (contents program.now) warning one) }
+{
+    let number = line_of(warning);
+    let line = source.line(number);
+    let span = span_of(line, part_of(warning, line));
+    push_painted(text, look, Paint::Yellow, "warning")?;
+    push_words(text, ": ")?;
+    push_title(text, program, warning)?;
+    push_words(text, "\n")?;
+    push_place(text, look, file, number)?;
+    push_sign(text, look, source, number, span)?;
+    Ok(())
+}
+
+/// Adds what is told of each warning.
+fn push_each(
+    text: &mut Vec<u8>,
+    look: Look,
+    file: &str,
+    source: &Source<'_, Global>,
+    program: &Program<Global>,
+    warnings: &[Warning],
+) -> Result<(), AllocError>
+    ensures { OnOk result ((each : List ℕ) × (text.new.items ≡ text.old.items ++ each) × TellsEach look file.now source.now (contents program.now) warnings.now each) }
+{
+    let [warning, rest @ ..] = warnings else {
+        return Ok(());
+    };
+    push_warning(text, look, file, source, program, *warning)?;
+    push_each(text, look, file, source, program, rest)?;
+    Ok(())
+}
+
+/// Adds how many warnings are not told.
+fn push_more(text: &mut Vec<u8>, count: usize) -> Result<(), AllocError>
+    ensures { OnOk result (text.new.items ≡ text.old.items ++ more_text count) }
+{
+    if count <= MOST_TOLD {
+        return Ok(());
+    }
+    push_words(text, "and ")?;
+    push_count(text, count - MOST_TOLD, "more warning")?;
+    push_words(text, "\n\n")
+}
+
+/// What is told of these warnings.
+fn first_told(
+    alloc: Global,
+    look: Look,
+    file: &str,
+    source: &Source<'_, Global>,
+    program: &Program<Global>,
+    warnings: &[Warning],
+) -> Result<Vec<u8>, AllocError>
+    ensures { IfOk result (λ told. TellsFirst look file.now source.now (contents program.now) warnings.now told.items) }
+{
+    let (first, _) = warnings.split_at(MOST_TOLD.min(warnings.len()));
+    let mut told = Vec::new(alloc);
+    push_each(&mut told, look, file, source, program, first)?;
+    push_more(&mut told, warnings.len())?;
+    Ok(told)
+}
+
+/// The warnings of a program.
+fn found(alloc: Global, program: &Program<Global>) -> Result<Vec<Warning>, AllocError>
+    ensures { IfOk result (λ warnings. AreWarnings (contents program.now) warnings.items) }
+{
+    let functions = program.functions.as_slice();
+    let reducers = program.reducers.as_slice();
+    let names = declarations(alloc, program.mems.as_slice(), reducers)?;
+    let marks = reached(alloc, functions, program.main())?;
+    let put = reducers_put(alloc, functions, marks.as_slice(), reducers.len())?;
+    let warnings = warnings_of(alloc, &names, marks.as_slice(), put.as_slice(), functions)?;
+    Ok(warnings)
+}
+
+/// What is told of the warnings of a program that the text of a file means: each of the first twenty with its line, and how many more
+/// there are. Nothing where there are none.
+///
+/// Errors where there is no memory.
+pub fn program_warnings(
+    alloc: Global,
+    is_painted: bool,
+    file: &str,
+    text: &[u8],
+    program: &Program<Global>,
+) -> Result<Vec<u8>, AllocError>
+    ensures { IfOk result (λ told. TellsWarnings is_painted file.now (lines text.now) (contents program.now) told.items) }
+{
+    let source = Source::new(alloc, text)?;
+    let look = Look::of(is_painted, &source);
+    let warnings = found(alloc, program)?;
+    first_told(alloc, look, file, &source, program, warnings.as_slice())
+}
