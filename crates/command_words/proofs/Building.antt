@@ -1,5 +1,5 @@
 -- A command that is built word by word, and command by command.
-use Rattle.std.proofs.Common.{◌≡◌, ◌∙◌, ◌||◌, Bool, ap₂}
+use Rattle.std.proofs.Common.{◌∙◌, ◌||◌, Bool, ap₂}
 use Rattle.clap.specs.Words.{App, Rule, Shape, AddsArg, AddsSubcommand, with_rule, with_subcommand}
 use Rattle.clap.specs.declared.builder.arg.Arg.{Arg}
 use Rattle.clap.specs.declared.builder.command.Command.{Command}

@@ -1,5 +1,5 @@
 -- The numbers that words ask for are in their ranges.
-use Rattle.std.proofs.Common.{◌≡◌, ◌<◌, ◌≤◌, ℕ, List, Option, Some, None, arith, inl, inr, codes}
+use Rattle.std.proofs.Common.{◌<◌, ◌≤◌, ℕ, List, Option, Some, None, arith, inl, inr, codes}
 use Rattle.clap.specs.Words.{Row, Text, first_of, subcommand_of}
 use Rattle.clap.specs.declared.error.kind.ErrorKind.{ErrorKind}
 use Rattle.clap.specs.declared.error.kind.ErrorKind.TheVariants.{DisplayHelp, DisplayVersion}
@@ -30,11 +30,11 @@ asked_in command rows (Run file workers limit) is =
     let some = workers_in rows workers is.2 in (some.0, some.1, limit_in rows limit is.3)
 asked_in command rows (Record file workers limit trace) is =
     let some = workers_in rows workers is.2 in (some.0, some.1, limit_in rows limit is.3)
-asked_in command rows (Explain file workers is_serial limit color) is =
+asked_in command rows (Explain file workers is_serial limit color format) is =
     let some = workers_in rows workers is.3 in (some.0, some.1, limit_in rows limit is.5)
-asked_in command rows (ExplainInput workers is_serial limit color) is =
+asked_in command rows (ExplainInput workers is_serial limit color format) is =
     let some = workers_in rows workers is.2 in (some.0, some.1, limit_in rows limit is.4)
-asked_in command rows (ExplainTraces files color) is = tt
+asked_in command rows (ExplainTraces files color format) is = tt
 asked_in command rows (Replay file trace) is = tt
 asked_in command rows (Draw file language) is = tt
 asked_in command rows (Show text) is = absurd is

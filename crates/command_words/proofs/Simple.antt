@@ -1,11 +1,11 @@
 -- The parser's contract is exact for the commands of this program.
-use Rattle.std.proofs.Common.{◌≡◌, true, refl, inl, inr, List, subst, sym}
+use Rattle.std.proofs.Common.{◌≡◌, true, refl, inl, inr, List, subst}
 use Rattle.clap.specs.Words.{App, HasKind, HasMatchesOf, Text, fault_of, is_simple, is_simple_and_free, kind_of}
 use Rattle.clap.specs.declared.error.Error.{Error}
 use Rattle.clap.specs.declared.error.kind.ErrorKind.{ErrorKind}
 use Rattle.clap.specs.declared.error.kind.ErrorKind.TheVariants.{OutOfMemory}
 use Rattle.clap.specs.declared.parser.matches.ArgMatches.{ArgMatches}
-use Rattle.clap.specs.Words.{subcommand_of, subcommand_rows_of}
+use Rattle.clap.specs.Words.{subcommand_rows_of}
 use Rattle.clap.proofs.OnLiterals.{clap_on_literals}
 use Rattle.command_words.specs.declared.words.Job.{Job}
 use Rattle.command_words.specs.Asked.{IsAskedBy, IsJobOf, IsShown}

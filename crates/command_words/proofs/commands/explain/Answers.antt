@@ -12,4 +12,5 @@ returns c =
     let two = argument_more _ _ _ _ _ one c.workers.ensures c.in_ok-arg-2.ensures in
     let three = argument_more _ _ _ _ _ two c.flag-serial.ensures c.in_ok-arg-3.ensures in
     let four = argument_more _ _ _ _ _ three c.entries.ensures c.in_ok-arg-4.ensures in
-    IfOk-weaker c.arg-5.result _ (IsCommand (leaf explain)) (λ command adds. argument_more _ _ _ _ _ four c.option-color.ensures adds) c.arg-5.ensures
+    let five = argument_more _ _ _ _ _ four c.option-color.ensures c.in_ok-arg-5.ensures in
+    IfOk-weaker c.arg-6.result _ (IsCommand (leaf explain)) (λ command adds. argument_more _ _ _ _ _ five c.option-format.ensures adds) c.arg-6.ensures
