@@ -1,5 +1,5 @@
 -- Faults, one by one.
-use Rattle.std.proofs.Common.{◌≡◌, ℕ, Bool, List, [], ◌∷◌, ◌++◌, refl, sym, subst, ap, ◌∙◌, append_assoc, append-nil}
+use Rattle.std.proofs.Common.{◌≡◌, ℕ, Bool, List, [], ◌∷◌, ◌++◌, sym, subst, ap, ◌∙◌, append_assoc}
 use Rattle.serde_json.specs.Data.{Data}
 use Rattle.fault_lists.specs.declared.fault.Fault.{Fault}
 use Rattle.text_words.specs.Text.{lines}
@@ -16,15 +16,6 @@ one_more file source faults rest fault one old with new added tells first second
   one ∷ added,
   second ∙ ap (λ (values : List Data). values ++ added) first ∙ append_assoc old (one ∷ []) added,
   subst (λ (some : List Fault). RecordsFaults file source some (one ∷ added)) (sym is) (tells, others),
-)
-
--- no fault
-pub no_more : (file : List ℕ) (source : List (List ℕ)) (faults : List Fault) (old new : List Data) → faults ≡ [] → new ≡ old →
-    (all : List Data) × (new ≡ old ++ all) × RecordsFaults file source faults all
-no_more file source faults old new is same = (
-  [],
-  same ∙ sym (append-nil old),
-  subst (λ (some : List Fault). RecordsFaults file source some []) (sym is) tt,
 )
 
 -- the faults of a text

@@ -1,5 +1,5 @@
 -- Findings with their races, one by one.
-use Rattle.std.proofs.Common.{◌≡◌, ℕ, ◌+◌, ◌<◌, min, List, [], ◌∷◌, ◌++◌, length, take, get_or, refl, sym, subst, ap, ◌∙◌}
+use Rattle.std.proofs.Common.{◌≡◌, ℕ, ◌+◌, ◌<◌, min, List, [], ◌∷◌, ◌++◌, length, take, get_or, sym, subst, ap, ◌∙◌}
 use Rattle.std.proofs.lemmas.List.{take_more}
 use Rattle.race_pairs.specs.declared.tally.Pair.{Pair}
 use Rattle.race_explanations.specs.declared.finding.Finding.{Finding}
@@ -10,6 +10,10 @@ use Rattle.race_explanations.proofs.Telling.{first_of_all}
 use Rattle.race_records.specs.Races.{RaceParts}
 use Rattle.race_pairs.specs.Pairs.{ArePairs}
 use Rattle.race_records.specs.Several.{Kept, with_kept, IsRace, AddsKept, none, more, Recorded, untold_in, AddsPairs, AddsTrace}
+
+-- no pair
+pub none_kept : (setting : Setting) (old : Kept) → AddsKept setting old [] old
+none_kept setting old = none
 
 -- one pair more
 pub one_kept : (setting : Setting) (old one two : Kept) (pairs : List Pair) (index : ℕ) (d : Pair) (finding : Finding) (race : RaceParts) →
@@ -39,15 +43,16 @@ pairs_added setting old new pairs front count are is count_is adds rest = record
 }
 
 -- a trace more
-pub trace_added : (file : List ℕ) (setting : Setting) (old mid new : Recorded) (count : ℕ) → AddsPairs setting old mid count →
-    new.kept ≡ mid.kept → new.untold ≡ mid.untold ++ untold_in file count → new.refusals ≡ added_up mid.refusals (refusals_among setting.entries) →
-    new.requests ≡ added_up mid.requests (length setting.entries) → new.traces ≡ added_up mid.traces 1 → AddsTrace file setting old new
-trace_added file setting old mid new count pairs kept untold refusals requests traces = record {
-  pairs = pairs.pairs;
-  are_pairs = pairs.are_pairs;
-  kept = subst (λ (k : Kept). AddsKept setting old.kept (take 20 pairs.pairs) k) (sym kept) pairs.kept;
-  untold_is = untold ∙ ap (λ (r : Recorded). r.untold ++ untold_in file count) pairs.rest ∙ ap (λ n. old.untold ++ untold_in file n) pairs.count_is;
-  refusals_are = refusals ∙ ap (λ (r : Recorded). added_up r.refusals (refusals_among setting.entries)) pairs.rest;
-  requests_are = requests ∙ ap (λ (r : Recorded). added_up r.requests (length setting.entries)) pairs.rest;
-  traces_are = traces ∙ ap (λ (r : Recorded). added_up r.traces 1) pairs.rest;
-}
+pub trace_added : (file : List ℕ) (setting other : Setting) (old mid new : Recorded) (count : ℕ) → setting ≡ other → AddsPairs setting old mid count →
+    new.kept ≡ mid.kept → new.untold ≡ mid.untold ++ untold_in file count → new.refusals ≡ added_up mid.refusals (refusals_among other.entries) →
+    new.requests ≡ added_up mid.requests (length other.entries) → new.traces ≡ added_up mid.traces 1 → AddsTrace file other old new
+trace_added file setting other old mid new count same found kept untold refusals requests traces =
+    let pairs : AddsPairs other old mid count = subst (λ (s : Setting). AddsPairs s old mid count) same found in record {
+      pairs = pairs.pairs;
+      are_pairs = pairs.are_pairs;
+      kept = subst (λ (k : Kept). AddsKept other old.kept (take 20 pairs.pairs) k) (sym kept) pairs.kept;
+      untold_is = untold ∙ ap (λ (r : Recorded). r.untold ++ untold_in file count) pairs.rest ∙ ap (λ n. old.untold ++ untold_in file n) pairs.count_is;
+      refusals_are = refusals ∙ ap (λ (r : Recorded). added_up r.refusals (refusals_among other.entries)) pairs.rest;
+      requests_are = requests ∙ ap (λ (r : Recorded). added_up r.requests (length other.entries)) pairs.rest;
+      traces_are = traces ∙ ap (λ (r : Recorded). added_up r.traces 1) pairs.rest;
+    }

@@ -2,3 +2,5 @@ mod Recording
 mod Keeping
 mod Faulty
 mod Named
+mod Colons
+mod Together

@@ -1,5 +1,5 @@
 -- What is told of pairs, one by one.
-use Rattle.std.proofs.Common.{◌≡◌, ℕ, ◌+◌, ◌<◌, min, List, [], ◌∷◌, ◌++◌, length, take, get_or, refl, sym, subst, ap, ◌∙◌}
+use Rattle.std.proofs.Common.{◌≡◌, ℕ, ◌+◌, ◌<◌, min, List, [], ◌∷◌, ◌++◌, length, take, get_or, sym, subst, ap, ◌∙◌}
 use Rattle.std.proofs.lemmas.List.{take_more}
 use Rattle.serde_json.specs.Data.{Data}
 use Rattle.race_pairs.specs.declared.tally.Pair.{Pair}
@@ -15,6 +15,10 @@ use Rattle.race_records.specs.declared.document.Outcome.{Outcome}
 use Rattle.race_records.specs.Values.{IsTextOf}
 use Rattle.race_records.specs.Races.{RaceParts, parts_of, race_told, Records, AllRecorded, none, more}
 use Rattle.race_records.specs.Documents.{SummaryParts, document_told, summary_of, RecordsEntries}
+
+-- no pair
+pub none_recorded : (setting : Setting) (told : List Data) → told ≡ [] → AllRecorded setting [] told
+none_recorded setting told is = subst (λ (all : List Data). AllRecorded setting [] all) (sym is) none
 
 -- one pair more
 pub one_recorded : (setting : Setting) (pairs : List Pair) (index : ℕ) (d : Pair) (one : Data) (told new : List Data) → index < length pairs →
@@ -51,11 +55,11 @@ pub entries_recorded : (outcome : Outcome) (traces : ℕ) (setting : Setting) (m
     (summary : SummaryParts) (value : Data) (text : List ℕ) → ArePairs setting.entries pairs → front ≡ take (min (length pairs) 20) pairs →
     AllRecorded setting front races → untold ≡ [] → summary ≡ summary_of outcome traces setting.entries pairs →
     value ≡ document_told summary memory races runs untold → IsTextOf value text → RecordsEntries outcome traces setting memory runs text
-entries_recorded outcome traces setting memory runs pairs front races untold summary value text are is all none summary_is told is_text = record {
+entries_recorded outcome traces setting memory runs pairs front races untold summary value text are is all empty summary_is told is_text = record {
   pairs = pairs;
   are_pairs = are;
   races = races;
   are_races = first_recorded setting pairs front 20 races is all;
   is_text = subst (λ (v : Data). IsTextOf v text)
-      (told ∙ ap (λ (u : List Data). document_told summary memory races runs u) none ∙ ap (λ (s : SummaryParts). document_told s memory races runs []) summary_is) is_text;
+      (told ∙ ap (λ (u : List Data). document_told summary memory races runs u) empty ∙ ap (λ (s : SummaryParts). document_told s memory races runs []) summary_is) is_text;
 }

@@ -1,5 +1,5 @@
 -- An access, and the spawns and calls that led there.
-use Rattle.std.specs.Prelude.{ℕ, ◌-◌, List, [], codes, length, take}
+use Rattle.std.specs.Prelude.{ℕ, ◌-◌, List, codes, length, take}
 use Rattle.serde_json.specs.Data.{Data, string, object, member, no_members}
 use Rattle.race_pairs.specs.Refusals.{line_at}
 use Rattle.race_explanations.specs.Settings.{Setting}

@@ -1,6 +1,6 @@
 -- What is told of a run or of traces, as one value.
-use Rattle.std.specs.Prelude.{ℕ, ◌≡◌, List, [], ◌∷◌, codes, length, take, map, Option, Some, None}
-use Rattle.serde_json.specs.Data.{Data, null, string, object, member, no_members}
+use Rattle.std.specs.Prelude.{ℕ, List, [], codes, length, take, Option, Some}
+use Rattle.serde_json.specs.Data.{Data, string, object, member, no_members}
 use Rattle.model_histories.specs.declared.answer.Entry.{Entry}
 use Rattle.race_pairs.specs.Pairs.{ArePairs}
 use Rattle.race_pairs.specs.declared.tally.Pair.{Pair}

@@ -100,12 +100,17 @@ all_of (file ∷ untold) count = None
 abbrev pub outcome_of : (refusals : ℕ) → Outcome
 outcome_of refusals = if nat_lt 0 refusals then Raced else Clean
 
--- The first twenty races, how many there are, and how many refusals there were.
-abbrev pub recorded_told : Recorded → (runs : List (List ℕ)) → Data
-recorded_told recorded runs = document_told (record {
+-- how they came out
+abbrev pub summary_recorded : Recorded → SummaryParts
+summary_recorded recorded = record {
   outcome = outcome_of recorded.refusals;
   pairs = all_of recorded.untold (length recorded.kept.findings);
   refusals = recorded.refusals;
   requests = recorded.requests;
   traces = recorded.traces;
-}) null (races_told (take 20 recorded.kept.findings) (take 20 recorded.kept.races)) runs recorded.untold
+}
+
+-- The first twenty races, how many there are, and how many refusals there were.
+abbrev pub recorded_told : Recorded → (runs : List (List ℕ)) → Data
+recorded_told recorded runs =
+    document_told (summary_recorded recorded) null (races_told (take 20 recorded.kept.findings) (take 20 recorded.kept.races)) runs recorded.untold

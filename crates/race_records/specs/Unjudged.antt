@@ -1,5 +1,5 @@
 -- What is told of a text that means nothing, and of an illegal request.
-use Rattle.std.specs.Prelude.{ℕ, ◌≡◌, Bool, false, List, [], ◌∷◌, codes}
+use Rattle.std.specs.Prelude.{ℕ, ◌≡◌, Bool, false, Option, List, [], ◌∷◌, codes}
 use Rattle.serde_json.specs.Data.{Data, boolean, string, object, member, no_members}
 use Rattle.text_words.specs.declared.fault.Cause.{Cause}
 use Rattle.text_words.specs.declared.fault.Cause.TheVariants as cause
@@ -61,16 +61,21 @@ pub record RecordsText (file : List ℕ) (meant : Meant) (text : List ℕ) (firs
   pub are_faults : RecordsFaults file (lines text) (first ∷ others) faults
   pub is_text : IsTextOf (faulty_told faults more) told
 
--- The request with this number, from 1 on, of the trace of a text is illegal: its line, its strand and why.
-abbrev pub illegal_told : (file : List ℕ) → (source : List (List ℕ)) → List TraceLine → ℕ → Illegality → Data
-illegal_told file source trace number why =
-    object (member (codes "code") (text_told (line_in source (at_of (request_line trace number))))
+-- the request with this number, from 1 on, on this line: its strand, why it is illegal, and what a person is told of it
+abbrev pub request_told : (file : List ℕ) → (source : List (List ℕ)) → Option TraceLine → ℕ → Illegality → (rendered : List ℕ) → Data
+request_told file source line number why rendered =
+    object (member (codes "code") (text_told (line_in source (at_of line)))
     (member (codes "file") (text_told file)
     (member (codes "help") (string (help_words why))
-    (member (codes "line") (count_told (at_of (request_line trace number)))
+    (member (codes "line") (count_told (at_of line))
     (member (codes "message") (string (title_words why))
     (member (codes "outcome") (string (codes "illegal"))
-    (member (codes "rendered") (text_told (illegal_text false file source trace number why))
+    (member (codes "rendered") (text_told rendered)
     (member (codes "request") (count_told number)
-    (member (codes "strand") (count_told (strand_of (request_line trace number)))
+    (member (codes "strand") (count_told (strand_of line))
     (member (codes "version") (count_told 1) no_members))))))))))
+
+-- The request with this number, from 1 on, of the trace of a text is illegal.
+abbrev pub illegal_told : (file : List ℕ) → (source : List (List ℕ)) → List TraceLine → ℕ → Illegality → Data
+illegal_told file source trace number why =
+    request_told file source (request_line trace number) number why (illegal_text false file source trace number why)

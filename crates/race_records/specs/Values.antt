@@ -1,5 +1,5 @@
 -- Texts and numbers as JSON, and the text of a JSON value.
-use Rattle.std.specs.Prelude.{ℕ, ◌≡◌, false, List, [], ◌∷◌, Option, Some, None, map}
+use Rattle.std.specs.Prelude.{ℕ, ◌≡◌, false, List, Option, Some, None, map}
 use Rattle.std.specs.Str.Lossy.{utf8_lossy}
 use Rattle.json.specs.Lex.{tokens}
 use Rattle.json.specs.Print.{print}

@@ -1,8 +1,9 @@
 //! An access, and the spawns and calls that led there.
 
-ghost use Rattle.std.specs.Prelude.{◌≡◌, IfOk, map};
+ghost use Rattle.std.specs.Prelude.{◌≡◌, IfOk, map, take};
 ghost use Rattle.serde_json.specs.View.{view};
 ghost use Rattle.race_explanations.specs.Scenes.{setting_of};
+ghost use Rattle.race_records.specs.Values.{list_told};
 ghost use Rattle.race_records.specs.Accesses.{place_told, link_told, access_told};
 
 use crate::site::line_value;
@@ -47,6 +48,14 @@ fn link_values(
     Ok(values)
 }
 
+/// The innermost spawns and calls on the way to an access.
+fn within_value(alloc: Global, scene: &Scene<'_, '_>, chain: &[usize]) -> Result<Value, AllocError>
+    ensures { IfOk result (λ value. view value ≡ list_told (link_told (setting_of scene.now)) (take 8 chain.now)) }
+{
+    let (told, _) = chain.split_at(chain.len().min(LINKS));
+    Ok(Value::from(link_values(alloc, scene, told)?))
+}
+
 /// The access that is the entry with this number, with the innermost of the spawns and calls that led there.
 pub(crate) fn access_value(
     alloc: Global,
@@ -56,8 +65,7 @@ pub(crate) fn access_value(
 ) -> Result<Value, AllocError>
     ensures { IfOk result (λ value. view value ≡ access_told (setting_of scene.now) number chain.now) }
 {
-    let (told, _) = chain.split_at(chain.len().min(LINKS));
-    let within = Value::from(link_values(alloc, scene, told)?);
+    let within = within_value(alloc, scene, chain)?;
     let place = place_value(alloc, scene, number)?;
     json!(in alloc; {
         "further": chain.len().saturating_sub(LINKS),

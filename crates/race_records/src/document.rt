@@ -13,7 +13,7 @@ ghost use Rattle.serde_json.specs.View.{view};
 ghost use Rattle.race_explanations.specs.Scenes.{setting_of};
 ghost use Rattle.race_explanations.specs.Explained.{program_setting, trace_setting};
 ghost use Rattle.race_records.specs.Races.{AllRecorded};
-ghost use Rattle.race_records.specs.Documents.{document_told, RecordsEntries, outcome_word};
+ghost use Rattle.race_records.specs.Documents.{document_told, summary_of, RecordsEntries, outcome_word};
 ghost use Rattle.race_records.specs.SummaryViews.{summary_parts};
 
 use crate::race::pair_value;
@@ -110,6 +110,19 @@ fn pair_values(
     Ok(values)
 }
 
+/// How the entries of a scene came out.
+fn summary_of(outcome: Outcome, traces: usize, entries: &[Entry], pairs: &[Pair]) -> Summary
+    ensures { summary_parts result ≡ summary_of outcome traces entries.now pairs.now }
+{
+    Summary {
+        outcome,
+        pairs: Some(pairs.len()),
+        refusals: refusal_count(entries),
+        requests: entries.len(),
+        traces,
+    }
+}
+
 /// What is told of the entries of a scene.
 fn entries_record(
     alloc: Global,
@@ -126,14 +139,9 @@ fn entries_record(
     let found = pairs(alloc, scene.entries)?;
     let (first, _) = found.as_slice().split_at(found.len().min(PAIRS));
     let races = pair_values(alloc, scene, &lineage, first)?;
-    let summary = Summary {
-        outcome,
-        pairs: Some(found.len()),
-        refusals: refusal_count(scene.entries),
-        requests: scene.entries.len(),
-        traces,
-    };
-    let document = document_value(alloc, summary, memory, races, recorded, Vec::new(alloc))?;
+    let summary = summary_of(outcome, traces, scene.entries, found.as_slice());
+    let untold = Vec::new(alloc);
+    let document = document_value(alloc, summary, memory, races, recorded, untold)?;
     value_text(alloc, &document)
 }
 

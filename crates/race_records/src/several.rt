@@ -11,7 +11,8 @@ ghost use Rattle.race_explanations.specs.Explained.{trace_setting};
 ghost use Rattle.race_explanations.specs.Findings.{IsOfTrace, with_finding};
 ghost use Rattle.race_records.specs.Values.{IsTextOf};
 ghost use Rattle.race_records.specs.RaceViews.{race_parts};
-ghost use Rattle.race_records.specs.Several.{with_race, IsRace, AddsKept, nothing_recorded, untold_told, untold_in, AddsPairs, AddsTrace, races_told, all_of, outcome_of, recorded_told};
+ghost use Rattle.race_records.specs.SummaryViews.{summary_parts};
+ghost use Rattle.race_records.specs.Several.{with_race, IsRace, AddsKept, nothing_recorded, untold_told, untold_in, AddsPairs, AddsTrace, races_told, all_of, outcome_of, summary_recorded, recorded_told};
 ghost use Rattle.race_records.specs.SeveralViews.{kept_of, recorded_of};
 
 use crate::document::{Outcome, PAIRS, Summary, document_value};
@@ -167,6 +168,13 @@ fn all_of(untold: &[Value], count: usize) -> Option<usize>
     }
 }
 
+/// A copy of values.
+fn copy_of(alloc: Global, values: &[Value]) -> Result<Vec<Value>, AllocError>
+    ensures { IfOk result (λ copy. map view copy.items ≡ map view values.now) }
+{
+    Vec::from_clones(alloc, values)
+}
+
 impl Records {
     /// Nothing is found.
     pub fn new(alloc: Global) -> Records
@@ -231,6 +239,19 @@ impl Records {
         self.refusals == 0
     }
 
+    /// How the traces came out.
+    fn summary(&self) -> Summary
+        ensures { summary_parts result ≡ summary_recorded (recorded_of self.now) }
+    {
+        Summary {
+            outcome: outcome_of(self.refusals),
+            pairs: all_of(self.untold.as_slice(), self.findings.len()),
+            refusals: self.refusals,
+            requests: self.requests,
+            traces: self.traces,
+        }
+    }
+
     /// What is told of all traces, as one value.
     fn document(&self, alloc: Global, runs: &[String]) -> Result<Value, AllocError>
         ensures { IfOk result (λ value. view value ≡ recorded_told (recorded_of self.now) (map string_bytes runs.now)) }
@@ -242,15 +263,8 @@ impl Records {
         let (first, _) = self.races.as_slice().split_at(self.races.len().min(PAIRS));
         let mut races = Vec::new(alloc);
         push_races(alloc, &mut races, findings, first)?;
-        let summary = Summary {
-            outcome: outcome_of(self.refusals),
-            pairs: all_of(self.untold.as_slice(), self.findings.len()),
-            refusals: self.refusals,
-            requests: self.requests,
-            traces: self.traces,
-        };
-        let untold = self.untold.clone()?;
-        document_value(alloc, summary, Value::Null, races, runs, untold)
+        let untold = copy_of(alloc, self.untold.as_slice())?;
+        document_value(alloc, self.summary(), Value::Null, races, runs, untold)
     }
 
     /// What is told of all traces, as JSON: each of the first twenty pairs, with the counts of all that a person is told alike, and what

@@ -8,7 +8,7 @@ ghost use Rattle.serde_json.specs.View.{view};
 ghost use Rattle.fault_lists.specs.FaultLists.{HasFault};
 ghost use Rattle.race_explanations.specs.Illegal.{at_of, strand_of};
 ghost use Rattle.race_records.specs.Values.{IsTextOf};
-ghost use Rattle.race_records.specs.Unjudged.{cause_word, fault_told, RecordsFault, RecordsFaults, RecordsText, faulty_told, illegal_told};
+ghost use Rattle.race_records.specs.Unjudged.{cause_word, fault_told, RecordsFault, RecordsFaults, RecordsText, faulty_told, request_told, illegal_told};
 
 use crate::value::{text_value, value_text};
 use fault_lists::{Fault, list_others};
@@ -155,24 +155,22 @@ fn strand_of(line: Option<TraceLine>) -> u32
     }
 }
 
-/// An illegal request, as one value.
-fn illegal_value(
+/// An illegal request, with what a person is told of it.
+fn request_value(
     alloc: Global,
     file: &str,
-    text: &[u8],
-    trace: &Trace<Global>,
+    source: &Source<'_, Global>,
+    line: Option<TraceLine>,
     number: usize,
     why: Illegality,
+    rendered: &[u8],
 ) -> Result<Value, AllocError>
-    ensures { IfOk result (λ value. view value ≡ illegal_told file.now (lines text.now) (trace_contents trace.now).lines number why) }
+    ensures { IfOk result (λ value. view value ≡ request_told file.now source.now line number why rendered.now) }
 {
-    let rendered = illegal_explanation(alloc, false, file, text, trace, number, why)?;
-    let rendered = text_value(alloc, rendered.as_slice())?;
-    let source = Source::new(alloc, text)?;
-    let line = request_line(trace, number);
     let at = at_of(line);
     let code = text_value(alloc, source.line(at))?;
     let file = text_value(alloc, file.as_bytes())?;
+    let rendered = text_value(alloc, rendered)?;
     json!(in alloc; {
         "code": code,
         "file": file,
@@ -185,6 +183,23 @@ fn illegal_value(
         "strand": strand_of(line),
         "version": 1_u8
     })
+}
+
+/// An illegal request, as one value.
+fn illegal_value(
+    alloc: Global,
+    file: &str,
+    text: &[u8],
+    trace: &Trace<Global>,
+    number: usize,
+    why: Illegality,
+) -> Result<Value, AllocError>
+    ensures { IfOk result (λ value. view value ≡ illegal_told file.now (lines text.now) (trace_contents trace.now).lines number why) }
+{
+    let rendered = illegal_explanation(alloc, false, file, text, trace, number, why)?;
+    let source = Source::new(alloc, text)?;
+    let line = request_line(trace, number);
+    request_value(alloc, file, &source, line, number, why, rendered.as_slice())
 }
 
 /// Tells as JSON why the request with this number, from 1 on, of the trace that a text means is illegal, as

@@ -1,4 +1,4 @@
-use Rattle.std.proofs.Common.{rules, ◌≡◌, ◌∷◌, [], map, subst, sym}
+use Rattle.std.proofs.Common.{rules}
 use Rattle.std.proofs.lemmas.Result.{IfOk-weaker}
 use Rattle.serde_json.specs.View.{view}
 use Rattle.race_records.specs.Values.{IsTextOf}
@@ -11,7 +11,7 @@ returns c =
     IfOk-weaker c.value_text.result (λ text. IsTextOf (view c.in_ok-document.document) text.items)
     (λ text. RecordsText c.args.file.now c.args.meant c.args.text.now c.args.first text.items)
     (λ text is. text_recorded c.args.file.now c.args.meant c.args.text.now c.args.first c.in_ok-source.source c.as_slice.result.now c.in_ok-others.others.faults.items
-    c.in_ok-others.others.is_more _ (map view c.push_faults.old.values.items) _ c.in_ok-push_faults.ensures.0 (view c.in_ok-document.document) text.items
+    c.in_ok-others.others.is_more _ _ _ c.in_ok-push_faults.ensures.0 (view c.in_ok-document.document) text.items
     c.in_ok-others.ensures (search rules) c.in_ok-source.ensures c.in_ok-fault_value.ensures (search rules) c.in_ok-push_faults.ensures.1 c.in_ok-push_faults.ensures.2
     c.in_ok-document.ensures is)
     c.value_text.ensures

@@ -1,15 +1,12 @@
-use Rattle.std.proofs.Common.{rules, arith, subst}
+use Rattle.std.proofs.Common.{rules, arith}
 use Rattle.std.proofs.lemmas.Grind.{common_steps}
-use Rattle.race_explanations.specs.Settings.{Setting}
 use Rattle.race_explanations.specs.Scenes.{setting_of}
-use Rattle.race_records.specs.Several.{AddsTrace}
 use Rattle.race_records.specs.SeveralViews.{recorded_of}
 use Rattle.race_records.proofs.Keeping.{trace_added}
 use Rattle.race_records.proofs.several.Records.add.Goals as goal
 
 pub returns : goal.returns
 returns c =
-    subst (λ (setting : Setting). AddsTrace c.args.file.now setting (recorded_of c.args.self.now) _) c.trace_scene-scene.ensures
-    (trace_added c.args.file.now (setting_of c.trace_scene-scene.result) (recorded_of c.args.self.now) (recorded_of c.add_pairs.new.self) _ _
-    c.in_ok-count.ensures (search rules) (search rules) (first_of (search rules, grind (arith, common_steps)))
-    (first_of (search rules, grind (arith, common_steps))) (first_of (search rules, grind (arith, common_steps))))
+    trace_added c.args.file.now (setting_of c.trace_scene-scene.result) _ (recorded_of c.args.self.now) (recorded_of c.add_pairs.new.self) _ _
+    c.trace_scene-scene.ensures c.in_ok-count.ensures (search rules) (search rules) (first_of (search rules, grind (arith, common_steps)))
+    (first_of (search rules, grind (arith, common_steps))) (first_of (search rules, grind (arith, common_steps)))

@@ -1,4 +1,4 @@
-use Rattle.std.proofs.Common.{rules, reverse, refl}
+use Rattle.std.proofs.Common.{rules, reverse}
 use Rattle.race_gate.proofs.Races.{legal-part}
 use Rattle.race_explanations.specs.Scenes.{setting_of}
 use Rattle.race_records.specs.SeveralViews.{recorded_of}

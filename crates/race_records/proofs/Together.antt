@@ -1,0 +1,45 @@
+-- What is told of several traces together.
+use Rattle.std.proofs.Common.{◌≡◌, ℕ, List, [], ◌∷◌, ◌++◌, length, min, take, map, refl, sym, ap, ap₂, ◌∙◌}
+use Rattle.std.specs.List.{AllZip}
+use Rattle.std.proofs.lemmas.List.{take-map}
+use Rattle.serde_json.specs.Data.{Data, null}
+use Rattle.serde_json.specs.View.{view}
+use Rattle.serde_json.specs.declared.value.Value.{Value}
+use Rattle.race_explanations.specs.declared.finding.Finding.{Finding}
+use Rattle.race_explanations.proofs.Telling.{first_of_all}
+use Rattle.race_records.specs.declared.race.Race.{Race}
+use Rattle.race_records.specs.RaceViews.{race_parts}
+use Rattle.race_records.specs.Documents.{SummaryParts, document_told}
+use Rattle.race_records.specs.Several.{Recorded, races_told, summary_recorded, recorded_told}
+
+-- the copy of values
+pub copied : (values copy : List Value) → AllZip (λ v w. view w ≡ view v) values copy → map view copy ≡ map view values
+copied [] [] alike = refl
+copied [] (one ∷ copy) alike = absurd alike
+copied (value ∷ values) [] alike = absurd alike
+copied (value ∷ values) (one ∷ copy) alike = ap₂ (λ (x : Data) (rest : List Data). x ∷ rest) alike.0 (copied values copy alike.1)
+
+-- the first races
+first_races : (races front : List Race) (most : ℕ) → front ≡ take (min (length races) most) races →
+    map race_parts front ≡ take most (map race_parts races)
+first_races races front most is =
+    ap (map race_parts) (is ∙ first_of_all races most) ∙ sym (take-map race_parts most races)
+
+-- the races that are told
+pub races_first : (findings some : List Finding) (races front : List Race) (begun told : List Data) →
+    some ≡ take (min (length findings) 20) findings → front ≡ take (min (length races) 20) races → begun ≡ [] →
+    told ≡ begun ++ races_told some (map race_parts front) → told ≡ races_told (take 20 findings) (take 20 (map race_parts races))
+races_first findings some races front begun told some_is front_is empty is =
+    is ∙ ap (λ (before : List Data). before ++ races_told some (map race_parts front)) empty ∙
+    ap₂ races_told (some_is ∙ first_of_all findings 20) (first_races races front 20 front_is)
+
+-- all of it
+pub told_together : (recorded : Recorded) (runs : List (List ℕ)) (summary : SummaryParts) (memory value : Data) (races untold : List Data) →
+    summary ≡ summary_recorded recorded → memory ≡ null → races ≡ races_told (take 20 recorded.kept.findings) (take 20 recorded.kept.races) →
+    untold ≡ recorded.untold → value ≡ document_told summary memory races runs untold → value ≡ recorded_told recorded runs
+told_together recorded runs summary memory value races untold summary_is memory_is races_are untold_is told =
+    let findings = races_told (take 20 recorded.kept.findings) (take 20 recorded.kept.races) in
+    told ∙ ap (λ (s : SummaryParts). document_told s memory races runs untold) summary_is ∙
+    ap (λ (m : Data). document_told (summary_recorded recorded) m races runs untold) memory_is ∙
+    ap (λ (r : List Data). document_told (summary_recorded recorded) null r runs untold) races_are ∙
+    ap (λ (u : List Data). document_told (summary_recorded recorded) null findings runs u) untold_is
