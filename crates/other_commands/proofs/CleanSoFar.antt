@@ -1,5 +1,5 @@
 -- The requests of a trace judged without a history, while none is refused.
-use Rattle.std.proofs.Common.{◌≡◌, ℕ, List, [], ◌∷◌, ◌++◌, length, map, refl, ap, sym, subst, ◌∙◌}
+use Rattle.std.proofs.Common.{◌≡◌, ℕ, List, [], ◌∷◌, ◌++◌, map, refl, ap, ◌∙◌}
 use Rattle.std.specs.List.{All}
 use Rattle.std.proofs.lemmas.List.Elements.{All-nil, All-cons, All-push, All-same}
 use Rattle.model_accesses.specs.declared.request.Request.{Request}
@@ -14,9 +14,9 @@ use Rattle.model_histories.specs.Shapes.{Shape, most_entries}
 use Rattle.model_histories.specs.States.{State, opening}
 use Rattle.race_gate.specs.Cores.{CoreState, IsCoreOf}
 use Rattle.race_gate.proofs.Lists.{JudgesAll-more}
-use Rattle.command_streams.specs.Streams.{declared_shape, IsJudgedBy}
+use Rattle.command_streams.specs.Streams.{declared_shape}
 use Rattle.command_streams.proofs.TakenLines.{requests_more}
-use Rattle.other_commands.specs.Replays.{IsDone, AnswersAll}
+use Rattle.other_commands.specs.Replays.{IsDone}
 use Rattle.other_commands.specs.Cleanness.{IsCleanReply, IsAllClean}
 use Rattle.other_commands.proofs.Answering.{answers_all}
 

@@ -1,5 +1,5 @@
 -- What each step of replaying a trace says of the whole.
-use Rattle.std.proofs.Common.{◌≡◌, ◌⊎◌, ℕ, suc, List, Option, length, inl, inr, sym, subst}
+use Rattle.std.proofs.Common.{◌≡◌, ◌⊎◌, ℕ, List, Option, inl, inr, sym, subst}
 use Rattle.text_words.specs.Values.{Contents as TraceContents}
 use Rattle.program_text.specs.Drafts.{Contents}
 use Rattle.model_histories.specs.declared.fault.GateFault.{GateFault}

@@ -465,8 +465,8 @@ fn told_of<D: Door + Sync, R: Threads + Wait + Sync>(
 /// limit ended the run it tells the races until then, and that it is no whole run. A text whose first word behind its declarations is not
 /// `func` is a trace: its requests are judged in their order, and the pairs that raced are told by its notes, or the first illegal request.
 /// Of a text that means neither it tells the faults that can be told apart, the first of which is that of the other commands. As JSON it
-/// tells the same, as one value. The exit status is 0 where nothing was refused, 1 where something was, 2 for a fault of the text or an
-/// illegal request, and 4 where the limit ended the run and nothing was refused until then.
+/// tells the same but for the warnings, as one value. The exit status is 0 where nothing was refused, 1 where something was, 2 for a fault
+/// of the text or an illegal request, and 4 where the limit ended the run and nothing was refused until then.
 ///
 /// It answers [`CliFault::Read`] or [`CliFault::Write`] exactly where the reader or the writer has failed, [`CliFault::TooLong`] for more
 /// than 67,108,864 bytes, [`CliFault::Stopped`], [`CliFault::Torn`] or [`CliFault::Strange`] where the workers brought no finished run, and

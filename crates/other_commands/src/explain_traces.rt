@@ -243,6 +243,7 @@ impl Traces {
         push_kept(&mut told, self.runs.as_slice())?;
         Ok(told)
     }
+
     /// What is told of the traces together: each pair of places that raced, or that nothing was refused, and what was recorded.
     pub fn told(&self, alloc: Global, rendering: Rendering) -> Result<Vec<u8>, AllocError>
         ensures { IfOk result (λ told. TellsTogether rendering (together_of self.now) told.items) }

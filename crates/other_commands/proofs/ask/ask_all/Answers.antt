@@ -1,4 +1,4 @@
-use Rattle.std.proofs.Common.{◌+◌, ◌++◌, ap, refl, arith, ◌∙◌}
+use Rattle.std.proofs.Common.{◌++◌, ap, refl, arith, ◌∙◌}
 use Rattle.std.proofs.lemmas.List.{length_push}
 use Rattle.trace_text.specs.Traces.{contents}
 use Rattle.other_commands.proofs.Answering.{answered_more, answers_end}

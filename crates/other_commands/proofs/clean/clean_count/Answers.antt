@@ -1,4 +1,4 @@
-use Rattle.std.proofs.Common.{rules, ◌++◌, sym, ap, ◌∙◌}
+use Rattle.std.proofs.Common.{rules}
 use Rattle.trace_text.specs.Traces.{contents}
 use Rattle.race_gate.specs.Shapes.{shape_of}
 use Rattle.command_streams.proofs.TakenLines.{taken_more, taken_all}

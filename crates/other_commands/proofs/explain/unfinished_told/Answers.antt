@@ -1,4 +1,4 @@
-use Rattle.std.proofs.Common.{rules, sym, ◌∙◌}
+use Rattle.std.proofs.Common.{sym, ◌∙◌}
 use Rattle.other_commands.proofs.ExplanationCauses.{some_refused}
 use Rattle.other_commands.proofs.explain.unfinished_told.Goals as goal
 

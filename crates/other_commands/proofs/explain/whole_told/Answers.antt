@@ -18,7 +18,7 @@ returns-then-whole c = record {
 }
 
 pub clean_told-requires : goal.clean_told-requires
-clean_told-requires c = (shape_in c.args.program.now, c.requires.run.0.run.judged.legal)
+clean_told-requires c = record { legal = (shape_in c.args.program.now, c.requires.run.0.run.judged.legal) }
 
 pub races_told-requires : goal.races_told-requires
 races_told-requires c = record {

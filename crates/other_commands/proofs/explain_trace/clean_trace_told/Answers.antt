@@ -1,4 +1,4 @@
-use Rattle.std.proofs.Common.{◌++◌, inl, length, reverse, sym, subst, ap, ◌∙◌}
+use Rattle.std.proofs.Common.{◌++◌, inl, reverse, sym, subst, ap, ◌∙◌}
 use Rattle.std.proofs.lemmas.List.{reverse-reverse, length-reverse}
 use Rattle.trace_text.specs.Traces.{contents as trace_contents}
 use Rattle.model_histories.specs.Entries.{Entries}

@@ -1,4 +1,4 @@
-use Rattle.std.proofs.Common.{rules, List, refl, sym, subst}
+use Rattle.std.proofs.Common.{List, refl, sym, subst}
 use Rattle.trace_text.specs.Traces.{contents as trace_contents}
 use Rattle.model_histories.specs.declared.answer.Entry.{Entry}
 use Rattle.model_histories.specs.Legal.{IsLegal}
@@ -19,6 +19,6 @@ returns-in_ok-told-in-Some-clause-ok c = record {
   stops = c.requires.stops;
   why = c.in-Some.why;
   reason = (rw c.in-Some.is at c.in_ok-why.ensures) c.args.gate.now (sym c.history-entries.ensures.entries) c.requires.stops.first.0;
-  tells = c.in_ok-told.ensures;
+  tells = c.in_ok-told-in-Some.ensures;
   status_is = refl;
 }
