@@ -10,3 +10,5 @@ mod KeptRuns
 mod Recorded
 pub mod TracedCauses
 mod CleanSoFar
+mod DigestedSoFar
+mod DigestStatuses

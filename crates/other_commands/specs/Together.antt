@@ -66,7 +66,7 @@ pub record AddsText (manner : Manner) (text : List ℕ) (old new : Together) : T
   pub speaks : IsClean gate.history → SpeaksForOrders gate.shape gate.history
   pub notes : Notes Global
   pub are_notes : AreNotes (lines text) notes
-  pub adds : AddsTrace manner.file (trace_setting manner.is_painted notes trace.known entries) old.found new.found
+  pub adds : AddsTrace manner.file (trace_setting manner.is_painted notes trace.known entries) entries old.found new.found
   pub runs_is : new.runs ≡ with_runs old.runs (kept_runs notes)
 
 -- The trace that a text means is added, or it is told why it is not judged to its end: the faults of the text, or an illegal request.

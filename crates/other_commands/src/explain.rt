@@ -20,6 +20,7 @@ ghost use Rattle.other_commands.specs.Explanations.{TellsEnd, status_of_end, Exp
 
 use crate::elide::push_memory;
 use crate::explain_trace::trace_text_told;
+use crate::judged::digest_of_run;
 use crate::sort::is_program;
 use command_streams::{CliFault, Watched, read_text, write_text};
 use fault_lists::{Fault, faults_message};
@@ -27,6 +28,7 @@ use locked_replay::{RunFault, Whole};
 use program_text::Program;
 use race_explanations::explanation;
 use race_gate::{Entry, ShortGate};
+use race_pairs::Digest;
 use run_command::{
     Door, Outcome, PARTS, fault_of, outcome_of, refusal_status, serial_run, some_run,
 };
@@ -139,20 +141,21 @@ fn whole_told(
     requires memory { IsMemory (shape_in program.now).cells (reverse whole.now.entries.items) whole.now.memory.items }
     requires clean { IsTrue whole.now.clean ↔ IsClean (reverse whole.now.entries.items) }
     requires within { length whole.now.entries.items ≤ limit }
+    requires limit { limit ≤ most_entries }
     ensures { IfOk result (λ told. TellsEnd manner.now text.now (contents program.now) limit told.0.items told.1) }
 {
     if whole.clean {
         let told = clean_told(alloc, program, whole.memory.as_slice())?;
         return Ok((told, End::Clean));
     }
-    let entries = whole.entries.to_vec(alloc)?;
+    let digest = digest_of_run(alloc, &whole.entries)?;
     let told = explanation(
         alloc,
         manner.is_painted,
         manner.file,
         text,
         program,
-        entries.as_slice(),
+        &digest,
     )?;
     Ok((told, End::Raced))
 }
@@ -168,15 +171,17 @@ fn unfinished_told(
 ) -> Result<(Vec<u8>, End), AllocError>
     requires run { IsUnfinishedRun program.now.functions (shape_in program.now) (reverse entries.now) }
     requires full { length entries.now ≡ limit }
+    requires limit { limit ≤ most_entries }
     ensures { IfOk result (λ told. TellsEnd manner.now text.now (contents program.now) limit told.0.items told.1) }
 {
+    let digest = Digest::of(alloc, entries)?;
     let mut told = explanation(
         alloc,
         manner.is_painted,
         manner.file,
         text,
         program,
-        entries,
+        &digest,
     )?;
     push_cut(&mut told, entries.len())?;
     if refusal_status(entries) == 0 {
@@ -194,7 +199,8 @@ fn cut_told(
     gate: &ShortGate,
     limit: u32,
 ) -> Result<(Vec<u8>, End), CliFault>
-    requires { WantsMore (contents program.now) limit }
+    requires more { WantsMore (contents program.now) limit }
+    requires limit { limit ≤ most_entries }
     ensures ok { IfOk result (λ told. TellsEnd manner.now text.now (contents program.now) limit told.0.items told.1) }
     ensures fault { IfErr result (IsRunFault (contents program.now) limit) }
 {

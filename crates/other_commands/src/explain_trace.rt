@@ -5,10 +5,11 @@ ghost use Rattle.text_words.specs.Text.{lines};
 ghost use Rattle.trace_text.specs.Traces.{contents as trace_contents};
 ghost use Rattle.trace_text.specs.Grammar.{TextMeans as TraceMeans};
 ghost use Rattle.trace_notes.specs.Notes.{AreNotes, kept_runs};
-ghost use Rattle.model_histories.specs.Legal.{IsLegal};
-ghost use Rattle.model_histories.specs.Shapes.{Shape};
+ghost use Rattle.model_histories.specs.declared.answer.Entry.{Entry};
+ghost use Rattle.race_pairs.specs.Digests.{IsDigest};
 ghost use Rattle.run_command.specs.Outcomes.{refusal_status};
 ghost use Rattle.other_commands.specs.Cleanness.{IsAllClean};
+ghost use Rattle.other_commands.specs.Digested.{IsDigested};
 ghost use Rattle.other_commands.specs.Replays.{AnswersAll, StopsAt, StopsGate};
 ghost use Rattle.other_commands.specs.Explanations.{clean_trace_words, recorded_line, recorded_text, judged_text, TellsEntries, IsTraceTold, IsIllegalTold, IsUnjudgedTold};
 ghost use Rattle.other_commands.specs.Explanations.{Manner as SpecManner, IsUntoldTrace};
@@ -16,12 +17,13 @@ ghost use Rattle.other_commands.specs.Explanations.{Manner as SpecManner, IsUnto
 use crate::ask::{Stop, ask_all};
 use crate::clean::clean_count;
 use crate::explain::Manner;
+use crate::judged::digest_of_trace;
 use crate::replay::fault_of_request;
 use command_streams::CliFault;
 use fault_lists::{Fault, faults_message};
 use race_explanations::{find_illegality, illegal_explanation, trace_explanation};
-use race_gate::{Entry, Gate};
-use run_command::refusal_status;
+use race_gate::Gate;
+use race_pairs::Digest;
 use source_quotes::{Meant, push_count};
 use std::alloc::{AllocError, Allocator, Global};
 use text_buffers::push_words;
@@ -54,15 +56,16 @@ fn entries_told(
     manner: &Manner<'_>,
     notes: &Notes<Global>,
     trace: &Trace<Global>,
-    entries: &[Entry],
+    digest: &Digest,
 ) -> Result<Vec<u8>, AllocError>
-    requires legal { (shape : Shape) × IsLegal shape (reverse entries.now) }
-    ensures { IfOk result (λ told. TellsEntries manner.now notes.now (trace_contents trace.now) entries.now told.items) }
+    requires { (entries : List Entry) × IsDigest entries digest.now }
+    ensures { IfOk result (λ told. (entries : List Entry) → IsDigest entries digest.now →
+        TellsEntries manner.now notes.now (trace_contents trace.now) entries told.items) }
 {
-    if refusal_status(entries) == 0 {
-        return clean_told(alloc, entries.len());
+    if digest.refusals == 0 {
+        return clean_told(alloc, digest.lines.len());
     }
-    trace_explanation(alloc, manner.is_painted, notes, trace, entries)
+    trace_explanation(alloc, manner.is_painted, notes, trace, digest)
 }
 
 /// Adds what was recorded by one note.
@@ -108,7 +111,7 @@ pub(crate) fn stop_told(
     ensures fault { IfErr result (λ fault. (fault ≡ CliFault.Memory) ⊎ StopsGate (trace_contents trace.now) fault) }
 {
     let entries = gate.history();
-    match find_illegality(alloc, entries, stop.request, stop.fault)? {
+    match find_illegality(entries, stop.request, stop.fault) {
         Some(why) => {
             let told = illegal_explanation(
                 alloc,
@@ -125,23 +128,42 @@ pub(crate) fn stop_told(
     }
 }
 
-/// What is told of a trace that a text means and whose requests this gate answered, and the exit status.
+/// The exit status of a trace: 1 where something was refused, else 0.
+fn status_of(digest: &Digest) -> u8
+    ensures { (entries : List Entry) → IsDigest entries digest.now → result ≡ refusal_status entries }
+{
+    if digest.refusals > 0 { 1 } else { 0 }
+}
+
+/// What is told of a trace that a text means and whose requests a gate answered, and the exit status.
 fn judged_told(
     alloc: Global,
     manner: &Manner<'_>,
     text: &[u8],
     trace: &Trace<Global>,
-    gate: &Gate<Global>,
+    digest: &Digest,
 ) -> Result<(Vec<u8>, u8), AllocError>
     requires means { TraceMeans text.now (trace_contents trace.now) }
-    requires answers { AnswersAll (trace_contents trace.now) gate.now }
+    requires digested { IsDigested (trace_contents trace.now) digest.now }
     ensures { IfOk result (λ told. IsTraceTold manner.now text.now told.0.items told.1) }
 {
     let notes = notes_of(alloc, text)?;
-    let entries = gate.history();
-    let mut told = entries_told(alloc, manner, &notes, trace, entries)?;
+    let mut told = entries_told(alloc, manner, &notes, trace, digest)?;
     push_recorded(&mut told, &notes)?;
-    Ok((told, refusal_status(entries)))
+    Ok((told, status_of(digest)))
+}
+
+/// The digest of the entries of a gate that answered all requests of a trace.
+pub(crate) fn digest_of_gate(
+    alloc: Global,
+    trace: &Trace<Global>,
+    gate: &Gate<Global>,
+) -> Result<Digest, AllocError>
+    requires { AnswersAll (trace_contents trace.now) gate.now }
+    ensures { IfOk result (IsDigested (trace_contents trace.now)) }
+{
+    let _trace = trace;
+    Digest::of(alloc, gate.history())
 }
 
 /// What is told of a trace that a text means, in which nothing is refused among so many requests.
@@ -175,7 +197,10 @@ fn history_told(
 {
     let (gate, stop) = ask_all(alloc, trace)?;
     match stop {
-        None => Ok(judged_told(alloc, manner, text, trace, &gate)?),
+        None => {
+            let digest = digest_of_gate(alloc, trace, &gate)?;
+            Ok(judged_told(alloc, manner, text, trace, &digest)?)
+        }
         Some(stop) => {
             let told = stop_told(alloc, manner, text, trace, &gate, stop)?;
             Ok((told, 2))
@@ -183,7 +208,24 @@ fn history_told(
     }
 }
 
-/// What is told of a trace that a text means, and the exit status. A history is kept only where something is refused or illegal.
+/// What is told of a trace that a text means, and the exit status. A history is kept only where a request is illegal.
+fn raced_told(
+    alloc: Global,
+    manner: &Manner<'_>,
+    text: &[u8],
+    trace: &Trace<Global>,
+) -> Result<(Vec<u8>, u8), CliFault>
+    requires { TraceMeans text.now (trace_contents trace.now) }
+    ensures ok { IfOk result (λ told. IsTraceTold manner.now text.now told.0.items told.1 ⊎ IsUnjudgedTold manner.now text.now told.0.items told.1) }
+    ensures fault { IfErr result (λ fault. (fault ≡ CliFault.Memory) ⊎ StopsGate (trace_contents trace.now) fault) }
+{
+    match digest_of_trace(alloc, trace)? {
+        Some(digest) => Ok(judged_told(alloc, manner, text, trace, &digest)?),
+        None => history_told(alloc, manner, text, trace),
+    }
+}
+
+/// What is told of a trace that a text means, and the exit status. More than a count is kept only where something is refused or illegal.
 fn trace_told(
     alloc: Global,
     manner: &Manner<'_>,
@@ -199,7 +241,7 @@ fn trace_told(
             let told = clean_trace_told(alloc, text, trace, count)?;
             Ok((told, 0))
         }
-        None => history_told(alloc, manner, text, trace),
+        None => raced_told(alloc, manner, text, trace),
     }
 }
 

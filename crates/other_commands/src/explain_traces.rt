@@ -8,18 +8,20 @@ ghost use Rattle.trace_text.specs.Grammar.{TextMeans as TraceMeans};
 ghost use Rattle.trace_notes.specs.Notes.{kept_runs};
 ghost use Rattle.command_streams.specs.Watched.{held, has_failed};
 ghost use Rattle.command_streams.specs.Readings.{reading};
-ghost use Rattle.other_commands.specs.Replays.{AnswersAll, StopsGate};
+ghost use Rattle.other_commands.specs.Digested.{IsDigested};
+ghost use Rattle.other_commands.specs.Replays.{StopsGate};
 ghost use Rattle.other_commands.specs.Explanations.{IsUntoldTrace, recorded_line};
 ghost use Rattle.other_commands.specs.Together.{together_of, none_together, with_run, with_runs, together_text, together_status};
 ghost use Rattle.other_commands.specs.Together.{AddsText, TakesText, TakesReading, StopsTaking};
 
 use crate::ask::ask_all;
 use crate::explain::Manner;
-use crate::explain_trace::{notes_of, push_run, stop_told};
+use crate::explain_trace::{digest_of_gate, notes_of, push_run, stop_told};
+use crate::judged::digest_of_trace;
 use command_streams::{CliFault, Watched, read_text};
 use fault_lists::{Fault, faults_message};
 use race_explanations::Findings;
-use race_gate::Gate;
+use race_pairs::Digest;
 use source_quotes::Meant;
 use std::alloc::{AllocError, Global};
 use std::io::Read;
@@ -104,35 +106,27 @@ impl Traces {
         }
     }
 
-    /// Adds a trace that a text means and whose requests this gate answered.
+    /// Adds a trace that a text means and whose requests a gate answered.
     fn add(
         &mut self,
         alloc: Global,
         manner: &Manner<'_>,
         text: &[u8],
         trace: &Trace<Global>,
-        gate: &Gate<Global>,
+        digest: &Digest,
     ) -> Result<(), AllocError>
         requires means { TraceMeans text.now (trace_contents trace.now) }
-        requires answers { AnswersAll (trace_contents trace.now) gate.now }
+        requires digested { IsDigested (trace_contents trace.now) digest.now }
         ensures { OnOk result (AddsText manner.now text.now (together_of self.old) (together_of self.new)) }
     {
         let notes = notes_of(alloc, text)?;
-        let entries = gate.history();
-        self.findings.add(
-            alloc,
-            manner.is_painted,
-            manner.file,
-            &notes,
-            trace,
-            entries,
-        )?;
+        self.findings.add(alloc, manner.is_painted, manner.file, &notes, trace, digest)?;
         keep_runs(alloc, &mut self.runs, &notes)?;
         Ok(())
     }
 
-    /// Adds a trace that a text means, or tells its first illegal request.
-    fn take_trace(
+    /// Adds a trace that a text means, or tells its first illegal request, by a gate that keeps the history.
+    fn take_history(
         &mut self,
         alloc: Global,
         manner: &Manner<'_>,
@@ -146,10 +140,32 @@ impl Traces {
         let (gate, stop) = ask_all(alloc, trace)?;
         match stop {
             None => {
-                self.add(alloc, manner, text, trace, &gate)?;
+                let digest = digest_of_gate(alloc, trace, &gate)?;
+                self.add(alloc, manner, text, trace, &digest)?;
                 Ok(None)
             }
             Some(stop) => Ok(Some(stop_told(alloc, manner, text, trace, &gate, stop)?)),
+        }
+    }
+
+    /// Adds a trace that a text means, or tells its first illegal request. A history is kept only where a request is illegal.
+    fn take_trace(
+        &mut self,
+        alloc: Global,
+        manner: &Manner<'_>,
+        text: &[u8],
+        trace: &Trace<Global>,
+    ) -> Result<Option<Vec<u8>>, CliFault>
+        requires { TraceMeans text.now (trace_contents trace.now) }
+        ensures ok { IfOk result (TakesText manner.now text.now (together_of self.old) (together_of self.new)) }
+        ensures fault { IfErr result (λ fault. (fault ≡ CliFault.Memory) ⊎ StopsGate (trace_contents trace.now) fault) }
+    {
+        match digest_of_trace(alloc, trace)? {
+            Some(digest) => {
+                self.add(alloc, manner, text, trace, &digest)?;
+                Ok(None)
+            }
+            None => self.take_history(alloc, manner, text, trace),
         }
     }
 
