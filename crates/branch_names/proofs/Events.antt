@@ -14,7 +14,7 @@ use Rattle.law_strands.proofs.Law.{begun_below}
 use Rattle.law_strands.proofs.Kept.{begun_stays}
 use Rattle.law_strands.proofs.Finish.{running_of}
 use Rattle.law_strands.proofs.Branches.{branch_names, branch_stays}
-use Rattle.branch_names.specs.Names.{BranchName, Given, Kept, Names, Follows, Takes, TakesJoin, Begins, OtherEventsLaw, number_of, name_at}
+use Rattle.branch_names.specs.Names.{BranchName, Given, Kept, Names, Follows, Takes, TakesJoin, Begins, OtherEventsLaw, branch_number, name_at}
 use Rattle.branch_names.proofs.Tables.{Tells, tells-again, tells-given, tells-kept, tells-begun}
 
 -- a list of names is that of a legal history
@@ -136,7 +136,7 @@ reserved-not-begun now e (inr begun) = let same_status : reserved ≡ over = sym
 
 -- the first spawn of a block
 follows-first : (names : List BranchName) (history : History) (spawner child next join kept : ℕ) → AreNamesOf names history → Legal (split spawner child next join true ∷ history) →
-    kept ≡ number_of (name_at names spawner) →
+    kept ≡ branch_number (name_at names spawner) →
     AreNamesOf (((names ++ Given child ∷ []) ++ Given next ∷ []) ++ Kept kept ∷ []) (split spawner child next join true ∷ history)
 follows-first names history spawner child next join kept are after kept_is = record {
   legal = after;
@@ -148,7 +148,7 @@ follows-first names history spawner child next join kept are after kept_is = rec
       (updated_off _ join (branch history spawner) child child_not_join ∙ (updated_off _ next (right (suc (length history))) child apart ∙ updated_at _ child (left (suc (length history))) child refl))
       (updated_off _ join (branch history spawner) next next_not_join ∙ updated_at _ next (right (suc (length history))) next refl))
       (omega (arith, two_more, spawner_known))
-      (kept_is ∙ sym (ap number_of spawner_stays))
+      (kept_is ∙ sym (ap branch_number spawner_stays))
       (omega (arith, are.count, two_more, opened-join (last-allowed after)))
       (reserved-not-begun (status (split spawner child next join true ∷ history) join) (updated_at _ join reserved join refl))
       (updated_at _ join (branch history spawner) join refl ∙ sym (branch_stays after spawner numbers.spawner_known));
@@ -194,7 +194,7 @@ two-pushed items names one two child next same_items first second = second ∙ a
 -- What is pushed at the first spawn of a block follows it.
 pub pushed-first : (items one two three : List BranchName) (branches new : Names) (history : History) (spawner child next join kept : ℕ) (first : Bool) → items ≡ branches.names →
     one ≡ items ++ Given child ∷ [] → two ≡ one ++ Given next ∷ [] → three ≡ two ++ Kept kept ∷ [] → first ≡ true → new.names ≡ three →
-    Follows branches history → Legal (split spawner child next join first ∷ history) → kept ≡ number_of (name_at branches.names spawner) → Follows new (split spawner child next join first ∷ history)
+    Follows branches history → Legal (split spawner child next join first ∷ history) → kept ≡ branch_number (name_at branches.names spawner) → Follows new (split spawner child next join first ∷ history)
 pushed-first items one two three branches new history spawner child next join kept true same_items is_one is_two is_three opens is_new follows after kept_is =
     names-follow new (split spawner child next join true ∷ history)
     (subst (λ list. AreNamesOf list (split spawner child next join true ∷ history)) (sym (is_new ∙ (is_three ∙ ap (λ list. list ++ Kept kept ∷ []) (two-pushed items branches.names one two child next same_items is_one is_two))))
@@ -233,7 +233,7 @@ join-known history (ended strand) join at after = absurd at
 join-known history (finished strand) join at after = absurd at
 
 -- the strand that ends makes the join begin
-tells-joined : (names : List BranchName) (history : History) (ending join kept : ℕ) → AreNamesOf names history → Running history ending → join < length names → kept ≡ number_of (name_at names join) →
+tells-joined : (names : List BranchName) (history : History) (ending join kept : ℕ) → AreNamesOf names history → Running history ending → join < length names → kept ≡ branch_number (name_at names join) →
     Tells (set names join (Given kept))
     (λ strand. (updated (updated (status history) ending over) join running strand ≡ running) ⊎ (updated (updated (status history) ending over) join running strand ≡ over)) (branch history)
 tells-joined names history ending join kept are run lt kept_is =
@@ -249,14 +249,14 @@ tells-joined names history ending join kept are run lt kept_is =
     still strand begun = updated_case (λ now. (now ≡ running) ⊎ (now ≡ over)) (status history) ending over strand (λ at. inr refl) (λ off. begun)
 
 follows-joined : (names : List BranchName) (history : History) (event : Event) (join kept : ℕ) → AreNamesOf names history → Begins event join → Legal (event ∷ history) →
-    kept ≡ number_of (name_at names join) → AreNamesOf (set names join (Given kept)) (event ∷ history)
+    kept ≡ branch_number (name_at names join) → AreNamesOf (set names join (Given kept)) (event ∷ history)
 follows-joined names history (joined ending begun) join kept are at after kept_is =
     subst (λ place. AreNamesOf (set names place (Given kept)) (joined ending begun ∷ history)) at
     (record {
       legal = after;
       count = length-set names begun (Given kept) ∙ are.count;
       tells = tells-joined names history ending begun kept are (running_of (last-allowed after)) (omega (arith, are.count, at, join-known history (joined ending begun) join at after))
-          (kept_is ∙ ap (λ place. number_of (name_at names place)) (sym at));
+          (kept_is ∙ ap (λ place. branch_number (name_at names place)) (sym at));
     })
 follows-joined names history (ended_joined ending begun) join kept are at after kept_is =
     subst (λ place. AreNamesOf (set names place (Given kept)) (ended_joined ending begun ∷ history)) at
@@ -264,7 +264,7 @@ follows-joined names history (ended_joined ending begun) join kept are at after 
       legal = after;
       count = length-set names begun (Given kept) ∙ are.count;
       tells = tells-joined names history ending begun kept are (running_of (last-allowed after)) (omega (arith, are.count, at, join-known history (ended_joined ending begun) join at after))
-          (kept_is ∙ ap (λ place. number_of (name_at names place)) (sym at));
+          (kept_is ∙ ap (λ place. branch_number (name_at names place)) (sym at));
     })
 follows-joined names history (split strand child next begun first) join kept are at after kept_is = absurd at
 follows-joined names history (same strand) join kept are at after kept_is = absurd at
@@ -276,7 +276,7 @@ follows-joined names history (finished strand) join kept are at after kept_is = 
 
 -- A name that is given to the join follows an event that begins it.
 pub given-joined : (items : List BranchName) (branches new : Names) (history : History) (event : Event) (join kept : ℕ) → items ≡ branches.names → new.names ≡ set items join (Given kept) →
-    Follows branches history → Begins event join → Legal (event ∷ history) → kept ≡ number_of (name_at branches.names join) → Follows new (event ∷ history)
+    Follows branches history → Begins event join → Legal (event ∷ history) → kept ≡ branch_number (name_at branches.names join) → Follows new (event ∷ history)
 given-joined items branches new history event join kept same_items is_new follows at after kept_is =
     names-follow new (event ∷ history)
     (subst (λ list. AreNamesOf list (event ∷ history)) (sym (is_new ∙ ap (λ list. set list join (Given kept)) same_items))

@@ -9,7 +9,7 @@ use Rattle.model_strands.specs.Peers.{HaveSamePeers}
 use Rattle.law_strands.proofs.Range.{ranges}
 use Rattle.law_strands.proofs.Law.{begun_below}
 use Rattle.law_strands.proofs.Branches.{branch_law}
-use Rattle.branch_names.specs.Names.{Names, Follows, IsNamed, IsGiven, number_of, name_at}
+use Rattle.branch_names.specs.Names.{Names, Follows, IsNamed, IsGiven, branch_number, name_at}
 
 -- A begun strand has a name.
 pub named-known : (branches : Names) (strand : ℕ) → IsNamed branches strand → strand < length branches.names
@@ -28,13 +28,13 @@ named-begun branches history follows strand named =
 
 -- Two named strands have one number just where they have one branch.
 pub same-branches : (branches : Names) (history : History) → Follows branches history → (first second : ℕ) → IsNamed branches first → IsNamed branches second →
-    (number_of (name_at branches.names first) ≡ number_of (name_at branches.names second)) ↔ (branch history first ≡ branch history second)
+    (branch_number (name_at branches.names first) ≡ branch_number (name_at branches.names second)) ↔ (branch history first ≡ branch history second)
 same-branches branches history follows first second first_named second_named = follows.agree first second (named-known branches first first_named) (named-known branches second second_named)
 
 -- So they have one number just where they have the same peers.
 pub same-peers : (branches : Names) (history : History) → Follows branches history → (longer : History) → Extends longer history → Legal longer →
     (first second : ℕ) → IsNamed branches first → IsNamed branches second →
-    (number_of (name_at branches.names first) ≡ number_of (name_at branches.names second)) ↔ HaveSamePeers longer first second
+    (branch_number (name_at branches.names first) ≡ branch_number (name_at branches.names second)) ↔ HaveSamePeers longer first second
 same-peers branches history follows longer extends legal first second first_named second_named =
     let agrees = same-branches branches history follows first second first_named second_named in
     let law = branch_law history follows.legal first second (named-begun branches history follows first first_named) (named-begun branches history follows second second_named) longer extends legal in

@@ -3,7 +3,7 @@ use Rattle.std.proofs.Common.{◌≡◌, ◌↔◌, ℕ, zero, suc, ◌<◌, ◌
 use Rattle.std.proofs.Math.ListN.{set}
 use Rattle.std.proofs.lemmas.List.{length-map, map-append, map-set, get_or-map}
 use Rattle.branch_names.specs.declared.packed.Packed.{Packed}
-use Rattle.branch_names.specs.Names.{BranchName, Kept, IsGiven, number_of, name_at}
+use Rattle.branch_names.specs.Names.{BranchName, Kept, IsGiven, branch_number, name_at}
 use Rattle.branch_names.specs.Packed.{name_of, names_of, name_with}
 
 pub length-names : (packed : List Packed) → length (names_of packed) ≡ length packed
@@ -22,10 +22,10 @@ name-read items names strand packed same_items lt read =
     ap name_of read ∙ (sym (get_or-map name_of items strand packed (Kept 0) (omega (arith, ap length same_items, length-names items))) ∙ ap (λ list. name_at list strand) same_items)
 
 pub number-read : (items : List Packed) (names : List BranchName) (strand number : ℕ) (packed : Packed) → names_of items ≡ names → strand < length names → packed ≡ get_or items strand packed →
-    number ≡ number_of (name_of packed) → number ≡ number_of (name_at names strand)
-number-read items names strand number packed same_items lt read number_is = number_is ∙ ap number_of (name-read items names strand packed same_items lt read)
+    number ≡ branch_number (name_of packed) → number ≡ branch_number (name_at names strand)
+number-read items names strand number packed same_items lt read number_is = number_is ∙ ap branch_number (name-read items names strand packed same_items lt read)
 
-number-with : (digit number : ℕ) → number_of (name_with digit number) ≡ number
+number-with : (digit number : ℕ) → branch_number (name_with digit number) ≡ number
 number-with zero number = refl
 number-with (suc digit) number = refl
 
@@ -33,21 +33,21 @@ digit-given : (digit number : ℕ) → IsGiven (name_with digit number) → digi
 digit-given zero number given = refl
 digit-given (suc digit) number given = absurd given
 
-codes-agree : (first second : Packed) → IsGiven (name_of first) → IsGiven (name_of second) → (first.code ≡ second.code) ↔ (number_of (name_of first) ≡ number_of (name_of second))
+codes-agree : (first second : Packed) → IsGiven (name_of first) → IsGiven (name_of second) → (first.code ≡ second.code) ↔ (branch_number (name_of first) ≡ branch_number (name_of second))
 codes-agree first second first_given second_given = (
   (λ e. number-with (first.code % 2) (first.code / 2) ∙ (ap (λ code. code / 2) e ∙ sym (number-with (second.code % 2) (second.code / 2)))),
   (λ e. omega (arith, digit-given (first.code % 2) (first.code / 2) first_given, digit-given (second.code % 2) (second.code / 2) second_given, halves e)),
 )
   where
-    halves : number_of (name_of first) ≡ number_of (name_of second) → first.code / 2 ≡ second.code / 2
+    halves : branch_number (name_of first) ≡ branch_number (name_of second) → first.code / 2 ≡ second.code / 2
     halves e = sym (number-with (first.code % 2) (first.code / 2)) ∙ (e ∙ number-with (second.code % 2) (second.code / 2))
 
 -- Two given names are stored alike just where they have one number.
 pub codes-tell : (items : List Packed) (names : List BranchName) (first second : ℕ) (first_name second_name : Packed) → names_of items ≡ names → first < length names → second < length names →
     first_name ≡ get_or items first first_name → second_name ≡ get_or items second second_name → IsGiven (name_at names first) → IsGiven (name_at names second) →
-    (first_name.code ≡ second_name.code) ↔ (number_of (name_at names first) ≡ number_of (name_at names second))
+    (first_name.code ≡ second_name.code) ↔ (branch_number (name_at names first) ≡ branch_number (name_at names second))
 codes-tell items names first second first_name second_name same_items lx ly first_read second_read first_given second_given =
     let first_is = name-read items names first first_name same_items lx first_read in
     let second_is = name-read items names second second_name same_items ly second_read in
     let agrees = codes-agree first_name second_name (subst IsGiven (sym first_is) first_given) (subst IsGiven (sym second_is) second_given) in
-    ((λ e. sym (ap number_of first_is) ∙ (agrees.0 e ∙ ap number_of second_is)), (λ e. agrees.1 (ap number_of first_is ∙ (e ∙ sym (ap number_of second_is)))))
+    ((λ e. sym (ap branch_number first_is) ∙ (agrees.0 e ∙ ap branch_number second_is)), (λ e. agrees.1 (ap branch_number first_is ∙ (e ∙ sym (ap branch_number second_is)))))

@@ -19,9 +19,9 @@ pub record Names : Type 0 where
   pub has_room : Bool
 
 -- the number that stands for the branch
-abbrev pub number_of : BranchName → ℕ
-number_of (Given number) = number
-number_of (Kept number) = number
+abbrev pub branch_number : BranchName → ℕ
+branch_number (Given number) = number
+branch_number (Kept number) = number
 
 abbrev pub IsGiven : BranchName → Type 0
 IsGiven (Given number) = Unit {0}
@@ -36,9 +36,9 @@ pub record Follows (branches : Names) (history : History) : Type 0 where
   pub legal : Legal history
   pub count : length branches.names ≡ unused history
   pub given : (strand : ℕ) → strand < length branches.names → IsGiven (name_at branches.names strand) ↔ Begun history strand
-  pub below : (strand : ℕ) → strand < length branches.names → number_of (name_at branches.names strand) < length branches.names
+  pub below : (strand : ℕ) → strand < length branches.names → branch_number (name_at branches.names strand) < length branches.names
   pub agree : (first second : ℕ) → first < length branches.names → second < length branches.names →
-      (number_of (name_at branches.names first) ≡ number_of (name_at branches.names second))
+      (branch_number (name_at branches.names first) ≡ branch_number (name_at branches.names second))
       ↔ (branch history first ≡ branch history second)
 
 -- some history is followed

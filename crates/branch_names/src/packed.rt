@@ -1,7 +1,7 @@
 //! The names of branches as they are stored.
 
 ghost use Rattle.std.specs.Prelude.{◌≡◌, ◌↔◌, ◌<◌, IsTrue};
-ghost use Rattle.branch_names.specs.Names.{Given, IsGiven, Kept, most_numbers, number_of};
+ghost use Rattle.branch_names.specs.Names.{Given, IsGiven, Kept, most_numbers, branch_number};
 ghost use Rattle.branch_names.specs.Packed.{name_of};
 
 /// How many numbers there are for names. The orders that number the strands are full long before.
@@ -39,7 +39,7 @@ impl Packed {
     /// The same number, given, since the join has begun.
     #[inline(always)]
     pub fn begun(self) -> Packed
-        ensures { name_of result ≡ Given (number_of (name_of self)) }
+        ensures { name_of result ≡ Given (branch_number (name_of self)) }
     {
         Packed {
             code: self.code - self.code % 2,
@@ -55,7 +55,7 @@ impl Packed {
 
     #[inline(always)]
     pub fn number(self) -> u32
-        ensures is { result ≡ number_of (name_of self) }
+        ensures is { result ≡ branch_number (name_of self) }
         ensures fits { result < most_numbers }
     {
         self.code / 2

@@ -167,7 +167,7 @@ fn job_of(rt: &HostRuntime, host: &Watched<System<'_>>) -> Result<Job, CliFault>
 }
 
 /// Does the job as [`perform`] does it. What starts no thread is done without the leave to start one.
-fn done<R: Threads + Wait + Sync, H: Host, W: Write>(
+fn do_job<R: Threads + Wait + Sync, H: Host, W: Write>(
     threads: &R,
     alloc: Global,
     host: &mut Watched<H>,
@@ -211,7 +211,7 @@ fn answer_of<R: Threads + Wait + Sync>(threads: &R, rt: &HostRuntime) -> Result<
     };
     tell_input(rt, &job);
     let mut output = Watched::new(io::writer(rt));
-    let answer = done(threads, rt.alloc(), &mut host, &job, &mut output);
+    let answer = do_job(threads, rt.alloc(), &mut host, &job, &mut output);
     if let Err(fault) = &answer {
         tell_failure(rt, &host.into_inner(), &job, fault);
     }

@@ -15,7 +15,7 @@ use std::alloc::{AllocError, Allocator};
 use std::io::Write;
 use std::marker::Model;
 use text_words::Mem;
-use verdict_lines::{Counted, LINE_ROOM, put_told, put_verdict, put_word};
+use verdict_lines::{DigitCache, LINE_ROOM, put_verdict, put_word, put_word_line};
 
 /// How many bytes of lines wait at most before they are written.
 const MOST_HELD: usize = 65_536;
@@ -25,7 +25,7 @@ const MOST_HELD: usize = 65_536;
 pub struct LineBuffer<A: Allocator> {
     bytes: Vec<u8, A>,
     filled: usize,
-    counted: Counted,
+    counted: DigitCache,
 }
 
 impl<A: Allocator> Model for LineBuffer<A> {
@@ -41,7 +41,7 @@ impl<A: Allocator> Model for LineBuffer<A> {
 
 /// Puts the name of a memory's cell with this index at a place, and answers the place behind it.
 #[inline(always)]
-fn put_name(out: &mut [u8], at: usize, mem: &Mem, index: usize, counted: &mut Counted) -> usize
+fn put_name(out: &mut [u8], at: usize, mem: &Mem, index: usize, counted: &mut DigitCache) -> usize
     requires short { HasShortName mem.now }
     requires room { at + 58 ≤ length out.old }
     ensures end { result ≤ at + 56 }
@@ -65,7 +65,7 @@ fn put_cell(
     mem: &Mem,
     index: usize,
     value: u64,
-    counted: &mut Counted,
+    counted: &mut DigitCache,
 ) -> usize
     requires short { HasShortName mem.now }
     requires room { at + 80 ≤ length out.old }
@@ -73,7 +73,7 @@ fn put_cell(
     ensures put { take result out.new ≡ take at out.old ++ cell_line mem.now index value }
 {
     let end = put_name(out, at, mem, index, counted);
-    put_told(out, end, b" ", value)
+    put_word_line(out, end, b" ", value)
 }
 
 impl<A: Allocator> LineBuffer<A> {
@@ -84,7 +84,7 @@ impl<A: Allocator> LineBuffer<A> {
         Ok(LineBuffer {
             bytes: vec![in alloc; 0; MOST_HELD]?,
             filled: 0,
-            counted: Counted::new(),
+            counted: DigitCache::new(),
         })
     }
 
@@ -133,7 +133,7 @@ impl<A: Allocator> LineBuffer<A> {
         requires room { self.old.filled ≤ most_filled }
         ensures { self.new.text ≡ self.old.text ++ requests_line requests }
     {
-        self.filled = put_told(
+        self.filled = put_word_line(
             self.bytes.as_mut_slice(),
             self.filled,
             b"requests ",
@@ -159,7 +159,7 @@ impl<A: Allocator> LineBuffer<A> {
     /// Writes the lines, where no write has failed, and lets them go. Out of line, since it is called once in a thousand lines.
     #[cold]
     #[inline(never)]
-    pub fn give<W: Write>(&mut self, output: &mut Watched<W>)
+    pub fn write_out<W: Write>(&mut self, output: &mut Watched<W>)
         ensures told { TellsMore (W.contents (held output.old)) (has_failed output.old) self.old.text
             (W.contents (held output.new)) (has_failed output.new) self.new.text [] }
         ensures none { self.new.text ≡ [] }
@@ -180,7 +180,7 @@ impl<A: Allocator> LineBuffer<A> {
         ensures room { self.new.filled ≤ most_filled }
     {
         if !self.has_room() {
-            self.give(output);
+            self.write_out(output);
         }
     }
 

@@ -102,7 +102,7 @@ pub fn read_text<A: Allocator + Copy, R: Read>(
 }
 
 /// Reads all that is left behind so many bytes of a text with this fault, and keeps none of it. It gives the fault, or why reading stops.
-fn read_away<R: Read>(
+fn skip_rest<R: Read>(
     input: &mut Watched<R>,
     piece: &mut [u8],
     done: usize,
@@ -166,7 +166,7 @@ fn read_on<A: Allocator + Copy, R: Read>(
                 count += taken;
                 size = text.len() + text.len().max(PIECE);
             }
-            Err(fault) => return Err(read_away(input, piece, count + text.len(), fault)),
+            Err(fault) => return Err(skip_rest(input, piece, count + text.len(), fault)),
         }
     }
     match begun.end(text.as_slice()) {
@@ -230,7 +230,7 @@ pub fn read_trace<A: Allocator + Copy, R: Read>(
             return read_on(input, piece, begun, end, text);
         }
         Ok(None) => {}
-        Err(fault) => return Err(read_away(input, piece, bytes.len(), fault)),
+        Err(fault) => return Err(skip_rest(input, piece, bytes.len(), fault)),
     }
     read_until(input, piece, 0, &mut head, MOST_BYTES + 1)?;
     parse_trace(alloc, head)

@@ -45,7 +45,7 @@ impl<T> Watched<T> {
     }
 
     /// Whether all that was written is delivered: a flush has gone well since the last write, or nothing was written.
-    pub fn delivered(&self) -> bool
+    pub fn is_delivered(&self) -> bool
         ensures { result ≡ is_delivered self.now }
     {
         self.delivered

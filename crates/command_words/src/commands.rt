@@ -10,24 +10,24 @@ use clap::{Arg, ArgAction, Command};
 use std::alloc::{AllocError, Global};
 
 /// A word among the words, or none.
-fn free<'a>(alloc: Global, name: &'a str, value: &'a str, help: &'a str) -> Arg<'a>
+fn optional_word<'a>(alloc: Global, name: &'a str, value: &'a str, help: &'a str) -> Arg<'a>
     ensures { IsArgument (free name.entry.now) result }
 {
     Arg::new(alloc, name).value_name(value).help(help)
 }
 
 /// A word that must stand among the words.
-fn wanted<'a>(alloc: Global, name: &'a str, value: &'a str, help: &'a str) -> Arg<'a>
+fn required_word<'a>(alloc: Global, name: &'a str, value: &'a str, help: &'a str) -> Arg<'a>
     ensures { IsArgument (wanted name.entry.now) result }
 {
-    free(alloc, name, value, help).required(true)
+    optional_word(alloc, name, value, help).required(true)
 }
 
 /// One word or more, of which one must stand among the words.
-fn several<'a>(alloc: Global, name: &'a str, value: &'a str, help: &'a str) -> Arg<'a>
+fn required_words<'a>(alloc: Global, name: &'a str, value: &'a str, help: &'a str) -> Arg<'a>
     ensures { IsArgument (several name.entry.now) result }
 {
-    wanted(alloc, name, value, help)
+    required_word(alloc, name, value, help)
         .num_args(1..)
         .action(ArgAction::Append)
 }
@@ -36,7 +36,7 @@ fn several<'a>(alloc: Global, name: &'a str, value: &'a str, help: &'a str) -> A
 fn option<'a>(alloc: Global, name: &'a str, value: &'a str, help: &'a str) -> Arg<'a>
     ensures { IsArgument (option name.entry.now) result }
 {
-    free(alloc, name, value, help).long(name)
+    optional_word(alloc, name, value, help).long(name)
 }
 
 /// `--NAME`, or nothing.
@@ -57,7 +57,7 @@ fn command<'a>(alloc: Global, name: &'a str, about: &'a str, behind: &'a str) ->
 }
 
 /// The limit on the entries of a history.
-fn entries<'a>(alloc: Global) -> Arg<'a>
+fn limit_option<'a>(alloc: Global) -> Arg<'a>
     ensures { IsArgument (option (codes "limit")) result }
 {
     option(
@@ -69,7 +69,7 @@ fn entries<'a>(alloc: Global) -> Arg<'a>
 }
 
 /// The number of workers.
-fn workers<'a>(alloc: Global) -> Arg<'a>
+fn workers_option<'a>(alloc: Global) -> Arg<'a>
     ensures { IsArgument (option (codes "workers")) result }
 {
     option(
@@ -83,7 +83,7 @@ fn workers<'a>(alloc: Global) -> Arg<'a>
 fn judge<'a>(alloc: Global) -> Result<Command<'a>, AllocError>
     ensures { IfOk result (IsCommand (leaf judge)) }
 {
-    let file = free(
+    let file = optional_word(
         alloc,
         "file",
         "FILE",
@@ -91,13 +91,13 @@ fn judge<'a>(alloc: Global) -> Result<Command<'a>, AllocError>
     );
     command(alloc, "judge", help::JUDGE, help::TRACE)
         .arg(file)?
-        .arg(entries(alloc))
+        .arg(limit_option(alloc))
 }
 
 fn elide<'a>(alloc: Global) -> Result<Command<'a>, AllocError>
     ensures { IfOk result (IsCommand (leaf elide)) }
 {
-    let file = wanted(alloc, "file", "FILE", "The program; '-' is standard input");
+    let file = required_word(alloc, "file", "FILE", "The program; '-' is standard input");
     let limit = option(
         alloc,
         "limit",
@@ -113,7 +113,7 @@ fn elide<'a>(alloc: Global) -> Result<Command<'a>, AllocError>
 fn run<'a>(alloc: Global) -> Result<Command<'a>, AllocError>
     ensures { IfOk result (IsCommand (leaf run)) }
 {
-    let file = wanted(alloc, "file", "FILE", "The program; '-' is standard input");
+    let file = required_word(alloc, "file", "FILE", "The program; '-' is standard input");
     let trace = option(
         alloc,
         "trace",
@@ -123,15 +123,15 @@ fn run<'a>(alloc: Global) -> Result<Command<'a>, AllocError>
     command(alloc, "run", help::RUN, help::LANGUAGE)
         .long_about(help::REPORT)
         .arg(file)?
-        .arg(workers(alloc))?
-        .arg(entries(alloc))?
+        .arg(workers_option(alloc))?
+        .arg(limit_option(alloc))?
         .arg(trace)
 }
 
 fn explain<'a>(alloc: Global) -> Result<Command<'a>, AllocError>
     ensures { IfOk result (IsCommand (leaf explain)) }
 {
-    let file = several(
+    let file = required_words(
         alloc,
         "file",
         "FILE",
@@ -157,9 +157,9 @@ fn explain<'a>(alloc: Global) -> Result<Command<'a>, AllocError>
     command(alloc, "explain", help::EXPLAIN, help::LANGUAGE)
         .long_about(help::EXPLANATION)
         .arg(file)?
-        .arg(workers(alloc))?
+        .arg(workers_option(alloc))?
         .arg(serial)?
-        .arg(entries(alloc))?
+        .arg(limit_option(alloc))?
         .arg(color)?
         .arg(format)
 }
@@ -167,8 +167,8 @@ fn explain<'a>(alloc: Global) -> Result<Command<'a>, AllocError>
 fn replay<'a>(alloc: Global) -> Result<Command<'a>, AllocError>
     ensures { IfOk result (IsCommand (leaf replay)) }
 {
-    let file = wanted(alloc, "file", "FILE", "The program; '-' is standard input");
-    let trace = wanted(alloc, "trace", "TRACE", "The trace; '-' is standard input");
+    let file = required_word(alloc, "file", "FILE", "The program; '-' is standard input");
+    let trace = required_word(alloc, "trace", "TRACE", "The trace; '-' is standard input");
     command(alloc, "replay", help::REPLAY, help::OUTCOME)
         .arg(file)?
         .arg(trace)
@@ -177,7 +177,7 @@ fn replay<'a>(alloc: Global) -> Result<Command<'a>, AllocError>
 fn draw<'a>(alloc: Global) -> Result<Command<'a>, AllocError>
     ensures { IfOk result (IsCommand (leaf draw)) }
 {
-    let trace = wanted(alloc, "trace", "TRACE", "The trace; '-' is standard input");
+    let trace = required_word(alloc, "trace", "TRACE", "The trace; '-' is standard input");
     let svg = flag(
         alloc,
         "svg",

@@ -218,7 +218,7 @@ fn complaint(alloc: Global, text: &str) -> CliFault
 }
 
 /// What the parser of the command line answers in place of a job: a text to show, or the first line of what is wrong.
-fn shown(alloc: Global, error: &clap::Error) -> Result<Job, CliFault>
+fn parser_answer(alloc: Global, error: &clap::Error) -> Result<Job, CliFault>
     ensures job { IfOk result (IsShown (kind_of error.now)) }
     ensures fault { IfErr result IsUsageFault }
 {
@@ -592,7 +592,7 @@ fn read_by<'a, S: AsStr>(
 {
     match command.try_get_matches_from(words) {
         Ok(matches) => job_of(alloc, &matches),
-        Err(error) => shown(alloc, &error),
+        Err(error) => parser_answer(alloc, &error),
     }
 }
 

@@ -6,11 +6,11 @@ ghost use Rattle.dag_drawing.specs.Walks.{IsLegalHistory};
 ghost use Rattle.dag_drawing.specs.Told.{access_told, accesses_told, race_told, races_told};
 ghost use Rattle.dag_drawing.specs.Drawn.{IsDrawing, HasMoreStrands, marked_from, has_mark};
 
-use crate::walk::walked;
+use crate::walk::walk_entries;
 use model_accesses::Witness;
 use race_gate::{Answer, Entry};
 use std::alloc::{AllocError, Allocator};
-use text_words::{Request, access_asked};
+use text_words::{Request, asked_by};
 
 /// The most strands of a drawing.
 pub const MOST_STRANDS: usize = 10_000;
@@ -86,7 +86,7 @@ impl<A: Allocator> Drop for Drawing<A> {
 fn access_at(entry: usize, told: Entry) -> Option<Access>
     ensures { result ≡ access_told entry told }
 {
-    match access_asked(told.request.act) {
+    match asked_by(told.request.act) {
         Some(_) => Some(Access {
             entry,
             request: told.request,
@@ -140,7 +140,10 @@ fn races_of<A: Allocator + Copy>(alloc: A, entries: &[Entry]) -> Result<Vec<Race
 }
 
 /// The numbers that are marked, in their order.
-fn marked<A: Allocator + Copy>(alloc: A, marks: &[bool]) -> Result<Vec<usize, A>, AllocError>
+fn marked_numbers<A: Allocator + Copy>(
+    alloc: A,
+    marks: &[bool],
+) -> Result<Vec<usize, A>, AllocError>
     ensures { IfOk result (λ strands. strands.items ≡ marked_from 0 marks.now) }
 {
     let mut strands = Vec::new(alloc);
@@ -178,8 +181,8 @@ pub fn draw<A: Allocator + Copy>(
     requires { IsLegalHistory (reverse entries.now) }
     ensures { IfOk result (λ told. MatchOption told (HasMoreStrands (control_part (reverse entries.now))) (IsDrawing entries.now)) }
 {
-    let walk = walked(alloc, entries)?;
-    let strands = marked(alloc, walk.begun.as_slice())?;
+    let walk = walk_entries(alloc, entries)?;
+    let strands = marked_numbers(alloc, walk.begun.as_slice())?;
     if strands.len() > MOST_STRANDS {
         return Ok(None);
     }

@@ -14,7 +14,7 @@ use access_table::{Kind, rule_word, word};
 use race_gate::Answer;
 use std::alloc::{AllocError, Allocator};
 use std::fmt::Write;
-use text_words::{Act, Mem, Reducer, access_asked};
+use text_words::{Act, Mem, Reducer, asked_by};
 use trace_notes::{Notes, Place};
 use trace_text::memory_at;
 
@@ -98,7 +98,7 @@ fn plain_name<A: Allocator + Copy>(
 }
 
 /// Adds what the notes say that a name stands for, or the name.
-fn put_told<A: Allocator + Copy>(
+fn put_display_name<A: Allocator + Copy>(
     line: &mut String<A>,
     names: &Names<'_, A>,
     name: &str,
@@ -126,7 +126,7 @@ fn outcome(answer: Answer) -> &'static str
 fn kind_of_act(act: Act) -> &'static str
     ensures { result.now ≡ kind_text act }
 {
-    match access_asked(act) {
+    match asked_by(act) {
         Some(asked) => word(asked.kind),
         None => "",
     }
@@ -168,7 +168,7 @@ fn line_of<A: Allocator + Copy>(
     line.push_str(" ")?;
     line.push_str(kind_of_act(access.request.act))?;
     line.push_str(" ")?;
-    put_told(&mut line, names, name)?;
+    put_display_name(&mut line, names, name)?;
     line.push_str(outcome(access.answer))?;
     Ok(line)
 }
@@ -308,7 +308,7 @@ pub fn node_lines<A: Allocator + Copy>(
 fn rule_of(act: Act, earlier: Kind) -> &'static str
     ensures { result.now ≡ rule_text act earlier }
 {
-    match access_asked(act) {
+    match asked_by(act) {
         Some(asked) => match rule_word(earlier, asked.kind) {
             Some(word) => word,
             None => "",
@@ -330,7 +330,7 @@ pub fn race_label<A: Allocator + Copy>(
     let mut label = String::new(alloc);
     label.push_str(rule_of(race.request.act, race.witness.kind))?;
     label.push_str(" on ")?;
-    put_told(&mut label, names, name.as_str())?;
+    put_display_name(&mut label, names, name.as_str())?;
     Ok(label)
 }
 

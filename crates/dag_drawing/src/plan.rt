@@ -70,7 +70,7 @@ impl<A: Allocator> Drop for Layout<A> {
 }
 
 /// The next number, which is at most that of the strands that are drawn.
-fn step(number: u32) -> u32
+fn next_number(number: u32) -> u32
     ensures { result ≡ stepped number }
 {
     if number < MOST { number + 1 } else { MOST }
@@ -112,7 +112,7 @@ fn deepen<A: Allocator>(depths: &mut Vec<u32, A>, edge: &Edge)
     ensures { depths.new.items ≡ deepened depths.old.items edge.now }
 {
     let to = number_at(depths.as_slice(), edge.to as usize);
-    let below = step(number_at(depths.as_slice(), edge.from as usize));
+    let below = next_number(number_at(depths.as_slice(), edge.from as usize));
     put(depths, edge.to as usize, to.max(below));
 }
 
@@ -132,7 +132,7 @@ fn depths_of<A: Allocator + Copy>(
 }
 
 /// Puts a strand behind those of its level.
-fn seat<A: Allocator>(
+fn add_to_level<A: Allocator>(
     depths: &[u32],
     counts: &mut Vec<u32, A>,
     columns: &mut Vec<u32, A>,
@@ -144,12 +144,12 @@ fn seat<A: Allocator>(
 {
     let level = number_at(depths, strand) as usize;
     let column = number_at(counts.as_slice(), level);
-    put(counts, level, step(column));
+    put(counts, level, next_number(column));
     put(columns, strand, column);
 }
 
 /// Puts strands behind those of their levels.
-fn seat_all<A: Allocator>(
+fn add_all_to_levels<A: Allocator>(
     depths: &[u32],
     counts: &mut Vec<u32, A>,
     columns: &mut Vec<u32, A>,
@@ -159,7 +159,7 @@ fn seat_all<A: Allocator>(
     ensures columns { columns.new.items ≡ columns_by depths.now counts.old.items columns.old.items strands.now }
 {
     for strand in strands {
-        seat(depths, counts, columns, *strand);
+        add_to_level(depths, counts, columns, *strand);
     }
 }
 
@@ -247,7 +247,7 @@ pub fn layout_of<A: Allocator + Copy>(
     let depths = depths_of(alloc, size, drawing.edges.as_slice())?;
     let mut counts = vec![in alloc; 0u32; size]?;
     let mut columns = vec![in alloc; 0u32; size]?;
-    seat_all(depths.as_slice(), &mut counts, &mut columns, strands);
+    add_all_to_levels(depths.as_slice(), &mut counts, &mut columns, strands);
     let characters = at_most(MOST_CHARACTERS, sizes.length);
     let runs = names.notes.runs();
     Ok(Layout {
@@ -265,7 +265,7 @@ pub fn layout_of<A: Allocator + Copy>(
 }
 
 /// So many times a way.
-fn scaled(count: u64, way: u16) -> u64
+fn scale(count: u64, way: u16) -> u64
     requires small { count < 2 ^ 34 }
     ensures value { result ≡ count * way }
     ensures bound { result < 2 ^ 50 }
@@ -283,7 +283,7 @@ impl<A: Allocator> Layout<A> {
         let count = number_at(self.counts.as_slice(), level);
         let column = number_at(self.columns.as_slice(), strand);
         let steps = u64::from(self.widest.saturating_sub(count)) + 2 * u64::from(column);
-        16 + scaled(steps, self.across)
+        16 + scale(steps, self.across)
     }
 
     /// The width of a box.
@@ -308,14 +308,14 @@ impl<A: Allocator> Layout<A> {
         ensures bound { result < 2 ^ 51 }
     {
         let level = number_at(self.depths.as_slice(), strand);
-        u64::from(self.above) + scaled(u64::from(level), self.down)
+        u64::from(self.above) + scale(u64::from(level), self.down)
     }
 
     /// The width of the picture.
     pub fn width(&self) -> u64
         ensures { result ≡ width_of (plan_of self.now) }
     {
-        let boxes = 16 + scaled(2 * u64::from(self.widest), self.across);
+        let boxes = 16 + scale(2 * u64::from(self.widest), self.across);
         boxes.max(u64::from(self.title))
     }
 
@@ -323,6 +323,6 @@ impl<A: Allocator> Layout<A> {
     pub fn height(&self) -> u64
         ensures { result ≡ height_of (plan_of self.now) }
     {
-        u64::from(self.above) + scaled(u64::from(self.deepest) + 1, self.down)
+        u64::from(self.above) + scale(u64::from(self.deepest) + 1, self.down)
     }
 }

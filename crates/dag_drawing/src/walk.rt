@@ -148,7 +148,7 @@ impl<A: Allocator + Copy> Walk<A> {
 }
 
 /// What is known after all entries.
-pub fn walked<A: Allocator + Copy>(alloc: A, entries: &[Entry]) -> Result<Walk<A>, AllocError>
+pub fn walk_entries<A: Allocator + Copy>(alloc: A, entries: &[Entry]) -> Result<Walk<A>, AllocError>
     requires { IsLegalHistory (reverse entries.now) }
     ensures { IfOk result (λ walk. IsWalk walk.begun.items walk.blocks.items walk.edges.items (control_part (reverse entries.now))) }
 {

@@ -20,7 +20,7 @@ const MOST_TOLD: usize = 20;
 const MOST_LEFT_OUT: usize = 100;
 
 /// The text in which each byte of the line with this number is a space.
-fn blanked(alloc: Global, text: &[u8], number: u32) -> Result<Vec<u8>, AllocError>
+fn blank_line(alloc: Global, text: &[u8], number: u32) -> Result<Vec<u8>, AllocError>
     ensures { IfOk result (λ left. left.items ≡ blanked number text.now) }
 {
     let mut left = Vec::new(alloc);
@@ -111,7 +111,7 @@ impl<'a> Rest<'a> {
             ≡ map (λ (name : Bor (List ℕ)). name.now) self.old.lost.items ++ lost_by meant (line_in source.now number)) }
     {
         self.lose(alloc, meant, source, number)?;
-        self.text = blanked(alloc, self.text.as_slice(), number)?;
+        self.text = blank_line(alloc, self.text.as_slice(), number)?;
         Ok(())
     }
 }

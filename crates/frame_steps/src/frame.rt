@@ -16,7 +16,7 @@ ghost use Rattle.frame_steps.specs.States.{State};
 ghost use Rattle.frame_steps.specs.Frames.{Stands, Wants, IsAfter, CanFollow, MayAnswer, IsAnswered, IsCalled, IsLeft, began_by};
 
 use crate::phase::Phase;
-use function_steps::{Activation, Target, Want, answered, value_of};
+use function_steps::{Activation, Target, Want, apply_answer, value_of};
 use model_histories::Answer;
 use program_text::{Program, Statement};
 use std::alloc::{AllocError, Allocator};
@@ -230,7 +230,7 @@ impl<A: Allocator> Frame<A> {
                 _ => Err(FrameFault::Strange),
             },
             Some(statement) => {
-                if answered(&mut self.top.registers, statement, answer) {
+                if apply_answer(&mut self.top.registers, statement, answer) {
                     self.go_on(program, answer);
                     Ok(())
                 } else {

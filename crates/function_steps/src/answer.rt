@@ -11,38 +11,38 @@ use program_text::{REGISTERS, Register, Statement};
 
 /// Does to the registers what an answer to a statement does, and says whether the answer belongs to it. They stay where it does not, or
 /// where the statement is a call.
-pub fn answered(registers: &mut [u64; REGISTERS], statement: Statement, answer: &Answer) -> bool
+pub fn apply_answer(registers: &mut [u64; REGISTERS], statement: Statement, answer: &Answer) -> bool
     ensures { IsTaken (answered statement answer.now registers.old) result registers.old registers.new }
 {
     match statement {
-        Statement::Read { register, .. } => after_read(registers, register, answer),
-        Statement::Write { .. } => after_write(registers, answer),
-        Statement::Bump { .. } => after_write(registers, answer),
-        Statement::Update { .. } => after_update(registers, answer),
-        Statement::Put { .. } => after_write(registers, answer),
-        Statement::Get { register, .. } => after_get(registers, register, answer),
-        Statement::Spawn { .. } => after_spawn(answer),
-        Statement::Sync { .. } => after_sync(answer),
+        Statement::Read { register, .. } => apply_read(registers, register, answer),
+        Statement::Write { .. } => apply_write(registers, answer),
+        Statement::Bump { .. } => apply_write(registers, answer),
+        Statement::Update { .. } => apply_update(registers, answer),
+        Statement::Put { .. } => apply_write(registers, answer),
+        Statement::Get { register, .. } => apply_get(registers, register, answer),
+        Statement::Spawn { .. } => is_spawn_answer(answer),
+        Statement::Sync { .. } => is_sync_answer(answer),
         _ => false,
     }
 }
 
 /// Sets `ok` to 1.
-fn granted(registers: &mut [u64; REGISTERS])
+fn set_granted(registers: &mut [u64; REGISTERS])
     ensures { registers.new ≡ with_ok 1 registers.old }
 {
     registers[0] = 1;
 }
 
 /// Sets `ok` to 0.
-fn refused(registers: &mut [u64; REGISTERS])
+fn set_refused(registers: &mut [u64; REGISTERS])
     ensures { registers.new ≡ with_ok 0 registers.old }
 {
     registers[0] = 0;
 }
 
 /// Sets `ok` to 1, and then a register to this value.
-fn taken(registers: &mut [u64; REGISTERS], register: Register, value: u64)
+fn grant_value(registers: &mut [u64; REGISTERS], register: Register, value: u64)
     ensures { registers.new ≡ slice_set (with_ok 1 registers.old) register.index value }
 {
     registers[0] = 1;
@@ -50,16 +50,16 @@ fn taken(registers: &mut [u64; REGISTERS], register: Register, value: u64)
 }
 
 /// An answer to a read.
-fn after_read(registers: &mut [u64; REGISTERS], register: Register, answer: &Answer) -> bool
+fn apply_read(registers: &mut [u64; REGISTERS], register: Register, answer: &Answer) -> bool
     ensures { IsTaken (after_read register answer.now registers.old) result registers.old registers.new }
 {
     match answer {
         Answer::Value(value) => {
-            taken(registers, register, *value);
+            grant_value(registers, register, *value);
             true
         }
         Answer::Refused { .. } => {
-            refused(registers);
+            set_refused(registers);
             true
         }
         _ => false,
@@ -67,29 +67,29 @@ fn after_read(registers: &mut [u64; REGISTERS], register: Register, answer: &Ans
 }
 
 /// An answer to a get.
-fn after_get(registers: &mut [u64; REGISTERS], register: Register, answer: &Answer) -> bool
+fn apply_get(registers: &mut [u64; REGISTERS], register: Register, answer: &Answer) -> bool
     ensures { IsTaken (after_get register answer.now registers.old) result registers.old registers.new }
 {
     match answer {
         Answer::Unset => {
-            refused(registers);
+            set_refused(registers);
             true
         }
-        _ => after_read(registers, register, answer),
+        _ => apply_read(registers, register, answer),
     }
 }
 
 /// An answer to a write, a bump or a put.
-fn after_write(registers: &mut [u64; REGISTERS], answer: &Answer) -> bool
+fn apply_write(registers: &mut [u64; REGISTERS], answer: &Answer) -> bool
     ensures { IsTaken (after_write answer.now registers.old) result registers.old registers.new }
 {
     match answer {
         Answer::Granted => {
-            granted(registers);
+            set_granted(registers);
             true
         }
         Answer::Refused { .. } => {
-            refused(registers);
+            set_refused(registers);
             true
         }
         _ => false,
@@ -97,12 +97,12 @@ fn after_write(registers: &mut [u64; REGISTERS], answer: &Answer) -> bool
 }
 
 /// An answer to an update, which is never refused.
-fn after_update(registers: &mut [u64; REGISTERS], answer: &Answer) -> bool
+fn apply_update(registers: &mut [u64; REGISTERS], answer: &Answer) -> bool
     ensures { IsTaken (after_update answer.now registers.old) result registers.old registers.new }
 {
     match answer {
         Answer::Granted => {
-            granted(registers);
+            set_granted(registers);
             true
         }
         _ => false,
@@ -110,14 +110,14 @@ fn after_update(registers: &mut [u64; REGISTERS], answer: &Answer) -> bool
 }
 
 /// Whether an answer belongs to a spawn.
-fn after_spawn(answer: &Answer) -> bool
+fn is_spawn_answer(answer: &Answer) -> bool
     ensures { (registers : Registers) → IsTaken (after_spawn answer.now registers) result registers registers }
 {
     matches!(answer, Answer::Split(_))
 }
 
 /// Whether an answer belongs to a sync.
-fn after_sync(answer: &Answer) -> bool
+fn is_sync_answer(answer: &Answer) -> bool
     ensures { (registers : Registers) → IsTaken (after_sync answer.now registers) result registers registers }
 {
     matches!(answer, Answer::Same | Answer::Joined(_) | Answer::Waits)

@@ -13,7 +13,7 @@ mod request;
 mod value;
 
 pub use activation::{Activation, Turn};
-pub use answer::answered;
+pub use answer::apply_answer;
 pub use model_programs::Target;
 pub use request::{Want, act_of, line_of};
 pub use value::{cell_of, result_of, value_of};

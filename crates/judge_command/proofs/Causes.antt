@@ -10,7 +10,7 @@ use Rattle.command_streams.specs.declared.fault.CliFault.TheVariants.{Read, Writ
 use Rattle.judge_command.specs.declared.judge.Verdicts.{Verdicts}
 use Rattle.judge_command.specs.Statuses.{status_of_replies}
 use Rattle.command_streams.specs.Streams.{AreReplies, AnswersText, IsMeant, IsAnswered, HasCause, StopsTrace, StopsWriting, StopsAnswer}
-use Rattle.judge_command.specs.Meetings.{Tells, TellsTrace}
+use Rattle.judge_command.specs.StatusFlags.{Tells, TellsTrace}
 
 module _ {A : Type 0} (verdicts : Verdicts A) (limit : ℕ) (contents : Contents) (wrote between writes : Option (List ℕ)) (failed : Bool)
     (told : TellsTrace contents limit wrote between failed verdicts) where

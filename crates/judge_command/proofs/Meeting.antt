@@ -15,11 +15,11 @@ use Rattle.race_gate.specs.Cores.{CoreState, IsCoreOf}
 use Rattle.race_gate.proofs.Lists.{JudgesAll-more}
 use Rattle.verdict_lines.specs.VerdictText.{HasWords, line_of_reply, verdict_text}
 use Rattle.verdict_lines.proofs.GateWords.{replies_have_words}
-use Rattle.judge_command.specs.declared.status.Met.{Met}
+use Rattle.judge_command.specs.declared.status.StatusFlags.{StatusFlags}
 use Rattle.judge_command.specs.declared.judge.Verdicts.{Verdicts}
 use Rattle.command_streams.specs.Streams.{declared_shape, requests_of}
 use Rattle.judge_command.specs.Statuses.{is_memory, is_limit, is_illegal, is_refusal}
-use Rattle.judge_command.specs.Meetings.{HasMet, HasJudged, Tells, TellsTrace}
+use Rattle.judge_command.specs.StatusFlags.{HasMet, HasJudged, Tells, TellsTrace}
 use Rattle.command_streams.proofs.TakenLines.{requests_more}
 
 or_none : (b : Bool) → (b || false) ≡ b
@@ -31,7 +31,7 @@ any_more : (p : Reply → Bool) (replies : List Reply) (reply : Reply) (old new 
 any_more p replies reply old new is before =
     is ∙ ap (λ b. b || p reply) before ∙ ap (λ b. list_any p replies || b) (sym (or_none (p reply))) ∙ sym (list_any-append p replies (reply ∷ []))
 
-pub met_more : (replies : List Reply) (reply : Reply) (old new : Met) → new.memory ≡ (old.memory || is_memory reply) → new.limit ≡ (old.limit || is_limit reply) →
+pub met_more : (replies : List Reply) (reply : Reply) (old new : StatusFlags) → new.memory ≡ (old.memory || is_memory reply) → new.limit ≡ (old.limit || is_limit reply) →
     new.illegal ≡ (old.illegal || is_illegal reply) → new.refusal ≡ (old.refusal || is_refusal reply) → HasMet replies old → HasMet (replies ++ reply ∷ []) new
 met_more replies reply old new memory limit illegal refusal met = record {
   memory = any_more is_memory replies reply old.memory new.memory memory met.memory;

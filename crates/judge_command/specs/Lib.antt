@@ -1,2 +1,2 @@
 pub mod Statuses
-pub mod Meetings
+pub mod StatusFlags

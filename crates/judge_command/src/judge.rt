@@ -16,7 +16,7 @@ ghost use Rattle.model_histories.specs.declared.reply.Reply.{Reply as SpecReply}
 ghost use Rattle.model_histories.specs.declared.reply.Reply.TheVariants.{Illegal};
 ghost use Rattle.model_accesses.specs.declared.request.Request.{Request as SpecRequest};
 ghost use Rattle.command_streams.specs.Watched.{held, has_failed, is_delivered, calls_of, IsCalledAtMost};
-ghost use Rattle.judge_command.specs.Meetings.{HasJudged, Tells, TellsTrace};
+ghost use Rattle.judge_command.specs.StatusFlags.{HasJudged, Tells, TellsTrace};
 ghost use Rattle.verdict_lines.specs.VerdictText.{verdict_text, HasWords};
 ghost use Rattle.race_gate.specs.Accesses.{sort_of};
 ghost use Rattle.race_gate.specs.declared.access.Sort.{Sort};
@@ -25,7 +25,7 @@ ghost use Rattle.judge_command.specs.Statuses.{status_of_replies};
 ghost use Rattle.command_streams.specs.Streams.{most_reads, declared_shape, requests_of, IsJudgedBy, JudgesTrace};
 ghost use Rattle.command_streams.specs.Streams.{AreReplies, IsAnswered, StopsWriting, StopsAnswer, HasCause};
 
-use crate::status::Met;
+use crate::status::StatusFlags;
 use command_streams::{CliFault, LineBuffer, Watched, deliver, read_trace};
 use race_gate::{Core, GateFault, Reply};
 use std::alloc::{AllocError, Allocator};
@@ -37,7 +37,7 @@ use trace_text::Trace;
 #[derive(Drop)]
 struct Verdicts<A: Allocator> {
     lines: LineBuffer<A>,
-    met: Met,
+    met: StatusFlags,
 }
 
 /// Tells a reply.
@@ -49,7 +49,7 @@ fn note<A: Allocator, W: Write>(verdicts: &mut Verdicts<A>, output: &mut Watched
         Tells (replies ++ reply.now ∷ []) verdicts.new wrote (W.contents (held output.new)) (has_failed output.new) }
 {
     verdicts.lines.tell_verdict(output, reply);
-    verdicts.met.meet(reply);
+    verdicts.met.add_reply(reply);
 }
 
 /// Tells the reply to a request that is no entry. Few are, so this is a call of its own.
@@ -155,7 +155,7 @@ fn judge<A: Allocator + Copy, W: Write>(
     let mut core = Core::new(alloc, &shape, limit)?;
     let mut verdicts = Verdicts {
         lines: LineBuffer::new(alloc)?,
-        met: Met::new(),
+        met: StatusFlags::new(),
     };
     core.make_room(trace.lines.likely_strands());
     // Code of its own for each kind of act, in the loop itself: so which replies there may be is known where their lines are put, and what
@@ -193,7 +193,7 @@ fn finish<A: Allocator, W: Write>(
     ensures delivered { OnOk result (is_delivered output.new ≡ true) }
     ensures failed { IsErrOf result CliFault.Write ↔ IsTrue (has_failed output.new) }
 {
-    verdicts.lines.give(output);
+    verdicts.lines.write_out(output);
     if output.failed() {
         return Err(CliFault::Write);
     }

@@ -3,25 +3,25 @@
 ghost use Rattle.std.specs.Prelude.{◌≡◌, ◌++◌, ◌∷◌, [], List};
 ghost use Rattle.model_histories.specs.declared.reply.Reply.{Reply as SpecReply};
 ghost use Rattle.judge_command.specs.Statuses.{status_of_replies};
-ghost use Rattle.judge_command.specs.Meetings.{HasMet};
+ghost use Rattle.judge_command.specs.StatusFlags.{HasMet};
 
 use race_gate::{Answer, GateFault, Reply};
 
 /// What the replies so far have among them, as far as the exit status tells it.
 #[derive(Clone, Copy, Debug)]
-pub struct Met {
+pub struct StatusFlags {
     memory: bool,
     limit: bool,
     illegal: bool,
     refusal: bool,
 }
 
-impl Met {
+impl StatusFlags {
     /// Before the first reply.
-    pub fn new() -> Met
+    pub fn new() -> StatusFlags
         ensures { HasMet [] result }
     {
-        Met {
+        StatusFlags {
             memory: false,
             limit: false,
             illegal: false,
@@ -31,7 +31,7 @@ impl Met {
 
     /// Sees one reply more.
     #[inline(always)]
-    pub fn meet(&mut self, reply: &Reply)
+    pub fn add_reply(&mut self, reply: &Reply)
         ensures { (replies : List SpecReply) → HasMet replies self.old → HasMet (replies ++ reply.now ∷ []) self.new }
     {
         match reply {
@@ -76,9 +76,9 @@ impl Met {
 pub fn status_of(replies: &[Reply]) -> u8
     ensures { result ≡ status_of_replies replies.now }
 {
-    let mut met = Met::new();
+    let mut met = StatusFlags::new();
     for reply in replies {
-        met.meet(reply);
+        met.add_reply(reply);
     }
     met.status()
 }

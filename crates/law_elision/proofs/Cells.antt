@@ -23,7 +23,7 @@ use Rattle.model_histories.specs.Entries.{Entries, control_part}
 use Rattle.model_histories.specs.Shapes.{Shape}
 use Rattle.model_histories.specs.Legal.{IsLegal, Belongs}
 use Rattle.model_races.specs.Accesses.{cell_access, is_granted, access_at, granted}
-use Rattle.model_races.specs.Memory.{effect, last_written, bumped_since, value_of, effects as effects_on_memory}
+use Rattle.model_races.specs.Memory.{effect, last_written, bumped_since, cell_value, effects as effects_on_memory}
 use Rattle.model_races.specs.Verdicts.{IsRefused, IfValue, IsRightVerdict, MemoryIsJudged}
 use Rattle.model_histories.specs.Extensions.{IsCleanAnswer, IsClean}
 use Rattle.model_programs.specs.Evaluation.{Effect}
@@ -289,7 +289,7 @@ value_bumped false value written since = refl
 
 value_next : (entries : Entries) (act : Act) (answer : Answer) (cell : ℕ) → Belongs act answer → IsCleanAnswer answer → IsNumbered act →
     (last_written (effect act answer ∷ effects_on_memory entries) cell + bumped_since (effect act answer ∷ effects_on_memory entries) cell) % 2 ^ 64 ≡
-    cell_after act cell (value_of entries cell)
+    cell_after act cell (cell_value entries cell)
 value_next entries (Act.Write x v) Granted cell b c n =
     value_written (x == cell) v (last_written (effects_on_memory entries) cell) (bumped_since (effects_on_memory entries) cell) n
 value_next entries (Act.Write x v) (Refused rule witness) cell b c n = absurd c
@@ -310,10 +310,10 @@ value_next entries (Act.Get x) answer cell b c n = refl
 -- the value that was answered
 
 read_now : (entries : Entries) (act : Act) (answer : Answer) (cell : ℕ) → Belongs act answer → IsCleanAnswer answer →
-    ((access : CellAccess) → cell_access act ≡ Some access → IfValue answer (λ value. value ≡ value_of entries access.location)) →
-    IsReadRight cell (value_of entries cell) act (value_given answer)
+    ((access : CellAccess) → cell_access act ≡ Some access → IfValue answer (λ value. value ≡ cell_value entries access.location)) →
+    IsReadRight cell (cell_value entries cell) act (value_given answer)
 read_now entries (Act.Read x) (Value v) cell b c f =
-    λ e. ap (λ n. Some n) (f (record { kind = kind.Read; location = x }) refl ∙ ap (value_of entries) e)
+    λ e. ap (λ n. Some n) (f (record { kind = kind.Read; location = x }) refl ∙ ap (cell_value entries) e)
 read_now entries (Act.Read x) (Refused rule witness) cell b c f = absurd c
 read_now entries (Act.Read x) _ cell b c f = absurd b
 read_now entries (Act.Write x v) answer cell b c f = tt
@@ -329,7 +329,7 @@ read_now entries (Act.Get x) answer cell b c f = tt
 -- in serial order the reads of a cell are right, and it holds in the end what the history leaves
 pub record IsCellRight (cell : ℕ) (entries : Entries) (list : List Placed) : Type 0 where
   pub reads_right : AreReadsRight cell 0 (placed_effects list)
-  pub leaves_value : held_after (placed_effects list) cell 0 ≡ value_of entries cell
+  pub leaves_value : held_after (placed_effects list) cell 0 ≡ cell_value entries cell
 
 abbrev CellRight : ℕ → Entries → List Placed → Type 0
 CellRight cell entries list = MemoryIsJudged entries → IsClean entries → AreNumbered entries → IsCellRight cell entries list
@@ -365,10 +365,10 @@ module _ (shape : Shape) (cell : ℕ) where
       before_right : AreReadsRight cell 0 (placed_effects front ++ placed_effects back)
       before_right = subst (AreReadsRight cell 0) (placed_append front back) before.reads_right
 
-      held_before : held_after (placed_effects back) cell held_there ≡ value_of entries cell
+      held_before : held_after (placed_effects back) cell held_there ≡ cell_value entries cell
       held_before = sym (held_parts (placed_effects front) (placed_effects back) cell 0) ∙ ap (λ l. held_after l cell 0) (sym (placed_append front back)) ∙ before.leaves_value
 
-      read_right : IsReadRight cell (value_of entries cell) entry.request.act (value_given entry.answer)
+      read_right : IsReadRight cell (cell_value entries cell) entry.request.act (value_given entry.answer)
       read_right = read_now entries entry.request.act entry.answer cell i.legal.1.belongs is_clean (λ access is. (verdict_now entry entries judged access is).value)
 
       p : Passes cell entry.request.act (value_given entry.answer) back

@@ -45,7 +45,7 @@ use Rattle.race_gate.proofs.Races.{legal-part}
 use Rattle.race_gate.proofs.Entering.{steps-control}
 use Rattle.model_accesses.specs.Reads.{ReducerRead}
 use Rattle.model_reducers.specs.declared.view.View.{View}
-use Rattle.model_reducers.specs.Products.{identity_of, update_view, put_view, product_of, number_of, reducer_of, monoid_of}
+use Rattle.model_reducers.specs.Products.{identity_of, update_view, put_view, product_of, view_number, reducer_of, monoid_of}
 use Rattle.reducer_views.specs.Products.{FitsMonoid}
 use Rattle.reducer_views.proofs.Associative.{monoid_law}
 use Rattle.model_runs.specs.Serial.{value_given, effect_of}
@@ -182,7 +182,7 @@ module _ (shape : Shape) (reducer : ℕ) where
       let t = put_placed reducer entries v.2.1.put v.2.1.last.0 in
       let n : g.number ≡ suc (length entries) = ap (λ z. z.number) q in
       let m = placed_number entries t.placed t.stands in
-      record { put = t.placed; stands = inr t.stands; written = value.value_of v.2.1.put; is_put = t.is_put; older = omega (arith, n, m) }
+      record { put = t.placed; stands = inr t.stands; written = value.entry_value v.2.1.put; is_put = t.is_put; older = omega (arith, n, m) }
 
   -- a get behind an update or a put has a put before it there
   shelter_now : (entry : Entry) (entries : Entries) (front back : List Placed) → Inserted shape entry entries front back → ReducersAreJudged shape (entry ∷ entries) → IsClean (entry ∷ entries) →
@@ -278,25 +278,25 @@ module _ (monoid : Monoid) (reducer : ℕ) where
   fits_update w act e n = ((monoid_law monoid).1 w (subst IsNumbered e n)).0
 
   more_fits : (y : Placed) (stretch : List Placed) → IsNumbered y.entry.request.act →
-      FitsMonoid monoid (product (reducer_of monoid) (map (λ u. update_view monoid (value.value_of u)) (updates_in reducer stretch))) → (r : Role reducer y.entry.request.act) →
-      FitsMonoid monoid (product (reducer_of monoid) (map (λ u. update_view monoid (value.value_of u)) (one_update reducer y r ++ updates_in reducer stretch)))
+      FitsMonoid monoid (product (reducer_of monoid) (map (λ u. update_view monoid (value.entry_value u)) (updates_in reducer stretch))) → (r : Role reducer y.entry.request.act) →
+      FitsMonoid monoid (product (reducer_of monoid) (map (λ u. update_view monoid (value.entry_value u)) (one_update reducer y r ++ updates_in reducer stretch)))
   more_fits y stretch n rest (updates v e) = (monoid_law monoid).0.closed (update_view monoid v) _ (fits_update v y.entry.request.act e n) rest
   more_fits y stretch n rest (puts v e) = rest
   more_fits y stretch n rest (gets e) = rest
   more_fits y stretch n rest (aside nu np ng) = rest
 
   product_fits : (stretch : List Placed) → ((y : Placed) → Present y stretch → IsNumbered y.entry.request.act) →
-      FitsMonoid monoid (product (reducer_of monoid) (map (λ u. update_view monoid (value.value_of u)) (updates_in reducer stretch)))
+      FitsMonoid monoid (product (reducer_of monoid) (map (λ u. update_view monoid (value.entry_value u)) (updates_in reducer stretch)))
   product_fits [] f = (monoid_law monoid).0.identity_fits
   product_fits (y ∷ stretch) f = more_fits y stretch (f y (inl refl)) (product_fits stretch (λ z p. f z (inr p))) (role reducer y.entry.request.act)
 
   by_role : (y : Placed) (stretch : List Placed) (view : View) → FitsMonoid monoid view → (r : Role reducer y.entry.request.act) →
       ((v : ℕ) → y.entry.request.act ≢ Act.Put reducer v) → IsNumbered y.entry.request.act →
-      FitsMonoid monoid (product (reducer_of monoid) (map (λ u. update_view monoid (value.value_of u)) (updates_in reducer stretch))) →
+      FitsMonoid monoid (product (reducer_of monoid) (map (λ u. update_view monoid (value.entry_value u)) (updates_in reducer stretch))) →
       ((other : View) → FitsMonoid monoid other → view_after_all monoid (placed_effects stretch) reducer other ≡
-      product_of monoid other (product (reducer_of monoid) (map (λ u. update_view monoid (value.value_of u)) (updates_in reducer stretch)))) →
+      product_of monoid other (product (reducer_of monoid) (map (λ u. update_view monoid (value.entry_value u)) (updates_in reducer stretch)))) →
       view_after_all monoid (placed_effects stretch) reducer (view_after monoid y.entry.request.act reducer view) ≡
-      product_of monoid view (product (reducer_of monoid) (map (λ u. update_view monoid (value.value_of u)) (one_update reducer y r ++ updates_in reducer stretch)))
+      product_of monoid view (product (reducer_of monoid) (map (λ u. update_view monoid (value.entry_value u)) (one_update reducer y r ++ updates_in reducer stretch)))
   by_role y stretch view fits (updates v e) none n rest f =
       let u = fits_update v y.entry.request.act e n in
       ap (view_after_all monoid (placed_effects stretch) reducer) (update_is monoid reducer y.entry.request.act v e view) ∙
@@ -311,7 +311,7 @@ module _ (monoid : Monoid) (reducer : ℕ) where
   stretch_view : (stretch : List Placed) → ((y : Placed) → Present y stretch → IsNumbered y.entry.request.act) →
       ((y : Placed) → Present y stretch → (v : ℕ) → y.entry.request.act ≢ Act.Put reducer v) → (view : View) → FitsMonoid monoid view →
       view_after_all monoid (placed_effects stretch) reducer view ≡
-      product_of monoid view (product (reducer_of monoid) (map (λ u. update_view monoid (value.value_of u)) (updates_in reducer stretch)))
+      product_of monoid view (product (reducer_of monoid) (map (λ u. update_view monoid (value.entry_value u)) (updates_in reducer stretch)))
   stretch_view [] f none view fits = sym ((monoid_law monoid).0.right_identity view fits)
   stretch_view (y ∷ stretch) f none view fits =
       by_role y stretch view fits (role reducer y.entry.request.act) (none y (inl refl)) (f y (inl refl)) (product_fits stretch (λ z p. f z (inr p)))
@@ -370,7 +370,7 @@ module _ (shape : Shape) (reducer : ℕ) (entry : Entry) (entries : Entries) (fr
     | inl q ↦ q
     | inr q ↦ absurd (not_parallel (control_part entries) before_legal the_put.placed.entry.request.strand entry.request.strand
         (strand_begun shape entries i.legal.0 the_put.placed the_put.stands) (inl i.legal.1.runs)
-        (branch_now shape reducer entry entries i.legal judged clean (inr is_get) the_put.placed the_put.stands (inl (value.value_of is_value.put, the_put.is_put)))
+        (branch_now shape reducer entry entries i.legal judged clean (inr is_get) the_put.placed the_put.stands (inl (value.entry_value is_value.put, the_put.is_put)))
         (i.parallel the_put.placed q))
   ]
 
@@ -405,11 +405,11 @@ module _ (shape : Shape) (reducer : ℕ) (entry : Entry) (entries : Entries) (fr
   no_puts y p v e = elim (compare y.number the_put.placed.number) [
     | inl lt ↦ earlier_once entries the_put.placed y (put_before_then y p) (reach_earlier shape entries i.legal.0 y the_put.placed ky the_put.stands lt
         (branch_reaches shape entries i.legal.0 y the_put.placed ky the_put.stands
-        (one_branch shape reducer entries i.legal.0 judged.0 before_clean y the_put.placed ky the_put.stands (inl (v, e)) (inl (value.value_of is_value.put, the_put.is_put))) lt))
+        (one_branch shape reducer entries i.legal.0 judged.0 before_clean y the_put.placed ky the_put.stands (inl (v, e)) (inl (value.entry_value is_value.put, the_put.is_put))) lt))
     | inr t ↦ elim t [
       | inl same ↦ never_earlier entries the_put.placed (subst (IsEarlier entries the_put.placed) (number_unique entries y the_put.placed ky the_put.stands same) (put_before_then y p))
       | inr gt ↦ (let last = is_value.last.1 (put_entry y.number y.entry.request.strand v) (placed_put shape reducer entries i.legal.0 before_clean y ky v e) in
-          let n = the_put.number_is in let m : y.number ≤ value.number_of is_value.put = last in omega (arith, gt, n, m))
+          let n = the_put.number_is in let m : y.number ≤ value.entry_number is_value.put = last in omega (arith, gt, n, m))
     ]
   ]
     where
@@ -420,7 +420,7 @@ module _ (shape : Shape) (reducer : ℕ) (entry : Entry) (entries : Entries) (fr
 
   same_branch : branch (control_part (entry ∷ entries)) the_put.placed.entry.request.strand ≡ branch (control_part (entry ∷ entries)) entry.request.strand
   same_branch = one_branch shape reducer (entry ∷ entries) i.legal judged clean the_put.placed (placed_at entries entry) (inr the_put.stands) (inl refl)
-      (inl (value.value_of is_value.put, the_put.is_put)) (inr is_get)
+      (inl (value.entry_value is_value.put, the_put.is_put)) (inr is_get)
 
   put_reaches_get : Reaches (control_part (entry ∷ entries)) the_put.placed.entry.request.strand entry.request.strand
   put_reaches_get =
@@ -455,7 +455,7 @@ module _ (shape : Shape) (reducer : ℕ) (entry : Entry) (entries : Entries) (fr
       older gt e (inl b) = never_earlier entries y (inl (subst (λ s. english_before (address (control_part entries) s) (address (control_part entries) y.entry.request.strand) ≡ true) e b))
       older gt e (inr t) = let k : the_put.placed.number < y.number = t.1 in omega (arith, gt, k)
 
-  same_control : item.control_part (items_of reducer (steps_of entries)) ≡ control_part entries
+  same_control : item.control_events (items_of reducer (steps_of entries)) ≡ control_part entries
   same_control = (projection_law reducer (steps_of entries)).0 ∙ steps-control entries
 
   to_counts : (u : value.Entry) → Present u (updates_in reducer part.back) → Counts (items_of reducer (steps_of entries)) is_value.put entry.request.strand u
@@ -489,15 +489,15 @@ module _ (shape : Shape) (reducer : ℕ) (entry : Entry) (entries : Entries) (fr
   from_counts u c =
       let t = update_placed reducer entries u c.0 in
       let strand_is : value.strand_of u ≡ t.placed.entry.request.strand = ap value.strand_of t.is in
-      let number_is : value.number_of u ≡ t.placed.number = ap value.number_of t.is in
-      let lt : the_put.placed.number < t.placed.number = subst (λ n. the_put.placed.number < n) number_is (subst (λ n. n < value.number_of u) (sym the_put.number_is) c.1) in
+      let number_is : value.entry_number u ≡ t.placed.number = ap value.entry_number t.is in
+      let lt : the_put.placed.number < t.placed.number = subst (λ n. the_put.placed.number < n) number_is (subst (λ n. n < value.entry_number u) (sym the_put.number_is) c.1) in
       let r : Reaches (control_part entries) the_put.placed.entry.request.strand t.placed.entry.request.strand =
       subst (λ s. Reaches (control_part entries) the_put.placed.entry.request.strand s) strand_is
       (subst (λ s. Reaches (control_part entries) s (value.strand_of u)) (sym the_put.strand_is) (subst (λ h. Reaches h (value.strand_of is_value.put) (value.strand_of u)) same_control c.2)) in
       let q : Reaches (control_part entries) t.placed.entry.request.strand entry.request.strand =
       subst (λ s. Reaches (control_part entries) s entry.request.strand) strand_is (subst (λ h. Reaches h (value.strand_of u) entry.request.strand) same_control c.3) in
       subst (λ z. Present z (updates_in reducer part.back)) (sym t.is)
-      (update_there reducer part.back t.placed (counts_there t.placed t.stands (value.value_of u) t.is_update lt r q) (value.value_of u) t.is_update)
+      (update_there reducer part.back t.placed (counts_there t.placed t.stands (value.entry_value u) t.is_update lt r q) (value.entry_value u) t.is_update)
 
   are_counted : AreCounted (items_of reducer (steps_of entries)) is_value.put entry.request.strand (updates_in reducer part.back)
   are_counted = (
@@ -524,14 +524,14 @@ module _ (shape : Shape) (reducer : ℕ) (entry : Entry) (entries : Entries) (fr
       let first = identity_of m in
       let before_numbers = All-tail (λ one. IsNumbered one.request.act) entry entries numbers in
       let put_number = placed_numbered entries before_numbers the_put.placed the_put.stands in
-      let fits : FitsMonoid m (put_view m (value.value_of is_value.put)) = ((monoid_law m).1 (value.value_of is_value.put) (subst IsNumbered the_put.is_put put_number)).1 in
+      let fits : FitsMonoid m (put_view m (value.entry_value is_value.put)) = ((monoid_law m).1 (value.entry_value is_value.put) (subst IsNumbered the_put.is_put put_number)).1 in
       ap (λ l. view_after_all m (placed_effects l) reducer first) part.is ∙
       ap (λ l. view_after_all m l reducer first) (placed_append part.front (the_put.placed ∷ part.back)) ∙
       views_parts m reducer (placed_effects part.front) (placed_effects (the_put.placed ∷ part.back)) first ∙
       ap (view_after_all m (placed_effects part.back) reducer)
-      (put_is m reducer the_put.placed.entry.request.act (value.value_of is_value.put) the_put.is_put (view_after_all m (placed_effects part.front) reducer first)) ∙
-      stretch_view m reducer part.back (λ y p. placed_numbered entries before_numbers y (known y (in_front y p))) no_puts (put_view m (value.value_of is_value.put)) fits ∙
-      ap (λ us. product_of m (put_view m (value.value_of is_value.put)) (product (reducer_of m) (map (λ u. update_view m (value.value_of u)) us))) the_updates ∙
+      (put_is m reducer the_put.placed.entry.request.act (value.entry_value is_value.put) the_put.is_put (view_after_all m (placed_effects part.front) reducer first)) ∙
+      stretch_view m reducer part.back (λ y p. placed_numbered entries before_numbers y (known y (in_front y p))) no_puts (put_view m (value.entry_value is_value.put)) fits ∙
+      ap (λ us. product_of m (put_view m (value.entry_value is_value.put)) (product (reducer_of m) (map (λ u. update_view m (value.entry_value u)) us))) the_updates ∙
       sym is_value.combined
 
 -- the gets of a reducer are right in serial order
@@ -574,7 +574,7 @@ module _ (shape : Shape) (reducer : ℕ) where
       got_right e =
           let v = value_now shape reducer entry entries e i.legal judged clean in
           let same = view_there shape reducer entry entries front back i judged clean numbers e v.2.0 v.2.1 in
-          let number : number_of here ≡ Some v.0 = ap number_of same ∙ v.2.2 in
+          let number : view_number here ≡ Some v.0 = ap view_number same ∙ v.2.2 in
           subst (λ a. IsGetRight reducer here a (value_given entry.answer)) (sym e)
           (λ k. v.1 ∙ ap (λ o. Some (unwrap_or o 0)) (sym number))
 

@@ -190,38 +190,38 @@ items_length reducer (entry ∷ entries) = ap suc (items_length reducer entries)
 
 put_item : (reducer : ℕ) (found : Option Event) (strand : ℕ) (act : Act) (answer : Answer) (items : Items) (e : value.Entry) →
     HasPut (item_of reducer (step_with found strand act answer) ∷ items) e →
-    ((act ≡ Act.Put reducer (value.value_of e)) × (strand ≡ value.strand_of e) × (value.number_of e ≡ suc (length items))) ⊎ HasPut items e
+    ((act ≡ Act.Put reducer (value.entry_value e)) × (strand ≡ value.strand_of e) × (value.entry_number e ≡ suc (length items))) ⊎ HasPut items e
 put_item reducer (Some event) strand act answer items e h = inr h
 put_item reducer None strand (Act.Put asked v) Granted items e h =
-    item_cases (λ i. HasPut (i ∷ items) e → ((Act.Put asked v ≡ Act.Put reducer (value.value_of e)) × (strand ≡ value.strand_of e) × (value.number_of e ≡ suc (length items))) ⊎ HasPut items e)
+    item_cases (λ i. HasPut (i ∷ items) e → ((Act.Put asked v ≡ Act.Put reducer (value.entry_value e)) × (strand ≡ value.strand_of e) × (value.entry_number e ≡ suc (length items))) ⊎ HasPut items e)
     asked reducer (item.put strand v) (item.other strand)
     (λ same t. elim t [
-      | inl k ↦ inl (ap (λ r. Act.Put r v) same ∙ ap (λ w. Act.Put reducer (value.value_of w)) (sym k), ap value.strand_of (sym k), ap value.number_of k)
+      | inl k ↦ inl (ap (λ r. Act.Put r v) same ∙ ap (λ w. Act.Put reducer (value.entry_value w)) (sym k), ap value.strand_of (sym k), ap value.entry_number k)
       | inr r ↦ inr r
     ])
     (λ ne t. inr t) h
 put_item reducer None strand (Act.Update asked v) Granted items e h =
-    item_cases (λ i. HasPut (i ∷ items) e → ((Act.Update asked v ≡ Act.Put reducer (value.value_of e)) × (strand ≡ value.strand_of e) × (value.number_of e ≡ suc (length items))) ⊎ HasPut items e)
+    item_cases (λ i. HasPut (i ∷ items) e → ((Act.Update asked v ≡ Act.Put reducer (value.entry_value e)) × (strand ≡ value.strand_of e) × (value.entry_number e ≡ suc (length items))) ⊎ HasPut items e)
     asked reducer (item.update strand v) (item.other strand) (λ same t. inr t) (λ ne t. inr t) h
 put_item reducer None strand act answer items e h = inr h
 
 update_item : (reducer : ℕ) (found : Option Event) (strand : ℕ) (act : Act) (answer : Answer) (items : Items) (e : value.Entry) →
     HasUpdate (item_of reducer (step_with found strand act answer) ∷ items) e →
-    ((act ≡ Act.Update reducer (value.value_of e)) × (e ≡ update_entry (suc (length items)) strand (value.value_of e))) ⊎ HasUpdate items e
+    ((act ≡ Act.Update reducer (value.entry_value e)) × (e ≡ update_entry (suc (length items)) strand (value.entry_value e))) ⊎ HasUpdate items e
 update_item reducer (Some event) strand act answer items e h = inr h
 update_item reducer None strand (Act.Update asked v) Granted items e h =
-    item_cases (λ i. HasUpdate (i ∷ items) e → ((Act.Update asked v ≡ Act.Update reducer (value.value_of e)) × (e ≡ update_entry (suc (length items)) strand (value.value_of e))) ⊎ HasUpdate items e)
+    item_cases (λ i. HasUpdate (i ∷ items) e → ((Act.Update asked v ≡ Act.Update reducer (value.entry_value e)) × (e ≡ update_entry (suc (length items)) strand (value.entry_value e))) ⊎ HasUpdate items e)
     asked reducer (item.update strand v) (item.other strand)
     (λ same t. elim t [
       | inl k ↦ inl (
-        ap (λ r. Act.Update r v) same ∙ ap (λ w. Act.Update reducer (value.value_of w)) (sym k),
-        k ∙ ap (λ w. update_entry (suc (length items)) strand (value.value_of w)) (sym k),
+        ap (λ r. Act.Update r v) same ∙ ap (λ w. Act.Update reducer (value.entry_value w)) (sym k),
+        k ∙ ap (λ w. update_entry (suc (length items)) strand (value.entry_value w)) (sym k),
       )
       | inr r ↦ inr r
     ])
     (λ ne t. inr t) h
 update_item reducer None strand (Act.Put asked v) Granted items e h =
-    item_cases (λ i. HasUpdate (i ∷ items) e → ((Act.Put asked v ≡ Act.Update reducer (value.value_of e)) × (e ≡ update_entry (suc (length items)) strand (value.value_of e))) ⊎ HasUpdate items e)
+    item_cases (λ i. HasUpdate (i ∷ items) e → ((Act.Put asked v ≡ Act.Update reducer (value.entry_value e)) × (e ≡ update_entry (suc (length items)) strand (value.entry_value e))) ⊎ HasUpdate items e)
     asked reducer (item.put strand v) (item.other strand) (λ same t. inr t) (λ ne t. inr t) h
 update_item reducer None strand act answer items e h = inr h
 
@@ -230,9 +230,9 @@ update_item reducer None strand act answer items e h = inr h
 pub record IsPutAt (reducer : ℕ) (entries : Entries) (e : value.Entry) : Type 0 where
   pub placed : Placed
   pub stands : IsPlaced entries placed
-  pub is_put : placed.entry.request.act ≡ Act.Put reducer (value.value_of e)
+  pub is_put : placed.entry.request.act ≡ Act.Put reducer (value.entry_value e)
   pub strand_is : placed.entry.request.strand ≡ value.strand_of e
-  pub number_is : placed.number ≡ value.number_of e
+  pub number_is : placed.number ≡ value.entry_number e
 
 pub put_placed : (reducer : ℕ) (entries : Entries) (e : value.Entry) → HasPut (items_of reducer (steps_of entries)) e → IsPutAt reducer entries e
 put_placed reducer [] e h = absurd h
@@ -249,8 +249,8 @@ update_of y written = update_entry y.number y.entry.request.strand written
 pub record IsUpdateAt (reducer : ℕ) (entries : Entries) (e : value.Entry) : Type 0 where
   pub placed : Placed
   pub stands : IsPlaced entries placed
-  pub is_update : placed.entry.request.act ≡ Act.Update reducer (value.value_of e)
-  pub is : e ≡ update_of placed (value.value_of e)
+  pub is_update : placed.entry.request.act ≡ Act.Update reducer (value.entry_value e)
+  pub is : e ≡ update_of placed (value.entry_value e)
 
 pub update_placed : (reducer : ℕ) (entries : Entries) (e : value.Entry) → HasUpdate (items_of reducer (steps_of entries)) e → IsUpdateAt reducer entries e
 update_placed reducer [] e h = absurd h
@@ -260,7 +260,7 @@ update_placed reducer (entry ∷ entries) e h =
         placed = placed_at entries entry;
         stands = inl refl;
         is_update = t.0;
-        is = t.1 ∙ ap (λ n. update_entry (suc n) entry.request.strand (value.value_of e)) (items_length reducer entries);
+        is = t.1 ∙ ap (λ n. update_entry (suc n) entry.request.strand (value.entry_value e)) (items_length reducer entries);
       }
       | inr k ↦ (let t = update_placed reducer entries e k in record { placed = t.placed; stands = inr t.stands; is_update = t.is_update; is = t.is })
     ]

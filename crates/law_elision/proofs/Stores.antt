@@ -8,7 +8,7 @@ use Rattle.law_strands.proofs.Updates.{same_or_not}
 use Rattle.model_histories.specs.Shapes.{Shape, IsInRange}
 use Rattle.model_reducers.specs.declared.view.View.{View}
 use Rattle.model_reducers.specs.declared.view.View.TheVariants.{Nothing}
-use Rattle.model_reducers.specs.Products.{update_view, put_view, product_of, number_of, monoid_of}
+use Rattle.model_reducers.specs.Products.{update_view, put_view, product_of, view_number, monoid_of}
 use Rattle.model_programs.specs.Evaluation.{Effect, Store, view_at}
 use Rattle.law_elision.specs.Expansions.{after_act, after_all, IsRightAt, AreRight}
 use Rattle.law_elision.proofs.Cells.{cell_after, held_after, IsReadRight, AreReadsRight, this_cell, other_cell}
@@ -25,7 +25,7 @@ view_after_all monoid (one ∷ effects) reducer view = view_after_all monoid eff
 
 -- a get of the reducer is given the number of its view
 abbrev pub IsGetRight : ℕ → View → Act → Option ℕ → Type 0
-IsGetRight reducer view (Act.Get asked) value = asked ≡ reducer → value ≡ Some (unwrap_or (number_of view) 0)
+IsGetRight reducer view (Act.Get asked) value = asked ≡ reducer → value ≡ Some (unwrap_or (view_number view) 0)
 IsGetRight reducer view act value = Unit {0}
 
 abbrev pub AreGetsRight : Monoid → ℕ → View → List Effect → Type 0

@@ -11,7 +11,7 @@ use Rattle.model_histories.specs.declared.answer.Answer.TheVariants.{Granted, Re
 use Rattle.model_histories.specs.Entries.{Entries}
 use Rattle.model_histories.specs.Shapes.{Shape}
 use Rattle.model_histories.specs.Legal.{Belongs, IsLegal}
-use Rattle.model_races.specs.Memory.{Effect, sets, adds, leaves, effect, effects, last_written, bumped_since, value_of}
+use Rattle.model_races.specs.Memory.{CellEffect, sets, adds, leaves, effect, effects, last_written, bumped_since, cell_value}
 use Rattle.model_races.specs.Verdicts.{MemoryIsJudged}
 use Rattle.model_histories.specs.Extensions.{IsCleanAnswer}
 use Rattle.law_interleavings.specs.Traces.{Notes, Item, trace, Precedes}
@@ -58,13 +58,13 @@ kept_paired test R (x ∷ xs) p = go (kept_paired test R xs p.1) (test x)
 -- ---- effects on a cell
 
 -- what a cell holds after an effect, by what it held before
-abbrev after : Effect → ℕ → ℕ → ℕ
+abbrev after : CellEffect → ℕ → ℕ → ℕ
 after (sets location value) cell held = if location == cell then value % 2 ^ 64 else held
 after (adds location value) cell held = if location == cell then (held + value) % 2 ^ 64 else held
 after leaves cell held = held
 
 -- what an act does to memory where it is granted
-abbrev cell_effect : Act → Effect
+abbrev cell_effect : Act → CellEffect
 cell_effect (Write location value) = sets location value
 cell_effect (Bump location value) = adds location value
 cell_effect act = leaves
@@ -90,7 +90,7 @@ clean_effect (Bump l v) (Refused rule w) b c = absurd c
 clean_effect (Bump l v) _ b c = absurd b
 clean_effect _ answer b c = refl
 
-abbrev held : List Effect → ℕ → ℕ
+abbrev held : List CellEffect → ℕ → ℕ
 held before cell = (last_written before cell + bumped_since before cell) % 2 ^ 64
 
 added : (written value since size : ℕ) → (written + (value + since)) % size ≡ ((written + since) % size + value) % size
@@ -98,7 +98,7 @@ added written value since size =
     let same : written + (value + since) ≡ (written + since) + value = omega arith in
     ap (λ n. n % size) same ∙ sym (mod-add-mod (written + since) size value)
 
-held_after : (one : Effect) (before : List Effect) (cell : ℕ) → held (one ∷ before) cell ≡ after one cell (held before cell)
+held_after : (one : CellEffect) (before : List CellEffect) (cell : ℕ) → held (one ∷ before) cell ≡ after one cell (held before cell)
 held_after (sets location value) before cell =
     let written = last_written before cell in
     let since = bumped_since before cell in
@@ -215,11 +215,11 @@ conflict_or_swap c one other e f = go (touch c one e) (touch c other f)
         (subst (λ b. after (adds c v) c (after (cell_effect b) c s) ≡ after (cell_effect b) c (after (adds c v) c s)) (sym q) (bumps_commute c v w s)))
 
 module _ {Note : Type 0} (shape : Shape) where
-  cell_state : (T : Notes Note) (H : Entries) → IsLegal shape H → NoneRefused H → (cell : ℕ) → value_of H cell ≡ after_all (acts_on cell) 0 (trace T H)
+  cell_state : (T : Notes Note) (H : Entries) → IsLegal shape H → NoneRefused H → (cell : ℕ) → cell_value H cell ≡ after_all (acts_on cell) 0 (trace T H)
   cell_state T [] l c cell = refl
   cell_state T (e ∷ H) l c cell =
       held_after (effect e.request.act e.answer) (effects H) cell
-      ∙ ap (λ one. after one cell (value_of H cell)) (clean_effect e.request.act e.answer l.1.belongs c.0)
+      ∙ ap (λ one. after one cell (cell_value H cell)) (clean_effect e.request.act e.answer l.1.belongs c.0)
       ∙ ap (after (cell_effect e.request.act) cell) (cell_state T H l.0 c.1 cell)
 
   -- the deeds that touch a cell may be swapped, or one precedes the other
@@ -245,7 +245,7 @@ module _ {Note : Type 0} (shape : Shape) where
       IsLegal shape H → NoneRefused H → IsLegal shape K → NoneRefused K → (cell : ℕ) →
       ((x : Item Note) → Member (trace mine H) x → touching cell x ≡ true → Member (trace T R) x × Member (trace theirs K) x) →
       ((x : Item Note) → Member (trace theirs K) x → touching cell x ≡ true → Member (trace mine H) x) →
-      value_of H cell ≡ value_of K cell
+      cell_value H cell ≡ cell_value K cell
   same_cell T R r j rc mine theirs H K l c k d cell to back =
       let mine_kept = kept (touching cell) (trace mine H) in
       let their_kept = kept (touching cell) (trace theirs K) in

@@ -22,7 +22,7 @@ use Rattle.model_histories.specs.Extensions.{IsClean, IsCleanAnswer}
 use Rattle.model_races.specs.declared.access.CellAccess.{CellAccess}
 use Rattle.model_races.specs.Accesses.{granted}
 use Rattle.model_races.specs.Races.{HasRace}
-use Rattle.model_races.specs.Memory.{value_of}
+use Rattle.model_races.specs.Memory.{cell_value}
 use Rattle.model_races.specs.Verdicts.{IsRightVerdict}
 use Rattle.model_races.specs.Judged.{IsJudged}
 use Rattle.law_interleavings.specs.Asked.{AsksNoMore}
@@ -54,7 +54,7 @@ module _ (entries : Entries) (strand : ℕ) (new : CellAccess) where
     write_granted : IsRightVerdict entries strand new Granted
     write_granted = record { refused = ((λ t. absurd t), (λ race. absurd (free race))); witness = tt; value = tt }
 
-    read_granted : (value : ℕ) → value ≡ value_of entries new.location → IsRightVerdict entries strand new (Value value)
+    read_granted : (value : ℕ) → value ≡ cell_value entries new.location → IsRightVerdict entries strand new (Value value)
     read_granted value is = record { refused = ((λ t. absurd t), (λ race. absurd (free race))); witness = tt; value = is }
 
 -- ---- what may come

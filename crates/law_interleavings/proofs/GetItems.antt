@@ -14,9 +14,9 @@ use Rattle.model_strands.specs.SerialOrder.{IsSeriallyBefore}
 use Rattle.law_strands.proofs.Law.{reach_precedes, precedes_reach}
 use Rattle.law_strands.proofs.Orders.{serial_law}
 use Rattle.law_strands.proofs.Members.{Present, present_map, map_present, contains_present, pairs_map}
-use Rattle.model_reducers.specs.Items.{control_part as items_control}
+use Rattle.model_reducers.specs.Items.{control_events as items_control}
 use Rattle.model_reducers.specs.Steps.{items_of}
-use Rattle.model_reducers.specs.Entries.{Entry as NumberedEntry, number_of, strand_of, value_of, AreInSerialOrder}
+use Rattle.model_reducers.specs.Entries.{Entry as NumberedEntry, entry_number, strand_of, entry_value, AreInSerialOrder}
 use Rattle.model_reducers.specs.Views.{Reducer, product}
 use Rattle.model_reducers.specs.GetValues.{Counts, IsValue}
 use Rattle.law_values.proofs.Accesses.{projection_law}
@@ -115,10 +115,10 @@ module _ {Note : Type 0} (shape : Shape) (T : Notes Note) where
     p = deed_of_change shape T putting r H l c is.put is.last.0
 
     p_done : Member (trace T H) p.deed
-    p_done = number_member shape T H (number_of is.put) p.deed p.numbered
+    p_done = number_member shape T H (entry_number is.put) p.deed p.numbered
 
     abbrev the_item : NumberedEntry → Item Note
-    the_item u = item_no H (number_of u)
+    the_item u = item_no H (entry_number u)
 
     counts_of : (u : NumberedEntry) → Present u is.counted → Counts (items_of r (steps_of H)) is.put s u
     counts_of u m = (is.counts.1 u).0 ((contains_present u is.counted).1 m)
@@ -126,11 +126,11 @@ module _ {Note : Type 0} (shape : Shape) (T : Notes Note) where
     deed_is : (u : NumberedEntry) → Present u is.counted → Deed shape T updating r H u
     deed_is u m = deed_of_change shape T updating r H l c u (counts_of u m).0
 
-    deed_at : (u : NumberedEntry) (m : Present u is.counted) → item_no H (number_of u) ≡ (deed_is u m).deed
-    deed_at u m = item_no_is H (number_of u) (deed_is u m).deed (deed_is u m).numbered
+    deed_at : (u : NumberedEntry) (m : Present u is.counted) → item_no H (entry_number u) ≡ (deed_is u m).deed
+    deed_at u m = item_no_is H (entry_number u) (deed_is u m).deed (deed_is u m).numbered
 
     in_order : (u v : NumberedEntry) → (m : Present u is.counted) → (n : Present v is.counted) → AreInSerialOrder (items_control (items_of r (steps_of H))) u v →
-        Serially (item_no H (number_of u)) (item_no H (number_of v))
+        Serially (item_no H (entry_number u)) (item_no H (entry_number v))
     in_order u v m n o = subst₂ Serially (sym (deed_at u m)) (sym (deed_at v n)) (go o)
       where
         d : Deed shape T updating r H u
@@ -146,10 +146,10 @@ module _ {Note : Type 0} (shape : Shape) (T : Notes Note) where
             inl (subst₂ (λ a b. english_before a b ≡ true) (sym d.at) (sym e.at) t)
         go (inr k) =
             let q = d.at ∙ ap (address (control_part H)) k.0 ∙ sym e.at in
-            inr (q, earlier_less H l (number_of u) (number_of v) d.deed e.deed d.numbered e.numbered k.1 q)
+            inr (q, earlier_less H l (entry_number u) (entry_number v) d.deed e.deed d.numbered e.numbered k.1 q)
 
     put_not_update : (y : Item Note) (v : ℕ) → y.newest.act ≡ Update r v → p.deed ≢ y
-    put_not_update y v q e = let k : Put r (value_of is.put) ≡ Update r v = sym p.act ∙ ap (λ z. z.newest.act) e ∙ q in cc
+    put_not_update y v q e = let k : Put r (entry_value is.put) ≡ Update r v = sym p.act ∙ ap (λ z. z.newest.act) e ∙ q in cc
 
     counted_to : (u : NumberedEntry) → (m : Present u is.counted) → IsCounted r H p.deed (address (control_part H) s) (deed_is u m).deed
     counted_to u m =
@@ -157,16 +157,16 @@ module _ {Note : Type 0} (shape : Shape) (T : Notes Note) where
         let k = counts_of u m in
         let h = control_part H in
         let lh = legal_part shape H l in
-        let done = number_member shape T H (number_of u) d.deed d.numbered in
+        let done = number_member shape T H (entry_number u) d.deed d.numbered in
         let from_put = reach_precedes h lh (strand_of is.put) (strand_of u) (subst (λ z. Reaches z (strand_of is.put) (strand_of u)) same_control k.2) in
         let to_own = reach_precedes h lh (strand_of u) s (subst (λ z. Reaches z (strand_of u) s) same_control k.3) in
         let leads : reaches (place p.deed) (place d.deed) ≡ true = subst₂ (λ a b. reaches a b ≡ true) (sym p.at) (sym d.at) from_put in
         let first : Precedes p.deed d.deed =
-        elim (order_of shape T H l p.deed d.deed p_done done (put_not_update d.deed (value_of u) d.act) leads) [
+        elim (order_of shape T H l p.deed d.deed p_done done (put_not_update d.deed (entry_value u) d.act) leads) [
           | inl t ↦ t
-          | inr t ↦ absurd (let lt = precedes_number shape T H l (number_of u) (number_of is.put) d.deed p.deed d.numbered p.numbered t in let gt = k.1 in omega arith)
+          | inr t ↦ absurd (let lt = precedes_number shape T H l (entry_number u) (entry_number is.put) d.deed p.deed d.numbered p.numbered t in let gt = k.1 in omega arith)
         ] in
-        (done, (value_of u, d.act), first, subst (λ a. reaches a (address h s) ≡ true) (sym d.at) to_own)
+        (done, (entry_value u, d.act), first, subst (λ a. reaches a (address h s) ≡ true) (sym d.at) to_own)
 
     members_to : (y : Item Note) → Present y (map the_item is.counted) → IsCounted r H p.deed (address (control_part H) s) y
     members_to y m =
@@ -178,7 +178,7 @@ module _ {Note : Type 0} (shape : Shape) (T : Notes Note) where
         let d = change_of_deed shape T updating r m.1.0 H l c y m.0 m.1.1 in
         let h = control_part H in
         let lh = legal_part shape H l in
-        let lt = precedes_number shape T H l (number_of is.put) (number_of d.entry) p.deed y p.numbered d.numbered m.2 in
+        let lt = precedes_number shape T H l (entry_number is.put) (entry_number d.entry) p.deed y p.numbered d.numbered m.2 in
         let leads = precedes_leads shape T H l p.deed y p_done m.0 m.2 in
         let from_put = precedes_reach h lh (strand_of is.put) (strand_of d.entry) p.begun d.begun
         (subst₂ (λ a b. reaches a b ≡ true) p.at (sym d.at) leads) in
@@ -190,20 +190,20 @@ module _ {Note : Type 0} (shape : Shape) (T : Notes Note) where
           subst (λ z. Reaches z (strand_of d.entry) s) (sym same_control) to_own,
         ) in
         let listed = (contains_present d.entry is.counted).0 ((is.counts.1 d.entry).1 counts) in
-        subst (λ z. Present z (map the_item is.counted)) (item_no_is H (number_of d.entry) y d.numbered) (map_present the_item d.entry is.counted listed)
+        subst (λ z. Present z (map the_item is.counted)) (item_no_is H (entry_number d.entry) y d.numbered) (map_present the_item d.entry is.counted listed)
 
     last_of : (z : Item Note) → Member (trace T H) z → (w : ℕ) → z.newest.act ≡ Put r w → (z ≡ p.deed) ⊎ ((z ≢ p.deed) × (Precedes p.deed z → ⊥))
     last_of z m w q =
         let d = change_of_deed shape T putting r w H l c z m q in
         let le = is.last.1 d.entry d.has in
-        elim (less_more (number_of d.entry) (number_of is.put)) [
+        elim (less_more (entry_number d.entry) (entry_number is.put)) [
           | inl lt ↦ inr (
-            (λ e. by_number shape T (λ a b. a ≢ b) H (distinct shape T H l) (number_of d.entry) (number_of is.put) z p.deed d.numbered p.numbered lt (sym e)),
-            by_number shape T (λ later earlier. Precedes later earlier → ⊥) H (ordered shape T H l) (number_of d.entry) (number_of is.put) z p.deed d.numbered p.numbered lt,
+            (λ e. by_number shape T (λ a b. a ≢ b) H (distinct shape T H l) (entry_number d.entry) (entry_number is.put) z p.deed d.numbered p.numbered lt (sym e)),
+            by_number shape T (λ later earlier. Precedes later earlier → ⊥) H (ordered shape T H l) (entry_number d.entry) (entry_number is.put) z p.deed d.numbered p.numbered lt,
           )
           | inr t ↦ elim t [
             | inl gt ↦ absurd (omega (arith, le, gt))
-            | inr e ↦ inl (one_item shape T H (number_of is.put) z p.deed (subst (λ k. HasNumber shape T H k z) e d.numbered) p.numbered)
+            | inr e ↦ inl (one_item shape T H (entry_number is.put) z p.deed (subst (λ k. HasNumber shape T H k z) e d.numbered) p.numbered)
           ]
         ]
 
@@ -212,13 +212,13 @@ module _ {Note : Type 0} (shape : Shape) (T : Notes Note) where
         record {
           put = p.deed;
           put_done = p_done;
-          put_value = value_of is.put;
+          put_value = entry_value is.put;
           put_act = p.act;
           last = last_of;
           counted = map the_item is.counted;
           sorted = pairs_map (AreInSerialOrder (items_control (items_of r (steps_of H)))) Serially the_item is.counted (λ u v m n o. in_order u v m n o) is.counts.0;
           members = λ y. (members_to y, members_from y);
-          view_is = is.combined ∙ ap (λ zs. reducer.combine (reducer.of_put (value_of is.put)) (product reducer zs))
-              (map_alike the_item (λ y. reducer.of_update (amount y.newest.act)) (λ u. reducer.of_update (value_of u)) is.counted
+          view_is = is.combined ∙ ap (λ zs. reducer.combine (reducer.of_put (entry_value is.put)) (product reducer zs))
+              (map_alike the_item (λ y. reducer.of_update (amount y.newest.act)) (λ u. reducer.of_update (entry_value u)) is.counted
               (λ u m. ap (λ v. reducer.of_update v) (sym (ap amount (ap (λ z. z.newest.act) (deed_at u m) ∙ (deed_is u m).act)))));
         }

@@ -7,7 +7,7 @@ use Rattle.model_strands.specs.Addresses.{address}
 use Rattle.law_strands.proofs.Branches.{branch_law, branch_address_law}
 use Rattle.model_reducers.specs.Views.{product}
 use Rattle.law_values.proofs.Lists.{same_members}
-use Rattle.model_reducers.specs.Products.{reducer_of, number_of, monoid_of}
+use Rattle.model_reducers.specs.Products.{reducer_of, view_number, monoid_of}
 use Rattle.model_histories.specs.declared.answer.Answer.{Answer}
 use Rattle.model_histories.specs.declared.answer.Answer.TheVariants.{Value, Refused, Unset}
 use Rattle.model_histories.specs.declared.answer.Entry.{Entry}
@@ -246,7 +246,7 @@ module _ {Note : Type 0} (shape : Shape) (mine T : Notes Note) (meeting : Meetin
 
       get_like : IsLike meeting.next.answer meeting.entry.answer
       get_like =
-          let same : Some found.value ≡ Some model.value = sym found_value.2 ∙ ap number_of views_same ∙ model_value.2 in
+          let same : Some found.value ≡ Some model.value = sym found_value.2 ∙ ap view_number views_same ∙ model_value.2 in
           (get_clean, ap value_given found.is ∙ same ∙ sym (ap value_given model.is))
 
   pub read_like : IsRead meeting.next.request.act → IsLike meeting.next.answer meeting.entry.answer

@@ -9,7 +9,7 @@ use Rattle.model_strands.specs.Addresses.{address}
 use Rattle.model_reducers.specs.Items as one
 use Rattle.model_reducers.specs.Items.{Item as ReducerItem, Items}
 use Rattle.model_reducers.specs.Steps.{items_of, item_of as seen_by}
-use Rattle.model_reducers.specs.Entries.{Entry as NumberedEntry, update_entry, put_entry, number_of, strand_of, value_of, HasUpdate, HasPut}
+use Rattle.model_reducers.specs.Entries.{Entry as NumberedEntry, update_entry, put_entry, entry_number, strand_of, entry_value, HasUpdate, HasPut}
 use Rattle.law_values.proofs.Accesses.{item_cases}
 use Rattle.model_histories.specs.declared.answer.Answer.{Answer}
 use Rattle.model_histories.specs.declared.answer.Answer.TheVariants.{Split, Same, Joined, Waits, Resumed, Ended, EndedJoined, Finished, Granted, Refused}
@@ -80,7 +80,7 @@ has_before putting putting items s v u h = inr h
 
 -- what an entry of a change tells
 entry_tells : (change : Change) (number strand value : ℕ) → let u = entry_changing change number strand value in
-    (number_of u ≡ number) × (strand_of u ≡ strand) × (value_of u ≡ value)
+    (entry_number u ≡ number) × (strand_of u ≡ strand) × (entry_value u ≡ value)
 entry_tells updating n s v = (refl, refl, refl)
 entry_tells putting n s v = (refl, refl, refl)
 
@@ -187,8 +187,8 @@ module _ {Note : Type 0} (shape : Shape) (T : Notes Note) where
   -- the deed of a change
   pub record Deed (change : Change) (reducer : ℕ) (H : Entries) (u : NumberedEntry) : Type 0 where
     pub deed : Item Note
-    pub numbered : HasNumber H (number_of u) deed
-    pub act : deed.newest.act ≡ changing change reducer (value_of u)
+    pub numbered : HasNumber H (entry_number u) deed
+    pub act : deed.newest.act ≡ changing change reducer (entry_value u)
     pub at : place deed ≡ address (control_part H) (strand_of u)
     pub begun : Begun (control_part H) (strand_of u)
 
@@ -233,8 +233,8 @@ module _ {Note : Type 0} (shape : Shape) (T : Notes Note) where
   pub record DeedChange (change : Change) (reducer value : ℕ) (H : Entries) (y : Item Note) : Type 0 where
     pub entry : NumberedEntry
     pub has : HasChange change (items_of reducer (steps_of H)) entry
-    pub numbered : HasNumber H (number_of entry) y
-    pub value_is : value_of entry ≡ value
+    pub numbered : HasNumber H (entry_number entry) y
+    pub value_is : entry_value entry ≡ value
     pub at : address (control_part H) (strand_of entry) ≡ place y
     pub begun : Begun (control_part H) (strand_of entry)
 

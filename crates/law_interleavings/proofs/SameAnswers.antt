@@ -13,7 +13,7 @@ use Rattle.model_histories.specs.Entries.{Entries}
 use Rattle.model_histories.specs.Shapes.{Shape}
 use Rattle.model_histories.specs.Legal.{Belongs}
 use Rattle.model_races.specs.Accesses.{cell_access}
-use Rattle.model_races.specs.Memory.{value_of}
+use Rattle.model_races.specs.Memory.{cell_value}
 use Rattle.model_races.specs.Verdicts.{IsRefused, IfValue, IsRightVerdict, MemoryIsJudged}
 use Rattle.model_races.specs.Judged.{IsJudged}
 use Rattle.model_histories.specs.Extensions.{IsCleanAnswer}
@@ -157,7 +157,7 @@ module _ {Note : Type 0} (shape : Shape) (mine T : Notes Note) (meeting : Meetin
       (access_set meeting.next.request.act meeting.next.answer cell meeting.part_legal.1.belongs is)
 
   -- the cell that is read holds the same
-  same_held : (cell : ℕ) → meeting.entry.request.act ≡ Read cell → value_of meeting.part cell ≡ value_of meeting.before cell
+  same_held : (cell : ℕ) → meeting.entry.request.act ≡ Read cell → cell_value meeting.part cell ≡ cell_value meeting.before cell
   same_held cell is =
       same_cell shape T (meeting.later ++ meeting.entry ∷ meeting.before) meeting.whole_legal whole_judged.memory whole_clean mine T meeting.part meeting.before
       meeting.part_legal.0 clean (then_legal shape mine T meeting).0 then_clean_here.1 cell
@@ -170,11 +170,11 @@ module _ {Note : Type 0} (shape : Shape) (mine T : Notes Note) (meeting : Meetin
       reads y t = conflict_of y.newest.act meeting.entry.request.act y.newest.act (Read cell) refl is (read_conflict cell y.newest.act t)
 
   value_then : (entries : Entries) (entry : Entry) (cell value : ℕ) → MemoryIsJudged (entry ∷ entries) → entry.request.act ≡ Read cell → entry.answer ≡ Value value →
-      value ≡ value_of entries cell
+      value ≡ cell_value entries cell
   value_then K e cell value j is a =
       let right : IsRightVerdict K e.request.strand (record { kind = kind.Read; location = cell }) e.answer =
       subst (λ o. MatchOption o (Unit {0}) (λ one. IsRightVerdict K e.request.strand one e.answer)) (ap cell_access is) j.1 in
-      subst (λ o. IfValue o (λ v. v ≡ value_of K cell)) a right.value
+      subst (λ o. IfValue o (λ v. v ≡ cell_value K cell)) a right.value
 
   read_like : (cell : ℕ) → meeting.next.request.act ≡ meeting.entry.request.act → meeting.entry.request.act ≡ Read cell →
       IsLike meeting.next.answer meeting.entry.answer

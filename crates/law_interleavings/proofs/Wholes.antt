@@ -5,7 +5,7 @@ use Rattle.model_histories.specs.Entries.{Entries, control_part}
 use Rattle.model_histories.specs.Shapes.{Shape}
 use Rattle.model_histories.specs.Legal.{IsLegal}
 use Rattle.model_histories.specs.Extensions.{IsFinished}
-use Rattle.model_races.specs.Memory.{value_of}
+use Rattle.model_races.specs.Memory.{cell_value}
 use Rattle.model_races.specs.Judged.{IsJudged}
 use Rattle.model_runs.specs.Frames.{frame_in, next_frame}
 use Rattle.law_interleavings.specs.Fronts.{IsBegun}
@@ -122,7 +122,7 @@ module _ {Note : Type 0} (shape : Shape) where
 
   -- histories that are parts of each other leave the same memory, where one is judged and both are clean
   pub same_memory : (mine T : Notes Note) (R H : Entries) → IsJudged shape R → NoneRefused R → IsLegal shape H → NoneRefused H → IsPart shape mine T R H →
-      IsPart shape T mine H R → (cell : ℕ) → value_of H cell ≡ value_of R cell
+      IsPart shape T mine H R → (cell : ℕ) → cell_value H cell ≡ cell_value R cell
   same_memory mine T R H whole rc l c part back cell =
       same_cell shape T R whole.legal whole.memory rc mine T H R l c whole.legal rc cell
       (λ x m t. let there = included shape mine T R H l whole.legal part x m in (there, there))

@@ -10,7 +10,7 @@ use Rattle.model_histories.specs.declared.answer.Entry.{Entry}
 use Rattle.model_histories.specs.Entries.{Entries}
 use Rattle.model_histories.specs.Shapes.{Shape}
 use Rattle.model_histories.specs.Extensions.{IsFinished, IsClean}
-use Rattle.model_races.specs.Memory.{value_of}
+use Rattle.model_races.specs.Memory.{cell_value}
 use Rattle.model_races.specs.Judged.{IsJudged}
 use Rattle.law_interleavings.specs.Asked.{asked_at, AsksNoMore}
 
@@ -60,16 +60,16 @@ pub record WorkedHistories : Type 0 where
   pub sync_first_judged : IsJudged one_cell sync_first
   pub sync_first_asks : AskTheSame sync_first child_first
   pub sync_first_clean : IsClean sync_first
-  pub sync_first_holds : value_of sync_first 0 ≡ 7
+  pub sync_first_holds : cell_value sync_first 0 ≡ 7
   -- judged, and it asks something else: the child writes another value
   pub other_value_judged : IsJudged one_cell (child_wrote 8)
   pub other_value_asks : AsksNoMore (child_wrote 8) child_first → ⊥
-  pub other_value_holds : value_of (child_wrote 8) 0 ≡ 8
+  pub other_value_holds : cell_value (child_wrote 8) 0 ≡ 8
   -- two orders of the same strands, neither clean: they leave different memory
   pub write_first_judged : IsJudged one_cell write_first
   pub read_first_judged : IsJudged one_cell read_first
   pub races_ask : AskTheSame read_first write_first
   pub write_first_refuses : IsClean write_first → ⊥
   pub read_first_refuses : IsClean read_first → ⊥
-  pub write_first_holds : value_of write_first 0 ≡ 7
-  pub read_first_holds : value_of read_first 0 ≡ 0
+  pub write_first_holds : cell_value write_first 0 ≡ 7
+  pub read_first_holds : cell_value read_first 0 ≡ 0

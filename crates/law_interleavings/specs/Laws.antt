@@ -4,13 +4,13 @@ use Rattle.model_strands.specs.Address.{Address}
 use Rattle.model_histories.specs.Entries.{Entries}
 use Rattle.model_histories.specs.Shapes.{Shape}
 use Rattle.model_histories.specs.Extensions.{IsFinished, IsClean}
-use Rattle.model_races.specs.Memory.{value_of}
+use Rattle.model_races.specs.Memory.{cell_value}
 use Rattle.model_races.specs.Judged.{IsJudged}
 use Rattle.law_interleavings.specs.Asked.{asked_at, values_at, Begins, AsksNoMore}
 
 -- the two histories leave the same memory
 abbrev pub LeaveTheSame : Shape → Entries → Entries → Type 0
-LeaveTheSame shape entries other = (cell : ℕ) → cell < shape.cells → value_of entries cell ≡ value_of other cell
+LeaveTheSame shape entries other = (cell : ℕ) → cell < shape.cells → cell_value entries cell ≡ cell_value other cell
 
 -- Nothing is refused in the history, each act is given the value that it is given in the clean one, and where the history is finished, it
 -- asks all that the clean one asks and leaves the same memory.

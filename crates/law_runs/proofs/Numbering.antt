@@ -20,7 +20,7 @@ use Rattle.law_values.proofs.Products.{product_fits}
 use Rattle.model_reducers.specs.declared.view.View.{View}
 use Rattle.model_reducers.specs.declared.view.View.TheVariants.{Nothing, One, Pair}
 use Rattle.reducer_views.specs.Products.{FitsMonoid}
-use Rattle.model_reducers.specs.Products.{reducer_of, update_view, put_view, number_of, monoid_of}
+use Rattle.model_reducers.specs.Products.{reducer_of, update_view, put_view, view_number, monoid_of}
 use Rattle.reducer_views.specs.Held.{AreNumbers}
 use Rattle.reducer_views.proofs.Associative.{monoid_law}
 use Rattle.model_histories.specs.declared.answer.Answer.{Answer}
@@ -159,7 +159,7 @@ remainder : (n : ℕ) → n % 2 ^ 64 < 2 ^ 64
 remainder n = omega arith
 
 -- a view's number
-fits_number : (monoid : Monoid) (view : View) (number : ℕ) → FitsMonoid monoid view → number_of view ≡ Some number → number < 2 ^ 64
+fits_number : (monoid : Monoid) (view : View) (number : ℕ) → FitsMonoid monoid view → view_number view ≡ Some number → number < 2 ^ 64
 fits_number monoid Nothing number f e = absurd (cc)
 fits_number Sum (One n) number f e = let k : n ≡ number = cc in subst (λ m. m < 2 ^ 64) k f
 fits_number Min (One n) number f e = let k : n ≡ number = cc in subst (λ m. m < 2 ^ 64) k f
@@ -174,22 +174,22 @@ fits_number Last (Pair multiplier n) number f e = absurd f
 
 -- the updates and puts among steps that are numbers
 access_number : (reducer : ℕ) (steps : Steps) → AreNumbers steps → (u : value.Entry) → HasUpdate (items_of reducer steps) u ⊎ HasPut (items_of reducer steps) u →
-    value.value_of u < 2 ^ 64
+    value.entry_value u < 2 ^ 64
 access_number reducer [] k u (inl t) = absurd t
 access_number reducer [] k u (inr t) = absurd t
 access_number reducer (control e ∷ steps) k u t = access_number reducer steps k u t
 access_number reducer (update s q v ∷ steps) k u t =
-    item_cases (λ i. HasUpdate (i ∷ items_of reducer steps) u ⊎ HasPut (i ∷ items_of reducer steps) u → value.value_of u < 2 ^ 64) q reducer (one.update s v) (one.other s)
+    item_cases (λ i. HasUpdate (i ∷ items_of reducer steps) u ⊎ HasPut (i ∷ items_of reducer steps) u → value.entry_value u < 2 ^ 64) q reducer (one.update s v) (one.other s)
     (λ e i. elim i [
-      | inl g ↦ elim g [ inl is ↦ subst (λ w. value.value_of w < 2 ^ 64) (sym is) k.0 | inr r ↦ access_number reducer steps k.1 u (inl r) ]
+      | inl g ↦ elim g [ inl is ↦ subst (λ w. value.entry_value w < 2 ^ 64) (sym is) k.0 | inr r ↦ access_number reducer steps k.1 u (inl r) ]
       | inr g ↦ access_number reducer steps k.1 u (inr g)
     ])
     (λ ne i. access_number reducer steps k.1 u i) t
 access_number reducer (put s q v ∷ steps) k u t =
-    item_cases (λ i. HasUpdate (i ∷ items_of reducer steps) u ⊎ HasPut (i ∷ items_of reducer steps) u → value.value_of u < 2 ^ 64) q reducer (one.put s v) (one.other s)
+    item_cases (λ i. HasUpdate (i ∷ items_of reducer steps) u ⊎ HasPut (i ∷ items_of reducer steps) u → value.entry_value u < 2 ^ 64) q reducer (one.put s v) (one.other s)
     (λ e i. elim i [
       | inl g ↦ access_number reducer steps k.1 u (inl g)
-      | inr g ↦ elim g [ inl is ↦ subst (λ w. value.value_of w < 2 ^ 64) (sym is) k.0 | inr r ↦ access_number reducer steps k.1 u (inr r) ]
+      | inr g ↦ elim g [ inl is ↦ subst (λ w. value.entry_value w < 2 ^ 64) (sym is) k.0 | inr r ↦ access_number reducer steps k.1 u (inr r) ]
     ])
     (λ ne i. access_number reducer steps k.1 u i) t
 access_number reducer (other s ∷ steps) k u t = access_number reducer steps k u t
@@ -213,14 +213,14 @@ get_number : (monoids : List Monoid) (steps : Steps) → AreNumbers steps → (s
 get_number monoids steps k strand reducer number is =
     let m = monoid_of monoids reducer in
     let got = is.1 in
-    let put_fits = ((monoid_law m).1 (value.value_of got.put) (access_number reducer steps k got.put (inr got.last.0))).1 in
-    let updates_fit : All (FitsMonoid m) (map (λ entry. update_view m (value.value_of entry)) got.counted) =
-    all_present (FitsMonoid m) (map (λ entry. update_view m (value.value_of entry)) got.counted)
-    (λ v p. let t = present_map (λ entry. update_view m (value.value_of entry)) v got.counted p in
+    let put_fits = ((monoid_law m).1 (value.entry_value got.put) (access_number reducer steps k got.put (inr got.last.0))).1 in
+    let updates_fit : All (FitsMonoid m) (map (λ entry. update_view m (value.entry_value entry)) got.counted) =
+    all_present (FitsMonoid m) (map (λ entry. update_view m (value.entry_value entry)) got.counted)
+    (λ v p. let t = present_map (λ entry. update_view m (value.entry_value entry)) v got.counted p in
     let has = (got.counts.1 t.0).0 ((contains_present t.0 got.counted).1 t.1) in
-    subst (FitsMonoid m) t.2 ((monoid_law m).1 (value.value_of t.0) (access_number reducer steps k t.0 (inl has.0))).0) in
-    let all_fits = product_fits (FitsMonoid m) (reducer_of m) (monoid_law m).0 (map (λ entry. update_view m (value.value_of entry)) got.counted) updates_fit in
-    fits_number m is.0 number (subst (FitsMonoid m) (sym got.combined) ((monoid_law m).0.closed (put_view m (value.value_of got.put)) _ put_fits all_fits)) is.2
+    subst (FitsMonoid m) t.2 ((monoid_law m).1 (value.entry_value t.0) (access_number reducer steps k t.0 (inl has.0))).0) in
+    let all_fits = product_fits (FitsMonoid m) (reducer_of m) (monoid_law m).0 (map (λ entry. update_view m (value.entry_value entry)) got.counted) updates_fit in
+    fits_number m is.0 number (subst (FitsMonoid m) (sym got.combined) ((monoid_law m).0.closed (put_view m (value.entry_value got.put)) _ put_fits all_fits)) is.2
 
 given_by : (shape : Shape) (entries : Entries) (strand : ℕ) (act : Act) (answer : Answer) → Belongs act answer →
     MatchOption (cell_access act) (Unit {0}) (λ access. IsRightVerdict entries strand access answer) →

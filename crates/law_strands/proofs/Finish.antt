@@ -5,7 +5,7 @@ use Rattle.model_strands.specs.History.{Event, split, same, joined, waits, call,
 use Rattle.model_strands.specs.Strands.{Status, absent, reserved, running, over, status, Running, unused}
 use Rattle.model_strands.specs.Blocks.{Stack, root, spawned, called, block, caller, stack, enclosing, IsSynced, Outstanding, IsWaitedFor, IsLast}
 use Rattle.model_strands.specs.Legal.{Allowed, open_split, next_split, sync_same, sync_joined, sync_waits, function_call, called_return, child_return, last_return, root_return, Legal, start, then}
-use Rattle.law_strands.specs.Acts.{Act, spawns, syncs, calls, returns, act_of, strand_of, Answers}
+use Rattle.law_strands.specs.Acts.{Act, spawns, syncs, calls, returns, control_act_of, strand_of, Answers}
 use Rattle.model_strands.specs.Extensions.{IsFinished, Extends}
 use Rattle.law_strands.specs.Laws.{AnswerLaw, UnsyncedLaw}
 use Rattle.model_strands.specs.Laws.{FinishLaw}
@@ -24,7 +24,7 @@ block_unsynced : (history : History) (strand t its_join : ℕ) (below : Stack) �
     stack history t ≡ block its_join below → ⊥
 block_unsynced h s t j below e sy st = subst IsSynced (ap (stack h) (sym e) ∙ st) sy
 
-same_answer : {h : History} {e f : Event} → Allowed h e → Allowed h f → strand_of f ≡ strand_of e → act_of f ≡ act_of e → f ≡ e
+same_answer : {h : History} {e f : Event} → Allowed h e → Allowed h f → strand_of f ≡ strand_of e → control_act_of f ≡ control_act_of e → f ≡ e
 same_answer (open_split run sy ce ne je) (open_split run' sy' ce' ne' je') es ea = cc
 same_answer {h} (open_split {strand = s} run sy ce ne je) (next_split {strand = t} {join = j} {below = below} run' st' ce' ne') es ea =
     absurd (block_unsynced h s t j below es sy st')

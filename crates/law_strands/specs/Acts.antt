@@ -6,16 +6,16 @@ use Rattle.model_strands.specs.Legal.{Allowed}
 pub data Act : Type 0 where
   spawns syncs calls returns : Act
 
-abbrev pub act_of : Event → Act
-act_of (split strand child next join first) = spawns
-act_of (same strand) = syncs
-act_of (joined strand join) = syncs
-act_of (waits strand) = syncs
-act_of (call strand) = calls
-act_of (resumed strand) = returns
-act_of (ended strand) = returns
-act_of (ended_joined strand join) = returns
-act_of (finished strand) = returns
+abbrev pub control_act_of : Event → Act
+control_act_of (split strand child next join first) = spawns
+control_act_of (same strand) = syncs
+control_act_of (joined strand join) = syncs
+control_act_of (waits strand) = syncs
+control_act_of (call strand) = calls
+control_act_of (resumed strand) = returns
+control_act_of (ended strand) = returns
+control_act_of (ended_joined strand join) = returns
+control_act_of (finished strand) = returns
 
 -- the strand that makes the event
 abbrev pub strand_of : Event → ℕ
@@ -31,4 +31,4 @@ strand_of (finished strand) = strand
 
 -- the event answers this act of the strand
 abbrev pub Answers : History → ℕ → Act → Event → Type 0
-Answers history strand act event = (strand_of event ≡ strand) × (act_of event ≡ act) × Allowed history event
+Answers history strand act event = (strand_of event ≡ strand) × (control_act_of event ≡ act) × Allowed history event

@@ -7,7 +7,7 @@ use Rattle.model_strands.specs.History.{Event, split, same, joined, waits, call,
 use Rattle.model_strands.specs.Strands.{Running}
 use Rattle.model_strands.specs.Blocks.{stack, IsSynced}
 use Rattle.model_strands.specs.Legal.{Allowed, open_split, next_split, sync_same, sync_joined, sync_waits, function_call, called_return, child_return, last_return, root_return, Legal}
-use Rattle.law_strands.specs.Acts.{Act as ControlAct, spawns, syncs, calls, returns, act_of, strand_of, Answers}
+use Rattle.law_strands.specs.Acts.{Act as ControlAct, spawns, syncs, calls, returns, control_act_of, strand_of, Answers}
 use Rattle.law_strands.proofs.Finish.{answer_law}
 use Rattle.model_histories.specs.declared.answer.Answer.{Answer}
 use Rattle.model_histories.specs.declared.answer.Answer.TheVariants.{Split, Same, Joined, Waits, Resumed, Ended, EndedJoined, Finished}
@@ -19,7 +19,7 @@ use Rattle.law_traces.specs.Omissions.{IsAccess}
 use Rattle.law_traces.proofs.Histories.{legal_part}
 
 -- a return is of a function without an open block
-returning_synced : (history : History) (event : Event) → Allowed history event → act_of event ≡ returns → IsSynced (stack history (strand_of event))
+returning_synced : (history : History) (event : Event) → Allowed history event → control_act_of event ≡ returns → IsSynced (stack history (strand_of event))
 returning_synced h (split s c n j true) (open_split run sy a b d) e = absurd (cc)
 returning_synced h (split s c n j false) (next_split run st a b) e = absurd (cc)
 returning_synced h (same s) (sync_same run sy) e = absurd (cc)
@@ -53,7 +53,7 @@ record IsControl (strand : ℕ) (asked : Act) (answer : Answer) (asks : ControlA
   event : Event
   is_event : event_between strand asked answer ≡ Some event
   by_strand : strand_of event ≡ strand
-  by_act : act_of event ≡ asks
+  by_act : control_act_of event ≡ asks
 
 event_there : (strand : ℕ) (asked : Act) (answer : Answer) (asks : ControlAct) → Belongs asked answer → control_act asked ≡ Some asks → IsControl strand asked answer asks
 event_there s act.Spawn (Split x) asks b e = record { event = split s x.child x.next x.join x.first; is_event = refl; by_strand = refl; by_act = cc }

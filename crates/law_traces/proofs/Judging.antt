@@ -4,7 +4,7 @@ use Rattle.model_accesses.specs.declared.kind.Kind.{Kind}
 use Rattle.model_accesses.specs.declared.kind.Kind.TheVariants as kinds
 use Rattle.model_accesses.specs.declared.kind.Rule.TheVariants.{Race}
 use Rattle.model_accesses.specs.Table.{rule_between}
-use Rattle.model_accesses.specs.Accesses.{Access, Races, witness_of}
+use Rattle.model_accesses.specs.Accesses.{Access, Races, access_of_witness}
 use Rattle.model_accesses.specs.declared.witness.Witness.{Witness}
 use Rattle.model_accesses.specs.declared.request.Act.TheVariants.{Spawn, Sync, Call, Return, Read, Write}
 use Rattle.model_strands.specs.History.{History, split, joined, resumed, ended}
@@ -20,7 +20,7 @@ use Rattle.model_histories.specs.declared.answer.Answer.TheVariants.{Split, Same
 use Rattle.model_histories.specs.declared.answer.Entry.{Entry}
 use Rattle.model_histories.specs.Entries.{Entries, control_part}
 use Rattle.model_races.specs.Accesses.{cell_access, granted}
-use Rattle.model_races.specs.Memory.{value_of}
+use Rattle.model_races.specs.Memory.{cell_value}
 use Rattle.model_races.specs.Races.{HasRace}
 use Rattle.model_races.specs.Verdicts.{IsRefused}
 use Rattle.model_races.specs.Judged.{IsJudged}
@@ -61,7 +61,7 @@ module _ (entries : Entries) (judged : IsJudged two_cells entries) (strand : ℕ
     reducers = (judged.reducers, tt);
   }
 
-  pub write_refused : (cell value : ℕ) (witness : Witness) → cell < 2 → Races (control_part entries) (granted entries) cell kinds.Write strand (witness_of cell witness) →
+  pub write_refused : (cell value : ℕ) (witness : Witness) → cell < 2 → Races (control_part entries) (granted entries) cell kinds.Write strand (access_of_witness cell witness) →
       IsJudged two_cells (asked strand (Write cell value) (Refused Race witness) ∷ entries)
   write_refused c v w below race = record {
     legal = (judged.legal, record { runs = runs; in_range = below; belongs = tt; allowed = tt });
@@ -69,7 +69,7 @@ module _ (entries : Entries) (judged : IsJudged two_cells entries) (strand : ℕ
     reducers = (judged.reducers, tt);
   }
 
-  pub read_granted : (cell value : ℕ) → cell < 2 → AllFree (control_part entries) strand kinds.Read cell (granted entries) → value ≡ value_of entries cell →
+  pub read_granted : (cell value : ℕ) → cell < 2 → AllFree (control_part entries) strand kinds.Read cell (granted entries) → value ≡ cell_value entries cell →
       IsJudged two_cells (asked strand (Read cell) (Value value) ∷ entries)
   read_granted c v below free is = record {
     legal = (judged.legal, record { runs = runs; in_range = below; belongs = tt; allowed = tt });
@@ -84,7 +84,7 @@ module _ (entries : Entries) (judged : IsJudged two_cells entries) (strand : ℕ
     reducers = (judged.reducers, tt);
   }
 
-  pub read_refused : (cell : ℕ) (witness : Witness) → cell < 2 → Races (control_part entries) (granted entries) cell kinds.Read strand (witness_of cell witness) →
+  pub read_refused : (cell : ℕ) (witness : Witness) → cell < 2 → Races (control_part entries) (granted entries) cell kinds.Read strand (access_of_witness cell witness) →
       IsJudged two_cells (asked strand (Read cell) (Refused Race witness) ∷ entries)
   read_refused c w below race = record {
     legal = (judged.legal, record { runs = runs; in_range = below; belongs = tt; allowed = tt });

@@ -3,7 +3,7 @@ use Rattle.std.proofs.Common.{◌≡◌, ◌≢◌, ◌↔◌, inl, inr, ℕ, []
 use Rattle.std.proofs.lemmas.Bool.Decides.{eqb_tells}
 use Rattle.model_strands.specs.History.{History}
 use Rattle.model_reducers.specs.Items as one
-use Rattle.model_reducers.specs.Items.{Item, Items, control_part}
+use Rattle.model_reducers.specs.Items.{Item, Items, control_events}
 use Rattle.law_values.specs.Items.{IsAllowed, IsLegal}
 use Rattle.model_reducers.specs.Steps.{control, update, put, other, Steps, items_of}
 use Rattle.law_values.specs.Accesses.{control_steps, AreLegal}
@@ -14,19 +14,19 @@ pub item_cases : (P : Item → Type 0) (asked reducer : ℕ) (here there : Item)
     P (cond (eqb asked reducer) here there)
 item_cases P asked reducer here there a b = elim (eqb_tells asked reducer) [ inl t ↦ rw t.0 (a t.1) | inr t ↦ rw t.0 (b t.1) ]
 
-same_events : (reducer : ℕ) (steps : Steps) → control_part (items_of reducer steps) ≡ control_steps steps
+same_events : (reducer : ℕ) (steps : Steps) → control_events (items_of reducer steps) ≡ control_steps steps
 same_events reducer [] = refl
 same_events reducer (control e ∷ steps) = ap (λ h. e ∷ h) (same_events reducer steps)
 same_events reducer (update s asked v ∷ steps) =
-    item_cases (λ i. control_part (i ∷ items_of reducer steps) ≡ control_steps steps) asked reducer (one.update s v) (one.other s)
+    item_cases (λ i. control_events (i ∷ items_of reducer steps) ≡ control_steps steps) asked reducer (one.update s v) (one.other s)
     (λ e. same_events reducer steps) (λ ne. same_events reducer steps)
 same_events reducer (put s asked v ∷ steps) =
-    item_cases (λ i. control_part (i ∷ items_of reducer steps) ≡ control_steps steps) asked reducer (one.put s v) (one.other s)
+    item_cases (λ i. control_events (i ∷ items_of reducer steps) ≡ control_steps steps) asked reducer (one.put s v) (one.other s)
     (λ e. same_events reducer steps) (λ ne. same_events reducer steps)
 same_events reducer (other s ∷ steps) = same_events reducer steps
 
 -- an item is allowed alike after histories that are the same
-legal_cons : (items : Items) (item : Item) (whole : Type 0) (history : History) → control_part items ≡ history → IsLegal items ↔ whole →
+legal_cons : (items : Items) (item : Item) (whole : Type 0) (history : History) → control_events items ≡ history → IsLegal items ↔ whole →
     IsLegal (item ∷ items) ↔ (whole × IsAllowed history item)
 legal_cons items item whole history e k = (
   (λ l. (k.0 l.0, subst (λ h. IsAllowed h item) e l.1)),

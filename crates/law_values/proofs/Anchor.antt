@@ -28,9 +28,9 @@ use Rattle.law_strands.proofs.Law.{begun_below, reach_precedes, precedes_reach}
 use Rattle.law_strands.proofs.Kept.{address_stays}
 use Rattle.law_strands.proofs.Sinks.{sink_end, running_law}
 use Rattle.law_strands.proofs.EventKinds.{arriving_sink, begun_earlier}
-use Rattle.model_reducers.specs.Items.{control, update, put, other, Items, control_part}
+use Rattle.model_reducers.specs.Items.{control, update, put, other, Items, control_events}
 use Rattle.law_values.specs.Items.{IsLegal}
-use Rattle.model_reducers.specs.Entries.{Entry, update_entry, put_entry, number_of, strand_of}
+use Rattle.model_reducers.specs.Entries.{Entry, update_entry, put_entry, entry_number, strand_of}
 use Rattle.law_values.specs.Logs.{logs_after, log}
 use Rattle.model_reducers.specs.GetValues.{IsLastPut}
 use Rattle.law_values.proofs.Lists.{in_flat}
@@ -170,15 +170,15 @@ holds_step h e f a P l l' (quiet_step q same_log) ba wrote old x u b below i =
     let t = old x u bx (below_stays h e l l' a x ba bx below) k in
     (t.0, precedes_stays h e l l' a (strand_of u) ba (wrote x u k) t.1)
 
-pub holds_only : (h : Items) → IsLegal h → (p : Entry) → IsLastPut h p → HoldsOnly (control_part h) (log h) (strand_of p) (IsSince h p)
+pub holds_only : (h : Items) → IsLegal h → (p : Entry) → IsLastPut h p → HoldsOnly (control_events h) (log h) (strand_of p) (IsSince h p)
 holds_only [] l p t x u b below i = absurd t.0
 holds_only (control e ∷ h) l p t x u b below i =
     let lc = legal_control h l.0 in
-    holds_step (control_part h) e (log h) (strand_of p) (IsSince h p) lc (then lc l.1) (step_of (control_part h) (log h) e lc l.1) (put_begun h l.0 p t.0)
+    holds_step (control_events h) e (log h) (strand_of p) (IsSince h p) lc (then lc l.1) (step_of (control_events h) (log h) e lc l.1) (put_begun h l.0 p t.0)
     (member_begun h l.0) (holds_only h l.0 p t) x u b below i
 holds_only (other s ∷ h) l p t x u b below i = holds_only h l.0 p t x u b below i
 holds_only (update s v ∷ h) l p t x u b below i =
-    updated_case (λ ys. Present u ys → IsHeld (control_part h) (strand_of p) (IsSince (update s v ∷ h) p) u) (log h) s
+    updated_case (λ ys. Present u ys → IsHeld (control_events h) (strand_of p) (IsSince (update s v ∷ h) p) u) (log h) s
     (log h s ++ (update_entry (suc (length h)) s v ∷ [])) x
     (λ e k. elim ((present_append (log h s) (update_entry (suc (length h)) s v ∷ []) u).0 k) [
       | inl m ↦ older (holds_only h l.0 p t x u b below (subst (λ y. Present u (log h y)) (sym e) m))
@@ -186,22 +186,22 @@ holds_only (update s v ∷ h) l p t x u b below i =
     ])
     (λ ne k. older (holds_only h l.0 p t x u b below k)) i
   where
-    older : IsHeld (control_part h) (strand_of p) (IsSince h p) u → IsHeld (control_part h) (strand_of p) (IsSince (update s v ∷ h) p) u
+    older : IsHeld (control_events h) (strand_of p) (IsSince h p) u → IsHeld (control_events h) (strand_of p) (IsSince (update s v ∷ h) p) u
     older (inl q, r) = (inl q, r)
     older (inr q, r) = (inr (inr q.0, q.1), r)
 
-    newest : x ≡ s → u ≡ update_entry (suc (length h)) s v → IsHeld (control_part h) (strand_of p) (IsSince (update s v ∷ h) p) u
+    newest : x ≡ s → u ≡ update_entry (suc (length h)) s v → IsHeld (control_events h) (strand_of p) (IsSince (update s v ∷ h) p) u
     newest e q =
-        let m : number_of p ≤ length h = put_numbered h p t.0 in
-        let m' : number_of u ≡ suc (length h) = ap number_of q in
-        (inr (inl q, omega arith), subst (λ y. Precedes (address (control_part h) (strand_of p)) (address (control_part h) y)) (e ∙ sym (ap strand_of q)) below.0)
+        let m : entry_number p ≤ length h = put_numbered h p t.0 in
+        let m' : entry_number u ≡ suc (length h) = ap entry_number q in
+        (inr (inl q, omega arith), subst (λ y. Precedes (address (control_events h) (strand_of p)) (address (control_events h) y)) (e ∙ sym (ap strand_of q)) below.0)
 holds_only (put s v ∷ h) l p t x u b below i =
-    updated_case (λ ys. Present u ys → IsHeld (control_part h) (strand_of p) (IsSince h p) u) (log h) s (put_entry (suc (length h)) s v ∷ []) x
+    updated_case (λ ys. Present u ys → IsHeld (control_events h) (strand_of p) (IsSince h p) u) (log h) s (put_entry (suc (length h)) s v ∷ []) x
     (λ e k. elim k [
       | inl q ↦ (
         inl (sym q ∙ sym is_put),
-        subst (λ y. Precedes (address (control_part h) (strand_of p)) (address (control_part h) (strand_of y))) (is_put ∙ q)
-            (reaches-self (address (control_part h) (strand_of p))),
+        subst (λ y. Precedes (address (control_events h) (strand_of p)) (address (control_events h) (strand_of y))) (is_put ∙ q)
+            (reaches-self (address (control_events h) (strand_of p))),
       )
       | inr q ↦ absurd q
     ])
@@ -213,5 +213,5 @@ holds_only (put s v ∷ h) l p t x u b below i =
     is_writer : x ≡ s
     is_writer =
         let lc = legal_control h l.0 in
-        sym (running_law (control_part h) lc s x l.1 (precedes_reach (control_part h) lc s x (inl l.1) b
-        (subst (λ y. Precedes (address (control_part h) y) (address (control_part h) x)) (ap strand_of is_put) below.0)))
+        sym (running_law (control_events h) lc s x l.1 (precedes_reach (control_events h) lc s x (inl l.1) b
+        (subst (λ y. Precedes (address (control_events h) y) (address (control_events h) x)) (ap strand_of is_put) below.0)))

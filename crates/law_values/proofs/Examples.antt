@@ -3,9 +3,9 @@ use Rattle.std.proofs.Common.{◌≡◌, inl, inr, ℕ, List, map, [], ◌∷◌
 use Rattle.model_strands.specs.Updated.{updated}
 use Rattle.model_strands.specs.Blocks.{root, spawned, Outstanding}
 use Rattle.model_strands.specs.Legal.{open_split, next_split, sync_joined, sync_waits, child_return, last_return}
-use Rattle.model_reducers.specs.Items.{Items, control_part}
+use Rattle.model_reducers.specs.Items.{Items, control_events}
 use Rattle.law_values.specs.Items.{IsLegal}
-use Rattle.model_reducers.specs.Entries.{Entry, update_entry, put_entry, number_of, value_of}
+use Rattle.model_reducers.specs.Entries.{Entry, update_entry, put_entry, entry_number, entry_value}
 use Rattle.law_values.specs.Logs.{log}
 use Rattle.model_reducers.specs.Views.{Reducer, product}
 use Rattle.law_values.specs.Views.{view}
@@ -25,7 +25,7 @@ counted_in_log h s p us g e =
     subst (AreCounted h p s) (tails p p found.0 us (sym found.2 ∙ e)) found.1
 
 worked : {View : Type 0} (reducer : Reducer View) (h : Items) (s : ℕ) (p : Entry) (us : List Entry) (value : View) → IsGranted h s p → log h s ≡ p ∷ us →
-    view reducer h s ≡ value → value ≡ reducer.combine (reducer.of_put (value_of p)) (product reducer (map (λ u. reducer.of_update (value_of u)) us)) →
+    view reducer h s ≡ value → value ≡ reducer.combine (reducer.of_put (entry_value p)) (product reducer (map (λ u. reducer.of_update (entry_value u)) us)) →
     IsWorked reducer h s p us value
 worked reducer h s p us value g in_log is_view combined = record {
   granted = g;
@@ -59,7 +59,7 @@ two_children_legal = (
   sync_joined {join = 3} {below = root} refl refl none,
 )
   where
-    none : (m : ℕ) → Outstanding (control_part two_children) m 3 → ⊥
+    none : (m : ℕ) → Outstanding (control_events two_children) m 3 → ⊥
     none m o = elim o.1.1 [
       | inl t ↦ o.1.0 (ap (λ z. spawned z 3) (sym t.0))
       | inr t ↦ elim t [ inl q ↦ o.0 (ap (λ z. spawned z 3) (sym q.0)) | inr q ↦ absurd q ]
@@ -112,7 +112,7 @@ unfolding updated
 two_children_granted = record {
   legal = two_children_legal;
   runs = refl;
-  last = (inl refl, (λ u t. elim t [ inl e ↦ (let k : number_of u ≡ 1 = ap number_of e in omega arith) | inr e ↦ absurd e ]));
+  last = (inl refl, (λ u t. elim t [ inl e ↦ (let k : entry_number u ≡ 1 = ap entry_number e in omega arith) | inr e ↦ absurd e ]));
   same_branch = refl;
 }
 
@@ -121,7 +121,7 @@ unfolding updated
 early_continuation_granted = record {
   legal = early_continuation_legal;
   runs = refl;
-  last = (inl refl, (λ u t. elim t [ inl e ↦ (let k : number_of u ≡ 1 = ap number_of e in omega arith) | inr e ↦ absurd e ]));
+  last = (inl refl, (λ u t. elim t [ inl e ↦ (let k : entry_number u ≡ 1 = ap entry_number e in omega arith) | inr e ↦ absurd e ]));
   same_branch = refl;
 }
 
@@ -130,7 +130,7 @@ unfolding updated
 waiting_sync_granted = record {
   legal = waiting_sync_legal;
   runs = refl;
-  last = (inl refl, (λ u t. elim t [ inl e ↦ (let k : number_of u ≡ 1 = ap number_of e in omega arith) | inr e ↦ absurd e ]));
+  last = (inl refl, (λ u t. elim t [ inl e ↦ (let k : entry_number u ≡ 1 = ap entry_number e in omega arith) | inr e ↦ absurd e ]));
   same_branch = refl;
 }
 
@@ -142,8 +142,8 @@ early_update_granted = record {
   last = (
     inl refl,
     (λ u t. elim t [
-      | inl e ↦ (let k : number_of u ≡ 3 = ap number_of e in omega arith)
-      | inr t ↦ elim t [ inl e ↦ (let k : number_of u ≡ 1 = ap number_of e in omega arith) | inr e ↦ absurd e ]
+      | inl e ↦ (let k : entry_number u ≡ 3 = ap entry_number e in omega arith)
+      | inr t ↦ elim t [ inl e ↦ (let k : entry_number u ≡ 1 = ap entry_number e in omega arith) | inr e ↦ absurd e ]
     ]),
   );
   same_branch = refl;

@@ -15,9 +15,9 @@ use Rattle.law_strands.proofs.Orders.{serial_law}
 use Rattle.law_strands.proofs.Branches.{branch_address_law}
 use Rattle.law_strands.proofs.Sinks.{sink_end, running_sink}
 use Rattle.law_strands.proofs.Views.{reach_english, view_law}
-use Rattle.model_reducers.specs.Items.{control_part}
+use Rattle.model_reducers.specs.Items.{control_events}
 use Rattle.law_values.specs.Items.{IsLegal}
-use Rattle.model_reducers.specs.Entries.{Entry, number_of, strand_of, AreInSerialOrder}
+use Rattle.model_reducers.specs.Entries.{Entry, entry_number, strand_of, AreInSerialOrder}
 use Rattle.law_values.specs.Logs.{log}
 use Rattle.model_reducers.specs.GetValues.{Counts, AreCounted}
 use Rattle.law_values.specs.Laws.{LogLaw, CountedLaw}
@@ -43,7 +43,7 @@ earlier_asymmetric h u v (inl a) (inr b) =
     english_irreflexive (address h (strand_of u)) (subst (λ y. IsTrue (english_before (address h (strand_of u)) (address h y))) b.0 a)
 earlier_asymmetric h u v (inr a) (inl b) =
     english_irreflexive (address h (strand_of v)) (subst (λ y. IsTrue (english_before (address h (strand_of v)) (address h y))) a.0 b)
-earlier_asymmetric h u v (inr a) (inr b) = let x : number_of u < number_of v = a.1 in let y : number_of v < number_of u = b.1 in omega arith
+earlier_asymmetric h u v (inr a) (inr b) = let x : entry_number u < entry_number v = a.1 in let y : entry_number v < entry_number u = b.1 in omega arith
 
 -- the serial order of entries by begun strands is that of the addresses
 earlier_serial : (h : History) → Legal h → (u v : Entry) → Begun h (strand_of u) → Begun h (strand_of v) → IsEarlier h u v → AreInSerialOrder h u v
@@ -61,7 +61,7 @@ log_law h s p g = (head.0, (tail_sorted, (λ u. (to u, from u))), head.1)
     l = g.legal
 
     c : History
-    c = control_part h
+    c = control_events h
 
     lc : Legal c
     lc = legal_control h l
@@ -135,21 +135,21 @@ log_law h s p g = (head.0, (tail_sorted, (λ u. (to u, from u))), head.1)
     from u k = (contains_present u head.0).1 (in_tail (subst (Present u) head.1 (keeps h l p g.last s u bs (inr (k.0, k.1)) (viewed (strand_of u) k.2 k.3))))
       where
         in_tail : Present u (p ∷ head.0) → Present u head.0
-        in_tail (inl e) = absurd (let m : number_of p ≡ number_of u = ap number_of e in let n : number_of p < number_of u = k.1 in omega arith)
+        in_tail (inl e) = absurd (let m : entry_number p ≡ entry_number u = ap entry_number e in let n : entry_number p < entry_number u = k.1 in omega arith)
         in_tail (inr i) = i
 
 pub counted_law : CountedLaw
 counted_law h l s p us vs a b =
-    same_members (IsEarlier (control_part h)) us vs (λ u v i k. earlier_asymmetric (control_part h) u v) (ordered us a) (ordered vs b)
+    same_members (IsEarlier (control_events h)) us vs (λ u v i k. earlier_asymmetric (control_events h) u v) (ordered us a) (ordered vs b)
     (λ u. ((λ i. there us vs a b u i), (λ i. there vs us b a u i)))
   where
-    begun : (xs : List Entry) → AreCounted h p s xs → (u : Entry) → Present u xs → Begun (control_part h) (strand_of u)
+    begun : (xs : List Entry) → AreCounted h p s xs → (u : Entry) → Present u xs → Begun (control_events h) (strand_of u)
     begun xs c u i = update_begun h l u ((c.1 u).0 ((contains_present u xs).1 i)).0
 
-    ordered : (xs : List Entry) → AreCounted h p s xs → AllPairs (IsEarlier (control_part h)) xs
+    ordered : (xs : List Entry) → AreCounted h p s xs → AllPairs (IsEarlier (control_events h)) xs
     ordered xs c =
-        pairs_alike (AreInSerialOrder (control_part h)) (IsEarlier (control_part h)) xs
-        (λ u v i k r. serial_earlier (control_part h) (legal_control h l) u v (begun xs c u i) (begun xs c v k) r) c.0
+        pairs_alike (AreInSerialOrder (control_events h)) (IsEarlier (control_events h)) xs
+        (λ u v i k r. serial_earlier (control_events h) (legal_control h l) u v (begun xs c u i) (begun xs c v k) r) c.0
 
     there : (xs ys : List Entry) → AreCounted h p s xs → AreCounted h p s ys → (u : Entry) → Present u xs → Present u ys
     there xs ys c d u i = (contains_present u ys).0 ((d.1 u).1 ((c.1 u).0 ((contains_present u xs).1 i)))

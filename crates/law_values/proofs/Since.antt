@@ -14,9 +14,9 @@ use Rattle.law_strands.proofs.Law.{begun_below, begun_not_reserved}
 use Rattle.law_strands.proofs.Sinks.{running_law}
 use Rattle.law_strands.proofs.EventKinds.{arriving_sink, begun_earlier}
 use Rattle.law_strands.proofs.Views.{view_law}
-use Rattle.model_reducers.specs.Items.{control, update, put, other, Items, control_part}
+use Rattle.model_reducers.specs.Items.{control, update, put, other, Items, control_events}
 use Rattle.law_values.specs.Items.{IsLegal}
-use Rattle.model_reducers.specs.Entries.{Entry, update_entry, put_entry, number_of, strand_of, HasUpdate, HasPut}
+use Rattle.model_reducers.specs.Entries.{Entry, update_entry, put_entry, entry_number, strand_of, HasUpdate, HasPut}
 use Rattle.law_values.specs.Logs.{logs_after, log}
 use Rattle.model_reducers.specs.GetValues.{IsLastPut}
 use Rattle.law_values.proofs.Lists.{in_left, in_right, flat_in}
@@ -24,7 +24,7 @@ use Rattle.law_values.proofs.Steps.{legal_control, LogStep, split_step, join_ste
 
 -- the put itself, and the updates after it
 abbrev pub IsSince : Items → Entry → Entry → Type 0
-IsSince items last entry = (entry ≡ last) ⊎ (HasUpdate items entry × (number_of last < number_of entry))
+IsSince items last entry = (entry ≡ last) ⊎ (HasUpdate items entry × (entry_number last < entry_number entry))
 
 -- a put that has just been made is the last one
 pub newest_put : (h : Items) (s v : ℕ) (p : Entry) → IsLastPut (put s v ∷ h) p → p ≡ put_entry (suc (length h)) s v
@@ -32,11 +32,11 @@ newest_put h s v p t = go t.0
   where
     go : (p ≡ put_entry (suc (length h)) s v) ⊎ HasPut h p → p ≡ put_entry (suc (length h)) s v
     go (inl q) = q
-    go (inr q) = absurd (let m : number_of p ≤ length h = put_numbered h p q in
-        let m' : suc (length h) ≤ number_of p = t.1 (put_entry (suc (length h)) s v) (inl refl) in omega arith)
+    go (inr q) = absurd (let m : entry_number p ≤ length h = put_numbered h p q in
+        let m' : suc (length h) ≤ entry_number p = t.1 (put_entry (suc (length h)) s v) (inl refl) in omega arith)
 
-since_begun : (h : Items) → IsLegal h → (p : Entry) → HasPut h p → (u : Entry) → IsSince h p u → Begun (control_part h) (strand_of u)
-since_begun h l p t u (inl e) = subst (λ w. Begun (control_part h) (strand_of w)) (sym e) (put_begun h l p t)
+since_begun : (h : Items) → IsLegal h → (p : Entry) → HasPut h p → (u : Entry) → IsSince h p u → Begun (control_events h) (strand_of u)
+since_begun h l p t u (inl e) = subst (λ w. Begun (control_events h) (strand_of w)) (sym e) (put_begun h l p t)
 since_begun h l p t u (inr k) = update_begun h l u k.0
 
 -- each of these entries is in the log of each strand whose view holds the entry's strand
@@ -72,10 +72,10 @@ keeps_step h e f P l (quiet_step q same_log) known old x u b p cov =
 pub own_view : (h : History) → Legal h → (s x : ℕ) → Running h s → Begun h x → Covers h x s → x ≡ s
 own_view h l s x run b c = sym (running_law h l s x run ((view_law h l).within x s b c).1)
 
-pub keeps : (h : Items) → IsLegal h → (p : Entry) → IsLastPut h p → Keeps (control_part h) (log h) (IsSince h p)
+pub keeps : (h : Items) → IsLegal h → (p : Entry) → IsLastPut h p → Keeps (control_events h) (log h) (IsSince h p)
 keeps [] l p t x u b k c = absurd t.0
 keeps (control e ∷ h) l p t x u b k c =
-    keeps_step (control_part h) e (log h) (IsSince h p) (legal_control h l.0) (step_of (control_part h) (log h) e (legal_control h l.0) l.1)
+    keeps_step (control_events h) e (log h) (IsSince h p) (legal_control h l.0) (step_of (control_events h) (log h) e (legal_control h l.0) l.1)
     (since_begun h l.0 p t.0) (keeps h l.0 p t) x u b k c
 keeps (other s ∷ h) l p t x u b k c = keeps h l.0 p t x u b k c
 keeps (update s v ∷ h) l p t x u b k c =
@@ -96,17 +96,17 @@ keeps (update s v ∷ h) l p t x u b k c =
     elsewhere old ne (inr (inr q, m)) = old (inr (q, m))
     elsewhere old ne (inr (inl q, m)) =
         let lc = legal_control h l.0 in
-        absurd (ne (own_view (control_part h) lc s x l.1 b (subst (λ w. Covers (control_part h) x (strand_of w)) q c)))
+        absurd (ne (own_view (control_events h) lc s x l.1 b (subst (λ w. Covers (control_events h) x (strand_of w)) q c)))
 keeps (put s v ∷ h) l p t x u b k c =
     updated_case (Present u) (log h) s (put_entry (suc (length h)) s v ∷ []) x (λ e. inl (sym (since k))) (λ ne. absurd (ne is_writer))
   where
     since : IsSince h p u → u ≡ put_entry (suc (length h)) s v
     since (inl q) = q ∙ newest_put h s v p t
-    since (inr q) = absurd (let m : number_of u ≤ length h = update_numbered h u q.0 in
-        let m' : number_of p ≡ suc (length h) = ap number_of (newest_put h s v p t) in
-        let lt : number_of p < number_of u = q.1 in omega arith)
+    since (inr q) = absurd (let m : entry_number u ≤ length h = update_numbered h u q.0 in
+        let m' : entry_number p ≡ suc (length h) = ap entry_number (newest_put h s v p t) in
+        let lt : entry_number p < entry_number u = q.1 in omega arith)
 
     is_writer : x ≡ s
     is_writer =
         let lc = legal_control h l.0 in
-        own_view (control_part h) lc s x l.1 b (subst (λ w. Covers (control_part h) x (strand_of w)) (since k) c)
+        own_view (control_events h) lc s x l.1 b (subst (λ w. Covers (control_events h) x (strand_of w)) (since k) c)

@@ -17,9 +17,9 @@ use Rattle.law_strands.proofs.Members.{Present, pairs_alike, pairs_push}
 use Rattle.law_strands.proofs.Branches.{stability_law}
 use Rattle.law_strands.proofs.EventKinds.{arriving_sink, begun_earlier}
 use Rattle.law_strands.proofs.Views.{reach_english, view_law}
-use Rattle.model_reducers.specs.Items.{control, update, put, other, Items, control_part}
+use Rattle.model_reducers.specs.Items.{control, update, put, other, Items, control_events}
 use Rattle.law_values.specs.Items.{IsLegal}
-use Rattle.model_reducers.specs.Entries.{Entry, update_entry, put_entry, number_of, strand_of}
+use Rattle.model_reducers.specs.Entries.{Entry, update_entry, put_entry, entry_number, strand_of}
 use Rattle.law_values.specs.Logs.{logs_after, log}
 use Rattle.law_values.proofs.Lists.{pairs_flat}
 use Rattle.law_values.proofs.Steps.{legal_control, LogStep, split_step, join_step, quiet_step, step_of, Covered, covered, member_numbered}
@@ -27,7 +27,7 @@ use Rattle.law_values.proofs.Steps.{legal_control, LogStep, split_step, join_ste
 -- the serial order of entries, by the English order of their strands
 abbrev pub IsEarlier : History → Entry → Entry → Type 0
 IsEarlier history entry later =
-    IsEnglishBefore history (strand_of entry) (strand_of later) ⊎ ((strand_of entry ≡ strand_of later) × (number_of entry < number_of later))
+    IsEnglishBefore history (strand_of entry) (strand_of later) ⊎ ((strand_of entry ≡ strand_of later) × (entry_number entry < entry_number later))
 
 -- the logs of begun strands are sorted
 abbrev pub Sorted : History → (ℕ → List Entry) → Type 0
@@ -77,28 +77,28 @@ sorted_step h e f l l' (join_step s j g k same_log) cov old x b =
 sorted_step h e f l l' (quiet_step q same_log) cov old x b =
     subst (AllPairs (IsEarlier (e ∷ h))) (sym (same_log x)) (sorted_stays h e f l l' cov old x (q.begun x b))
 
-pub sorted : (h : Items) → IsLegal h → Sorted (control_part h) (log h)
+pub sorted : (h : Items) → IsLegal h → Sorted (control_events h) (log h)
 sorted [] l x b = pairs-nil (IsEarlier [])
 sorted (control e ∷ h) l x b =
-    sorted_step (control_part h) e (log h) (legal_control h l.0) (then (legal_control h l.0) l.1)
-    (step_of (control_part h) (log h) e (legal_control h l.0) l.1) (covered h l.0) (sorted h l.0) x b
+    sorted_step (control_events h) e (log h) (legal_control h l.0) (then (legal_control h l.0) l.1)
+    (step_of (control_events h) (log h) e (legal_control h l.0) l.1) (covered h l.0) (sorted h l.0) x b
 sorted (update s v ∷ h) l x b =
-    updated_case (AllPairs (IsEarlier (control_part h))) (log h) s (log h s ++ (update_entry (suc (length h)) s v ∷ [])) x
-    (λ e. pairs_push (IsEarlier (control_part h)) (log h s) (update_entry (suc (length h)) s v) (sorted h l.0 s (inl l.1)) later)
+    updated_case (AllPairs (IsEarlier (control_events h))) (log h) s (log h s ++ (update_entry (suc (length h)) s v ∷ [])) x
+    (λ e. pairs_push (IsEarlier (control_events h)) (log h s) (update_entry (suc (length h)) s v) (sorted h l.0 s (inl l.1)) later)
     (λ ne. sorted h l.0 x b)
   where
-    later : (u : Entry) → Present u (log h s) → IsEarlier (control_part h) u (update_entry (suc (length h)) s v)
+    later : (u : Entry) → Present u (log h s) → IsEarlier (control_events h) u (update_entry (suc (length h)) s v)
     later u i =
         let c = legal_control h l.0 in
-        let t = (view_law (control_part h) c).within s (strand_of u) (inl l.1) (covered h l.0 s u (inl l.1) i) in
-        let m : number_of u ≤ length h = member_numbered h s u i in
-        elim (reach_english (control_part h) c (strand_of u) s t.0 (inl l.1) t.1) [
+        let t = (view_law (control_events h) c).within s (strand_of u) (inl l.1) (covered h l.0 s u (inl l.1) i) in
+        let m : entry_number u ≤ length h = member_numbered h s u i in
+        elim (reach_english (control_events h) c (strand_of u) s t.0 (inl l.1) t.1) [
           | inl e ↦ inr (e, omega arith)
           | inr a ↦ inl a
         ]
 sorted (put s v ∷ h) l x b =
-    updated_case (AllPairs (IsEarlier (control_part h))) (log h) s (put_entry (suc (length h)) s v ∷ []) x
-    (λ e. AllPairs-cons (IsEarlier (control_part h)) (put_entry (suc (length h)) s v) [] (All-nil (IsEarlier (control_part h) (put_entry (suc (length h)) s v)))
-    (pairs-nil (IsEarlier (control_part h))))
+    updated_case (AllPairs (IsEarlier (control_events h))) (log h) s (put_entry (suc (length h)) s v ∷ []) x
+    (λ e. AllPairs-cons (IsEarlier (control_events h)) (put_entry (suc (length h)) s v) [] (All-nil (IsEarlier (control_events h) (put_entry (suc (length h)) s v)))
+    (pairs-nil (IsEarlier (control_events h))))
     (λ ne. sorted h l.0 x b)
 sorted (other s ∷ h) l x b = sorted h l.0 x b

@@ -17,13 +17,13 @@ use Rattle.law_strands.proofs.Holders.{holders, Splitting, splitting}
 use Rattle.law_strands.proofs.EventKinds.{Joining, joining_sync, joining_return, Quiet, quiet_waits, quiet_ended, quiet_finished, quiet_same, quiet_call, quiet_resumed, arriving_sink, begun_earlier, covers_self}
 use Rattle.law_strands.proofs.Kept.{begun_stays}
 use Rattle.law_strands.proofs.Gatherings.{gathering_law}
-use Rattle.model_reducers.specs.Items.{control, update, put, other, Items, control_part}
+use Rattle.model_reducers.specs.Items.{control, update, put, other, Items, control_events}
 use Rattle.law_values.specs.Items.{IsLegal}
-use Rattle.model_reducers.specs.Entries.{Entry, update_entry, put_entry, number_of, strand_of, HasUpdate, HasPut}
+use Rattle.model_reducers.specs.Entries.{Entry, update_entry, put_entry, entry_number, strand_of, HasUpdate, HasPut}
 use Rattle.law_values.specs.Logs.{logs_after, log}
 use Rattle.law_values.proofs.Lists.{in_flat}
 
-pub legal_control : (h : Items) → IsLegal h → Legal (control_part h)
+pub legal_control : (h : Items) → IsLegal h → Legal (control_events h)
 legal_control [] l = start
 legal_control (control e ∷ h) l = then (legal_control h l.0) l.1
 legal_control (update s v ∷ h) l = legal_control h l.0
@@ -104,24 +104,24 @@ covered_step h e f (quiet_step q same_log) old x u b i = q.covered x (strand_of 
 covered_here : (h : History) → Legal h → (s x : ℕ) (u w : Entry) → Begun h x → x ≡ s → strand_of w ≡ s → w ≡ u → Covers h x (strand_of u)
 covered_here h l s x u w b e k q = subst (λ y. Covers h x y) (e ∙ sym k ∙ ap strand_of q) (covers_self l x b)
 
-pub covered : (h : Items) → IsLegal h → Covered (control_part h) (log h)
+pub covered : (h : Items) → IsLegal h → Covered (control_events h) (log h)
 covered [] l x u b i = absurd i
 covered (control e ∷ h) l x u b i =
-    covered_step (control_part h) e (log h) (step_of (control_part h) (log h) e (legal_control h l.0) l.1) (covered h l.0) x u b i
+    covered_step (control_events h) e (log h) (step_of (control_events h) (log h) e (legal_control h l.0) l.1) (covered h l.0) x u b i
 covered (update s v ∷ h) l x u b i =
-    updated_case (λ ys. Present u ys → Covers (control_part h) x (strand_of u)) (log h) s (log h s ++ (update_entry (suc (length h)) s v ∷ [])) x
+    updated_case (λ ys. Present u ys → Covers (control_events h) x (strand_of u)) (log h) s (log h s ++ (update_entry (suc (length h)) s v ∷ [])) x
     (λ e i. elim ((present_append (log h s) (update_entry (suc (length h)) s v ∷ []) u).0 i) [
       | inl t ↦ covered h l.0 x u b (subst (λ y. Present u (log h y)) (sym e) t)
       | inr t ↦ elim t [
-        | inl q ↦ covered_here (control_part h) (legal_control h l.0) s x u (update_entry (suc (length h)) s v) b e refl q
+        | inl q ↦ covered_here (control_events h) (legal_control h l.0) s x u (update_entry (suc (length h)) s v) b e refl q
         | inr q ↦ absurd q
       ]
     ])
     (λ ne i. covered h l.0 x u b i) i
 covered (put s v ∷ h) l x u b i =
-    updated_case (λ ys. Present u ys → Covers (control_part h) x (strand_of u)) (log h) s (put_entry (suc (length h)) s v ∷ []) x
+    updated_case (λ ys. Present u ys → Covers (control_events h) x (strand_of u)) (log h) s (put_entry (suc (length h)) s v ∷ []) x
     (λ e t. elim t [
-      | inl q ↦ covered_here (control_part h) (legal_control h l.0) s x u (put_entry (suc (length h)) s v) b e refl q
+      | inl q ↦ covered_here (control_events h) (legal_control h l.0) s x u (put_entry (suc (length h)) s v) b e refl q
       | inr q ↦ absurd q
     ])
     (λ ne i. covered h l.0 x u b i) i
@@ -148,34 +148,34 @@ members_after P h (finished s) f old x u i = old x u i
 
 -- The updates and puts have numbers among the items, and are by begun strands.
 
-pub update_numbered : (h : Items) (u : Entry) → HasUpdate h u → number_of u ≤ length h
+pub update_numbered : (h : Items) (u : Entry) → HasUpdate h u → entry_number u ≤ length h
 update_numbered [] u t = absurd t
 update_numbered (control e ∷ h) u t = let k = update_numbered h u t in omega arith
-update_numbered (update s v ∷ h) u (inl e) = let k : number_of u ≡ suc (length h) = ap number_of e in omega arith
+update_numbered (update s v ∷ h) u (inl e) = let k : entry_number u ≡ suc (length h) = ap entry_number e in omega arith
 update_numbered (update s v ∷ h) u (inr t) = let k = update_numbered h u t in omega arith
 update_numbered (put s v ∷ h) u t = let k = update_numbered h u t in omega arith
 update_numbered (other s ∷ h) u t = let k = update_numbered h u t in omega arith
 
-pub put_numbered : (h : Items) (u : Entry) → HasPut h u → number_of u ≤ length h
+pub put_numbered : (h : Items) (u : Entry) → HasPut h u → entry_number u ≤ length h
 put_numbered [] u t = absurd t
 put_numbered (control e ∷ h) u t = let k = put_numbered h u t in omega arith
-put_numbered (put s v ∷ h) u (inl e) = let k : number_of u ≡ suc (length h) = ap number_of e in omega arith
+put_numbered (put s v ∷ h) u (inl e) = let k : entry_number u ≡ suc (length h) = ap entry_number e in omega arith
 put_numbered (put s v ∷ h) u (inr t) = let k = put_numbered h u t in omega arith
 put_numbered (update s v ∷ h) u t = let k = put_numbered h u t in omega arith
 put_numbered (other s ∷ h) u t = let k = put_numbered h u t in omega arith
 
-pub update_begun : (h : Items) → IsLegal h → (u : Entry) → HasUpdate h u → Begun (control_part h) (strand_of u)
+pub update_begun : (h : Items) → IsLegal h → (u : Entry) → HasUpdate h u → Begun (control_events h) (strand_of u)
 update_begun [] l u t = absurd t
 update_begun (control e ∷ h) l u t = begun_stays (then (legal_control h l.0) l.1) (strand_of u) (update_begun h l.0 u t)
-update_begun (update s v ∷ h) l u (inl e) = inl (subst (λ w. Running (control_part h) (strand_of w)) (sym e) l.1)
+update_begun (update s v ∷ h) l u (inl e) = inl (subst (λ w. Running (control_events h) (strand_of w)) (sym e) l.1)
 update_begun (update s v ∷ h) l u (inr t) = update_begun h l.0 u t
 update_begun (put s v ∷ h) l u t = update_begun h l.0 u t
 update_begun (other s ∷ h) l u t = update_begun h l.0 u t
 
-pub put_begun : (h : Items) → IsLegal h → (u : Entry) → HasPut h u → Begun (control_part h) (strand_of u)
+pub put_begun : (h : Items) → IsLegal h → (u : Entry) → HasPut h u → Begun (control_events h) (strand_of u)
 put_begun [] l u t = absurd t
 put_begun (control e ∷ h) l u t = begun_stays (then (legal_control h l.0) l.1) (strand_of u) (put_begun h l.0 u t)
-put_begun (put s v ∷ h) l u (inl e) = inl (subst (λ w. Running (control_part h) (strand_of w)) (sym e) l.1)
+put_begun (put s v ∷ h) l u (inl e) = inl (subst (λ w. Running (control_events h) (strand_of w)) (sym e) l.1)
 put_begun (put s v ∷ h) l u (inr t) = put_begun h l.0 u t
 put_begun (update s v ∷ h) l u t = put_begun h l.0 u t
 put_begun (other s ∷ h) l u t = put_begun h l.0 u t
@@ -183,7 +183,7 @@ put_begun (other s ∷ h) l u t = put_begun h l.0 u t
 -- each member of a log was written
 pub written : (h : Items) (x : ℕ) (u : Entry) → Present u (log h x) → HasUpdate h u ⊎ HasPut h u
 written [] x u i = absurd i
-written (control e ∷ h) x u i = members_after (λ w. HasUpdate h w ⊎ HasPut h w) (control_part h) e (log h) (written h) x u i
+written (control e ∷ h) x u i = members_after (λ w. HasUpdate h w ⊎ HasPut h w) (control_events h) e (log h) (written h) x u i
 written (update s v ∷ h) x u i =
     updated_case (λ ys. Present u ys → HasUpdate (update s v ∷ h) u ⊎ HasPut h u) (log h) s (log h s ++ (update_entry (suc (length h)) s v ∷ [])) x
     (λ e i. elim ((present_append (log h s) (update_entry (suc (length h)) s v ∷ []) u).0 i) [
@@ -205,8 +205,8 @@ written (put s v ∷ h) x u i =
     older (inr t) = inr (inr t)
 written (other s ∷ h) x u i = written h x u i
 
-pub member_numbered : (h : Items) (x : ℕ) (u : Entry) → Present u (log h x) → number_of u ≤ length h
+pub member_numbered : (h : Items) (x : ℕ) (u : Entry) → Present u (log h x) → entry_number u ≤ length h
 member_numbered h x u i = elim (written h x u i) [ inl t ↦ update_numbered h u t | inr t ↦ put_numbered h u t ]
 
-pub member_begun : (h : Items) → IsLegal h → (x : ℕ) (u : Entry) → Present u (log h x) → Begun (control_part h) (strand_of u)
+pub member_begun : (h : Items) → IsLegal h → (x : ℕ) (u : Entry) → Present u (log h x) → Begun (control_events h) (strand_of u)
 member_begun h l x u i = elim (written h x u i) [ inl t ↦ update_begun h l u t | inr t ↦ put_begun h l u t ]

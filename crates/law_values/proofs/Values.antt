@@ -8,8 +8,8 @@ use Rattle.model_strands.specs.History.{Event, split, same, joined, waits, call,
 use Rattle.law_strands.specs.Gatherings.{gathered}
 use Rattle.law_strands.proofs.Updates.{same_or_not, updated_at, updated_off}
 use Rattle.law_strands.proofs.Members.{Present, present_map, all_present, contains_present}
-use Rattle.model_reducers.specs.Items.{control, update, put, other, Items, control_part}
-use Rattle.model_reducers.specs.Entries.{Entry, update_entry, put_entry, number_of, value_of, HasUpdate, HasPut}
+use Rattle.model_reducers.specs.Items.{control, update, put, other, Items, control_events}
+use Rattle.model_reducers.specs.Entries.{Entry, update_entry, put_entry, entry_number, entry_value, HasUpdate, HasPut}
 use Rattle.law_values.specs.Logs.{logs_after, log}
 use Rattle.model_reducers.specs.Views.{Reducer, product}
 use Rattle.law_values.specs.Views.{views_after, view, IsMonoidOn, EntriesFit}
@@ -26,19 +26,19 @@ abbrev view_of : {View : Type 0} → Reducer View → Entry → View
 view_of reducer (update_entry number strand value) = reducer.of_update value
 view_of reducer (put_entry number strand value) = reducer.of_put value
 
-put_view : {View : Type 0} (reducer : Reducer View) (h : Items) (u : Entry) → HasPut h u → view_of reducer u ≡ reducer.of_put (value_of u)
+put_view : {View : Type 0} (reducer : Reducer View) (h : Items) (u : Entry) → HasPut h u → view_of reducer u ≡ reducer.of_put (entry_value u)
 put_view reducer [] u t = absurd t
 put_view reducer (control e ∷ h) u t = put_view reducer h u t
 put_view reducer (update s v ∷ h) u t = put_view reducer h u t
-put_view reducer (put s v ∷ h) u (inl e) = subst (λ w. view_of reducer w ≡ reducer.of_put (value_of w)) (sym e) refl
+put_view reducer (put s v ∷ h) u (inl e) = subst (λ w. view_of reducer w ≡ reducer.of_put (entry_value w)) (sym e) refl
 put_view reducer (put s v ∷ h) u (inr t) = put_view reducer h u t
 put_view reducer (other s ∷ h) u t = put_view reducer h u t
 
-update_view : {View : Type 0} (reducer : Reducer View) (h : Items) (u : Entry) → HasUpdate h u → view_of reducer u ≡ reducer.of_update (value_of u)
+update_view : {View : Type 0} (reducer : Reducer View) (h : Items) (u : Entry) → HasUpdate h u → view_of reducer u ≡ reducer.of_update (entry_value u)
 update_view reducer [] u t = absurd t
 update_view reducer (control e ∷ h) u t = update_view reducer h u t
 update_view reducer (put s v ∷ h) u t = update_view reducer h u t
-update_view reducer (update s v ∷ h) u (inl e) = subst (λ w. view_of reducer w ≡ reducer.of_update (value_of w)) (sym e) refl
+update_view reducer (update s v ∷ h) u (inl e) = subst (λ w. view_of reducer w ≡ reducer.of_update (entry_value w)) (sym e) refl
 update_view reducer (update s v ∷ h) u (inr t) = update_view reducer h u t
 update_view reducer (other s ∷ h) u t = update_view reducer h u t
 
@@ -102,7 +102,7 @@ view_is_image : {View : Type 0} (Fits : View → Type 0) (reducer : Reducer View
     view reducer h x ≡ image reducer (log h x)
 view_is_image Fits reducer k [] fit x = refl
 view_is_image Fits reducer k (control e ∷ h) fit x =
-    after_alike Fits reducer k (control_part h) e (log h) (view reducer h) (log_fits Fits reducer h older) (view_is_image Fits reducer k h older) x
+    after_alike Fits reducer k (control_events h) e (log h) (view reducer h) (log_fits Fits reducer h older) (view_is_image Fits reducer k h older) x
   where
     older : EntriesFit Fits reducer h
     older = record { updates = λ u t. fit.updates u t; puts = λ u t. fit.puts u t }
@@ -135,7 +135,7 @@ view_is_image Fits reducer k (other s ∷ h) fit x =
     view_is_image Fits reducer k h (record { updates = λ u t. fit.updates u t; puts = λ u t. fit.puts u t }) x
 
 updates_image : {View : Type 0} (reducer : Reducer View) (h : Items) (us : List Entry) → ((u : Entry) → Present u us → HasUpdate h u) →
-    image reducer us ≡ product reducer (map (λ u. reducer.of_update (value_of u)) us)
+    image reducer us ≡ product reducer (map (λ u. reducer.of_update (entry_value u)) us)
 updates_image reducer h [] k = refl
 updates_image reducer h (u ∷ us) k =
     ap₂ reducer.combine (update_view reducer h u (k u (inl refl))) (updates_image reducer h us (λ w i. k w (inr i)))
@@ -143,7 +143,7 @@ updates_image reducer h (u ∷ us) k =
 -- the view at a granted get
 view_at : {View : Type 0} (Fits : View → Type 0) (reducer : Reducer View) → IsMonoidOn Fits reducer → (h : Items) → EntriesFit Fits reducer h →
     (s : ℕ) (p : Entry) → IsGranted h s p → (us : List Entry) → AreCounted h p s us →
-    view reducer h s ≡ reducer.combine (reducer.of_put (value_of p)) (product reducer (map (λ u. reducer.of_update (value_of u)) us))
+    view reducer h s ≡ reducer.combine (reducer.of_put (entry_value p)) (product reducer (map (λ u. reducer.of_update (entry_value u)) us))
 view_at Fits reducer k h fit s p g us counted =
     let found = log_law h s p g in
     let e : found.0 ≡ us = counted_law h g.legal s p found.0 us found.1 counted in
@@ -152,16 +152,16 @@ view_at Fits reducer k h fit s p g us counted =
     (updates_image reducer h us (λ u i. ((counted.1 u).0 ((contains_present u us).1 i)).0))
 
 -- only one put is the last
-last_alike : (h : Items) (p q : Entry) → HasPut h p → HasPut h q → number_of p ≡ number_of q → p ≡ q
+last_alike : (h : Items) (p q : Entry) → HasPut h p → HasPut h q → entry_number p ≡ entry_number q → p ≡ q
 last_alike [] p q t r e = absurd t
 last_alike (control x ∷ h) p q t r e = last_alike h p q t r e
 last_alike (update s v ∷ h) p q t r e = last_alike h p q t r e
 last_alike (other s ∷ h) p q t r e = last_alike h p q t r e
 last_alike (put s v ∷ h) p q (inl t) (inl r) e = t ∙ sym r
 last_alike (put s v ∷ h) p q (inl t) (inr r) e =
-    absurd (let m : number_of q ≤ length h = put_numbered h q r in let m' : number_of p ≡ suc (length h) = ap number_of t in omega arith)
+    absurd (let m : entry_number q ≤ length h = put_numbered h q r in let m' : entry_number p ≡ suc (length h) = ap entry_number t in omega arith)
 last_alike (put s v ∷ h) p q (inr t) (inl r) e =
-    absurd (let m : number_of p ≤ length h = put_numbered h p t in let m' : number_of q ≡ suc (length h) = ap number_of r in omega arith)
+    absurd (let m : entry_number p ≤ length h = put_numbered h p t in let m' : entry_number q ≡ suc (length h) = ap entry_number r in omega arith)
 last_alike (put s v ∷ h) p q (inr t) (inr r) e = last_alike h p q t r e
 
 pub value_law : {View : Type 0} (Fits : View → Type 0) (reducer : Reducer View) → ValuesAre Fits reducer
@@ -169,8 +169,8 @@ value_law {View} Fits reducer k h fit s p g value = (to, from)
   where
     to : IsValue reducer h s value → value ≡ view reducer h s
     to is =
-        let a : number_of p ≤ number_of is.put = is.last.1 p g.last.0 in
-        let b : number_of is.put ≤ number_of p = g.last.1 is.put is.last.0 in
+        let a : entry_number p ≤ entry_number is.put = is.last.1 p g.last.0 in
+        let b : entry_number is.put ≤ entry_number p = g.last.1 is.put is.last.0 in
         let same : p ≡ is.put = last_alike h p is.put g.last.0 is.last.0 (omega arith) in
         is.combined ∙ sym (view_at Fits reducer k h fit s is.put (subst (IsGranted h s) same g) is.counted is.counts)
 

@@ -1,6 +1,6 @@
 -- Which histories with the accesses of one reducer are legal.
 use Rattle.std.specs.Prelude.{[], ◌∷◌}
-use Rattle.model_reducers.specs.Items.{Item, control, update, put, other, Items, control_part}
+use Rattle.model_reducers.specs.Items.{Item, control, update, put, other, Items, control_events}
 use Rattle.model_strands.specs.History.{History}
 use Rattle.model_strands.specs.Strands.{Running}
 use Rattle.model_strands.specs.Legal.{Allowed}
@@ -15,4 +15,4 @@ IsAllowed history (other strand) = Running history strand
 -- each item was allowed when it came
 abbrev pub IsLegal : Items → Type 0
 IsLegal [] = Unit {0}
-IsLegal (item ∷ items) = IsLegal items × IsAllowed (control_part items) item
+IsLegal (item ∷ items) = IsLegal items × IsAllowed (control_events items) item

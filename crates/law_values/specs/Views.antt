@@ -4,8 +4,8 @@ use Rattle.model_reducers.specs.Views.{Reducer, product}
 use Rattle.model_strands.specs.Updated.{updated}
 use Rattle.model_strands.specs.History.{Event, split, joined, ended_joined, History}
 use Rattle.law_strands.specs.Gatherings.{gathered}
-use Rattle.model_reducers.specs.Items.{Item, control, update, put, other, Items, control_part}
-use Rattle.model_reducers.specs.Entries.{Entry, value_of, HasUpdate, HasPut}
+use Rattle.model_reducers.specs.Items.{Item, control, update, put, other, Items, control_events}
+use Rattle.model_reducers.specs.Entries.{Entry, entry_value, HasUpdate, HasPut}
 
 -- the views after an event: a child begins with its spawner's, a next with the identity, a join with the product of those that it gathers
 abbrev pub views_after : {View : Type 0} → Reducer View → History → Event → (ℕ → View) → ℕ → View
@@ -19,7 +19,7 @@ views_after reducer history _ views = views
 -- an update combines on the right, and a put replaces the strand's view
 abbrev pub view : {View : Type 0} → Reducer View → Items → ℕ → View
 view reducer [] = λ strand. reducer.identity
-view reducer (control event ∷ items) = views_after reducer (control_part items) event (view reducer items)
+view reducer (control event ∷ items) = views_after reducer (control_events items) event (view reducer items)
 view reducer (update strand value ∷ items) =
     updated (view reducer items) strand (reducer.combine (view reducer items strand) (reducer.of_update value))
 view reducer (put strand value ∷ items) = updated (view reducer items) strand (reducer.of_put value)
@@ -45,5 +45,5 @@ pub record IsMonoidOn {View : Type 0} (Fits : View → Type 0) (reducer : Reduce
 
 -- and those of the updates and puts fit
 pub record EntriesFit {View : Type 0} (Fits : View → Type 0) (reducer : Reducer View) (items : Items) : Type 0 where
-  pub updates : (entry : Entry) → HasUpdate items entry → Fits (reducer.of_update (value_of entry))
-  pub puts : (entry : Entry) → HasPut items entry → Fits (reducer.of_put (value_of entry))
+  pub updates : (entry : Entry) → HasUpdate items entry → Fits (reducer.of_update (entry_value entry))
+  pub puts : (entry : Entry) → HasPut items entry → Fits (reducer.of_put (entry_value entry))

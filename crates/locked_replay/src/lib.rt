@@ -4,7 +4,7 @@
 //! length of the gate's history, which is judged. Each worker counts what it asked on a [`Seat`], a share of the total, and keeps the
 //! receipts of the answers. [`gather`] takes the gate out of its lock, and answers Ok only where the receipts of all workers are the
 //! history's entries, each once, and the history is a finished run of the program. Where nothing was refused in it, it is the program's
-//! serial elision, and every run of the program agrees with it; [`laws::whole_law`] says so over the definitions alone. [`gate_for`]
+//! serial elision, and every run of the program agrees with it; [`laws::whole_law`] says so over the definitions alone. [`open_gate`]
 //! makes the gate of a program.
 #![tactic(auto)]
 
@@ -22,7 +22,7 @@ mod worker;
 pub use fault::RunFault;
 pub use locked::{Ask, LockedGate};
 pub use logs::check_logs;
-pub use opening::gate_for;
+pub use opening::open_gate;
 pub use run_replay::{ReplayFault, replay};
 pub use seat::Seat;
 pub use short_receipts::Entries;

@@ -37,13 +37,13 @@ pub trait Ask<L: Ledger> {
 /// What lies under the lock: a gate, whose history is judged and whose memory is what that leaves, since it is a gate; and the total of
 /// what was asked on all seats, which is the length of the history.
 #[derive(Drop)]
-struct Round<L: Ledger> {
+struct CountedGate<L: Ledger> {
     gate: ShortGate,
     total: Book<L>,
     ghost counted: { total.total ≡ length gate.history },
 }
 
-impl<L: Ledger> Round<L> {
+impl<L: Ledger> CountedGate<L> {
     /// The gate judges the request, and the receipt is of the entry that is then its newest.
     fn judge(&mut self, seat: &mut Seat<L>, request: Request) -> Result<Receipt, GateFault>
         ensures replies { Judges self.old.gate request (reply_of result) self.new.gate }
@@ -51,7 +51,7 @@ impl<L: Ledger> Round<L> {
         ensures parts { seat.new.parts ≡ seat.old.parts }
         ensures asked { MatchResult result (λ _. seat.new.asked ≡ seat.old.asked + 1) (λ _. seat.new.asked ≡ seat.old.asked) }
     {
-        let Round { gate, total } = self;
+        let CountedGate { gate, total } = self;
         let Seat {
             asked,
             parts: _,
@@ -75,7 +75,7 @@ impl<L: Ledger> Round<L> {
 /// A gate that any thread may ask.
 #[derive(Drop)]
 pub struct LockedGate<L: Ledger> {
-    round: Mutex<Round<L>>,
+    round: Mutex<CountedGate<L>>,
     /// What askers doze on. It is 0 for good.
     calm: AtomicU64,
 }
@@ -96,7 +96,7 @@ impl<L: Ledger> LockedGate<L> {
             parts,
             share,
         };
-        let round = Mutex::new(Round { gate, total });
+        let round = Mutex::new(CountedGate { gate, total });
         let calm = AtomicU64::new(0);
         (LockedGate { round, calm }, seat)
     }
@@ -105,7 +105,7 @@ impl<L: Ledger> LockedGate<L> {
     /// that ask in turns would hand all that a gate keeps from one processor to another at each request.
     #[cold]
     #[inline(never)]
-    fn take_later<R: Wait>(&self, rt: &R) -> MutexGuard<'_, Round<L>> {
+    fn take_when_free<R: Wait>(&self, rt: &R) -> MutexGuard<'_, CountedGate<L>> {
         let mut doze = DOZE;
         for _ in rt.forever() {
             self.calm.park_timeout(rt, 0, Duration::from_micros(doze));
@@ -118,10 +118,10 @@ impl<L: Ledger> LockedGate<L> {
     }
 
     /// Takes the lock.
-    fn take<R: Wait>(&self, rt: &R) -> MutexGuard<'_, Round<L>> {
+    fn take<R: Wait>(&self, rt: &R) -> MutexGuard<'_, CountedGate<L>> {
         match self.round.try_lock() {
             Some(round) => round,
-            None => self.take_later(rt),
+            None => self.take_when_free(rt),
         }
     }
 
@@ -150,7 +150,7 @@ impl<L: Ledger> LockedGate<L> {
         ensures values { IsMemory result.shape.cells result.history result.memory }
     {
         let LockedGate { round, calm: _ } = self;
-        let Round { gate, total: _ } = round.into_inner();
+        let CountedGate { gate, total: _ } = round.into_inner();
         // What is known of each gate is known of this one from here on.
         let _entries = gate.history();
         let _cells = gate.memory();

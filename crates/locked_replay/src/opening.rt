@@ -10,7 +10,7 @@ use race_gate::ShortGate;
 use std::alloc::{AllocError, Global};
 
 /// A gate of the cells and reducers that the program declares, which was asked nothing, and whose history takes so many entries.
-pub fn gate_for(
+pub fn open_gate(
     alloc: Global,
     program: &Program<Global>,
     limit: u32,

@@ -22,5 +22,5 @@ Races history accesses location kind strand access =
     × (rule_between access.kind kind ≡ Race) × IsParallel history access.strand strand
 
 -- the access that a witness names
-abbrev pub witness_of : ℕ → Witness → Access
-witness_of location witness = record { strand = witness.strand; kind = witness.kind; location = location; entry = witness.entry }
+abbrev pub access_of_witness : ℕ → Witness → Access
+access_of_witness location witness = record { strand = witness.strand; kind = witness.kind; location = location; entry = witness.entry }

@@ -6,8 +6,8 @@ use Rattle.model_histories.specs.declared.answer.Answer.TheVariants.{Finished, R
 use Rattle.model_histories.specs.Entries.{Entries}
 
 -- the longer history begins with the other, and may be the same
-abbrev pub Extends : Entries → Entries → Type 0
-Extends longer entries = (later : Entries) × (later ++ entries ≡ longer)
+abbrev pub ExtendsEntries : Entries → Entries → Type 0
+ExtendsEntries longer entries = (later : Entries) × (later ++ entries ≡ longer)
 
 -- the answer is that the root function returned
 abbrev pub IsEnd : Answer → Type 0

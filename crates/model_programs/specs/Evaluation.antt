@@ -5,7 +5,7 @@ use Rattle.model_accesses.specs.declared.request.Act.{Act}
 use Rattle.model_reducers.specs.declared.monoid.Monoid.{Monoid}
 use Rattle.model_reducers.specs.declared.view.View.{View}
 use Rattle.model_reducers.specs.declared.view.View.TheVariants.{Nothing}
-use Rattle.model_reducers.specs.Products.{update_view, put_view, product_of, number_of, monoid_of}
+use Rattle.model_reducers.specs.Products.{update_view, put_view, product_of, view_number, monoid_of}
 use Rattle.model_bodies.specs.declared.statement.Register.{Register}
 use Rattle.model_bodies.specs.declared.statement.Operand.{Operand}
 use Rattle.model_bodies.specs.declared.statement.Expression.{Expression}
@@ -35,7 +35,7 @@ with_view store reducer view = record { memory = store.memory; views = slice_set
 
 -- the value that a get finds, which is 0 where the view has none
 abbrev pub got : Store → ℕ → ℕ
-got store reducer = unwrap_or (number_of (view_at store reducer)) 0
+got store reducer = unwrap_or (view_number (view_at store reducer)) 0
 
 -- what one request did: its act with its line, and the value that it was given
 pub record Effect : Type 0 where

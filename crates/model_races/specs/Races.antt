@@ -4,7 +4,7 @@ use Rattle.model_accesses.specs.declared.kind.Rule.{Rule}
 use Rattle.model_accesses.specs.Table.{rule_between}
 use Rattle.model_strands.specs.History.{History}
 use Rattle.model_accesses.specs.declared.witness.Witness.{Witness}
-use Rattle.model_accesses.specs.Accesses.{Access, Races, witness_of}
+use Rattle.model_accesses.specs.Accesses.{Access, Races, access_of_witness}
 use Rattle.model_races.specs.declared.access.CellAccess.{CellAccess}
 
 -- In this dag, one of the earlier granted accesses of the same cell, which conflicts with the strand's new one under the rule of races, is
@@ -15,4 +15,4 @@ HasRace dag earlier strand new = (access : Access) × Races dag earlier new.loca
 -- The witness is such an access, by its entry, its strand and its kind, and the rule is that of the two kinds.
 abbrev pub IsTrueWitness : History → List Access → ℕ → CellAccess → Rule → Witness → Type 0
 IsTrueWitness dag earlier strand new rule witness =
-    Races dag earlier new.location new.kind strand (witness_of new.location witness) × (rule ≡ rule_between witness.kind new.kind)
+    Races dag earlier new.location new.kind strand (access_of_witness new.location witness) × (rule ≡ rule_between witness.kind new.kind)

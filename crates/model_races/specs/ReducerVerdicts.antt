@@ -9,7 +9,7 @@ use Rattle.model_accesses.specs.Reads.{ReducerRead}
 use Rattle.model_reducers.specs.Steps.{Steps, items_of}
 use Rattle.model_reducers.specs.GetValues.{IsValue}
 use Rattle.model_reducers.specs.declared.view.View.{View}
-use Rattle.model_reducers.specs.Products.{reducer_of, number_of, monoid_of}
+use Rattle.model_reducers.specs.Products.{reducer_of, view_number, monoid_of}
 use Rattle.model_histories.specs.declared.answer.Answer.{Answer}
 use Rattle.model_histories.specs.Entries.{Entries, control_part}
 use Rattle.model_histories.specs.Shapes.{Shape}
@@ -21,7 +21,7 @@ use Rattle.model_races.specs.ViewReads.{IsRightRead}
 -- since then of strands that the put's strand reaches and that reach the get's, in serial order.
 abbrev pub IsGetValue : List Monoid → Steps → ℕ → ℕ → ℕ → Type 0
 IsGetValue monoids steps strand reducer value =
-    (view : View) × IsValue (reducer_of (monoid_of monoids reducer)) (items_of reducer steps) strand view × (number_of view ≡ Some value)
+    (view : View) × IsValue (reducer_of (monoid_of monoids reducer)) (items_of reducer steps) strand view × (view_number view ≡ Some value)
 
 -- after this control history, these steps and these granted reads this is the right answer to the strand's act, where that is a put or a
 -- get

@@ -8,7 +8,7 @@ use Rattle.model_histories.specs.declared.answer.Answer.TheVariants.{Value, Refu
 use Rattle.model_histories.specs.Entries.{Entries, control_part}
 use Rattle.model_races.specs.Accesses.{cell_access, granted}
 use Rattle.model_races.specs.Races.{HasRace, IsTrueWitness}
-use Rattle.model_races.specs.Memory.{value_of}
+use Rattle.model_races.specs.Memory.{cell_value}
 
 abbrev pub IsRefused : Answer → Type 0
 IsRefused (Refused rule witness) = Unit {0}
@@ -31,7 +31,7 @@ pub record IsRightVerdict (entries : Entries) (strand : ℕ) (access : CellAcces
   -- a refusal names a true witness and its rule
   pub witness : IfRefused answer (IsTrueWitness (control_part entries) (granted entries) strand access)
   -- a value is what the cell holds
-  pub value : IfValue answer (λ value. value ≡ value_of entries access.location)
+  pub value : IfValue answer (λ value. value ≡ cell_value entries access.location)
 
 -- each access of a cell was answered rightly when it came
 abbrev pub MemoryIsJudged : Entries → Type 0

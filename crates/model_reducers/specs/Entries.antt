@@ -9,17 +9,17 @@ pub data Entry : Type 0 where
   update_entry : (number strand value : ℕ) → Entry
   put_entry : (number strand value : ℕ) → Entry
 
-abbrev pub number_of : Entry → ℕ
-number_of (update_entry number strand value) = number
-number_of (put_entry number strand value) = number
+abbrev pub entry_number : Entry → ℕ
+entry_number (update_entry number strand value) = number
+entry_number (put_entry number strand value) = number
 
 abbrev pub strand_of : Entry → ℕ
 strand_of (update_entry number strand value) = strand
 strand_of (put_entry number strand value) = strand
 
-abbrev pub value_of : Entry → ℕ
-value_of (update_entry number strand value) = value
-value_of (put_entry number strand value) = value
+abbrev pub entry_value : Entry → ℕ
+entry_value (update_entry number strand value) = value
+entry_value (put_entry number strand value) = value
 
 -- the entry is one of the updates
 abbrev pub HasUpdate : Items → Entry → Type 0
@@ -37,4 +37,4 @@ HasPut (_ ∷ items) entry = HasPut items entry
 abbrev pub AreInSerialOrder : History → Entry → Entry → Type 0
 AreInSerialOrder history entry later =
     IsSeriallyBefore history (strand_of entry) (strand_of later)
-    ⊎ ((strand_of entry ≡ strand_of later) × (number_of entry < number_of later))
+    ⊎ ((strand_of entry ≡ strand_of later) × (entry_number entry < entry_number later))

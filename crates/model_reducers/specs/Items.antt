@@ -15,7 +15,7 @@ abbrev pub Items : Type 0
 Items = List Item
 
 -- the events among them
-abbrev pub control_part : Items → History
-control_part [] = []
-control_part (control event ∷ items) = event ∷ control_part items
-control_part (_ ∷ items) = control_part items
+abbrev pub control_events : Items → History
+control_events [] = []
+control_events (control event ∷ items) = event ∷ control_events items
+control_events (_ ∷ items) = control_events items

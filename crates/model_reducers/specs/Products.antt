@@ -39,10 +39,10 @@ product_of _ left Nothing = left
 product_of _ left right = right
 
 -- what a get gives
-abbrev pub number_of : View → Option ℕ
-number_of Nothing = None
-number_of (One number) = Some number
-number_of (Pair multiplier number) = Some number
+abbrev pub view_number : View → Option ℕ
+view_number Nothing = None
+view_number (One number) = Some number
+view_number (Pair multiplier number) = Some number
 
 -- what a reducer with this monoid makes of views
 abbrev pub reducer_of : Monoid → Reducer View

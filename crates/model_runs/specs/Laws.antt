@@ -3,7 +3,7 @@ use Rattle.std.specs.Prelude.{◌≡◌, ◌<◌, ℕ, List, length}
 use Rattle.model_strands.specs.Address.{Address}
 use Rattle.model_histories.specs.Entries.{Entries}
 use Rattle.model_histories.specs.Shapes.{Shape}
-use Rattle.model_races.specs.Memory.{value_of, IsMemory}
+use Rattle.model_races.specs.Memory.{cell_value, IsMemory}
 use Rattle.model_histories.specs.Extensions.{IsFinished, IsClean}
 use Rattle.model_reducers.specs.declared.view.View.{View}
 use Rattle.model_bodies.specs.Codes.{Code}
@@ -38,7 +38,7 @@ pub record Agrees (shape : Shape) (clean entries : Entries) : Type 0 where
   pub is_clean : IsClean entries
   pub begins : (place : Address) → IsPrefixOf (effects_at entries place) (effects_at clean place)
   pub equal : IsFinished entries → (place : Address) → effects_at entries place ≡ effects_at clean place
-  pub memory : IsFinished entries → (cell : ℕ) → cell < shape.cells → value_of entries cell ≡ value_of clean cell
+  pub memory : IsFinished entries → (cell : ℕ) → cell < shape.cells → cell_value entries cell ≡ cell_value clean cell
 
 -- and so does every run of the program
 abbrev pub AllAgree : List Code → Shape → Entries → Type 0

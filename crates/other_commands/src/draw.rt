@@ -13,7 +13,7 @@ ghost use Rattle.other_commands.specs.Replays.{AnswersAll, StopsGate};
 ghost use Rattle.other_commands.specs.Drawings.{StopsEntries, DrawsContents, StopsDrawing, IsDrawn, HasDrawingCause};
 
 use crate::explain_trace::notes_of;
-use crate::replay::answered;
+use crate::replay::answer_all;
 use command_streams::{CliFault, Watched, parse_trace, read_text, write_text};
 use dag_drawing::{Drawing, Form, Names, draw, write_drawing};
 use race_gate::Entry;
@@ -37,7 +37,7 @@ fn drawing_of<A: Allocator + Copy>(alloc: A, entries: &[Entry]) -> Result<Drawin
 }
 
 /// The text of a trace's drawing, and the exit status.
-fn drawn<A: Allocator + Copy>(
+fn draw_trace<A: Allocator + Copy>(
     alloc: A,
     form: Form,
     notes: &Notes<A>,
@@ -46,7 +46,7 @@ fn drawn<A: Allocator + Copy>(
     ensures ok { IfOk result (λ told. DrawsContents form notes.now (contents trace.now) told.0.items told.1) }
     ensures fault { IfErr result (StopsDrawing (contents trace.now)) }
 {
-    let gate = answered(alloc, trace)?;
+    let gate = answer_all(alloc, trace)?;
     let entries = gate.history();
     let drawing = drawing_of(alloc, entries)?;
     let mems = trace.mems.as_slice();
@@ -92,7 +92,7 @@ pub fn draw_text<A: Allocator + Copy, R: Read, W: Write>(
     let bytes = read_text(alloc, input)?;
     let notes = notes_of(alloc, bytes.as_slice())?;
     let trace = parse_trace(alloc, bytes)?;
-    let (text, status) = drawn(alloc, form, &notes, &trace)?;
+    let (text, status) = draw_trace(alloc, form, &notes, &trace)?;
     write_text(output, text.as_slice())?;
     Ok(status)
 }

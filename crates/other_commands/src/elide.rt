@@ -87,7 +87,7 @@ pub fn push_memory<A: Allocator>(
 }
 
 /// The elision of a program.
-fn elided<A: Allocator + Copy>(
+fn elide_program<A: Allocator + Copy>(
     alloc: A,
     program: &Program<A>,
     limit: u32,
@@ -153,7 +153,7 @@ fn tell_elision<A: Allocator, W: Write>(
 {
     tell_memory(output, lines, mems, values);
     lines.tell_requests(output, requests);
-    lines.give(output);
+    lines.write_out(output);
 }
 
 /// Writes a line for each cell and one for the number of requests, through the room for lines that wait, and sees to it that all are
@@ -212,7 +212,7 @@ pub fn elide_text<A: Allocator + Copy, R: Read, W: Write>(
 {
     let text = read_text(alloc, program)?;
     let program = parse_program(alloc, text)?;
-    let elided = elided(alloc, &program, limit)?;
+    let elided = elide_program(alloc, &program, limit)?;
     let lines = LineBuffer::new(alloc)?;
     write_elision(
         output,

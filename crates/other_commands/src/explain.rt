@@ -22,7 +22,7 @@ ghost use Rattle.model_histories.specs.Legal.{IsLegal};
 ghost use Rattle.other_commands.specs.Explanations.{TellsEnd, IsBehindWarnings, status_of_end, ExplainsAs, Explains, IsUntold, StopsTelling, IsExplained, HasExplanationCause};
 
 use crate::elide::push_memory;
-use crate::explain_trace::trace_text_told;
+use crate::explain_trace::explain_trace_text;
 use crate::memory::memory_value;
 use crate::sort::is_program;
 use command_streams::{CliFault, Watched, read_text, write_text};
@@ -161,7 +161,7 @@ fn clean_record(
 }
 
 /// What is told where nothing was refused.
-fn clean_told(
+fn explain_clean(
     alloc: Global,
     manner: &Manner<'_>,
     text: &[u8],
@@ -218,7 +218,7 @@ fn push_cut(told: &mut Vec<u8>, count: usize) -> Result<(), AllocError>
 }
 
 /// What is told of a finished run.
-fn whole_told(
+fn explain_whole(
     alloc: Global,
     manner: &Manner<'_>,
     text: &[u8],
@@ -233,7 +233,7 @@ fn whole_told(
     ensures { IfOk result (λ told. TellsEnd manner.now text.now (contents program.now) limit told.0.items told.1) }
 {
     if whole.clean {
-        let told = clean_told(alloc, manner, text, program, whole)?;
+        let told = explain_clean(alloc, manner, text, program, whole)?;
         return Ok((told, End::Clean));
     }
     let entries = whole.entries.to_vec(alloc)?;
@@ -290,7 +290,7 @@ fn limit_told(
 }
 
 /// What is told of a run that came to the limit and not to its end.
-fn unfinished_told(
+fn explain_unfinished(
     alloc: Global,
     manner: &Manner<'_>,
     text: &[u8],
@@ -310,7 +310,7 @@ fn unfinished_told(
 }
 
 /// What is told of a run that wants more entries than the limit, from the gate that it left.
-fn cut_told(
+fn explain_cut(
     alloc: Global,
     manner: &Manner<'_>,
     text: &[u8],
@@ -328,13 +328,15 @@ fn cut_told(
         return Err(CliFault::Limit);
     }
     match outcome_of(alloc, program, entries)? {
-        Outcome::Unfinished => Ok(unfinished_told(alloc, manner, text, program, entries, limit)?),
+        Outcome::Unfinished => Ok(explain_unfinished(
+            alloc, manner, text, program, entries, limit,
+        )?),
         _ => Err(CliFault::Limit),
     }
 }
 
 /// What is told of some run of a program by so many workers, or by one in the serial order.
-fn run_told<D: Door + Sync, R: Threads + Wait + Sync>(
+fn explain_run<D: Door + Sync, R: Threads + Wait + Sync>(
     rt: &R,
     alloc: Global,
     manner: &Manner<'_>,
@@ -356,11 +358,11 @@ fn run_told<D: Door + Sync, R: Threads + Wait + Sync>(
         some_run::<Brand, D, R>(rt, alloc, program, workers, door, limit, Blank::new(PARTS))
     };
     let cut = match ran {
-        Ok(whole) => return Ok(whole_told(alloc, manner, text, program, &whole, limit)?),
+        Ok(whole) => return Ok(explain_whole(alloc, manner, text, program, &whole, limit)?),
         Err(cut) => cut,
     };
     match (cut.fault, &cut.gate) {
-        (RunFault::Limit, Some(gate)) => cut_told(alloc, manner, text, program, gate, limit),
+        (RunFault::Limit, Some(gate)) => explain_cut(alloc, manner, text, program, gate, limit),
         (fault, _) => Err(fault_of(fault)),
     }
 }
@@ -405,7 +407,7 @@ fn behind_warnings(
 }
 
 /// What is told of a text that is to mean a program, and the exit status.
-fn program_text_told<D: Door + Sync, R: Threads + Wait + Sync>(
+fn explain_program_text<D: Door + Sync, R: Threads + Wait + Sync>(
     rt: &R,
     alloc: Global,
     manner: &Manner<'_>,
@@ -428,7 +430,7 @@ fn program_text_told<D: Door + Sync, R: Threads + Wait + Sync>(
             return Ok((told, 2));
         }
     };
-    let (run, end) = run_told(
+    let (run, end) = explain_run(
         rt, alloc, manner, text, &program, workers, is_serial, door, limit,
     )?;
     let told = behind_warnings(alloc, manner, text, &program, run)?;
@@ -452,9 +454,9 @@ fn told_of<D: Door + Sync, R: Threads + Wait + Sync>(
     ensures fault { IfErr result (StopsTelling text.now limit) }
 {
     if is_program(text) {
-        program_text_told(rt, alloc, manner, text, workers, is_serial, door, limit)
+        explain_program_text(rt, alloc, manner, text, workers, is_serial, door, limit)
     } else {
-        trace_text_told(alloc, manner, text)
+        explain_trace_text(alloc, manner, text)
     }
 }
 

@@ -38,7 +38,7 @@ fn clean_words() -> &'static str
 }
 
 /// What is told where nothing was refused among so many requests.
-fn clean_told(alloc: Global, count: usize) -> Result<Vec<u8>, AllocError>
+fn explain_clean(alloc: Global, count: usize) -> Result<Vec<u8>, AllocError>
     ensures { IfOk result (λ told. told.items ≡ clean_trace_words ++ judged_text count) }
 {
     let mut told = Vec::new(alloc);
@@ -50,7 +50,7 @@ fn clean_told(alloc: Global, count: usize) -> Result<Vec<u8>, AllocError>
 }
 
 /// What a person is told of the entries of a trace.
-fn entries_told(
+fn explain_entries(
     alloc: Global,
     manner: &Manner<'_>,
     notes: &Notes<Global>,
@@ -61,7 +61,7 @@ fn entries_told(
     ensures { IfOk result (λ told. TellsEntries manner.now notes.now (trace_contents trace.now) entries.now told.items) }
 {
     if refusal_status(entries) == 0 {
-        return clean_told(alloc, entries.len());
+        return explain_clean(alloc, entries.len());
     }
     trace_explanation(alloc, manner.is_painted, notes, trace, entries)
 }
@@ -149,7 +149,7 @@ fn illegal_told(
 }
 
 /// What is told of the first request that a gate does not answer: why it is illegal. The fault of a command for one that is not illegal.
-pub(crate) fn stop_told(
+pub(crate) fn explain_stop(
     alloc: Global,
     manner: &Manner<'_>,
     text: &[u8],
@@ -183,7 +183,7 @@ fn verdict_text(
     requires legal { (shape : Shape) × IsLegal shape (reverse entries.now) }
     ensures { IfOk result (λ told. TellsTrace Rendering.Text manner.now notes.now (trace_contents trace.now) entries.now told.items) }
 {
-    let mut told = entries_told(alloc, manner, notes, trace, entries)?;
+    let mut told = explain_entries(alloc, manner, notes, trace, entries)?;
     push_recorded(&mut told, notes)?;
     Ok(told)
 }
@@ -206,7 +206,7 @@ fn verdict_told(
 }
 
 /// What is told of a trace that a text means and whose requests this gate answered, and the exit status.
-fn judged_told(
+fn explain_judged(
     alloc: Global,
     manner: &Manner<'_>,
     text: &[u8],
@@ -224,7 +224,7 @@ fn judged_told(
 }
 
 /// What a person is told of a trace that a text means, in which nothing is refused among so many requests.
-fn clean_trace_told(
+fn explain_clean_trace(
     alloc: Global,
     text: &[u8],
     trace: &Trace<Global>,
@@ -236,13 +236,13 @@ fn clean_trace_told(
 {
     let _trace = trace;
     let notes = notes_of(alloc, text)?;
-    let mut told = clean_told(alloc, count)?;
+    let mut told = explain_clean(alloc, count)?;
     push_recorded(&mut told, &notes)?;
     Ok(told)
 }
 
 /// What is told of a trace that a text means, and the exit status, by a gate that keeps the history.
-fn history_told(
+fn explain_history(
     alloc: Global,
     manner: &Manner<'_>,
     text: &[u8],
@@ -254,9 +254,9 @@ fn history_told(
 {
     let (gate, stop) = ask_all(alloc, trace)?;
     match stop {
-        None => Ok(judged_told(alloc, manner, text, trace, &gate)?),
+        None => Ok(explain_judged(alloc, manner, text, trace, &gate)?),
         Some(stop) => {
-            let told = stop_told(alloc, manner, text, trace, &gate, stop)?;
+            let told = explain_stop(alloc, manner, text, trace, &gate, stop)?;
             Ok((told, 2))
         }
     }
@@ -276,15 +276,15 @@ fn trace_text_by(
 {
     match clean_count(alloc, trace)? {
         Some(count) => {
-            let told = clean_trace_told(alloc, text, trace, count)?;
+            let told = explain_clean_trace(alloc, text, trace, count)?;
             Ok((told, 0))
         }
-        None => history_told(alloc, manner, text, trace),
+        None => explain_history(alloc, manner, text, trace),
     }
 }
 
 /// What is told of a trace that a text means, and the exit status.
-fn trace_told(
+fn explain_trace(
     alloc: Global,
     manner: &Manner<'_>,
     text: &[u8],
@@ -296,13 +296,13 @@ fn trace_told(
 {
     match manner.rendering {
         Rendering::Text => trace_text_by(alloc, manner, text, trace),
-        Rendering::Json => history_told(alloc, manner, text, trace),
+        Rendering::Json => explain_history(alloc, manner, text, trace),
     }
 }
 
 /// What is told of a text that is to mean a trace, and the exit status: the races of the trace, its first illegal request, or its
 /// faults.
-pub(crate) fn trace_text_told(
+pub(crate) fn explain_trace_text(
     alloc: Global,
     manner: &Manner<'_>,
     text: &[u8],
@@ -311,7 +311,7 @@ pub(crate) fn trace_text_told(
     ensures fault { IfErr result (λ fault. (fault ≡ CliFault.Memory) ⊎ IsUntoldTrace text.now fault) }
 {
     match Trace::parse(alloc, text) {
-        Ok(trace) => trace_told(alloc, manner, text, &trace),
+        Ok(trace) => explain_trace(alloc, manner, text, &trace),
         Err(TextFault::Memory) => Err(CliFault::Memory),
         Err(TextFault::At { line, why }) => {
             let told = faults_told(alloc, manner, text, Meant::Trace, Fault { line, why })?;

@@ -17,7 +17,7 @@ ghost use Rattle.other_commands.specs.Together.{AddsText, TakesText, TakesReadin
 
 use crate::ask::ask_all;
 use crate::explain::{Manner, Rendering, faults_told};
-use crate::explain_trace::{notes_of, push_run, stop_told};
+use crate::explain_trace::{explain_stop, notes_of, push_run};
 use command_streams::{CliFault, Watched, read_text};
 use fault_lists::Fault;
 use race_explanations::Findings;
@@ -176,7 +176,7 @@ impl Traces {
                 self.add(alloc, manner, text, trace, &gate)?;
                 Ok(None)
             }
-            Some(stop) => Ok(Some(stop_told(alloc, manner, text, trace, &gate, stop)?)),
+            Some(stop) => Ok(Some(explain_stop(alloc, manner, text, trace, &gate, stop)?)),
         }
     }
 
@@ -239,13 +239,13 @@ impl Traces {
     fn text_told(&self, alloc: Global) -> Result<Vec<u8>, AllocError>
         ensures { IfOk result (λ told. told.items ≡ together_text (together_of self.now)) }
     {
-        let mut told = self.findings.told(alloc)?;
+        let mut told = self.findings.to_message(alloc)?;
         push_kept(&mut told, self.runs.as_slice())?;
         Ok(told)
     }
 
     /// What is told of the traces together: each pair of places that raced, or that nothing was refused, and what was recorded.
-    pub fn told(&self, alloc: Global, rendering: Rendering) -> Result<Vec<u8>, AllocError>
+    pub fn to_message(&self, alloc: Global, rendering: Rendering) -> Result<Vec<u8>, AllocError>
         ensures { IfOk result (λ told. TellsTogether rendering (together_of self.now) told.items) }
     {
         match rendering {

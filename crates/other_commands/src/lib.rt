@@ -24,7 +24,7 @@ mod explain_traces;
 mod memory;
 mod replay;
 mod sort;
-mod traced;
+mod traced_run;
 
 pub use draw::draw_text;
 pub use elide::elide_text;
@@ -32,4 +32,4 @@ pub use explain::{End, Manner, Rendering, explain_text};
 pub use explain_traces::Traces;
 pub use replay::replay_text;
 pub use sort::is_program;
-pub use traced::{Traced, run_traced_text, traced_run, traced_text, write_traced};
+pub use traced_run::{TracedRun, run_traced_text, trace_run, trace_run_of_text, write_traced_run};

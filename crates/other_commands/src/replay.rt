@@ -31,7 +31,7 @@ pub(crate) fn fault_of_request(number: u32, fault: GateFault) -> CliFault
 }
 
 /// A gate that has answered all requests of a trace. The first that it does not answer decides which fault it is.
-pub fn answered<A: Allocator + Copy>(alloc: A, trace: &Trace<A>) -> Result<Gate<A>, CliFault>
+pub fn answer_all<A: Allocator + Copy>(alloc: A, trace: &Trace<A>) -> Result<Gate<A>, CliFault>
     ensures ok { IfOk result (AnswersAll (trace_contents trace.now)) }
     ensures fault { IfErr result (λ fault. (fault ≡ CliFault.Memory) ⊎ StopsGate (trace_contents trace.now) fault) }
 {
@@ -42,7 +42,7 @@ pub fn answered<A: Allocator + Copy>(alloc: A, trace: &Trace<A>) -> Result<Gate<
 }
 
 /// The line that tells what a trace is as a run of a program, and the exit status.
-fn replayed<A: Allocator + Copy>(
+fn replay_trace<A: Allocator + Copy>(
     alloc: A,
     program: Program<A>,
     trace: Trace<A>,
@@ -53,7 +53,7 @@ fn replayed<A: Allocator + Copy>(
     if !declare_same(&program, &trace) {
         return Err(CliFault::Shape);
     }
-    let gate = answered(alloc, &trace)?;
+    let gate = answer_all(alloc, &trace)?;
     drop(trace);
     let entries = gate.history();
     let outcome = outcome_of(alloc, &program, entries)?;
@@ -111,7 +111,7 @@ pub fn replay_text<A: Allocator + Copy, P: Read, T: Read, W: Write>(
         Ok(trace) => trace,
         Err(fault) => return Err(fault),
     };
-    let (line, status) = match replayed(alloc, program, trace) {
+    let (line, status) = match replay_trace(alloc, program, trace) {
         Ok(told) => told,
         Err(fault) => return Err(fault),
     };

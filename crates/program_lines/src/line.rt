@@ -56,7 +56,7 @@ fn two<'a>(words: &mut Words<'a>) -> Option<(&'a str, &'a str)>
 }
 
 /// The item, where no word is left.
-fn alone<'a>(words: &mut Words<'_>, item: Item<'a>) -> Result<Item<'a>, Cause>
+fn end_item<'a>(words: &mut Words<'_>, item: Item<'a>) -> Result<Item<'a>, Cause>
     ensures { MatchResult result
         (λ said. (said ≡ item.entry) × (words.old ≡ []))
         (λ cause. (cause ≡ BadWord) × (words.old ≡ [] → ⊥)) }
@@ -112,7 +112,7 @@ fn head<'a, A: Allocator + Copy>(
 }
 
 /// The expression of two operands and the sign between them.
-fn joined(left: Operand, operator: Operator, right: Operand) -> Expression
+fn expression_of(left: Operand, operator: Operator, right: Operand) -> Expression
     ensures { expression_values result ≡ OfOperand left ∷ OfSign operator ∷ OfOperand right ∷ [] }
 {
     match operator {
@@ -124,7 +124,7 @@ fn joined(left: Operand, operator: Operator, right: Operand) -> Expression
 }
 
 /// An operand, a sign, and another operand, which is left.
-fn computed<A: Allocator + Copy>(
+fn computation<A: Allocator + Copy>(
     scope: &NameScope<'_, '_, A>,
     left: &str,
     sign: &str,
@@ -139,7 +139,7 @@ fn computed<A: Allocator + Copy>(
         return Err(Cause::BadWord);
     };
     match both(operand(scope, left), operand(scope, right)) {
-        Ok((left, right)) => Ok(joined(left, operator, right)),
+        Ok((left, right)) => Ok(expression_of(left, operator, right)),
         Err(why) => Err(why),
     }
 }
@@ -155,7 +155,7 @@ fn expression<A: Allocator + Copy>(
         return Err(Cause::BadWord);
     };
     match words.take() {
-        Some(sign) => computed(scope, left, sign, words),
+        Some(sign) => computation(scope, left, sign, words),
         None => match operand(scope, left) {
             Ok(operand) => Ok(Expression::Plain(operand)),
             Err(why) => Err(why),
@@ -191,7 +191,7 @@ fn assignment<'a, A: Allocator + Copy>(
 }
 
 /// A statement that names no new register.
-fn does(statement: Statement) -> Item<'static>
+fn statement_item(statement: Statement) -> Item<'static>
     ensures { item_of result ≡ Does statement None }
 {
     Item::Does {
@@ -258,13 +258,13 @@ fn write<A: Allocator + Copy>(
     match both(location(scope, place), operand(scope, value)) {
         Ok((location, value)) => {
             if bumps {
-                Ok(does(Statement::Bump {
+                Ok(statement_item(Statement::Bump {
                     line,
                     location,
                     value,
                 }))
             } else {
-                Ok(does(Statement::Write {
+                Ok(statement_item(Statement::Write {
                     line,
                     location,
                     value,
@@ -288,13 +288,13 @@ fn update<A: Allocator + Copy>(
     match both(reducer(scope, name), operand(scope, value)) {
         Ok((reducer, value)) => {
             if puts {
-                Ok(does(Statement::Put {
+                Ok(statement_item(Statement::Put {
                     line,
                     reducer,
                     value,
                 }))
             } else {
-                Ok(does(Statement::Update {
+                Ok(statement_item(Statement::Update {
                     line,
                     reducer,
                     value,
@@ -318,13 +318,13 @@ fn call<A: Allocator + Copy>(
     match both(function(scope, name), operand(scope, value)) {
         Ok((function, argument)) => {
             if spawns {
-                Ok(does(Statement::Spawn {
+                Ok(statement_item(Statement::Spawn {
                     line,
                     function,
                     argument,
                 }))
             } else {
-                Ok(does(Statement::Call {
+                Ok(statement_item(Statement::Call {
                     line,
                     function,
                     argument,
@@ -441,9 +441,9 @@ fn behind_keyword<'a, A: Allocator + Copy>(
         Keyword::Let => assignment(at, scope, words),
         Keyword::ParallelFor => parallel_for(at, scope, words),
         Keyword::If => decision(scope, words),
-        Keyword::Sync => alone(words, does(Statement::Sync { line: at })),
-        Keyword::Else => alone(words, Item::Otherwise),
-        Keyword::End => alone(words, Item::Ends),
+        Keyword::Sync => end_item(words, statement_item(Statement::Sync { line: at })),
+        Keyword::Else => end_item(words, Item::Otherwise),
+        Keyword::End => end_item(words, Item::Ends),
         _ => match two(words) {
             Some((first, second)) => behind_two(at, scope, keyword, first, second),
             None => Err(Cause::BadWord),

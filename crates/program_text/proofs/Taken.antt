@@ -20,7 +20,7 @@ use Rattle.model_bodies.specs.Codes.{Code, main_of}
 use Rattle.program_text.specs.Functions.{functions_of}
 use Rattle.program_text.specs.Drafts.{Draft, Contents, Open, begun, registers_of, scope_of, held}
 use Rattle.program_text.specs.Grammar.{IsInOrder, HasRoom, extended, nothing, LineMeans, LinesMean, LinesOfProgram, TextMeans, ended, ended_by}
-use Rattle.program_text.specs.Faults.{LineFault, EndFault, LinesFault, FaultOfLines, IsTextFault, Extends, IsRoomCause, IsRoomFault, IsLineFault, IsEndFault, IsFaultOfLines, IsBodyFault, DecidesLines}
+use Rattle.program_text.specs.Faults.{LineFault, EndFault, LinesFault, FaultOfLines, IsTextFault, AddsItem, IsRoomCause, IsRoomFault, IsLineFault, IsEndFault, IsFaultOfLines, IsBodyFault, DecidesLines}
 use Rattle.program_lines.proofs.Once.{item_once, item_clean}
 use Rattle.program_lines.proofs.Crowded.{no_words_fault}
 
@@ -62,7 +62,7 @@ module _ (names : List (List ℕ)) (at : ℕ) (before : Draft) (line : List ℕ)
     lowest_of_room TooMany f = (too_many f.1, below_too_many f.0)
     lowest_of_room cause f = absurd f
 
-    pub line_taken : {U : Type 0} (after : Draft) (r : Result U TextFault) → MatchResult r (λ _. Extends at before item after) (IsRoomFault at before item)
+    pub line_taken : {U : Type 0} (after : Draft) (r : Result U TextFault) → MatchResult r (λ _. AddsItem at before item after) (IsRoomFault at before item)
         → MatchResult r (λ _. (x : Item) × LineMeans names at before line x × (after ≡ extended at before x)) (IsLineFault names at before line)
     line_taken after (Ok u) e = (item, (e.0, text, m, e.1, e.2), e.3)
     line_taken after (Err (At bad why)) e = (e.0, lowest_of_room why e.1)

@@ -66,8 +66,8 @@ IsTextFault text Memory = Unit {0}
 -- ---- one line, as the code reads it
 
 -- The item fits, and next is what was read with it.
-abbrev pub Extends : ℕ → Draft → Item → Draft → Type 0
-Extends at before item next = (at ≤ most_lines) × IsInOrder before item × HasRoom before item × (next ≡ extended at before item)
+abbrev pub AddsItem : ℕ → Draft → Item → Draft → Type 0
+AddsItem at before item next = (at ≤ most_lines) × IsInOrder before item × HasRoom before item × (next ≡ extended at before item)
 
 abbrev pub IsRoomCause : ℕ → Draft → Item → Cause → Type 0
 IsRoomCause at before item BadNesting = IsInOrder before item → ⊥

@@ -7,7 +7,7 @@ ghost use Rattle.program_lines.specs.Items.{item_of};
 ghost use Rattle.program_lines.specs.Scopes.{max_registers};
 ghost use Rattle.program_text.specs.Drafts.{begun as begun_of, registers_of};
 ghost use Rattle.program_text.specs.Grammar.{IsSaid, LineMeans, extended, nothing};
-ghost use Rattle.program_text.specs.Faults.{Extends, IsRoomFault, IsLineFault};
+ghost use Rattle.program_text.specs.Faults.{AddsItem, IsRoomFault, IsLineFault};
 
 use crate::function::Function;
 use crate::open_function::Open;
@@ -117,7 +117,7 @@ impl<'a, A: Allocator + Copy> Draft<'a, A> {
     fn declare(&mut self, at: u32, name: &'a str, length: Option<u32>) -> Result<(), TextFault>
         requires { IsSaid self.old (Declared name.now length) }
         ensures { MatchResult result
-            (λ _. Extends at self.old (Declared name.now length) self.new)
+            (λ _. AddsItem at self.old (Declared name.now length) self.new)
             (IsRoomFault at self.old (Declared name.now length)) }
     {
         if self.begun() != 0 {
@@ -134,7 +134,7 @@ impl<'a, A: Allocator + Copy> Draft<'a, A> {
     fn reduce(&mut self, at: u32, name: &'a str, monoid: Monoid) -> Result<(), TextFault>
         requires { IsSaid self.old (Reduces name.now monoid) }
         ensures { MatchResult result
-            (λ _. Extends at self.old (Reduces name.now monoid) self.new)
+            (λ _. AddsItem at self.old (Reduces name.now monoid) self.new)
             (IsRoomFault at self.old (Reduces name.now monoid)) }
     {
         if self.begun() != 0 {
@@ -151,7 +151,7 @@ impl<'a, A: Allocator + Copy> Draft<'a, A> {
     fn begin(&mut self, alloc: A, at: u32, name: &str, parameter: &str) -> Result<(), TextFault>
         requires { IsSaid self.old (Begins name.now parameter.now) }
         ensures { MatchResult result
-            (λ _. Extends at self.old (Begins name.now parameter.now) self.new)
+            (λ _. AddsItem at self.old (Begins name.now parameter.now) self.new)
             (IsRoomFault at self.old (Begins name.now parameter.now)) }
     {
         if self.current.is_some() {
@@ -174,7 +174,7 @@ impl<'a, A: Allocator + Copy> Draft<'a, A> {
     ) -> Result<(), TextFault>
         requires { IsSaid self.old (Does statement (option_copied named)) }
         ensures { MatchResult result
-            (λ _. Extends at self.old (Does statement (option_copied named.entry)) self.new)
+            (λ _. AddsItem at self.old (Does statement (option_copied named.entry)) self.new)
             (IsRoomFault at self.old (Does statement (option_copied named.entry))) }
     {
         let Some(function) = &mut self.current else {
@@ -194,7 +194,7 @@ impl<'a, A: Allocator + Copy> Draft<'a, A> {
     /// Adds an `if`.
     fn decide(&mut self, at: u32, register: Register) -> Result<(), TextFault>
         ensures { MatchResult result
-            (λ _. Extends at self.old (Decides register) self.new)
+            (λ _. AddsItem at self.old (Decides register) self.new)
             (IsRoomFault at self.old (Decides register)) }
     {
         let Some(function) = &mut self.current else {
@@ -211,7 +211,7 @@ impl<'a, A: Allocator + Copy> Draft<'a, A> {
     /// Adds an `else`.
     fn divide(&mut self, at: u32) -> Result<(), TextFault>
         ensures { MatchResult result
-            (λ _. Extends at self.old Otherwise self.new)
+            (λ _. AddsItem at self.old Otherwise self.new)
             (IsRoomFault at self.old Otherwise) }
     {
         let Some(function) = &mut self.current else {
@@ -231,7 +231,7 @@ impl<'a, A: Allocator + Copy> Draft<'a, A> {
     /// Adds an `end`, of the innermost `if` or of the function.
     fn end(&mut self, at: u32) -> Result<(), TextFault>
         ensures { MatchResult result
-            (λ _. Extends at self.old Ends self.new)
+            (λ _. AddsItem at self.old Ends self.new)
             (IsRoomFault at self.old Ends) }
     {
         let Some(function) = &mut self.current else {
@@ -255,7 +255,7 @@ impl<'a, A: Allocator + Copy> Draft<'a, A> {
     pub fn add(&mut self, alloc: A, at: u32, item: Item<'a>) -> Result<(), TextFault>
         requires { IsSaid self.old (item_of item) }
         ensures { MatchResult result
-            (λ _. Extends at self.old (item_of item.entry) self.new)
+            (λ _. AddsItem at self.old (item_of item.entry) self.new)
             (IsRoomFault at self.old (item_of item.entry)) }
     {
         match item {

@@ -14,7 +14,7 @@ use crate::function::Function;
 use program_lines::FunctionNames;
 use std::alloc::{AllocError, Allocator};
 use text_words::{Cause, TextFault, Version, Words, as_text, is_name, split_line, without_return};
-use trace_text::header;
+use trace_text::read_header;
 
 fn hash_at(line: &[u8]) -> Option<usize>
     ensures { result ≡ position is_hash line.now }
@@ -207,7 +207,7 @@ pub fn whole<'a, A: Allocator + Copy>(
         return Err(fault(1, Cause::BadHeader));
     }
     let (first, rest) = split_line(bytes);
-    let version = match header(without_return(first)) {
+    let version = match read_header(without_return(first)) {
         Ok(version) => version,
         Err(fault) => return Err(fault),
     };

@@ -8,8 +8,8 @@ ghost use Rattle.race_explanations.specs.Scenes.{setting_of};
 
 use crate::scene::Scene;
 use source_quotes::{
-    Look, Paint, Source, push_count, push_gutter, push_left, push_marked, push_noted, push_painted,
-    push_place,
+    Look, Paint, Source, push_count, push_gutter, push_left_sign, push_marked_line, push_note_sign,
+    push_painted, push_place,
 };
 use std::alloc::{AllocError, Global};
 use std::marker::Model;
@@ -59,87 +59,93 @@ impl Account {
     }
 
     /// Tells these bytes.
-    pub(crate) fn bytes(&mut self, bytes: &[u8])
+    pub(crate) fn push_bytes(&mut self, bytes: &[u8])
         ensures { Adds self.old bytes.now self.new }
     {
         self.is_short |= self.bytes.extend_from_slice(bytes).is_err();
     }
 
     /// Tells words.
-    pub(crate) fn words(&mut self, words: &str)
+    pub(crate) fn push_words(&mut self, words: &str)
         ensures { Adds self.old words.now self.new }
     {
-        self.bytes(words.as_bytes());
+        self.push_bytes(words.as_bytes());
     }
 
     /// Tells words and a number.
-    pub(crate) fn number(&mut self, words: &str, number: u64)
+    pub(crate) fn push_number(&mut self, words: &str, number: u64)
         ensures { Adds self.old (words.now ++ decimal number) self.new }
     {
         self.is_short |= push_number(&mut self.bytes, words, number).is_err();
     }
 
     /// Tells how many there are, and of what.
-    pub(crate) fn count(&mut self, count: usize, word: &str)
+    pub(crate) fn push_count(&mut self, count: usize, word: &str)
         ensures { Adds self.old (counted count word.now) self.new }
     {
         self.is_short |= push_count(&mut self.bytes, count, word).is_err();
     }
 
     /// Tells words in red.
-    pub(crate) fn red(&mut self, scene: &Scene<'_, '_>, words: &str)
+    pub(crate) fn push_red(&mut self, scene: &Scene<'_, '_>, words: &str)
         ensures { Adds self.old (painted scene.now.look Red words.now) self.new }
     {
         self.is_short |= push_painted(&mut self.bytes, scene.look, Paint::Red, words).is_err();
     }
 
     /// Tells words in a paint.
-    pub(crate) fn painted(&mut self, look: Look, paint: Paint, words: &str)
+    pub(crate) fn push_painted(&mut self, look: Look, paint: Paint, words: &str)
         ensures { Adds self.old (painted look paint words.now) self.new }
     {
         self.is_short |= push_painted(&mut self.bytes, look, paint, words).is_err();
     }
 
     /// Begins a note in this look.
-    pub(crate) fn note(&mut self, look: Look)
+    pub(crate) fn begin_note(&mut self, look: Look)
         ensures { Adds self.old (noted look) self.new }
     {
-        self.is_short |= push_noted(&mut self.bytes, look).is_err();
+        self.is_short |= push_note_sign(&mut self.bytes, look).is_err();
     }
 
     /// Begins a note beside the source.
-    pub(crate) fn noted(&mut self, scene: &Scene<'_, '_>)
+    pub(crate) fn begin_source_note(&mut self, scene: &Scene<'_, '_>)
         ensures { Adds self.old (noted scene.now.look) self.new }
     {
-        self.is_short |= push_noted(&mut self.bytes, scene.look).is_err();
+        self.is_short |= push_note_sign(&mut self.bytes, scene.look).is_err();
     }
 
     /// Begins a line that is none of the source.
-    pub(crate) fn gutter(&mut self, scene: &Scene<'_, '_>)
+    pub(crate) fn push_gutter(&mut self, scene: &Scene<'_, '_>)
         ensures { Adds self.old (gutter scene.now.look) self.new }
     {
         self.is_short |= push_gutter(&mut self.bytes, scene.look).is_err();
     }
 
     /// Quotes a line of a source, with this sign below it.
-    pub(crate) fn marked(&mut self, look: Look, source: &Source<'_, Global>, line: u32, mark: u8)
+    pub(crate) fn push_marked_line(
+        &mut self,
+        look: Look,
+        source: &Source<'_, Global>,
+        line: u32,
+        mark: u8,
+    )
         ensures { Adds self.old (marked look source.now line mark) self.new }
     {
-        self.is_short |= push_marked(&mut self.bytes, look, source, line, mark).is_err();
+        self.is_short |= push_marked_line(&mut self.bytes, look, source, line, mark).is_err();
     }
 
     /// Tells where in a file it is.
-    pub(crate) fn place(&mut self, look: Look, file: &str, line: u32)
+    pub(crate) fn push_place(&mut self, look: Look, file: &str, line: u32)
         ensures { Adds self.old (place look file.now line) self.new }
     {
         self.is_short |= push_place(&mut self.bytes, look, file, line).is_err();
     }
 
     /// Tells this sign at the left of what is no line of a source.
-    pub(crate) fn left(&mut self, look: Look, sign: &str)
+    pub(crate) fn push_left_sign(&mut self, look: Look, sign: &str)
         ensures { Adds self.old (replicate look.width 32 ++ painted look Blue sign.now) self.new }
     {
-        self.is_short |= push_left(&mut self.bytes, look, sign).is_err();
+        self.is_short |= push_left_sign(&mut self.bytes, look, sign).is_err();
     }
 
     /// The whole text. Errors where there was no memory for a part.

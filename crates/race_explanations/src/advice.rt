@@ -24,8 +24,8 @@ pub(crate) fn push_between(account: &mut Account, scene: &Scene<'_, '_>)
 {
     match &scene.origin {
         Origin::Program { .. } => {
-            account.gutter(scene);
-            account.words("\n");
+            account.push_gutter(scene);
+            account.push_words("\n");
         }
         Origin::Trace { .. } => {}
     }
@@ -54,9 +54,9 @@ fn push_spawn(account: &mut Account, scene: &Scene<'_, '_>, number: usize)
 fn push_name(account: &mut Account, name: &str)
     ensures { Adds account.old (spawner_word (Some name.now)) account.new }
 {
-    account.words("`");
-    account.words(name);
-    account.words("`");
+    account.push_words("`");
+    account.push_words(name);
+    account.push_words("`");
 }
 
 /// Adds in which function a place is, or that it is the one that spawns.
@@ -70,7 +70,7 @@ fn push_place_name(account: &mut Account, place: Option<Place<'_>>)
                 ..
             },
         ) => push_name(account, name),
-        _ => account.words("the spawner"),
+        _ => account.push_words("the spawner"),
     }
 }
 
@@ -96,25 +96,25 @@ fn push_parts(
 {
     push_spawn(account, scene, parting.entry);
     let child_line = line_on(scene, pair, parting.by_child);
-    account.words(" here they part: what is spawned comes to ");
+    account.push_words(" here they part: what is spawned comes to ");
     push_line(account, scene, child_line);
-    account.words(", while ");
+    account.push_words(", while ");
     push_function(account, scene, line_of(scene, parting.entry));
-    account.words(" goes on to ");
+    account.push_words(" goes on to ");
     push_line(account, scene, onward);
-    account.words("\n");
+    account.push_words("\n");
 }
 
 /// Adds that a sync would order two strands.
 fn push_missing(account: &mut Account, scene: &Scene<'_, '_>, line: u32, onward: u32)
     ensures { Adds account.old (missing_text (setting_of scene.now) line onward) account.new }
 {
-    account.noted(scene);
-    account.words("help: a `sync` in ");
+    account.begin_source_note(scene);
+    account.push_words("help: a `sync` in ");
     push_function(account, scene, line);
-    account.words(" before ");
+    account.push_words(" before ");
     push_line(account, scene, onward);
-    account.words(" would order them\n");
+    account.push_words(" would order them\n");
 }
 
 /// What would order the rounds of a loop.
@@ -136,8 +136,8 @@ fn push_sync(account: &mut Account, scene: &Scene<'_, '_>, line: u32, onward: u3
     ensures { Adds account.old (sync_text (setting_of scene.now) line onward) account.new }
 {
     if line == onward {
-        account.noted(scene);
-        account.words(rounds_words(scene));
+        account.begin_source_note(scene);
+        account.push_words(rounds_words(scene));
     } else {
         push_missing(account, scene, line, onward);
     }
@@ -168,25 +168,25 @@ fn push_open(account: &mut Account, scene: &Scene<'_, '_>, pair: &Pair, spawn: &
 {
     push_spawn(account, scene, spawn.entry);
     let at = line_on(scene, pair, spawn.parallel);
-    account.words(" this spawn is outstanding at ");
+    account.push_words(" this spawn is outstanding at ");
     push_line(account, scene, at);
     let not_at = line_on(scene, pair, spawn.ordered);
-    account.words(", and not at ");
+    account.push_words(", and not at ");
     push_line(account, scene, not_at);
-    account.words("\n");
+    account.push_words("\n");
 }
 
 /// Adds what makes a read the same in every run.
 fn push_move(account: &mut Account, scene: &Scene<'_, '_>, pair: &Pair, spawn: &OpenSpawn)
     ensures { Adds account.old (move_text (setting_of scene.now) pair.now spawn.now) account.new }
 {
-    account.noted(scene);
+    account.begin_source_note(scene);
     let at = line_on(scene, pair, spawn.parallel);
-    account.words("help: move what stands on ");
+    account.push_words("help: move what stands on ");
     push_line(account, scene, at);
-    account.words(" behind the `sync` of ");
+    account.push_words(" behind the `sync` of ");
     push_function(account, scene, line_of(scene, spawn.entry));
-    account.words(", where this spawn has ended\n");
+    account.push_words(", where this spawn has ended\n");
 }
 
 /// Adds which spawn makes the peers of two reads differ, and what makes the reads the same in every run.
@@ -211,6 +211,6 @@ pub(crate) fn push_outstanding(
 pub(crate) fn push_put(account: &mut Account, scene: &Scene<'_, '_>)
     ensures { Adds account.old (put_text (setting_of scene.now)) account.new }
 {
-    account.noted(scene);
-    account.words("help: a `put` into it has to come first in the serial order\n");
+    account.begin_source_note(scene);
+    account.push_words("help: a `put` into it has to come first in the serial order\n");
 }

@@ -8,11 +8,11 @@ ghost use Rattle.race_explanations.specs.Scenes.{setting_of};
 ghost use Rattle.race_explanations.specs.Findings.{kind_text, name_text, body_text, IsOfTrace, IsFinding, AddsAll, AddsPairs};
 
 use crate::account::Account;
+use crate::explanation::PAIRS;
 use crate::merge::join_finding;
 use crate::message::{push_advice, push_earlier, push_refused};
 use crate::scene::Scene;
-use crate::title::{push_list, push_reason, sort_word, told_names};
-use crate::told::PAIRS;
+use crate::title::{display_names, push_list, push_reason, sort_word};
 use race_pairs::{Encounter, Pair, Reason, pairs, places};
 use spawn_chains::Lineage;
 use std::alloc::{AllocError, Global};
@@ -67,8 +67,8 @@ fn kind_of(alloc: Global, scene: &Scene<'_, '_>, reason: Reason) -> Result<Vec<u
     ensures { IfOk result (λ text. text.items ≡ kind_text (setting_of scene.now) reason) }
 {
     let mut account = Account::new(alloc);
-    account.red(scene, sort_word(reason));
-    account.words(": ");
+    account.push_red(scene, sort_word(reason));
+    account.push_words(": ");
     push_reason(&mut account, reason);
     account.end()
 }
@@ -101,7 +101,7 @@ fn body_of(
     push_earlier(&mut account, scene, pair, encounter);
     push_refused(&mut account, scene, pair, encounter);
     push_advice(&mut account, scene, pair, encounter);
-    account.words("\n");
+    account.push_words("\n");
     account.end()
 }
 
@@ -122,7 +122,7 @@ pub fn finding_of(
     let reason = pair.lines.reason;
     let kind = kind_of(alloc, scene, reason)?;
     let name = name_of(alloc, scene, reason, found.as_slice())?;
-    let names = told_names(alloc, scene, reason, found.as_slice())?;
+    let names = display_names(alloc, scene, reason, found.as_slice())?;
     let body = body_of(alloc, scene, pair, &encounter)?;
     Ok(Finding {
         kind,

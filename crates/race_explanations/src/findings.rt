@@ -10,9 +10,9 @@ ghost use Rattle.race_explanations.specs.Findings.{found_of, nothing_found, unto
 ghost use Rattle.race_explanations.specs.Findings.{requests_text, at_pairs, found_summary, clean_found_text, races_found_text, found_text};
 
 use crate::account::Account;
+use crate::explanation::{PAIRS, refusal_count, trace_scene};
 use crate::finding::{Finding, add_pairs};
 use crate::title::push_left_out;
-use crate::told::{PAIRS, refusal_count, trace_scene};
 use race_gate::Entry;
 use source_quotes::push_count;
 use std::alloc::{AllocError, Global};
@@ -62,13 +62,13 @@ fn push_untold(text: &mut Vec<u8>, file: &str, count: usize) -> Result<(), Alloc
 fn tell_finding(account: &mut Account, finding: &Finding)
     ensures { Adds account.old (finding_text finding.now) account.new }
 {
-    account.bytes(finding.kind.as_slice());
-    account.bytes(finding.name.as_slice());
+    account.push_bytes(finding.kind.as_slice());
+    account.push_bytes(finding.name.as_slice());
     push_left_out(account, 1, finding.names.len());
-    account.words(", ");
-    account.count(finding.times, "time");
-    account.words("\n");
-    account.bytes(finding.body.as_slice());
+    account.push_words(", ");
+    account.push_count(finding.times, "time");
+    account.push_words("\n");
+    account.push_bytes(finding.body.as_slice());
 }
 
 /// Tells of pairs of places.
@@ -87,9 +87,9 @@ fn tell_left_out(account: &mut Account, count: usize)
     if count <= PAIRS {
         return;
     }
-    account.words("and ");
-    account.count(count - PAIRS, "more pair");
-    account.words(" of places\n");
+    account.push_words("and ");
+    account.push_count(count - PAIRS, "more pair");
+    account.push_words(" of places\n");
 }
 
 /// Tells at how many pairs, where all are kept.
@@ -99,9 +99,9 @@ fn tell_pairs(account: &mut Account, untold: &[u8], count: usize)
     if !untold.is_empty() {
         return;
     }
-    account.words(" at ");
-    account.count(count, "pair");
-    account.words(" of places");
+    account.push_words(" at ");
+    account.push_count(count, "pair");
+    account.push_words(" of places");
 }
 
 impl Findings {
@@ -152,19 +152,21 @@ impl Findings {
     fn tell_requests(&self, account: &mut Account)
         ensures { Adds account.old (requests_text (found_of self.now)) account.new }
     {
-        account.count(self.requests, "request");
-        account.words(" in ");
-        account.count(self.traces, "trace");
-        account.words("\n");
+        account.push_count(self.requests, "request");
+        account.push_words(" in ");
+        account.push_count(self.traces, "trace");
+        account.push_words("\n");
     }
 
     /// Tells that nothing was refused.
     fn tell_clean(&self, account: &mut Account)
         ensures { Adds account.old (clean_found_text (found_of self.now)) account.new }
     {
-        account.words("clean: in none of these ");
-        account.count(self.traces, "trace");
-        account.words(" do two of the accesses race, in whatever order its strands run\njudged: ");
+        account.push_words("clean: in none of these ");
+        account.push_count(self.traces, "trace");
+        account.push_words(
+            " do two of the accesses race, in whatever order its strands run\njudged: ",
+        );
         self.tell_requests(account);
     }
 
@@ -172,9 +174,9 @@ impl Findings {
     fn tell_summary(&self, account: &mut Account)
         ensures { Adds account.old (found_summary (found_of self.now)) account.new }
     {
-        account.count(self.refusals, "refusal");
+        account.push_count(self.refusals, "refusal");
         tell_pairs(account, self.untold.as_slice(), self.list.len());
-        account.words(", among ");
+        account.push_words(", among ");
         self.tell_requests(account);
     }
 
@@ -185,7 +187,7 @@ impl Findings {
         let (first, _) = self.list.as_slice().split_at(self.list.len().min(PAIRS));
         tell_findings(account, first);
         tell_left_out(account, self.list.len());
-        account.bytes(self.untold.as_slice());
+        account.push_bytes(self.untold.as_slice());
         self.tell_summary(account);
     }
 
@@ -202,7 +204,7 @@ impl Findings {
 
     /// What is told of all traces: each of the first twenty pairs of places as where its trace is told alone, with the counts of all that
     /// are told alike, how many more there are, and how many refusals; or that nothing was refused. Errors where there is no memory.
-    pub fn told(&self, alloc: Global) -> Result<Vec<u8>, AllocError>
+    pub fn to_message(&self, alloc: Global) -> Result<Vec<u8>, AllocError>
         ensures { IfOk result (λ text. text.items ≡ found_text (found_of self.now)) }
     {
         let mut account = Account::new(alloc);

@@ -146,10 +146,10 @@ pub fn help_words(why: Illegality) -> &'static str
 fn push_line(account: &mut Account, source: &Source<'_, Global>, number: u32)
     ensures { Adds account.old (told_line source.now number) account.new }
 {
-    account.number("line ", u64::from(number));
-    account.words(": `");
-    account.bytes(statement_of(source.line(number)));
-    account.words("`");
+    account.push_number("line ", u64::from(number));
+    account.push_words(": `");
+    account.push_bytes(statement_of(source.line(number)));
+    account.push_words("`");
 }
 
 /// Adds the line of the request with this number.
@@ -175,24 +175,24 @@ fn push_reason(
 {
     match why {
         Illegality::Ended(number) => {
-            account.words(" ended at ");
+            account.push_words(" ended at ");
             push_request(account, source, trace, number);
         }
         Illegality::NotBegun(number) => {
-            account.words(" is the join of the block that opened at ");
+            account.push_words(" is the join of the block that opened at ");
             push_request(account, source, trace, number);
         }
         Illegality::NoStrand(count) => {
-            account.number(
+            account.push_number(
                 " is none of those that have begun: the numbers below ",
                 count as u64,
             );
-            account.words(" are given");
+            account.push_words(" are given");
         }
         Illegality::OpenBlock => {
-            account.words(" returns from a function that has spawned and not synced");
+            account.push_words(" returns from a function that has spawned and not synced");
         }
-        Illegality::NoName => account.words(" asks for what the trace does not declare"),
+        Illegality::NoName => account.push_words(" asks for what the trace does not declare"),
     }
 }
 
@@ -200,10 +200,10 @@ fn push_reason(
 fn push_title(account: &mut Account, look: Look, why: Illegality)
     ensures { Adds account.old (error_title look why) account.new }
 {
-    account.painted(look, Paint::Red, "error");
-    account.words(": ");
-    account.words(title_words(why));
-    account.words("\n");
+    account.push_painted(look, Paint::Red, "error");
+    account.push_words(": ");
+    account.push_words(title_words(why));
+    account.push_words("\n");
 }
 
 /// Adds the number of the request, and what is so of its strand.
@@ -218,21 +218,21 @@ fn push_note(
     ensures { Adds account.old (request_note look source.now (trace_contents trace.now).lines number why) account.new }
 {
     let strand = strand_of(request_line(trace, number));
-    account.note(look);
-    account.number("request ", number as u64);
-    account.number(": strand ", u64::from(strand));
+    account.begin_note(look);
+    account.push_number("request ", number as u64);
+    account.push_number(": strand ", u64::from(strand));
     push_reason(account, source, trace, why);
-    account.words("\n");
+    account.push_words("\n");
 }
 
 /// Adds what to do.
 fn push_help(account: &mut Account, look: Look, why: Illegality)
     ensures { Adds account.old (help_note look why) account.new }
 {
-    account.note(look);
-    account.words("help: ");
-    account.words(help_words(why));
-    account.words("\n");
+    account.begin_note(look);
+    account.push_words("help: ");
+    account.push_words(help_words(why));
+    account.push_words("\n");
 }
 
 /// Adds what is wrong, and the line of the request.
@@ -247,9 +247,9 @@ fn push_head(
     ensures { Adds account.old (error_title look why ++ place look file.now line ++ marked look source.now line 94 ++ codes "\n") account.new }
 {
     push_title(account, look, why);
-    account.place(look, file, line);
-    account.marked(look, source, line, b'^');
-    account.words("\n");
+    account.push_place(look, file, line);
+    account.push_marked_line(look, source, line, b'^');
+    account.push_words("\n");
 }
 
 /// Adds all that is told of the request with this number.

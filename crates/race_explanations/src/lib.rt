@@ -9,6 +9,7 @@
 
 mod account;
 mod advice;
+mod explanation;
 mod finding;
 mod findings;
 mod illegal;
@@ -17,10 +18,10 @@ mod message;
 mod paths;
 mod scene;
 mod title;
-mod told;
 mod words;
 
 pub use advice::line_on;
+pub use explanation::{explanation, refusal_count, trace_explanation, trace_scene};
 pub use finding::{Finding, finding_of};
 pub use findings::Findings;
 pub use illegal::{
@@ -28,6 +29,5 @@ pub use illegal::{
 };
 pub use merge::join_finding;
 pub use scene::{Origin, Scene};
-pub use title::told_names;
-pub use told::{explanation, refusal_count, trace_explanation, trace_scene};
+pub use title::display_names;
 pub use words::{function_in, line_of, way_at, word_at};

@@ -36,7 +36,7 @@ fn push_witness(
     ensures { Adds account.old (witness_text (setting_of scene.now) pair.now encounter.now) account.new }
 {
     push_access(account, scene, pair.witness, b'-');
-    account.words("\n");
+    account.push_words("\n");
     push_chain(account, scene, encounter.witness_chain.as_slice());
     push_between(account, scene);
 }
@@ -66,7 +66,7 @@ pub(crate) fn push_refused(
     ensures { Adds account.old (refused_text (setting_of scene.now) pair.now encounter.now) account.new }
 {
     push_access(account, scene, pair.first, b'^');
-    account.words(verdict_words(pair.lines.reason));
+    account.push_words(verdict_words(pair.lines.reason));
     push_chain(account, scene, encounter.chain.as_slice());
 }
 
@@ -104,5 +104,5 @@ pub(crate) fn push_message(
     push_earlier(account, scene, pair, encounter);
     push_refused(account, scene, pair, encounter);
     push_advice(account, scene, pair, encounter);
-    account.words("\n");
+    account.push_words("\n");
 }

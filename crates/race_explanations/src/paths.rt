@@ -25,8 +25,8 @@ fn push_site(account: &mut Account, place: Option<Place<'_>>, line: u32)
     ensures { Adds account.old (site_words (option_map place_parts place.entry) line) account.new }
 {
     match place {
-        Some(place) => account.words(place.location),
-        None => account.number("line ", u64::from(line)),
+        Some(place) => account.push_words(place.location),
+        None => account.push_number("line ", u64::from(line)),
     }
 }
 
@@ -35,7 +35,7 @@ pub(crate) fn push_line(account: &mut Account, scene: &Scene<'_, '_>, line: u32)
     ensures { Adds account.old (line_words (setting_of scene.now).origin line) account.new }
 {
     match &scene.origin {
-        Origin::Program { .. } => account.number("line ", u64::from(line)),
+        Origin::Program { .. } => account.push_number("line ", u64::from(line)),
         Origin::Trace { notes } => push_site(account, notes.place_of(line), line),
     }
 }
@@ -53,8 +53,8 @@ fn push_place_within(account: &mut Account, place: Option<Place<'_>>)
     else {
         return;
     };
-    account.words(", in ");
-    account.words(name);
+    account.push_words(", in ");
+    account.push_words(name);
 }
 
 /// Adds in which function a line stands.
@@ -63,9 +63,9 @@ fn push_within(account: &mut Account, scene: &Scene<'_, '_>, line: u32)
 {
     match &scene.origin {
         Origin::Program { program, .. } => {
-            account.words(", in `");
-            account.words(function_in(program, line));
-            account.words("`");
+            account.push_words(", in `");
+            account.push_words(function_in(program, line));
+            account.push_words("`");
         }
         Origin::Trace { notes } => push_place_within(account, notes.place_of(line)),
     }
@@ -94,23 +94,23 @@ fn push_code(account: &mut Account, scene: &Scene<'_, '_>, place: Option<Place<'
     else {
         return;
     };
-    account.gutter(scene);
-    account.words("  ");
-    account.words(code);
-    account.words("\n");
+    account.push_gutter(scene);
+    account.push_words("  ");
+    account.push_words(code);
+    account.push_words("\n");
 }
 
 /// Adds a place of a trace, the code there, and the left of what is told of it.
 fn push_placed(account: &mut Account, scene: &Scene<'_, '_>, place: Option<Place<'_>>, line: u32)
     ensures { Adds account.old (placed scene.now.look (option_map place_parts place.entry) line) account.new }
 {
-    account.left(scene.look, "-->");
-    account.words(" ");
+    account.push_left_sign(scene.look, "-->");
+    account.push_words(" ");
     push_site(account, place, line);
     push_place_within(account, place);
-    account.words("\n");
+    account.push_words("\n");
     push_code(account, scene, place);
-    account.left(scene.look, " =");
+    account.push_left_sign(scene.look, " =");
 }
 
 /// Adds a line where it stands, and below it this sign.
@@ -118,7 +118,7 @@ pub(crate) fn push_shown(account: &mut Account, scene: &Scene<'_, '_>, line: u32
     ensures { Adds account.old (shown_line (setting_of scene.now) line mark) account.new }
 {
     match &scene.origin {
-        Origin::Program { source, .. } => account.marked(scene.look, source, line, mark),
+        Origin::Program { source, .. } => account.push_marked_line(scene.look, source, line, mark),
         Origin::Trace { notes } => push_placed(account, scene, notes.place_of(line), line),
     }
 }
@@ -129,8 +129,8 @@ pub(crate) fn push_access(account: &mut Account, scene: &Scene<'_, '_>, number: 
 {
     let line = line_of(scene, number);
     push_shown(account, scene, line, mark);
-    account.words(" this ");
-    account.words(word_at(scene, number));
+    account.push_words(" this ");
+    account.push_words(word_at(scene, number));
     push_shown_within(account, scene, line);
 }
 
@@ -140,12 +140,12 @@ fn push_statement(account: &mut Account, scene: &Scene<'_, '_>, line: u32)
 {
     match &scene.origin {
         Origin::Program { source, .. } => {
-            account.words(": ");
-            account.bytes(statement_of(source.line(line)));
+            account.push_words(": ");
+            account.push_bytes(statement_of(source.line(line)));
         }
         Origin::Trace { .. } => {}
     }
-    account.words("\n");
+    account.push_words("\n");
 }
 
 /// Adds a spawn or a call on the way to an access.
@@ -153,9 +153,9 @@ fn push_link(account: &mut Account, scene: &Scene<'_, '_>, number: usize)
     ensures { Adds account.old (link_text (setting_of scene.now) number) account.new }
 {
     let line = line_of(scene, number);
-    account.noted(scene);
-    account.words(way_at(scene, number));
-    account.words(" at ");
+    account.begin_source_note(scene);
+    account.push_words(way_at(scene, number));
+    account.push_words(" at ");
     push_line(account, scene, line);
     push_within(account, scene, line);
     push_statement(account, scene, line);
@@ -177,9 +177,9 @@ fn push_links_left_out(account: &mut Account, scene: &Scene<'_, '_>, count: usiz
     if count <= LINKS {
         return;
     }
-    account.noted(scene);
-    account.number("", (count - LINKS) as u64);
-    account.words(" more spawns and calls led there\n");
+    account.begin_source_note(scene);
+    account.push_number("", (count - LINKS) as u64);
+    account.push_words(" more spawns and calls led there\n");
 }
 
 /// Adds the innermost eight of the spawns and calls that led to an access, and how many more there are.

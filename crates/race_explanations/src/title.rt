@@ -36,13 +36,13 @@ pub(crate) fn push_reason(account: &mut Account, reason: Reason)
 {
     match reason {
         Reason::Race { earlier, refused } => {
-            account.words(word(earlier));
-            account.words("-");
-            account.words(word(refused));
-            account.words(" on");
+            account.push_words(word(earlier));
+            account.push_words("-");
+            account.push_words(word(refused));
+            account.push_words(" on");
         }
-        Reason::ViewRead => account.words("reads with other peers of"),
-        Reason::Unset => account.words("nothing was put before into"),
+        Reason::ViewRead => account.push_words("reads with other peers of"),
+        Reason::Unset => account.push_words("nothing was put before into"),
     }
 }
 
@@ -81,21 +81,21 @@ fn push_noted(account: &mut Account, notes: &Notes<Global>, name: &str)
     ensures { Adds account.old (noted_name (noted_text notes.now name.now) name.now) account.new }
 {
     match notes.text_of(name) {
-        Some(text) => account.words(text),
-        None => account.words(name),
+        Some(text) => account.push_words(text),
+        None => account.push_words(name),
     }
 }
 
 /// Adds what a name behind a space is told as.
-fn push_told(account: &mut Account, scene: &Scene<'_, '_>, spaced: &str)
+fn push_display_name(account: &mut Account, scene: &Scene<'_, '_>, spaced: &str)
     ensures { (name : List ℕ) → spaced.now ≡ 32 ∷ name → Adds account.old (32 ∷ told_name (setting_of scene.now).origin name) account.new }
 {
     match (&scene.origin, spaced.split_once(' ')) {
         (Origin::Trace { notes }, Some((_, name))) => {
-            account.words(" ");
+            account.push_words(" ");
             push_noted(account, notes, name);
         }
-        _ => account.words(spaced),
+        _ => account.push_words(spaced),
     }
 }
 
@@ -110,7 +110,7 @@ fn push_name(
     ensures { Adds account.old (spaced_name (setting_of scene.now) reason place) account.new }
 {
     match spaced_name(alloc, scene, reason, place) {
-        Ok(name) => push_told(account, scene, name.as_str()),
+        Ok(name) => push_display_name(account, scene, name.as_str()),
         Err(_) => account.fail(),
     }
 }
@@ -126,7 +126,7 @@ fn push_others(
     ensures { Adds account.old (other_names (setting_of scene.now) reason places.now) account.new }
 {
     for place in places {
-        account.words(",");
+        account.push_words(",");
         push_name(alloc, account, scene, reason, *place);
     }
 }
@@ -149,7 +149,7 @@ pub(crate) fn push_list(
 }
 
 /// What the name of what a refusal was about is told as, behind a space.
-fn told_name(
+fn display_name(
     alloc: Global,
     scene: &Scene<'_, '_>,
     reason: Reason,
@@ -163,7 +163,7 @@ fn told_name(
 }
 
 /// What the places are told as, each once.
-pub fn told_names(
+pub fn display_names(
     alloc: Global,
     scene: &Scene<'_, '_>,
     reason: Reason,
@@ -173,7 +173,7 @@ pub fn told_names(
 {
     let mut names = BTreeSet::new(alloc);
     for place in places {
-        names.insert(told_name(alloc, scene, reason, *place)?)?;
+        names.insert(display_name(alloc, scene, reason, *place)?)?;
     }
     Ok(names)
 }
@@ -190,7 +190,7 @@ fn name_count(
     match &scene.origin {
         Origin::Program { .. } => Ok(places.len()),
         Origin::Trace { .. } => {
-            let names = told_names(alloc, scene, reason, places)?;
+            let names = display_names(alloc, scene, reason, places)?;
             Ok(names.len())
         }
     }
@@ -214,8 +214,8 @@ pub(crate) fn push_left_out(account: &mut Account, most: usize, count: usize)
     if count <= most {
         return;
     }
-    account.number(" and ", (count - most) as u64);
-    account.words(" more");
+    account.push_number(" and ", (count - most) as u64);
+    account.push_words(" more");
 }
 
 /// Adds how many names are left out.
@@ -262,12 +262,12 @@ fn push_headline(
     ensures { Adds account.old (headline (setting_of scene.now) pair.now places.now) account.new }
 {
     let reason = pair.lines.reason;
-    account.red(scene, sort_word(reason));
-    account.words(": ");
+    account.push_red(scene, sort_word(reason));
+    account.push_words(": ");
     push_reason(account, reason);
     push_names(alloc, account, scene, reason, places);
-    account.words(", ");
-    account.count(pair.times, "time");
+    account.push_words(", ");
+    account.push_count(pair.times, "time");
 }
 
 /// Adds where a program's line is; a place of a trace is told with the access.
@@ -275,7 +275,7 @@ fn push_heading(account: &mut Account, scene: &Scene<'_, '_>, line: u32)
     ensures { Adds account.old (heading scene.now.look (setting_of scene.now).origin line) account.new }
 {
     match &scene.origin {
-        Origin::Program { file, .. } => account.place(scene.look, file, line),
+        Origin::Program { file, .. } => account.push_place(scene.look, file, line),
         Origin::Trace { .. } => {}
     }
 }
@@ -291,6 +291,6 @@ pub(crate) fn push_title(
     ensures { Adds account.old (title_text (setting_of scene.now) pair.now places.now) account.new }
 {
     push_headline(alloc, account, scene, pair, places);
-    account.words("\n");
+    account.push_words("\n");
     push_heading(account, scene, pair.lines.line);
 }

@@ -11,7 +11,7 @@ use access_table::word;
 use program_text::Program;
 use race_pairs::entry_at;
 use std::alloc::{Allocator, Global};
-use text_words::{Act, access_asked};
+use text_words::{Act, asked_by};
 
 /// The name of the function of a program in which a line stands.
 pub fn function_in<A: Allocator>(program: &Program<A>, line: u32) -> &str
@@ -39,7 +39,7 @@ pub fn word_at(scene: &Scene<'_, '_>, number: usize) -> &'static str
     ensures { result.now ≡ word_at scene.now.entries.now number }
 {
     match entry_at(scene.entries, number) {
-        Some(entry) => match access_asked(entry.request.act) {
+        Some(entry) => match asked_by(entry.request.act) {
             Some(asked) => word(asked.kind),
             None => "",
         },

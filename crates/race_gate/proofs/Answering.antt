@@ -18,7 +18,7 @@ use Rattle.law_values.specs.Accesses.{control_steps, AreLegal}
 use Rattle.reducer_views.specs.Held.{Holding, Holds, split_of}
 use Rattle.reducer_views.proofs.Following.{quiet_law}
 use Rattle.reducer_views.specs.Held.{view_of}
-use Rattle.model_reducers.specs.Products.{number_of}
+use Rattle.model_reducers.specs.Products.{view_number}
 use Rattle.model_histories.specs.declared.answer.Answer.{Answer}
 use Rattle.model_histories.specs.declared.answer.Answer.TheVariants.{Split, Joined, EndedJoined, Granted, Value, Unset}
 use Rattle.race_gate.specs.Books.{Books, Keeps, KeepsRunning, KeepsOn, TakesEvent, MayRead, IsRefusal, AnswersAccess}
@@ -156,7 +156,7 @@ module _ (branches : Names) (reads : List (Option Witness)) (views : Holding) (o
     }
 
     pub answers-get : (value : ℕ) → new ≡ kind.Get →
-        ((steps : Steps) → AreLegal steps → Holds views steps → Running (control_steps steps) strand → Some value ≡ number_of (view_of views.monoids reducer steps strand)) →
+        ((steps : Steps) → AreLegal steps → Holds views steps → Running (control_steps steps) strand → Some value ≡ view_number (view_of views.monoids reducer steps strand)) →
         AnswersAccess old (record { branches = branches; reads = firsts; views = views }) number strand (Get reducer) (Value value)
     answers-get value is gives = record {
       monoids = ap (λ (held : Holding). held.monoids) same_views;
@@ -181,7 +181,7 @@ module _ (branches : Names) (reads : List (Option Witness)) (views : Holding) (o
 
     -- there is a value
     pub gets-some : new ≡ kind.Get → KeepsRunning old strand →
-        ((steps : Steps) → AreLegal steps → Holds views steps → Running (control_steps steps) strand → None ≡ number_of (view_of views.monoids reducer steps strand)) → ⊥
+        ((steps : Steps) → AreLegal steps → Holds views steps → Running (control_steps steps) strand → None ≡ view_number (view_of views.monoids reducer steps strand)) → ⊥
     gets-some is (steps, earlier, kept, runs) none =
         let seen = may steps earlier kept runs in
         get-some views.monoids steps earlier strand reducer kept.legal kept.numbers (kept.puts reducer) runs seen.same_branch (seen.found is)

@@ -4,11 +4,11 @@ use Rattle.std.specs.Prelude.{◌==◌}
 use Rattle.std.proofs.Math.Nat.{mod-add-mod}
 use Rattle.model_histories.specs.declared.answer.Entry.{Entry}
 use Rattle.model_histories.specs.Entries.{Entries}
-use Rattle.model_races.specs.Memory.{Effect, sets, adds, leaves, effect, effects, last_written, bumped_since, IsMemory}
+use Rattle.model_races.specs.Memory.{CellEffect, sets, adds, leaves, effect, effects, last_written, bumped_since, IsMemory}
 use Rattle.race_gate.specs.Steps.{after, TakesPlace}
 
 -- the value by the effects alone
-abbrev held : List Effect → ℕ → ℕ
+abbrev held : List CellEffect → ℕ → ℕ
 held before cell = (last_written before cell + bumped_since before cell) % 2 ^ 64
 
 added : (written value since size : ℕ) → (written + (value + since)) % size ≡ ((written + since) % size + value) % size
@@ -16,7 +16,7 @@ added written value since size =
     let same : written + (value + since) ≡ (written + since) + value = omega arith in
     ap (λ n. n % size) same ∙ sym (mod-add-mod (written + since) size value)
 
-held-after : (one : Effect) (before : List Effect) (cell : ℕ) → held (one ∷ before) cell ≡ after one cell (held before cell)
+held-after : (one : CellEffect) (before : List CellEffect) (cell : ℕ) → held (one ∷ before) cell ≡ after one cell (held before cell)
 held-after (sets location value) before cell =
     let written = last_written before cell in
     let since = bumped_since before cell in

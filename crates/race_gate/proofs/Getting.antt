@@ -6,7 +6,7 @@ use Rattle.model_strands.specs.Strands.{Running}
 use Rattle.law_strands.specs.Branches.{branch}
 use Rattle.model_accesses.specs.Reads.{ReducerRead, IsReadOf}
 use Rattle.model_reducers.specs.Items.{Items, control, update, put, other}
-use Rattle.model_reducers.specs.Entries.{Entry, number_of as entry_number, strand_of, value_of, HasPut}
+use Rattle.model_reducers.specs.Entries.{Entry, entry_number, strand_of, entry_value, HasPut}
 use Rattle.model_reducers.specs.Steps.{Steps, items_of}
 use Rattle.law_values.specs.Accesses.{control_steps, AreLegal}
 use Rattle.model_reducers.specs.Views.{product}
@@ -16,7 +16,7 @@ use Rattle.law_values.proofs.Accesses.{projection_law}
 use Rattle.law_values.proofs.Steps.{put_numbered}
 use Rattle.model_reducers.specs.declared.view.View.{View}
 use Rattle.model_reducers.specs.declared.view.View.TheVariants.{Nothing, One, Pair}
-use Rattle.model_reducers.specs.Products.{product_of, put_view, update_view, number_of, reducer_of, monoid_of}
+use Rattle.model_reducers.specs.Products.{product_of, put_view, update_view, view_number, reducer_of, monoid_of}
 use Rattle.reducer_views.specs.Held.{AreNumbers, view_of}
 use Rattle.reducer_views.proofs.Gets.{get_law}
 use Rattle.model_races.specs.ReducerVerdicts.{IsGetValue}
@@ -35,7 +35,7 @@ last-put (put strand value ∷ items) some has = (_, (inl refl, newest))
     newest one (inr older) = omega (arith, put_numbered items one older)
 
 -- what is combined with a put is a number
-put-number : (monoid : Monoid) (value : ℕ) (view : View) → number_of (product_of monoid (put_view monoid value) view) ≡ None → ⊥
+put-number : (monoid : Monoid) (value : ℕ) (view : View) → view_number (product_of monoid (put_view monoid value) view) ≡ None → ⊥
 put-number Sum value Nothing e = absurd (cc)
 put-number Sum value (One n) e = absurd (cc)
 put-number Sum value (Pair m n) e = absurd (cc)
@@ -52,10 +52,10 @@ put-number Digits value Nothing e = absurd (cc)
 put-number Digits value (One n) e = absurd (cc)
 put-number Digits value (Pair m n) e = absurd (cc)
 
-value-some : (monoid : Monoid) (items : Items) (strand : ℕ) (view : View) → IsValue (reducer_of monoid) items strand view → number_of view ≡ None → ⊥
+value-some : (monoid : Monoid) (items : Items) (strand : ℕ) (view : View) → IsValue (reducer_of monoid) items strand view → view_number view ≡ None → ⊥
 value-some monoid items strand view is none =
-    put-number monoid (value_of is.put) (product (reducer_of monoid) (map (λ (entry : Entry). update_view monoid (value_of entry)) is.counted))
-    (ap number_of (sym is.combined) ∙ none)
+    put-number monoid (entry_value is.put) (product (reducer_of monoid) (map (λ (entry : Entry). update_view monoid (entry_value entry)) is.counted))
+    (ap view_number (sym is.combined) ∙ none)
 
 module _ (monoids : List Monoid) (steps : Steps) (earlier : List ReducerRead) (strand reducer : ℕ) (legal : AreLegal steps) (numbers : AreNumbers steps)
     (puts : PutsAreRead steps earlier reducer) (runs : Running (control_steps steps) strand)
@@ -80,8 +80,8 @@ module _ (monoids : List Monoid) (steps : Steps) (earlier : List ReducerRead) (s
   is_value : IsValue (reducer_of (monoid_of monoids reducer)) (items_of reducer steps) strand (view_of monoids reducer steps strand)
   is_value = (get_law monoids reducer steps numbers strand granted.0 granted.1 (view_of monoids reducer steps strand)).1 refl
 
-  pub get-value : (value : ℕ) → Some value ≡ number_of (view_of monoids reducer steps strand) → IsGetValue monoids steps strand reducer value
+  pub get-value : (value : ℕ) → Some value ≡ view_number (view_of monoids reducer steps strand) → IsGetValue monoids steps strand reducer value
   get-value value is = (view_of monoids reducer steps strand, is_value, sym is)
 
-  pub get-some : None ≡ number_of (view_of monoids reducer steps strand) → ⊥
+  pub get-some : None ≡ view_number (view_of monoids reducer steps strand) → ⊥
   get-some none = value-some (monoid_of monoids reducer) (items_of reducer steps) strand (view_of monoids reducer steps strand) is_value (sym none)

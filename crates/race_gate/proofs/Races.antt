@@ -19,7 +19,7 @@ use Rattle.model_histories.specs.Shapes.{Shape}
 use Rattle.model_histories.specs.Legal.{IsLegal}
 use Rattle.model_races.specs.Accesses.{cell_access, is_granted, access_at, granted}
 use Rattle.model_races.specs.Verdicts.{IsRightVerdict, MemoryIsJudged}
-use Rattle.model_histories.specs.Extensions.{Extends}
+use Rattle.model_histories.specs.Extensions.{ExtendsEntries}
 use Rattle.race_gate.specs.Laws.{RaceLaw}
 use Rattle.model_races.specs.Laws.{VerdictLaw}
 
@@ -113,7 +113,7 @@ right-then (newer ∷ later) entries entry access is judged = right-then later e
 pub verdict_law : VerdictLaw
 verdict_law shape later entries entry access judged is =
     let runs = (legal-earlier shape later (entry ∷ entries) judged.legal).1.runs in
-    let extends : Extends (later ++ entry ∷ entries) entries = (later ++ entry ∷ [], append_assoc later (entry ∷ []) entries) in
+    let extends : ExtendsEntries (later ++ entry ∷ entries) entries = (later ++ entry ∷ [], append_assoc later (entry ∷ []) entries) in
     let stays = race_law shape entries (later ++ entry ∷ entries) extends judged.legal entry.request.strand runs access in
     let refused = (right-then later entries entry access is judged.memory).refused in
     ((λ r. stays.0 (refused.0 r)), (λ race. refused.1 (stays.1 race)))

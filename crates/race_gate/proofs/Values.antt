@@ -4,12 +4,12 @@ use Rattle.std.specs.Prelude.{◌==◌}
 use Rattle.std.proofs.lemmas.List.{append-nil}
 use Rattle.std.proofs.lemmas.Bool.{eqb-true, eq-eqb}
 use Rattle.model_histories.specs.Entries.{Entries}
-use Rattle.model_races.specs.Memory.{Effect, sets, adds, leaves, effect, effects, last_written, bumped_since}
+use Rattle.model_races.specs.Memory.{CellEffect, sets, adds, leaves, effect, effects, last_written, bumped_since}
 use Rattle.race_gate.specs.Memory.{IsWriteOf, HasNoWrite, bump_of, bumps_of}
 use Rattle.race_gate.specs.Laws.{ValueLaw}
 
 -- one effect that is no write of the cell
-last-one : (one : Effect) (before : List Effect) (cell : ℕ) → (IsWriteOf cell one → ⊥) → last_written (one ∷ before) cell ≡ last_written before cell
+last-one : (one : CellEffect) (before : List CellEffect) (cell : ℕ) → (IsWriteOf cell one → ⊥) → last_written (one ∷ before) cell ≡ last_written before cell
 last-one (sets location value) before cell none = at_test (location == cell) refl
   where
     at_test : (b : Bool) → (location == cell) ≡ b → cond (location == cell) value (last_written before cell) ≡ last_written before cell
@@ -18,7 +18,7 @@ last-one (sets location value) before cell none = at_test (location == cell) ref
 last-one (adds location value) before cell none = refl
 last-one leaves before cell none = refl
 
-bumped-one : (one : Effect) (before : List Effect) (cell : ℕ) → (IsWriteOf cell one → ⊥) →
+bumped-one : (one : CellEffect) (before : List CellEffect) (cell : ℕ) → (IsWriteOf cell one → ⊥) →
     bumped_since (one ∷ before) cell ≡ bump_of cell one + bumped_since before cell
 bumped-one (sets location value) before cell none = at_test (location == cell) refl
   where
@@ -44,7 +44,7 @@ bumped-behind (entry ∷ later) before cell none =
     omega (arith, one, rest)
 
 -- the cell after its write
-at_write : (before : List Effect) (cell value : ℕ) → (last_written (sets cell value ∷ before) cell ≡ value) × (bumped_since (sets cell value ∷ before) cell ≡ 0)
+at_write : (before : List CellEffect) (cell value : ℕ) → (last_written (sets cell value ∷ before) cell ≡ value) × (bumped_since (sets cell value ∷ before) cell ≡ 0)
 at_write before cell value = (rw (eq-eqb cell cell refl) refl, rw (eq-eqb cell cell refl) refl)
 
 pub value_law : ValueLaw

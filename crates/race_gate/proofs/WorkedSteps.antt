@@ -15,7 +15,7 @@ use Rattle.model_histories.specs.declared.answer.Answer.TheVariants.{Granted, Va
 use Rattle.model_histories.specs.Entries.{Entries, control_part}
 use Rattle.model_races.specs.Accesses.{granted}
 use Rattle.model_races.specs.Races.{HasRace}
-use Rattle.model_races.specs.Memory.{value_of}
+use Rattle.model_races.specs.Memory.{cell_value}
 use Rattle.model_races.specs.Verdicts.{IsRightVerdict}
 use Rattle.race_gate.proofs.Races.{none-listed}
 
@@ -44,7 +44,7 @@ module _ (entries : Entries) (strand : ℕ) (new : CellAccess) (free : HasRace (
   pub write-granted : IsRightVerdict entries strand new Granted
   write-granted = record { refused = ((λ t. absurd t), (λ race. absurd (free race))); witness = tt; value = tt }
 
-  pub read-granted : (value : ℕ) → value ≡ value_of entries new.location → IsRightVerdict entries strand new (Value value)
+  pub read-granted : (value : ℕ) → value ≡ cell_value entries new.location → IsRightVerdict entries strand new (Value value)
   read-granted value is = record { refused = ((λ t. absurd t), (λ race. absurd (free race))); witness = tt; value = is }
 
 -- ---- the first spawn

@@ -8,14 +8,14 @@ use Rattle.model_races.specs.declared.access.CellAccess.{CellAccess}
 use Rattle.model_histories.specs.declared.answer.Entry.{Entry}
 use Rattle.model_races.specs.Accesses.{granted}
 use Rattle.model_races.specs.Races.{HasRace}
-use Rattle.model_races.specs.Memory.{sets, effect, value_of}
+use Rattle.model_races.specs.Memory.{sets, effect, cell_value}
 use Rattle.race_gate.specs.Memory.{HasNoWrite, bumps_of}
-use Rattle.model_histories.specs.Extensions.{Extends}
+use Rattle.model_histories.specs.Extensions.{ExtendsEntries}
 
 -- an access races in the dag as it stands exactly where it races in the dag of each longer history, so in the finished one too
 abbrev pub RaceLaw : Type 0
 RaceLaw =
-    (shape : Shape) (entries longer : Entries) → Extends longer entries → IsLegal shape longer →
+    (shape : Shape) (entries longer : Entries) → ExtendsEntries longer entries → IsLegal shape longer →
     (strand : ℕ) → Running (control_part entries) strand → (access : CellAccess) →
     HasRace (control_part entries) (granted entries) strand access ↔ HasRace (control_part longer) (granted entries) strand access
 
@@ -23,5 +23,5 @@ RaceLaw =
 pub record ValueLaw : Type 0 where
   pub written : (later before : Entries) (write : Entry) (cell value : ℕ) →
       effect write.request.act write.answer ≡ sets cell value → HasNoWrite cell later →
-      value_of (later ++ write ∷ before) cell ≡ (value + bumps_of cell later) % 2 ^ 64
-  pub unwritten : (entries : Entries) (cell : ℕ) → HasNoWrite cell entries → value_of entries cell ≡ bumps_of cell entries % 2 ^ 64
+      cell_value (later ++ write ∷ before) cell ≡ (value + bumps_of cell later) % 2 ^ 64
+  pub unwritten : (entries : Entries) (cell : ℕ) → HasNoWrite cell entries → cell_value entries cell ≡ bumps_of cell entries % 2 ^ 64

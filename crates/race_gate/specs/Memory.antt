@@ -1,10 +1,10 @@
 -- The value of a cell in other words: its writes and its bumps.
 use Rattle.std.specs.Prelude.{◌≡◌, ◌+◌, ◌==◌, ℕ, [], ◌∷◌, if◌then◌else◌}
-use Rattle.model_races.specs.Memory.{Effect, sets, adds, effect}
+use Rattle.model_races.specs.Memory.{CellEffect, sets, adds, effect}
 use Rattle.model_histories.specs.Entries.{Entries}
 
 -- the effect is a write of the cell
-abbrev pub IsWriteOf : ℕ → Effect → Type 0
+abbrev pub IsWriteOf : ℕ → CellEffect → Type 0
 IsWriteOf cell (sets location value) = location ≡ cell
 IsWriteOf cell _ = ⊥
 
@@ -14,7 +14,7 @@ HasNoWrite cell [] = Unit {0}
 HasNoWrite cell (entry ∷ entries) = (IsWriteOf cell (effect entry.request.act entry.answer) → ⊥) × HasNoWrite cell entries
 
 -- what the effect adds to the cell, where it is a bump of it
-abbrev pub bump_of : ℕ → Effect → ℕ
+abbrev pub bump_of : ℕ → CellEffect → ℕ
 bump_of cell (adds location value) = if location == cell then value else 0
 bump_of cell _ = 0
 

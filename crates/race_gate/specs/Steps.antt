@@ -15,7 +15,7 @@ use Rattle.model_histories.specs.Entries.{event_between}
 use Rattle.model_histories.specs.Legal.{Belongs}
 use Rattle.model_races.specs.Accesses.{is_granted}
 use Rattle.model_races.specs.Races.{HasRace, IsTrueWitness}
-use Rattle.model_races.specs.Memory.{Effect, sets, adds, leaves}
+use Rattle.model_races.specs.Memory.{CellEffect, sets, adds, leaves}
 use Rattle.model_races.specs.Verdicts.{IsRefused, IfRefused}
 use Rattle.race_gate.specs.Books.{Books, OptionKeepsSome}
 
@@ -52,12 +52,12 @@ pub record IsJudgedBy (history : History) (accesses : List Access) (strand : ℕ
       option_to_list (if_granted answer (record { strand = strand; kind = access.kind; location = access.location; entry = number })))
 
 -- what a cell holds after an effect, by what it held before
-abbrev pub after : Effect → ℕ → ℕ → ℕ
+abbrev pub after : CellEffect → ℕ → ℕ → ℕ
 after (sets location value) cell held = if location == cell then value % 2 ^ 64 else held
 after (adds location value) cell held = if location == cell then (held + value) % 2 ^ 64 else held
 after leaves cell held = held
 
 -- the effect took place
-pub record TakesPlace (effect : Effect) (old new : List ℕ) : Type 0 where
+pub record TakesPlace (effect : CellEffect) (old new : List ℕ) : Type 0 where
   pub len : length new ≡ length old
   pub each : (cell : ℕ) → cell < length old → slice_index new cell ≡ after effect cell (slice_index old cell)

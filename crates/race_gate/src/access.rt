@@ -5,7 +5,7 @@ ghost use Rattle.race_gate.specs.Accesses.{sort_of};
 
 use access_table::is_memory;
 use model_races::CellAccess;
-use text_words::{Act, Asked, access_asked};
+use text_words::{Act, Asked, asked_by};
 
 /// What an act asks for.
 #[derive(Clone, Copy)]
@@ -23,7 +23,7 @@ pub enum Sort {
 pub fn sort_of(act: Act) -> Sort
     ensures { result ≡ sort_of act }
 {
-    match access_asked(act) {
+    match asked_by(act) {
         None => Sort::Control,
         Some(Asked { kind, place }) if is_memory(kind) => Sort::Cell(CellAccess {
             kind,

@@ -84,7 +84,7 @@ impl<A: Allocator + Clone> Model for Core<A> {
 }
 
 /// A copy of what a program declares.
-fn copied<A: Allocator + Clone, B: Allocator>(
+fn copy_shape<A: Allocator + Clone, B: Allocator>(
     alloc: &A,
     shape: &Shape<B>,
 ) -> Result<Shape<A>, AllocError>
@@ -116,7 +116,7 @@ impl<A: Allocator + Clone> Core<A> {
         requires reducers { length shape.now.monoids ≤ most_reducers }
         ensures { IfOk result (λ core. IsCoreOf core (opening (shape_of shape.now) limit)) }
     {
-        let shape = copied(&alloc, shape)?;
+        let shape = copy_shape(&alloc, shape)?;
         Ok(Core {
             tracks: Tracks::new(&alloc, shape.cells, shape.monoids.as_slice())?,
             memory: vec![in alloc; 0; shape.cells as usize]?,

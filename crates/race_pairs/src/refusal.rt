@@ -5,7 +5,7 @@ ghost use Rattle.race_pairs.specs.Refusals.{reason_by, refusal_asked, refusal_to
 
 use model_accesses::{Kind, Rule};
 use race_gate::{Answer, Entry};
-use text_words::{Asked, access_asked};
+use text_words::{Asked, asked_by};
 
 /// Why an access was refused.
 #[derive(Clone, Copy, Debug, PartialEq, Eq)]
@@ -53,7 +53,7 @@ fn reason_by(rule: Rule, earlier: Kind, refused: Kind) -> Reason
 }
 
 /// What an access on this line with this answer tells.
-fn refusal_asked(line: u32, answer: Answer, asked: Asked) -> Option<Refusal>
+fn refusal_for(line: u32, answer: Answer, asked: Asked) -> Option<Refusal>
     ensures { result ≡ refusal_asked line answer asked }
 {
     match answer {
@@ -77,8 +77,8 @@ fn refusal_asked(line: u32, answer: Answer, asked: Asked) -> Option<Refusal>
 pub fn refusal_of(entry: Entry) -> Option<Refusal>
     ensures { result ≡ refusal_told entry }
 {
-    let asked = access_asked(entry.request.act)?;
-    refusal_asked(entry.request.line, entry.answer, asked)
+    let asked = asked_by(entry.request.act)?;
+    refusal_for(entry.request.line, entry.answer, asked)
 }
 
 /// The entry with this number, from 1 on, of entries that are given from the oldest on, or None where there is none.

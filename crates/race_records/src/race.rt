@@ -15,7 +15,7 @@ use crate::access::access_value;
 use crate::advice::{help_value, outstanding_of, parting_of};
 use crate::value::text_value;
 use access_table::word;
-use race_explanations::{Scene, told_names};
+use race_explanations::{Scene, display_names};
 use race_pairs::{Encounter, Pair, Reason, places};
 use serde_json::{Value, json};
 use spawn_chains::Lineage;
@@ -173,7 +173,7 @@ pub(crate) fn pair_value(
 {
     let found = places(alloc, scene.entries, pair)?;
     let encounter = Encounter::new(alloc, lineage, scene.entries, pair)?;
-    let names = told_names(alloc, scene, pair.lines.reason, found.as_slice())?;
+    let names = display_names(alloc, scene, pair.lines.reason, found.as_slice())?;
     let race = race_of(alloc, scene, pair, &encounter)?;
     race_value(alloc, &race, &names, pair.times)
 }

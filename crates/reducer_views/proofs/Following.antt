@@ -20,7 +20,7 @@ use Rattle.law_strands.proofs.Holders.{holders, Splitting, splitting}
 use Rattle.law_strands.specs.Gatherings as gatherings
 use Rattle.law_strands.proofs.Members.{Present, present_map, contains_present}
 use Rattle.model_reducers.specs.Items as one
-use Rattle.model_reducers.specs.Items.{Item, control_part}
+use Rattle.model_reducers.specs.Items.{Item, control_events}
 use Rattle.model_reducers.specs.Steps.{Steps, control, update, put, other, items_of}
 use Rattle.law_values.specs.Accesses.{control_steps, AreLegal}
 use Rattle.model_reducers.specs.Views.{product}

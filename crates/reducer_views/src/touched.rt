@@ -28,7 +28,7 @@ impl Touch {
 }
 
 /// The touch that two pieces of the serial order make, the earlier one on the left.
-fn joined(left: Option<Touch>, right: Option<Touch>) -> Option<Touch>
+fn join_touches(left: Option<Touch>, right: Option<Touch>) -> Option<Touch>
     ensures { result ≡ both left right }
 {
     match (left, right) {
@@ -39,7 +39,7 @@ fn joined(left: Option<Touch>, right: Option<Touch>) -> Option<Touch>
 }
 
 /// The touch that a later one makes behind the one that there may be.
-fn behind(earlier: Option<Touch>, later: Touch) -> Touch
+fn touch_behind(earlier: Option<Touch>, later: Touch) -> Touch
     ensures { result ≡ added earlier later }
 {
     match earlier {
@@ -92,7 +92,7 @@ impl Row {
         requires { place < 4 }
         ensures { Changes (touch_in self.old) (touch_in self.new) place (added (touch_in self.old place) touch) }
     {
-        self.touches[place] = Some(behind(self.touches[place], touch));
+        self.touches[place] = Some(touch_behind(self.touches[place], touch));
     }
 
     /// The touches that two pieces of the serial order make, the earlier one on the left.
@@ -103,10 +103,10 @@ impl Row {
         let right = &later.touches;
         Row {
             touches: [
-                joined(left[0], right[0]),
-                joined(left[1], right[1]),
-                joined(left[2], right[2]),
-                joined(left[3], right[3]),
+                join_touches(left[0], right[0]),
+                join_touches(left[1], right[1]),
+                join_touches(left[2], right[2]),
+                join_touches(left[3], right[3]),
             ],
         }
     }
@@ -133,7 +133,7 @@ pub type Spare<A> = Vec<Box<Slot<A>, A>, A>;
 pub const DEPTH: usize = 33;
 
 /// A new slot, which is empty.
-fn fresh<A: Allocator + Clone>(alloc: &A) -> Result<Box<Slot<A>, A>, AllocError> {
+fn new_slot<A: Allocator + Clone>(alloc: &A) -> Result<Box<Slot<A>, A>, AllocError> {
     let slot = Slot {
         row: Row::empty(),
         odd: None,
@@ -151,7 +151,7 @@ pub fn fill<A: Allocator + Clone>(spare: &mut Spare<A>, alloc: &A) -> Result<(),
     ensures kept { vec_len spare.old ≤ vec_len spare.new }
 {
     for _ in spare.len()..DEPTH {
-        spare.push(fresh(alloc)?)?;
+        spare.push(new_slot(alloc)?)?;
     }
     Ok(())
 }
@@ -176,7 +176,7 @@ pub fn find<A: Allocator>(first: &Slot<A>, reducer: u32) -> Option<Touch>
 }
 
 /// Takes an empty slot from the reserve.
-fn blank<A: Allocator>(spare: &mut Spare<A>) -> Box<Slot<A>, A>
+fn take_slot<A: Allocator>(spare: &mut Spare<A>) -> Box<Slot<A>, A>
     requires { 0 < vec_len spare.old }
     ensures less { vec_len spare.new + 1 ≡ vec_len spare.old }
     ensures empty { (place number : ℕ) → column_of (Some result) place number ≡ None }
@@ -199,7 +199,7 @@ fn take_first<A: Allocator>(slots: &mut Slots<A>, spare: &mut Spare<A>) -> Box<S
 {
     match slots.take() {
         Some(slot) => slot,
-        None => blank(spare),
+        None => take_slot(spare),
     }
 }
 

@@ -2,7 +2,7 @@
 
 ghost use Rattle.std.specs.Prelude.{◌≡◌, ◌↔◌, IsTrue};
 ghost use Rattle.reducer_views.specs.Products.{FitsMonoid};
-ghost use Rattle.model_reducers.specs.Products.{identity_of, number_of, product_of, put_view, update_view};
+ghost use Rattle.model_reducers.specs.Products.{identity_of, view_number, product_of, put_view, update_view};
 
 use model_reducers::{Monoid, View};
 
@@ -70,7 +70,7 @@ pub fn product(monoid: Monoid, left: View, right: View) -> View
 
 /// The number that a get gives, where the view has one.
 pub fn value(view: View) -> Option<u64>
-    ensures { result ≡ number_of view }
+    ensures { result ≡ view_number view }
 {
     match view {
         View::Nothing => None,

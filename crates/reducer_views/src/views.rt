@@ -8,7 +8,7 @@ ghost use Rattle.law_values.specs.Accesses.{AreLegal, control_steps};
 ghost use Rattle.model_reducers.specs.Steps.{Steps, control, put, update};
 ghost use Rattle.reducer_views.specs.Held.{Holds, split_of, view_of};
 ghost use Rattle.reducer_views.specs.Homes.{IsCurrent};
-ghost use Rattle.model_reducers.specs.Products.{number_of};
+ghost use Rattle.model_reducers.specs.Products.{view_number};
 
 use crate::pieces::{Piece, first_piece, gather_at, gather_block, grow, home_of, set_at, touch_of};
 use crate::touched::{DEPTH, Spare, Touch, fill};
@@ -189,7 +189,7 @@ impl<A: Allocator + Clone> Views<A> {
         requires there { strand < length self.now.strands }
         requires known { reducer < length self.now.monoids }
         ensures { (steps : Steps) → AreLegal steps → Holds self.now steps → IsCurrent (control_steps steps) strand →
-            result ≡ number_of (view_of self.now.monoids reducer steps strand) }
+            result ≡ view_number (view_of self.now.monoids reducer steps strand) }
     {
         let home = home_of(&self.pieces, strand);
         match touch_of(&self.pieces, home, reducer) {

@@ -18,5 +18,6 @@ pub use outcome::{
 };
 pub use program::parse_program;
 pub use run::{
-    Cut, Door, OpenDoor, PARTS, fault_of, report_line, run_text, serial_run, some_run, whole_run,
+    Door, OpenDoor, PARTS, UnfinishedRun, fault_of, report_line, run_text, serial_run, some_run,
+    whole_run,
 };

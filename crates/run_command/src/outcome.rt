@@ -63,7 +63,7 @@ fn is_refused(entry: &Entry) -> bool
     matches!(entry.answer, Answer::Refused { .. } | Answer::Unset)
 }
 
-fn any_refused(entries: &[Entry]) -> bool
+fn has_refusal(entries: &[Entry]) -> bool
     ensures { result ≡ list_any (λ entry. refused_spec entry.answer) entries.now }
 {
     entries.iter().any(is_refused)
@@ -73,7 +73,7 @@ fn any_refused(entries: &[Entry]) -> bool
 pub fn refusal_status(entries: &[Entry]) -> u8
     ensures { result ≡ status_of_run entries.now }
 {
-    if any_refused(entries) { 1 } else { 0 }
+    if has_refusal(entries) { 1 } else { 0 }
 }
 
 /// As [`refusal_status`], of a run of which it is known whether something was refused, so that no entry is looked at.

@@ -17,7 +17,7 @@ use crate::outcome::{Outcome, outcome_of, refusal_status, whole_status};
 use crate::program::parse_program;
 use command_streams::{CliFault, Watched, read_text, write_text};
 use locked_replay::{
-    Ask, LockedGate, RunFault, Seat, Whole, WorkerLog, check_run, gate_for, gather,
+    Ask, LockedGate, RunFault, Seat, Whole, WorkerLog, check_run, gather, open_gate,
 };
 use program_text::Program;
 use race_gate::{GateFault, Receipt, ShortGate};
@@ -67,12 +67,12 @@ impl Door for OpenDoor {
 
 /// A gate behind its lock, and a door before it.
 #[derive(Drop)]
-struct Behind<'a, D, L: Ledger> {
+struct DoorGate<'a, D, L: Ledger> {
     door: &'a D,
     locked: &'a LockedGate<L>,
 }
 
-impl<'a, D: Door, L: Ledger> Ask<L> for Behind<'a, D, L> {
+impl<'a, D: Door, L: Ledger> Ask<L> for DoorGate<'a, D, L> {
     fn ask<R: Wait>(
         &self,
         rt: &R,
@@ -113,12 +113,17 @@ fn run_through<L: Ledger + Send + Sync, D: Door + Sync, R: Threads + Wait + Sync
     requires workers { (0 < workers) × (workers ≤ 64) }
     requires parts { seat.parts ≡ 64 }
 {
-    let gate = Behind { door, locked };
+    let gate = DoorGate { door, locked };
     run(rt, alloc, program, workers, &gate, seat)
 }
 
 /// What the gate shows behind workers that brought no logs: that its history is no finished run, or that it is one which nobody brought.
-fn left(alloc: Global, program: &Program<Global>, gate: &ShortGate, limit: u32) -> RunFault
+fn diagnose_unfinished(
+    alloc: Global,
+    program: &Program<Global>,
+    gate: &ShortGate,
+    limit: u32,
+) -> RunFault
     requires { IsRight gate.now }
     ensures { IsRunFault (contents program.now) limit (fault_of_run result) }
 {
@@ -129,26 +134,31 @@ fn left(alloc: Global, program: &Program<Global>, gate: &ShortGate, limit: u32) 
 }
 
 /// Limit where the gate's history is a run of the program that has come to the limit, and is not at its end.
-fn full(alloc: Global, program: &Program<Global>, gate: &ShortGate, limit: u32) -> RunFault
+fn diagnose_limit(
+    alloc: Global,
+    program: &Program<Global>,
+    gate: &ShortGate,
+    limit: u32,
+) -> RunFault
     requires { IsRight gate.now }
     ensures { IsRunFault (contents program.now) limit (fault_of_run result) }
 {
     let entries = gate.history();
     if entries.len() < limit as usize {
-        return left(alloc, program, gate, limit);
+        return diagnose_unfinished(alloc, program, gate, limit);
     }
     let Ok(entries) = entries.to_vec(alloc) else {
         return RunFault::Memory;
     };
     match outcome_of(alloc, program, entries.as_slice()) {
         Ok(Outcome::Unfinished) => RunFault::Limit,
-        Ok(_) => left(alloc, program, gate, limit),
+        Ok(_) => diagnose_unfinished(alloc, program, gate, limit),
         Err(_) => RunFault::Memory,
     }
 }
 
 /// The fault where a worker that met it stopped the gate.
-fn stopped(
+fn diagnose_stopped(
     alloc: Global,
     program: &Program<Global>,
     gate: &ShortGate,
@@ -162,13 +172,13 @@ fn stopped(
     if gate.is_stopped() {
         fault
     } else {
-        left(alloc, program, gate, limit)
+        diagnose_unfinished(alloc, program, gate, limit)
     }
 }
 
 /// What a run answers whose workers met this fault and brought no logs: the fault, where the gate bears it out, and else what the gate
 /// shows.
-fn met(
+fn diagnose_fault(
     alloc: Global,
     program: &Program<Global>,
     gate: &ShortGate,
@@ -179,17 +189,17 @@ fn met(
     ensures { IsRunFault (contents program.now) limit (fault_of_run result) }
 {
     match fault {
-        RunFault::Limit => full(alloc, program, gate, limit),
+        RunFault::Limit => diagnose_limit(alloc, program, gate, limit),
         RunFault::Memory => RunFault::Memory,
         RunFault::Stopped | RunFault::Torn | RunFault::Strange => {
-            stopped(alloc, program, gate, limit, fault)
+            diagnose_stopped(alloc, program, gate, limit, fault)
         }
     }
 }
 
 /// A run that did not come to its end.
 #[derive(Drop)]
-pub struct Cut {
+pub struct UnfinishedRun {
     /// Why.
     pub fault: RunFault,
     /// The gate that the workers left, where they brought no logs.
@@ -197,7 +207,7 @@ pub struct Cut {
 }
 
 /// The finished run that the workers brought back, of at most `limit` entries.
-fn gathered<L: Ledger>(
+fn gather_run<L: Ledger>(
     alloc: Global,
     program: &Program<Global>,
     locked: LockedGate<L>,
@@ -226,7 +236,7 @@ pub fn some_run<L: Ledger + Send + Sync, D: Door + Sync, R: Threads + Wait + Syn
     door: &D,
     limit: u32,
     blank: Blank,
-) -> Result<Whole, Cut>
+) -> Result<Whole, UnfinishedRun>
     requires workers { (0 < workers) × (workers ≤ 64) }
     requires limit { limit ≤ most_entries }
     requires name { blank.name ≡ L.name }
@@ -238,8 +248,8 @@ pub fn some_run<L: Ledger + Send + Sync, D: Door + Sync, R: Threads + Wait + Syn
     ensures within { IfOk result (λ whole. length whole.entries.items ≤ limit) }
     ensures fault { IfErr result (λ cut. IsRunFault (contents program.now) limit (fault_of_run cut.fault)) }
 {
-    let Ok(gate) = gate_for(alloc, program, limit) else {
-        return Err(Cut {
+    let Ok(gate) = open_gate(alloc, program, limit) else {
+        return Err(UnfinishedRun {
             fault: RunFault::Memory,
             gate: None,
         });
@@ -249,21 +259,21 @@ pub fn some_run<L: Ledger + Send + Sync, D: Door + Sync, R: Threads + Wait + Syn
         Ok(logs) => logs,
         Err(fault) => {
             let gate = locked.into_gate();
-            let fault = met(alloc, program, &gate, limit, fault);
-            return Err(Cut {
+            let fault = diagnose_fault(alloc, program, &gate, limit, fault);
+            return Err(UnfinishedRun {
                 fault,
                 gate: Some(gate),
             });
         }
     };
-    match gathered(alloc, program, locked, logs, limit) {
+    match gather_run(alloc, program, locked, logs, limit) {
         Ok(whole) => Ok(whole),
-        Err(fault) => Err(Cut { fault, gate: None }),
+        Err(fault) => Err(UnfinishedRun { fault, gate: None }),
     }
 }
 
 /// The finished run whose history the gate has.
-fn whole_alone(
+fn whole_of_gate(
     alloc: Global,
     program: &Program<Global>,
     gate: ShortGate,
@@ -291,7 +301,11 @@ fn whole_alone(
 }
 
 /// As [`some_run`], by one worker that runs each child before what follows its spawn, so that it is the same run each time.
-pub fn serial_run(alloc: Global, program: &Program<Global>, limit: u32) -> Result<Whole, Cut>
+pub fn serial_run(
+    alloc: Global,
+    program: &Program<Global>,
+    limit: u32,
+) -> Result<Whole, UnfinishedRun>
     requires limit { limit ≤ most_entries }
     ensures run { IfOk result (λ whole. IsFinishedRun program.now.functions (shape_in program.now) (reverse whole.entries.items)) }
     ensures memory { IfOk result (λ whole. IsMemory (shape_in program.now).cells (reverse whole.entries.items) whole.memory.items) }
@@ -299,8 +313,8 @@ pub fn serial_run(alloc: Global, program: &Program<Global>, limit: u32) -> Resul
     ensures within { IfOk result (λ whole. length whole.entries.items ≤ limit) }
     ensures fault { IfErr result (λ cut. IsRunFault (contents program.now) limit (fault_of_run cut.fault)) }
 {
-    let Ok(mut gate) = gate_for(alloc, program, limit) else {
-        return Err(Cut {
+    let Ok(mut gate) = open_gate(alloc, program, limit) else {
+        return Err(UnfinishedRun {
             fault: RunFault::Memory,
             gate: None,
         });
@@ -310,15 +324,15 @@ pub fn serial_run(alloc: Global, program: &Program<Global>, limit: u32) -> Resul
     let _entries = gate.history();
     let _cells = gate.memory();
     if let Err(fault) = ran {
-        let fault = met(alloc, program, &gate, limit, fault);
-        return Err(Cut {
+        let fault = diagnose_fault(alloc, program, &gate, limit, fault);
+        return Err(UnfinishedRun {
             fault,
             gate: Some(gate),
         });
     }
-    match whole_alone(alloc, program, gate, limit) {
+    match whole_of_gate(alloc, program, gate, limit) {
         Ok(whole) => Ok(whole),
-        Err(fault) => Err(Cut { fault, gate: None }),
+        Err(fault) => Err(UnfinishedRun { fault, gate: None }),
     }
 }
 
@@ -366,7 +380,7 @@ pub fn report_line(
 }
 
 /// The line that tells a finished run of the program by so many workers, and the exit status.
-fn ran<D: Door + Sync, R: Threads + Wait + Sync>(
+fn run_and_report<D: Door + Sync, R: Threads + Wait + Sync>(
     rt: &R,
     alloc: Global,
     program: &Program<Global>,
@@ -430,7 +444,7 @@ pub fn run_text<D: Door + Sync, P: Read, W: Write, R: Threads + Wait + Sync>(
 {
     let text = read_text(alloc, program)?;
     let program = parse_program(alloc, text)?;
-    let (line, status) = ran(rt, alloc, &program, workers, door, limit)?;
+    let (line, status) = run_and_report(rt, alloc, &program, workers, door, limit)?;
     write_text(output, line.as_slice())?;
     Ok(status)
 }

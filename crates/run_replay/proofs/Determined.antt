@@ -12,7 +12,7 @@ use Rattle.law_strands.specs.Acts.{Act as ControlAct, spawns, syncs, calls, retu
 use Rattle.law_strands.proofs.Finish.{answer_law, unsynced_law, finish_law}
 use Rattle.model_reducers.specs.Items.{Items, control, update, put, other as elsewhere}
 use Rattle.law_values.specs.Items.{IsLegal as AreItemsLegal}
-use Rattle.model_reducers.specs.Entries.{Entry as ItemEntry, number_of as entry_number, value_of as entry_value, HasPut}
+use Rattle.model_reducers.specs.Entries.{Entry as ItemEntry, entry_number, entry_value, HasPut}
 use Rattle.model_reducers.specs.Steps.{Steps, items_of}
 use Rattle.law_values.specs.Accesses.{control_steps, AreLegal}
 use Rattle.model_reducers.specs.Views.{product}
@@ -21,7 +21,7 @@ use Rattle.law_values.proofs.Accesses.{projection_law}
 use Rattle.law_values.proofs.Steps.{put_numbered}
 use Rattle.law_values.proofs.Law.{counted_law}
 use Rattle.model_reducers.specs.declared.view.View.{View}
-use Rattle.model_reducers.specs.Products.{reducer_of, number_of, monoid_of}
+use Rattle.model_reducers.specs.Products.{reducer_of, view_number, monoid_of}
 use Rattle.model_races.specs.declared.access.CellAccess.{CellAccess}
 use Rattle.model_histories.specs.declared.answer.Answer.{Answer}
 use Rattle.model_histories.specs.declared.answer.Answer.TheVariants.{Split, Same, Joined, Waits, Resumed, Ended, EndedJoined, Finished, Granted, Value, Refused, Unset}
@@ -30,7 +30,7 @@ use Rattle.model_histories.specs.Entries.{Entries, event_between, event_of, cont
 use Rattle.model_histories.specs.Shapes.{Shape}
 use Rattle.model_histories.specs.Legal.{Belongs, IsLegal}
 use Rattle.race_gate.specs.Steps.{IsControl}
-use Rattle.model_races.specs.Memory.{value_of}
+use Rattle.model_races.specs.Memory.{cell_value}
 use Rattle.model_races.specs.Verdicts.{IsRefused, IfValue, IsRightVerdict}
 use Rattle.model_races.specs.Reducers.{step_with, steps_of}
 use Rattle.model_races.specs.ViewReads.{Completes}
@@ -226,7 +226,7 @@ get_once : (monoids : List Monoid) (steps : Steps) → AreLegal steps → (stran
     IsGetValue monoids steps strand reducer two → one ≡ two
 get_once monoids steps legal strand reducer one two v w =
     let same = value_once (monoid_of monoids reducer) (items_of reducer steps) ((projection_law reducer steps).1.1 legal) strand v.0 w.0 v.1 w.1 in
-    let some : Some one ≡ Some two = sym v.2 ∙ ap number_of same ∙ w.2 in
+    let some : Some one ≡ Some two = sym v.2 ∙ ap view_number same ∙ w.2 in
     cc
 
 -- the steps of a legal history are legal
@@ -302,8 +302,8 @@ module _ (shape : Shape) (entries : Entries) (strand line : ℕ) where
       cell_case _ one other j.memory.1 k.memory.1 (λ n m.
       let v = was_read cell one j.legal.1.belongs n in
       let w = was_read cell other k.legal.1.belongs m in
-      let is = subst (λ a. IfValue a (λ value. value ≡ value_of entries cell)) v.1 j.memory.1.value in
-      let is' = subst (λ a. IfValue a (λ value. value ≡ value_of entries cell)) w.1 k.memory.1.value in
+      let is = subst (λ a. IfValue a (λ value. value ≡ cell_value entries cell)) v.1 j.memory.1.value in
+      let is' = subst (λ a. IfValue a (λ value. value ≡ cell_value entries cell)) w.1 k.memory.1.value in
       v.1 ∙ ap Value (is ∙ sym is') ∙ sym w.1)
   determined (Act.Update reducer value) one other j k = inl (updated reducer value one j.legal.1.belongs ∙ sym (updated reducer value other k.legal.1.belongs))
   determined (Act.Put reducer value) one other j k =

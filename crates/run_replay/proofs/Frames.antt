@@ -16,7 +16,7 @@ use Rattle.race_gate.proofs.Races.{legal-part}
 use Rattle.model_runs.specs.Frames.{IsSplit, HasFrame, frame_of, frame_in, next_frame}
 use Rattle.law_runs.proofs.Strands.{SplitFrames, stays_with, unused_with}
 use Rattle.law_runs.proofs.Histories.{begun_before}
-use Rattle.run_replay.specs.Casts.{begun_by, frames_in, new_places}
+use Rattle.run_replay.specs.FrameTables.{begun_by, frames_in, new_places}
 use Rattle.run_replay.proofs.Items.{got_kept, got_behind, got_cases, got_one}
 
 split_begins : (answer : Answer) (frame : ℕ) → IsSplit answer → begun_by answer frame ≡ frame ∷ []

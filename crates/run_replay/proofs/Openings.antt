@@ -14,7 +14,7 @@ use Rattle.frame_steps.specs.Frames.{Stands, IsAfter}
 use Rattle.model_runs.specs.Frames.{Targets, HasFrame}
 use Rattle.model_runs.specs.Runs.{IsRun, IsRunWith}
 use Rattle.run_replay.specs.Turns.{IsEntered, IsOdd, HasNoTurn}
-use Rattle.run_replay.specs.Casts.{Opens, IsCast, Plays, IsMisfit}
+use Rattle.run_replay.specs.FrameTables.{Opens, IsFrameTable, Plays, IsMisfit}
 use Rattle.frame_steps.proofs.Histories.{after_part}
 use Rattle.run_replay.proofs.Items.{got_one}
 use Rattle.run_replay.proofs.Determined.{refused_or_not}
@@ -30,7 +30,7 @@ module _ (functions : List Code) (shape : Shape) (main : ℕ) where
       record { judged = record { legal = tt; memory = tt; reducers = tt }; root = refl; says = λ number has. after_part functions frame main 0 [] begun }
 
   first_cast : (frame : State) → Stands functions frame → IsAfter functions main 0 [] frame →
-      IsCast functions shape main (λ number. record { function = main; argument = 0 }) [] (frame ∷ []) (0 ∷ [])
+      IsFrameTable functions shape main (λ number. record { function = main; argument = 0 }) [] (frame ∷ []) (0 ∷ [])
   first_cast frame stands begun = record {
     run = first_run frame begun;
     only = same;
@@ -70,7 +70,7 @@ module _ (functions : List Code) (shape : Shape) (gate : GateState) (frames : Li
     judged_so after e = subst (λ s. IsJudged s (entry ∷ gate.history)) (e.shape ∙ plays.shape_is) (subst (IsJudged after.shape) e.history e.judged)
 
     pub plays_on : (after : GateState) → IsEntered entry gate after → (targets : Targets) (frames2 : List State) (places2 : List ℕ) →
-        IsCast functions shape plays.main targets (entry ∷ gate.history) frames2 places2 → Plays functions shape after frames2 places2
+        IsFrameTable functions shape plays.main targets (entry ∷ gate.history) frames2 places2 → Plays functions shape after frames2 places2
     plays_on after e targets frames2 places2 cast = record {
       shape_is = e.shape ∙ plays.shape_is;
       limit_is = e.limit ∙ plays.limit_is;
@@ -79,7 +79,7 @@ module _ (functions : List Code) (shape : Shape) (gate : GateState) (frames : Li
       main = plays.main;
       is_main = plays.is_main;
       targets = targets;
-      cast = subst (λ h. IsCast functions shape plays.main targets h frames2 places2) (sym e.history) cast;
+      cast = subst (λ h. IsFrameTable functions shape plays.main targets h frames2 places2) (sym e.history) cast;
     }
 
     pub odd_misfit : IsOdd entry gate → IsMisfit functions shape entry gate

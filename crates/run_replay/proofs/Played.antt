@@ -13,8 +13,8 @@ use Rattle.frame_steps.specs.States.{State}
 use Rattle.frame_steps.specs.Frames.{Stands}
 use Rattle.model_runs.specs.Frames.{IsSplit}
 use Rattle.run_replay.specs.Turns.{IsEntered, IsTurn, HasNoTurn}
-use Rattle.run_replay.specs.declared.cast.Slot.{Slot}
-use Rattle.run_replay.specs.Casts.{new_places, IsBegun, IsMisfit, Plays}
+use Rattle.run_replay.specs.declared.frame_table.Slot.{Slot}
+use Rattle.run_replay.specs.FrameTables.{new_places, IsBegun, IsMisfit, Plays}
 use Rattle.run_replay.specs.Slots.{IsHome, AreHeld, PlaysIn}
 use Rattle.run_replay.proofs.Plays.{item_below, its_place_there, went_on, split_on, split_target}
 use Rattle.run_replay.proofs.Openings.{judged_so, plays_on, turn_misfit}

@@ -31,7 +31,7 @@ use Rattle.model_runs.specs.Runs.{IsRun, IsRunWith}
 use Rattle.law_runs.proofs.Strands.{SplitFrames, split_frames}
 use Rattle.law_runs.proofs.Histories.{said_here, said_elsewhere, said_before, said_same, frame_before, begun_before, split_spawns, run_shorter}
 use Rattle.run_replay.specs.Turns.{asks, target_or, IsTurn, HasNoTurn}
-use Rattle.run_replay.specs.Casts.{begun_by, frames_in, new_places, IsBegun, IsCast}
+use Rattle.run_replay.specs.FrameTables.{begun_by, frames_in, new_places, IsBegun, IsFrameTable}
 use Rattle.run_replay.proofs.Items.{got_kept, got_behind, got_cases, got_one, got_set, set_length, append_length}
 use Rattle.run_replay.proofs.Frames.{place_of_frame, frame_at_place, one_place, not_split, same_unused, frame_kept, new_count, new_place}
 
@@ -47,7 +47,7 @@ same_some : {A : Type 0} (x y : A) → Some x ≡ Some y → x ≡ y
 same_some x y e = cc
 
 module _ (functions : List Code) (shape : Shape) (main : ℕ) (is_main : IsMain functions main) (targets : Targets) (entries : Entries) (frames : List State) (places : List ℕ)
-    (cast : IsCast functions shape main targets entries frames places) (entry : Entry) where
+    (cast : IsFrameTable functions shape main targets entries frames places) (entry : Entry) where
   here : ℕ
   here = frame_in entries entry.request.strand
 
@@ -178,7 +178,7 @@ module _ (functions : List Code) (shape : Shape) (main : ℕ) (is_main : IsMain 
           let item = item_below frames2 p.0 (omega arith) in
           after_part functions item.0 _ _ _ (each p.0 number item.0 p.1 item.1).1
 
-      built : IsCast functions shape main grown (entry ∷ entries) frames2 places2
+      built : IsFrameTable functions shape main grown (entry ∷ entries) frames2 places2
       built = record {
         run = record { judged = judged; root = root_is; says = says };
         only = only_grown;
@@ -197,7 +197,7 @@ module _ (functions : List Code) (shape : Shape) (main : ℕ) (is_main : IsMain 
         (cast.placed strand k is ∙ ap Some (sym (frame_kept shape entry entries judged.legal strand (omega arith))))
 
     -- the entry is no split
-    pub went_on : (IsSplit entry.answer → ⊥) → IsCast functions shape main grown (entry ∷ entries) (set frames place after) places
+    pub went_on : (IsSplit entry.answer → ⊥) → IsFrameTable functions shape main grown (entry ∷ entries) (set frames place after) places
     went_on calm =
         let same : frames_in (entry ∷ entries) ≡ frames_in entries =
         ap (λ l. frames_in entries ++ l) (not_split entry.answer calm (next_frame entries)) ∙ append-nil (frames_in entries) in
@@ -308,7 +308,7 @@ module _ (functions : List Code) (shape : Shape) (main : ℕ) (is_main : IsMain 
             ]
           ]
 
-      pub split_on : IsCast functions shape main grown (entry ∷ entries) frames2 places2
+      pub split_on : IsFrameTable functions shape main grown (entry ∷ entries) frames2 places2
       split_on = built frames2 places2 counted2 each2 strands2 placed2
 
     -- a split has a target

@@ -5,7 +5,7 @@ use Rattle.std.proofs.lemmas.Option.{slice_get_within}
 use Rattle.law_strands.proofs.Updates.{same_or_not}
 use Rattle.frame_steps.specs.States.{State}
 use Rattle.frame_steps.specs.declared.phase.Phase.TheVariants.{Over}
-use Rattle.run_replay.specs.declared.cast.Slot.{Slot}
+use Rattle.run_replay.specs.declared.frame_table.Slot.{Slot}
 use Rattle.run_replay.specs.Slots.{IsHome, AreHeld}
 use Rattle.run_replay.proofs.Items.{got_kept, got_behind, got_cases, got_one, got_set, set_length, append_length}
 

@@ -12,7 +12,7 @@ use Rattle.model_histories.specs.Extensions.{IsFinished}
 use Rattle.model_bodies.specs.Codes.{Code}
 use Rattle.frame_steps.specs.States.{State}
 use Rattle.model_runs.specs.Runs.{IsRun, IsFinishedRun}
-use Rattle.run_replay.specs.Casts.{Plays, IsMisfit}
+use Rattle.run_replay.specs.FrameTables.{Plays, IsMisfit}
 use Rattle.run_replay.specs.Replays.{IsUnfinishedRun, IsStrange}
 use Rattle.run_replay.proofs.Openings.{plays_run, told}
 

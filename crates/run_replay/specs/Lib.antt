@@ -1,4 +1,4 @@
 pub mod Turns
-pub mod Casts
+pub mod FrameTables
 pub mod Replays
 pub mod Slots

@@ -5,8 +5,8 @@ use Rattle.model_histories.specs.States.{State as GateState}
 use Rattle.model_bodies.specs.Codes.{Code}
 use Rattle.frame_steps.specs.States.{State}
 use Rattle.frame_steps.specs.declared.phase.Phase.TheVariants.{Over}
-use Rattle.run_replay.specs.declared.cast.Slot.{Slot}
-use Rattle.run_replay.specs.Casts.{Opens, Plays}
+use Rattle.run_replay.specs.declared.frame_table.Slot.{Slot}
+use Rattle.run_replay.specs.FrameTables.{Opens, Plays}
 
 -- The frame of this number stands in this slot, or the slot has another's number, and the frame has ended.
 pub record IsHome {A : Type 0} (slots : List (Slot A)) (home number : ℕ) (frame : State) : Type 0 where

@@ -5,7 +5,7 @@
 //! another request, or has another answer. [`follow`] says the same of entries that are known to be judged, by the frames alone.
 #![tactic(auto)]
 
-mod cast;
+mod frame_table;
 mod replays;
 mod turn;
 

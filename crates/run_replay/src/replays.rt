@@ -8,13 +8,13 @@ ghost use Rattle.model_races.specs.Judged.{IsJudged};
 ghost use Rattle.race_gate.specs.Cores.{IsCoreOf};
 ghost use Rattle.program_text.specs.Shapes.{shape_in};
 ghost use Rattle.model_runs.specs.Runs.{IsFinishedRun};
-ghost use Rattle.run_replay.specs.Casts.{IsPlayed, IsMisfit};
+ghost use Rattle.run_replay.specs.FrameTables.{IsPlayed, IsMisfit};
 ghost use Rattle.run_replay.specs.Slots.{OpensIn, PlaysIn};
 ghost use Rattle.run_replay.specs.Replays.{IsUnfinishedRun, IsStrange};
 ghost use Rattle.run_replay.specs.declared.replays.ReplayFault.{ReplayFault};
 ghost use Rattle.run_replay.specs.declared.turn.Misfit.{Misfit};
 
-use crate::cast::Cast;
+use crate::frame_table::FrameTable;
 use crate::turn::{Misfit, confirm};
 use program_text::Program;
 use race_gate::{Answer, Core, Entry};
@@ -56,6 +56,9 @@ fn next_number<A: Allocator + Clone>(core: &Core<A>) -> u32
     core.entries() + 1
 }
 
+/// The most entries of a gate's history.
+const MOST_ENTRIES: u32 = 1_000_000;
+
 /// A core of the program's shape, before any entry.
 fn core_of<A: Allocator + Copy, B: Allocator>(
     alloc: A,
@@ -64,13 +67,13 @@ fn core_of<A: Allocator + Copy, B: Allocator>(
     ensures { IfOk result (λ core. IsCoreOf core (opening (shape_in program.now) most_entries)) }
 {
     let shape = program.shape(alloc)?;
-    Core::new(alloc, &shape, 1_000_000)
+    Core::new(alloc, &shape, MOST_ENTRIES)
 }
 
 /// Has a core judge an entry, and plays it.
-fn played<A: Allocator + Copy, B: Allocator>(
+fn judge_and_play<A: Allocator + Copy, B: Allocator>(
     core: &mut Core<A>,
-    cast: &mut Cast<A>,
+    cast: &mut FrameTable<A>,
     program: &Program<B>,
     entry: Entry,
 ) -> Result<(), Misfit>
@@ -91,7 +94,7 @@ fn played<A: Allocator + Copy, B: Allocator>(
 /// Plays the entries, the oldest first, on what has been opened, before a fresh core.
 fn play_all<A: Allocator + Copy, B: Allocator>(
     core: &mut Core<A>,
-    cast: &mut Cast<A>,
+    cast: &mut FrameTable<A>,
     program: &Program<B>,
     entries: &[Entry],
 ) -> Result<(), ReplayFault>
@@ -106,7 +109,7 @@ fn play_all<A: Allocator + Copy, B: Allocator>(
 {
     for entry in entries {
         let number = next_number(core);
-        match played(core, cast, program, *entry) {
+        match judge_and_play(core, cast, program, *entry) {
             Ok(()) => {}
             Err(Misfit::Strange) => return Err(ReplayFault::Strange(number)),
             Err(Misfit::Memory) => return Err(ReplayFault::Memory),
@@ -129,7 +132,7 @@ fn is_finished(entries: &Entries) -> bool
 
 /// Plays entries that are judged, the oldest first, on what has been opened.
 fn follow_all<A: Allocator + Copy, B: Allocator>(
-    cast: &mut Cast<A>,
+    cast: &mut FrameTable<A>,
     program: &Program<B>,
     entries: &Entries,
 ) -> Result<(), ReplayFault>
@@ -187,7 +190,7 @@ pub fn replay<A: Allocator + Copy, B: Allocator>(
     ensures strange { (number : ℕ) → result ≡ Err (ReplayFault.Strange number) →
         IsStrange program.now.functions (shape_in program.now) entries.now number }
 {
-    let mut cast = Cast::open(alloc, program)?;
+    let mut cast = FrameTable::open(alloc, program)?;
     let mut core = core_of(alloc, program)?;
     let spawns = spawns_of(entries);
     if spawns >= MANY_SPAWNS {
@@ -211,11 +214,11 @@ pub fn follow<A: Allocator + Copy, B: Allocator>(
     ensures strange { (number : ℕ) → result ≡ Err (ReplayFault.Strange number) →
         IsStrange program.now.functions (shape_in program.now) entries.now.items number }
 {
-    if entries.len() > 1_000_000 {
+    if entries.len() > MOST_ENTRIES as usize {
         let entries = entries.to_vec(alloc)?;
         return replay(alloc, program, entries.as_slice());
     }
-    let mut cast = Cast::open(alloc, program)?;
+    let mut cast = FrameTable::open(alloc, program)?;
     let spawns = entries.len() / ENTRIES_OF_SPAWN;
     if spawns >= MANY_SPAWNS {
         cast.make_room(spawns);

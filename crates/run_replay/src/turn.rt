@@ -32,7 +32,7 @@ fn is_spawn(act: Act) -> bool
 }
 
 /// The function that a frame spawns, which wants this act. The frame is not asked where it can be none.
-fn spawned<A: Allocator, B: Allocator>(
+fn spawn_target<A: Allocator, B: Allocator>(
     frame: &Frame<A>,
     program: &Program<B>,
     act: Act,
@@ -49,7 +49,7 @@ fn spawned<A: Allocator, B: Allocator>(
 }
 
 /// Goes on with a frame by an entry, and gives the function that it spawns.
-pub fn turn<A: Allocator, B: Allocator>(
+pub fn advance_frame<A: Allocator, B: Allocator>(
     frame: &mut Frame<A>,
     program: &Program<B>,
     entry: Entry,
@@ -65,7 +65,7 @@ pub fn turn<A: Allocator, B: Allocator>(
     if want.act != entry.request.act || want.line != entry.request.line {
         return Err(Misfit::Strange);
     }
-    let target = spawned(frame, program, want.act);
+    let target = spawn_target(frame, program, want.act);
     match frame.answer(program, &entry.answer) {
         Ok(()) => Ok(target),
         Err(FrameFault::Strange) => Err(Misfit::Strange),

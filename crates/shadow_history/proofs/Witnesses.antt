@@ -15,7 +15,7 @@ use Rattle.model_strands.specs.Addresses.{address}
 use Rattle.law_strands.specs.Addresses.{IsEnglishBefore, IsHebrewBefore}
 use Rattle.shadow_history.specs.declared.cell.Extremes.{Extremes}
 use Rattle.model_accesses.specs.declared.witness.Witness.{Witness}
-use Rattle.model_accesses.specs.Accesses.{Access, Races, witness_of}
+use Rattle.model_accesses.specs.Accesses.{Access, Races, access_of_witness}
 use Rattle.shadow_history.specs.Accesses.{HaveAllBegun, IsExtreme}
 use Rattle.shadow_history.specs.Witnesses.{place, NoneIsParallel, IsLatestParallel, IsWitness}
 use Rattle.shadow_history.specs.Shadow.{access_of, AreExtremes}
@@ -88,10 +88,10 @@ listed history accesses strand access latest = elim latest.extreme [
 pub witness-found : (history : History) (accesses : List Access) (location : ℕ) (kind : Kind) (strand : ℕ) (earlier : Kind) (witness : Witness) →
     rule_between earlier kind ≡ Race →
     ((other : Kind) → (place earlier ≤ place other) ⊎ (rule_between other kind ≡ Race → NoneIsParallel history accesses location other strand)) →
-    (witness.kind ≡ earlier) × IsLatestParallel history accesses strand (witness_of location witness) →
+    (witness.kind ≡ earlier) × IsLatestParallel history accesses strand (access_of_witness location witness) →
     IsWitness history accesses location kind strand witness
 witness-found history accesses location kind strand earlier witness conflict before_it (same_kind, latest) = record {
-  races = (listed history accesses strand (witness_of location witness) latest, refl, rw same_kind conflict, latest.parallel);
+  races = (listed history accesses strand (access_of_witness location witness) latest, refl, rw same_kind conflict, latest.parallel);
   first_kind = λ access races. elim (before_it access.kind) [
     | inl le ↦ rw same_kind le
     | inr none ↦ absurd (none races.2 access (races.0, races.1, refl) races.3)
@@ -101,7 +101,7 @@ witness-found history accesses location kind strand earlier witness conflict bef
 
 pub exact-found : (history : History) (accesses : List Access) (location : ℕ) (kind : Kind) (strand : ℕ) (witness : Witness) →
     IsWitness history accesses location kind strand witness → IsSome (Some witness) ↔ ((access : Access) × Races history accesses location kind strand access)
-exact-found history accesses location kind strand witness is = (λ t. (witness_of location witness, is.races), λ t. refl)
+exact-found history accesses location kind strand witness is = (λ t. (access_of_witness location witness, is.races), λ t. refl)
 
 pub exact-none : (history : History) (accesses : List Access) (location : ℕ) (kind : Kind) (strand : ℕ) →
     ((other : Kind) → rule_between other kind ≡ Race → NoneIsParallel history accesses location other strand) →

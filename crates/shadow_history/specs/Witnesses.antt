@@ -1,6 +1,6 @@
 -- Which of the accesses that race with a new one is the witness.
 use Rattle.std.specs.Prelude.{◌≡◌, ◌⊎◌, ◌≤◌, ℕ, List}
-use Rattle.model_accesses.specs.Accesses.{witness_of, Access, Races}
+use Rattle.model_accesses.specs.Accesses.{access_of_witness, Access, Races}
 use Rattle.model_accesses.specs.declared.kind.Kind.{Kind}
 use Rattle.model_accesses.specs.declared.kind.Kind.TheVariants.{Write, Bump, Read, Update, Put, Get}
 use Rattle.law_addresses.specs.Address.{english, hebrew}
@@ -36,6 +36,6 @@ pub record IsLatestParallel (history : History) (accesses : List Access) (strand
 -- the access races, no other that races is of an earlier kind of the table, and among those of its kind it is the latest parallel one
 pub record IsWitness (history : History) (accesses : List Access)
     (location : ℕ) (kind : Kind) (strand : ℕ) (witness : Witness) : Type 0 where
-  pub races : Races history accesses location kind strand (witness_of location witness)
+  pub races : Races history accesses location kind strand (access_of_witness location witness)
   pub first_kind : (access : Access) → Races history accesses location kind strand access → place witness.kind ≤ place access.kind
-  pub latest : IsLatestParallel history accesses strand (witness_of location witness)
+  pub latest : IsLatestParallel history accesses strand (access_of_witness location witness)

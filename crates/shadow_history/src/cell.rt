@@ -6,7 +6,7 @@ ghost use Rattle.model_accesses.specs.Table.{is_memory_kind};
 ghost use Rattle.model_strands.specs.History.{History};
 ghost use Rattle.law_strands.specs.Addresses.{IsEnglishBefore, IsHebrewBefore};
 ghost use Rattle.sp_labels.specs.Roster.{Follows, HasBegun};
-ghost use Rattle.model_accesses.specs.Accesses.{Access, witness_of};
+ghost use Rattle.model_accesses.specs.Accesses.{Access, access_of_witness};
 ghost use Rattle.shadow_history.specs.Accesses.{HaveAllBegun};
 ghost use Rattle.shadow_history.specs.Witnesses.{NoneIsParallel, IsLatestParallel};
 ghost use Rattle.shadow_history.specs.Shadow.{extremes_of, access_of, AreExtremes, AreKept, HaveBegun, Runs};
@@ -163,7 +163,7 @@ impl Cell {
             HaveAllBegun history accesses → AreKept history accesses location earlier (extremes_of self.now earlier) →
             MatchOption result
             (NoneIsParallel history accesses location earlier strand)
-            (λ witness. (witness.kind ≡ earlier) × IsLatestParallel history accesses strand (witness_of location witness)) }
+            (λ witness. (witness.kind ≡ earlier) × IsLatestParallel history accesses strand (access_of_witness location witness)) }
     {
         let found = self.extremes(earlier)?.parallel_to(strands, strand)?;
         Some(Witness {

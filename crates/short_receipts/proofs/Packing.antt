@@ -3,7 +3,7 @@ use Rattle.std.proofs.Common.{◌≡◌, ◌≢◌, ◌+◌, ◌*◌, ◌^◌, �
 use Rattle.model_histories.specs.declared.reply.Receipt.{Receipt}
 use Rattle.model_accesses.specs.declared.request.Act.{Act}
 use Rattle.model_histories.specs.declared.answer.Answer.{Answer}
-use Rattle.short_receipts.specs.Shorts.{Short, Deed, IsShortOf, act_of, answer_of, index_of, is_long, plain}
+use Rattle.short_receipts.specs.Shorts.{Short, Deed, IsShortOf, deed_act, answer_of, index_of, is_long, plain}
 use Rattle.short_receipts.specs.Packing.{deed_with, unpacked, number_in, strand_in, line_in, tag_in, IsStart}
 
 number-still : (start tag : ℕ) → number_in (start + 576460752303423488 * tag) ≡ number_in start
@@ -46,7 +46,7 @@ packed-is start tag first second receipt is of_these =
 
 -- the receipt of equal parts
 pub plain-parts : (short : Short) (number strand line : ℕ) (act : Act) (answer : Answer) → number ≡ short.number → strand ≡ short.strand → line ≡ short.line →
-    act ≡ act_of short.deed → answer ≡ answer_of short.deed →
+    act ≡ deed_act short.deed → answer ≡ answer_of short.deed →
     ◌≡◌ {A = Receipt} (record { number = number; request = record { strand = strand; line = line; act = act }; answer = answer }) (plain short)
 plain-parts short number strand line act answer same_number same_strand same_line same_act same_answer =
     grind (arith, same_number, same_strand, same_line, same_act, same_answer)

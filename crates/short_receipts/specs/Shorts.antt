@@ -38,24 +38,24 @@ pub record Short : Type 0 where
   pub deed : Deed
 
 -- what was asked
-abbrev pub act_of : Deed → Act
-act_of (Open child join) = act.Spawn
-act_of (Spawn child join) = act.Spawn
-act_of Call = act.Call
-act_of Pass = act.Sync
-act_of (Join join) = act.Sync
-act_of Wait = act.Sync
-act_of Resume = act.Return
-act_of End = act.Return
-act_of (EndJoin join) = act.Return
-act_of Finish = act.Return
-act_of (Read cell value) = act.Read cell
-act_of (Write cell value) = act.Write cell value
-act_of (Bump cell value) = act.Bump cell value
-act_of (Update reducer value) = act.Update reducer value
-act_of (Put reducer value) = act.Put reducer value
-act_of (Get reducer value) = act.Get reducer
-act_of (Long low high) = act.Call
+abbrev pub deed_act : Deed → Act
+deed_act (Open child join) = act.Spawn
+deed_act (Spawn child join) = act.Spawn
+deed_act Call = act.Call
+deed_act Pass = act.Sync
+deed_act (Join join) = act.Sync
+deed_act Wait = act.Sync
+deed_act Resume = act.Return
+deed_act End = act.Return
+deed_act (EndJoin join) = act.Return
+deed_act Finish = act.Return
+deed_act (Read cell value) = act.Read cell
+deed_act (Write cell value) = act.Write cell value
+deed_act (Bump cell value) = act.Bump cell value
+deed_act (Update reducer value) = act.Update reducer value
+deed_act (Put reducer value) = act.Put reducer value
+deed_act (Get reducer value) = act.Get reducer
+deed_act (Long low high) = act.Call
 
 -- what was answered; a spawner's next strand has the number behind its child's
 abbrev pub answer_of : Deed → Answer
@@ -90,10 +90,10 @@ index_of _ = 0
 abbrev pub plain : Short → Receipt
 plain short = record {
   number = short.number;
-  request = record { strand = short.strand; line = short.line; act = act_of short.deed };
+  request = record { strand = short.strand; line = short.line; act = deed_act short.deed };
   answer = answer_of short.deed;
 }
 
 -- the deed says what was asked and answered
 abbrev pub IsShortOf : Act → Answer → Deed → Type 0
-IsShortOf asked answered deed = (is_long deed ≢ true) × (act_of deed ≡ asked) × (answer_of deed ≡ answered)
+IsShortOf asked answered deed = (is_long deed ≢ true) × (deed_act deed ≡ asked) × (answer_of deed ≡ answered)

@@ -24,7 +24,7 @@ fn in_numbers(tag: u64, first: u32, second: u32) -> Numbers
 
 /// The value, where it is small.
 #[inline(always)]
-fn small(value: u64) -> Option<u32>
+fn to_u32(value: u64) -> Option<u32>
     ensures { IfSome result (λ number. number ≡ value) }
 {
     if value <= 4_294_967_295 {
@@ -36,7 +36,7 @@ fn small(value: u64) -> Option<u32>
 
 /// A spawn, where the next strand has the number behind the child's.
 #[inline(always)]
-fn spawned(strands: Spawned) -> Option<Numbers>
+fn spawn_numbers(strands: Spawned) -> Option<Numbers>
     ensures { IfSome result (IsToldBy Act.Spawn (Answer.Split strands)) }
 {
     if strands.next != strands.child.wrapping_add(1) {
@@ -54,7 +54,7 @@ pub fn numbers_of(act: Act, answer: Answer) -> Option<Numbers>
     ensures { IfSome result (IsToldBy act answer) }
 {
     match (act, answer) {
-        (Act::Spawn, Answer::Split(strands)) => spawned(strands),
+        (Act::Spawn, Answer::Split(strands)) => spawn_numbers(strands),
         (Act::Call, Answer::Same) => Some(in_numbers(2, 0, 0)),
         (Act::Sync, Answer::Same) => Some(in_numbers(3, 0, 0)),
         (Act::Sync, Answer::Joined(join)) => Some(in_numbers(4, join, 0)),
@@ -63,14 +63,18 @@ pub fn numbers_of(act: Act, answer: Answer) -> Option<Numbers>
         (Act::Return, Answer::Ended) => Some(in_numbers(7, 0, 0)),
         (Act::Return, Answer::EndedJoined(join)) => Some(in_numbers(8, join, 0)),
         (Act::Return, Answer::Finished) => Some(in_numbers(9, 0, 0)),
-        (Act::Read(cell), Answer::Value(value)) => Some(in_numbers(10, cell, small(value)?)),
-        (Act::Write(cell, value), Answer::Granted) => Some(in_numbers(11, cell, small(value)?)),
-        (Act::Bump(cell, value), Answer::Granted) => Some(in_numbers(12, cell, small(value)?)),
+        (Act::Read(cell), Answer::Value(value)) => Some(in_numbers(10, cell, to_u32(value)?)),
+        (Act::Write(cell, value), Answer::Granted) => Some(in_numbers(11, cell, to_u32(value)?)),
+        (Act::Bump(cell, value), Answer::Granted) => Some(in_numbers(12, cell, to_u32(value)?)),
         (Act::Update(reducer, value), Answer::Granted) => {
-            Some(in_numbers(13, reducer, small(value)?))
+            Some(in_numbers(13, reducer, to_u32(value)?))
         }
-        (Act::Put(reducer, value), Answer::Granted) => Some(in_numbers(14, reducer, small(value)?)),
-        (Act::Get(reducer), Answer::Value(value)) => Some(in_numbers(15, reducer, small(value)?)),
+        (Act::Put(reducer, value), Answer::Granted) => Some(in_numbers(
+            14,
+            reducer,
+            to_u32(value)?,
+        )),
+        (Act::Get(reducer), Answer::Value(value)) => Some(in_numbers(15, reducer, to_u32(value)?)),
         _ => None,
     }
 }

@@ -19,7 +19,7 @@ fn long_of(longs: &[Receipt], short: Packed) -> Receipt
 {
     match longs.get(short.index() as usize) {
         Some(receipt) => *receipt,
-        None => short.plain(),
+        None => short.unpack(),
     }
 }
 
@@ -143,7 +143,7 @@ impl Receipts {
         if short.is_long() {
             long_of(self.longs.as_slice(), short)
         } else {
-            short.plain()
+            short.unpack()
         }
     }
 
@@ -191,7 +191,7 @@ impl Receipts {
         if self.shorts[at].is_long() {
             self.either(at)
         } else {
-            self.shorts[at].plain()
+            self.shorts[at].unpack()
         }
     }
 }

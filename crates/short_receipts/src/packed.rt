@@ -3,7 +3,7 @@
 ghost use Rattle.std.specs.Prelude.{◌≡◌, ◌≢◌, ◌↔◌, ◌+◌, ◌%◌, ◌^◌, IsTrue, true};
 ghost use Rattle.std.specs.Option.{IfSome};
 ghost use Rattle.model_histories.specs.declared.reply.Receipt.{Receipt as SpecReceipt};
-ghost use Rattle.short_receipts.specs.Shorts.{act_of as act_spec, answer_of as answer_spec, index_of as index_spec};
+ghost use Rattle.short_receipts.specs.Shorts.{deed_act as act_spec, answer_of as answer_spec, index_of as index_spec};
 ghost use Rattle.short_receipts.specs.Shorts.{is_long as is_long_spec, plain as plain_spec};
 ghost use Rattle.short_receipts.specs.Packing.{deed_with as deed_spec};
 ghost use Rattle.short_receipts.specs.Packing.{IsStart, unpacked};
@@ -158,7 +158,7 @@ impl Packed {
 
     /// The receipt that it stands for, where none is kept beside.
     #[inline(always)]
-    pub fn plain(self) -> Receipt
+    pub fn unpack(self) -> Receipt
         ensures { result ≡ plain_spec (unpacked self) }
     {
         let (act, answer) = told_of(self.head / HEADS, self.first, self.second);

@@ -71,7 +71,7 @@ fn bad_header<B: Allocator>(scene: &Scene<'_, '_, B>) -> (HeaderMistake, Part) {
 }
 
 /// What is wrong behind the last line, where a function or an `if` is open.
-fn unended<B: Allocator>(scene: &Scene<'_, '_, B>) -> NestingMistake {
+fn missing_end<B: Allocator>(scene: &Scene<'_, '_, B>) -> NestingMistake {
     let lines = scene.source.as_slice();
     match open_at(lines) {
         Some(place) if first_words(lines[place]).0 == "if" => NestingMistake::OpenIf,
@@ -92,7 +92,7 @@ fn bad_else<B: Allocator>(scene: &Scene<'_, '_, B>) -> NestingMistake {
 /// What is wrong with a line that may not stand where it does.
 fn bad_nesting<B: Allocator>(scene: &Scene<'_, '_, B>) -> NestingMistake {
     if scene.number as usize > scene.source.count() {
-        return unended(scene);
+        return missing_end(scene);
     }
     match scene.word(0) {
         "mem" | "reducer" => match scene.meant {
@@ -133,7 +133,7 @@ fn depth_of(function: &[&[u8]]) -> usize {
 }
 
 /// Which limit a line passes.
-fn limit_passed<B: Allocator>(scene: &Scene<'_, '_, B>) -> LimitMistake {
+fn passed_limit<B: Allocator>(scene: &Scene<'_, '_, B>) -> LimitMistake {
     if scene.number > MOST_LINES {
         return LimitMistake::Lines;
     }
@@ -180,7 +180,7 @@ pub(crate) fn diagnose<B: Allocator>(scene: &Scene<'_, '_, B>, why: Cause) -> Di
         Cause::TwiceNamed => (Mistake::Twice, Part::Word(1)),
         Cause::BadNesting => (Mistake::Nesting(bad_nesting(scene)), Part::Statement),
         Cause::NoMain => (Mistake::NoMain, Part::Statement),
-        Cause::TooMany => (Mistake::Limit(limit_passed(scene)), Part::Statement),
+        Cause::TooMany => (Mistake::Limit(passed_limit(scene)), Part::Statement),
     };
     Diagnosis { mistake, part }
 }

@@ -65,11 +65,11 @@ fn note_header<A: Allocator>(notes: &mut Notes<A>, mistake: HeaderMistake, first
     if matches!(mistake, HeaderMistake::Other) {
         let mut nearest = Nearest::to(first);
         nearest.offer("cilk");
-        if nearest.found().is_some() {
-            return notes.help("did you mean `cilk`?");
+        if nearest.nearest().is_some() {
+            return notes.add_help("did you mean `cilk`?");
         }
     }
-    notes.help(header_help(mistake));
+    notes.add_help(header_help(mistake));
 }
 
 /// Notes what is known of a number that is none, or is out of range.
@@ -87,7 +87,7 @@ fn note_number<A: Allocator, B: Allocator>(
     match mistake {
         NumberMistake::Other => note_form(notes, scene),
         NumberMistake::Digits => {
-            notes.help("write decimal digits alone, and spaces around each sign");
+            notes.add_help("write decimal digits alone, and spaces around each sign");
         }
         NumberMistake::Range | NumberMistake::Mark => note_range(notes, wanted),
         NumberMistake::Index => {
@@ -105,13 +105,13 @@ fn note_open<A: Allocator>(notes: &mut Notes<A>, before: &[&[u8]]) {
     match open_at(before) {
         Some(place) => {
             notes.begin("the ");
-            notes.quoted(
+            notes.add_quoted(
                 first_words(before[place]).0,
                 " that is open here begins at line ",
             );
-            notes.line(place);
+            notes.end_with_line(place);
         }
-        None => notes.note("no function is open here"),
+        None => notes.add_note("no function is open here"),
     }
 }
 
@@ -126,7 +126,7 @@ fn note_first<A: Allocator, B: Allocator>(notes: &mut Notes<A>, scene: &Scene<'_
             Meant::Program => "the first function begins at line ",
             Meant::Trace => "the first request stands at line ",
         });
-        notes.line(place);
+        notes.end_with_line(place);
     }
 }
 
@@ -156,7 +156,7 @@ fn note_nesting<A: Allocator, B: Allocator>(
         NestingMistake::Declaration | NestingMistake::TraceDeclaration => note_first(notes, scene),
         _ => note_open(notes, scene.before()),
     }
-    notes.help(nesting_help(mistake));
+    notes.add_help(nesting_help(mistake));
 }
 
 /// Notes a function that may have been meant to be `main`.
@@ -168,12 +168,12 @@ fn note_main<A: Allocator, B: Allocator>(notes: &mut Notes<A>, scene: &Scene<'_,
             nearest.offer(second);
         }
     }
-    match nearest.found() {
+    match nearest.nearest() {
         Some(name) => {
             notes.begin("help: write `main` in place of ");
-            notes.quoted(name, "\n");
+            notes.add_quoted(name, "\n");
         }
-        None => notes.help("add the function with which the program begins: `func main z`"),
+        None => notes.add_help("add the function with which the program begins: `func main z`"),
     }
 }
 
@@ -182,10 +182,10 @@ fn note_twice<A: Allocator, B: Allocator>(notes: &mut Notes<A>, scene: &Scene<'_
     let name = scene.word(1);
     if let Some(place) = declared_at(scene.before(), name) {
         notes.begin("");
-        notes.quoted(name, " is declared at line ");
-        notes.line(place);
+        notes.add_quoted(name, " is declared at line ");
+        notes.end_with_line(place);
     }
-    notes.help("take another name for one of them");
+    notes.add_help("take another name for one of them");
 }
 
 /// What may help, a note a line.
@@ -197,7 +197,7 @@ pub(crate) fn hint<A: Allocator, B: Allocator>(
 ) -> Result<Vec<u8, A>, AllocError> {
     let mut notes = Notes::new(alloc, look);
     match found.mistake {
-        Mistake::Byte(mistake) => notes.help(byte_help(mistake)),
+        Mistake::Byte(mistake) => notes.add_help(byte_help(mistake)),
         Mistake::Header(mistake) => note_header(&mut notes, mistake, scene.word(0)),
         Mistake::Word(mistake) => note_word(&mut notes, scene, mistake, found.part),
         Mistake::Number(mistake) => note_number(&mut notes, scene, mistake, found.part),
@@ -205,7 +205,7 @@ pub(crate) fn hint<A: Allocator, B: Allocator>(
         Mistake::Twice => note_twice(&mut notes, scene),
         Mistake::Nesting(mistake) => note_nesting(&mut notes, scene, mistake),
         Mistake::NoMain => note_main(&mut notes, scene),
-        Mistake::Limit(mistake) => notes.help(limit_help(mistake)),
+        Mistake::Limit(mistake) => notes.add_help(limit_help(mistake)),
     }
     notes.end()
 }

@@ -20,7 +20,7 @@ pub(crate) fn note_declared<A: Allocator, B: Allocator>(
         return;
     };
     notes.begin("");
-    notes.quoted(
+    notes.add_quoted(
         name,
         match kind_of(lines[place]) {
             Kind::Cell => " is one cell, declared at line ",
@@ -29,7 +29,7 @@ pub(crate) fn note_declared<A: Allocator, B: Allocator>(
             Kind::Function => " is a function, declared at line ",
         },
     );
-    notes.line(place);
+    notes.end_with_line(place);
 }
 
 /// Notes what an array is, and which of its cells can be named.
@@ -43,8 +43,8 @@ pub(crate) fn note_array<A: Allocator, B: Allocator>(
         && let Ok(length) = length.parse::<u64>()
     {
         notes.begin("help: name one of its cells, from ");
-        notes.element(name, 0, " to ");
-        notes.element(name, length.saturating_sub(1), "\n");
+        notes.add_element(name, 0, " to ");
+        notes.add_element(name, length.saturating_sub(1), "\n");
     }
 }
 
@@ -82,7 +82,7 @@ fn nearest_name<'a, B: Allocator>(
             nearest.offer(second);
         }
     }
-    nearest.found()
+    nearest.nearest()
 }
 
 /// The register of the function so far that comes nearest to a word, where one is near.
@@ -94,7 +94,7 @@ fn nearest_register<'a, B: Allocator>(scene: &Scene<'_, 'a, B>, word: &str) -> O
         }
     }
     nearest.offer("ok");
-    nearest.found()
+    nearest.nearest()
 }
 
 /// What to do where no name is near.
@@ -115,7 +115,7 @@ fn sort_help(sort: Sort, meant: Meant) -> &'static str {
 /// Asks whether this word was meant.
 fn note_meant<A: Allocator>(notes: &mut Notes<A>, word: &str) {
     notes.begin("help: did you mean ");
-    notes.quoted(word, "?\n");
+    notes.add_quoted(word, "?\n");
 }
 
 /// Notes the name of a sort that was meant, or how one is declared.
@@ -128,7 +128,7 @@ fn note_sort<A: Allocator, B: Allocator>(
     note_declared(notes, scene, name);
     match nearest_name(scene, sort, name) {
         Some(other) if other != name => note_meant(notes, other),
-        _ => notes.help(sort_help(sort, scene.meant)),
+        _ => notes.add_help(sort_help(sort, scene.meant)),
     }
 }
 
@@ -143,7 +143,7 @@ fn note_register<A: Allocator, B: Allocator>(
         Some(other) if other != name => note_meant(notes, other),
         _ => {
             notes.begin("help: assign it on a line above, as by ");
-            notes.three("`let ", name, " = 0`\n");
+            notes.add_three("`let ", name, " = 0`\n");
         }
     }
 }
@@ -157,8 +157,8 @@ fn note_read<A: Allocator, B: Allocator>(
 ) {
     note_declared(notes, scene, name);
     notes.begin("help: ");
-    notes.three(keyword, " it into a register first: `", keyword);
-    notes.three(
+    notes.add_three(keyword, " it into a register first: `", keyword);
+    notes.add_three(
         " r ",
         name,
         match scene.kind(name) {
@@ -178,8 +178,8 @@ fn is_turned<B: Allocator>(scene: &Scene<'_, '_, B>) -> bool {
 /// Notes how a `read` is written whose two words are turned.
 fn note_turned<A: Allocator, B: Allocator>(notes: &mut Notes<A>, scene: &Scene<'_, '_, B>) {
     notes.begin("help: the register comes first: `read ");
-    notes.three(scene.word(2), " ", scene.word(1));
-    notes.words("`\n");
+    notes.add_three(scene.word(2), " ", scene.word(1));
+    notes.add_words("`\n");
 }
 
 /// Notes the register that stands where a cell is wanted.
@@ -192,13 +192,13 @@ fn note_instead<A: Allocator, B: Allocator>(
     let begin = scene.before().len().saturating_sub(function.len());
     if let Some(place) = named_at(function, name) {
         notes.begin("");
-        notes.quoted(name, " is a register, named first at line ");
-        notes.line(begin.saturating_add(place));
+        notes.add_quoted(name, " is a register, named first at line ");
+        notes.end_with_line(begin.saturating_add(place));
     }
     if is_turned(scene) {
         note_turned(notes, scene);
     } else {
-        notes.help("assign a register by `let`, and name a cell here");
+        notes.add_help("assign a register by `let`, and name a cell here");
     }
 }
 
@@ -215,7 +215,7 @@ pub(crate) fn note_unknown<A: Allocator, B: Allocator>(
         None => word,
     };
     match mistake {
-        UnknownMistake::Other => notes.help("declare it, or name another one"),
+        UnknownMistake::Other => notes.add_help("declare it, or name another one"),
         UnknownMistake::Register => note_register(notes, scene, name),
         UnknownMistake::Cell if is_turned(scene) => note_turned(notes, scene),
         UnknownMistake::Cell => note_sort(notes, scene, Sort::Memory, name),
@@ -227,15 +227,15 @@ pub(crate) fn note_unknown<A: Allocator, B: Allocator>(
         UnknownMistake::NoArray => {
             note_declared(notes, scene, name);
             notes.begin("help: write ");
-            notes.quoted(name, ", or declare an array, by `mem NAME LENGTH`\n");
+            notes.add_quoted(name, ", or declare an array, by `mem NAME LENGTH`\n");
         }
         UnknownMistake::ReducerForCell => {
             note_declared(notes, scene, name);
-            notes.help("a reducer is used by `update`, `put` and `get`");
+            notes.add_help("a reducer is used by `update`, `put` and `get`");
         }
         UnknownMistake::CellForReducer => {
             note_declared(notes, scene, name);
-            notes.help("a cell is used by `read`, `write` and `bump`");
+            notes.add_help("a cell is used by `read`, `write` and `bump`");
         }
         UnknownMistake::RegisterForCell => note_instead(notes, scene, name),
     }

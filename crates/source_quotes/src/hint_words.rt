@@ -18,13 +18,13 @@ pub(crate) fn note_form<A: Allocator, B: Allocator>(
 ) {
     if let Some(form) = form_of(scene.meant, scene.word(0)) {
         notes.begin("help: the form of this line is ");
-        notes.quoted(form.text, "\n");
+        notes.add_quoted(form.text, "\n");
     }
 }
 
 /// Notes the range of a number in its place.
 pub(crate) fn note_range<A: Allocator>(notes: &mut Notes<A>, wanted: Option<Wanted>) {
-    notes.help(match wanted {
+    notes.add_help(match wanted {
         Some(Wanted::Length) => "write a length from 1 to 1000000",
         Some(Wanted::Strand) => "write the number of a strand, from 0 to 4294967295",
         Some(Wanted::Mark) => {
@@ -38,7 +38,7 @@ pub(crate) fn note_range<A: Allocator>(notes: &mut Notes<A>, wanted: Option<Want
 fn nearest_first(meant: Meant, word: &str) -> Option<&'static str> {
     let mut nearest = Nearest::to(word);
     offer_firsts(meant, &mut nearest);
-    nearest.found()
+    nearest.nearest()
 }
 
 /// What the first words of lines are.
@@ -57,10 +57,10 @@ fn firsts_help(meant: Meant) -> &'static str {
 fn note_first<A: Allocator>(notes: &mut Notes<A>, meant: Meant, word: &str) {
     if let Some(first) = nearest_first(meant, word) {
         notes.begin("help: did you mean ");
-        notes.quoted(first, "?\n");
+        notes.add_quoted(first, "?\n");
     } else if let Some(first) = nearest_first(meant.other(), word) {
         notes.begin("help: did you mean ");
-        notes.quoted(
+        notes.add_quoted(
             first,
             match meant {
                 Meant::Program => ", as in a trace?\n",
@@ -68,7 +68,7 @@ fn note_first<A: Allocator>(notes: &mut Notes<A>, meant: Meant, word: &str) {
             },
         );
     } else {
-        notes.help(firsts_help(meant));
+        notes.add_help(firsts_help(meant));
     }
 }
 
@@ -76,9 +76,9 @@ fn note_first<A: Allocator>(notes: &mut Notes<A>, meant: Meant, word: &str) {
 fn note_assignment<A: Allocator, B: Allocator>(notes: &mut Notes<A>, scene: &Scene<'_, '_, B>) {
     let (target, value) = (scene.word(0), scene.word(2));
     notes.begin("help: assign a register by `let ");
-    notes.three(target, " = ", value);
-    notes.three("`, a cell by `write ", target, " ");
-    notes.three(value, "`", "\n");
+    notes.add_three(target, " = ", value);
+    notes.add_three("`, a cell by `write ", target, " ");
+    notes.add_three(value, "`", "\n");
 }
 
 /// Notes the monoid that was meant, or those that there are.
@@ -87,12 +87,12 @@ fn note_monoid<A: Allocator>(notes: &mut Notes<A>, word: &str) {
     for monoid in ["sum", "min", "max", "last", "digits"] {
         nearest.offer(monoid);
     }
-    match nearest.found() {
+    match nearest.nearest() {
         Some(other) => {
             notes.begin("help: did you mean ");
-            notes.quoted(other, "?\n");
+            notes.add_quoted(other, "?\n");
         }
-        None => notes.help("take `sum`, `min`, `max`, `last`, or in version 2 `digits`"),
+        None => notes.add_help("take `sum`, `min`, `max`, `last`, or in version 2 `digits`"),
     }
 }
 
@@ -101,14 +101,14 @@ fn note_chain<A: Allocator, B: Allocator>(notes: &mut Notes<A>, scene: &Scene<'_
     match scene.words {
         [_, target, _, left, sign, right, next, last, ..] => {
             notes.begin("help: write a line for each: `let ");
-            notes.three(target, " = ", left);
-            notes.three(" ", sign, " ");
-            notes.three(right, "`, then `let ", target);
-            notes.three(" = ", target, " ");
-            notes.three(next, " ", last);
-            notes.words("`\n");
+            notes.add_three(target, " = ", left);
+            notes.add_three(" ", sign, " ");
+            notes.add_three(right, "`, then `let ", target);
+            notes.add_three(" = ", target, " ");
+            notes.add_three(next, " ", last);
+            notes.add_words("`\n");
         }
-        _ => notes.help("write a line for each operator"),
+        _ => notes.add_help("write a line for each operator"),
     }
 }
 
@@ -121,13 +121,13 @@ fn note_extra<A: Allocator, B: Allocator>(
     match scene.words {
         ["if", left, sign, right, ..] => {
             notes.begin("help: assign the condition first: `let t = ");
-            notes.three(left, " ", sign);
-            notes.three(" ", right, "`, then `if t`\n");
+            notes.add_three(left, " ", sign);
+            notes.add_three(" ", right, "`, then `if t`\n");
         }
         ["else", "if", ..] => {
-            notes.help("put the `if` on a line of its own behind the `else`, and end both");
+            notes.add_help("put the `if` on a line of its own behind the `else`, and end both");
         }
-        _ if word.starts_with('[') => notes.help("write a cell without spaces, as `a[0]`"),
+        _ if word.starts_with('[') => notes.add_help("write a cell without spaces, as `a[0]`"),
         _ => note_form(notes, scene),
     }
 }
@@ -141,10 +141,10 @@ fn note_negative<A: Allocator, B: Allocator>(
 ) {
     match (scene.meant, wanted, word.strip_prefix('-')) {
         (Meant::Program, Some(Wanted::Operand), Some(digits)) => {
-            notes.note("numbers are modulo 18446744073709551616");
+            notes.add_note("numbers are modulo 18446744073709551616");
             notes.begin("help: subtract it from 0: `let r = 0 - ");
-            notes.words(digits);
-            notes.words("`, and use `r`\n");
+            notes.add_words(digits);
+            notes.add_words("`, and use `r`\n");
         }
         _ => {
             note_range(notes, wanted);
@@ -158,10 +158,10 @@ fn note_declaration<A: Allocator>(notes: &mut Notes<A>, word: &str) {
         Some((name, behind)) => {
             notes.begin("help: write `mem ");
             let length = behind.strip_suffix(']').unwrap_or(behind);
-            notes.three(name, " ", if length.is_empty() { "LENGTH" } else { length });
-            notes.words("`\n");
+            notes.add_three(name, " ", if length.is_empty() { "LENGTH" } else { length });
+            notes.add_words("`\n");
         }
-        None => notes.help("write `mem NAME LENGTH`"),
+        None => notes.add_help("write `mem NAME LENGTH`"),
     }
 }
 
@@ -170,10 +170,10 @@ fn note_operator<A: Allocator, B: Allocator>(notes: &mut Notes<A>, scene: &Scene
     match scene.words {
         ["let", target, _, left, ">", right] => {
             notes.begin("help: swap the two: `let ");
-            notes.three(target, " = ", right);
-            notes.three(" < ", left, "`\n");
+            notes.add_three(target, " = ", right);
+            notes.add_three(" < ", left, "`\n");
         }
-        _ => notes.help("take `+`, `-`, `*` or `<`"),
+        _ => notes.add_help("take `+`, `-`, `*` or `<`"),
     }
 }
 
@@ -184,9 +184,9 @@ fn note_other_kind<A: Allocator, B: Allocator>(notes: &mut Notes<A>, scene: &Sce
             Meant::Program => "the form of this line in a program is ",
             Meant::Trace => "the form of this line in a trace is ",
         });
-        notes.quoted(form.text, "\n");
+        notes.add_quoted(form.text, "\n");
     }
-    notes.help(match scene.meant {
+    notes.add_help(match scene.meant {
         Meant::Program =>
             "judge a trace by `cilkcheck judge FILE`; a program has no requests, but functions",
         Meant::Trace =>
@@ -223,46 +223,48 @@ pub(crate) fn note_word<A: Allocator, B: Allocator>(
         WordMistake::Statement if scene.word(1) == "=" => note_assignment(notes, scene),
         WordMistake::Statement | WordMistake::Request => note_first(notes, scene.meant, word),
         WordMistake::OfTrace if scene.word(0) == "return" => {
-            notes.help("a function returns at its `end`");
+            notes.add_help("a function returns at its `end`");
         }
         WordMistake::OfTrace | WordMistake::OfProgram => note_other_kind(notes, scene),
-        WordMistake::Later => notes.help("write `cilk 2` as the first line"),
-        WordMistake::Slashes => notes.help("write `#` before a comment"),
-        WordMistake::Semicolon => notes.help("leave out the `;`"),
+        WordMistake::Later => notes.add_help("write `cilk 2` as the first line"),
+        WordMistake::Slashes => notes.add_help("write `#` before a comment"),
+        WordMistake::Semicolon => notes.add_help("leave out the `;`"),
         WordMistake::Extra => note_extra(notes, scene, word),
         WordMistake::Argument => {
             note_form(notes, scene);
-            notes.help("hand on other values in cells, which the function reads");
+            notes.add_help("hand on other values in cells, which the function reads");
         }
         WordMistake::Chain => note_chain(notes, scene),
         WordMistake::UpperCase => {
             notes.begin("help: write `");
-            notes.lowered(word);
-            notes.words("`\n");
+            notes.add_lowercase(word);
+            notes.add_words("`\n");
         }
         WordMistake::Name => {
-            notes.help(
+            notes.add_help(
                 "begin with a lower-case letter, and go on with such letters, digits and `_`",
             );
         }
         WordMistake::LongName => {
             notes.begin("help: shorten it from ");
-            notes.number(word.len() as u64, " to 32 bytes\n");
+            notes.add_number(word.len() as u64, " to 32 bytes\n");
         }
         WordMistake::Ok => {
-            notes.note("each access sets `ok`: to 1 where it is granted, to 0 where it is refused");
-            notes.help("name another register");
+            notes.add_note(
+                "each access sets `ok`: to 1 where it is granted, to 0 where it is refused",
+            );
+            notes.add_help("name another register");
         }
         WordMistake::Negative => note_negative(notes, scene, wanted, word),
         WordMistake::Element => {
             notes.begin("help: read it into a register first: `read r ");
-            notes.words(word);
-            notes.words("`, and use `r`\n");
+            notes.add_words(word);
+            notes.add_words("`, and use `r`\n");
         }
         WordMistake::NoRegister if scene.word(0) == "if" => {
             notes.begin("help: assign a register first: `let t = ");
-            notes.words(word);
-            notes.words("`, then `if t`\n");
+            notes.add_words(word);
+            notes.add_words("`, then `if t`\n");
         }
         WordMistake::NoNumber if matches!(part, Part::Index(_)) => note_element(notes, scene, part),
         WordMistake::NoNumber => {
@@ -272,10 +274,10 @@ pub(crate) fn note_word<A: Allocator, B: Allocator>(
         WordMistake::NoMonoid => note_monoid(notes, word),
         WordMistake::Operator => note_operator(notes, scene),
         WordMistake::Spaces => {
-            notes.help("put a space on each side of `=` and of each operator");
+            notes.add_help("put a space on each side of `=` and of each operator");
         }
         WordMistake::Cell => {
-            notes.help("name a cell as `NAME`, or as `NAME[INDEX]` without spaces");
+            notes.add_help("name a cell as `NAME`, or as `NAME[INDEX]` without spaces");
         }
         WordMistake::Array => note_declaration(notes, word),
         _ => note_form(notes, scene),

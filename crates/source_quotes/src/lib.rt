@@ -26,8 +26,8 @@ mod words;
 
 pub use fault::fault_message;
 pub use look::{
-    Look, Paint, push_count, push_gutter, push_left, push_marked, push_noted, push_painted,
-    push_place, push_quote, push_sign, push_sign_below, statement_of,
+    Look, Paint, push_count, push_gutter, push_left_sign, push_marked_line, push_note_sign,
+    push_painted, push_place, push_quote, push_sign, push_sign_below, statement_of,
 };
 pub use meant::Meant;
 pub use part::{Part, Span, span_of};

@@ -48,7 +48,7 @@ impl Look {
 }
 
 /// What stands before painted words.
-fn before(look: Look, paint: Paint) -> &'static str
+fn paint_start(look: Look, paint: Paint) -> &'static str
     ensures { result.now ≡ before_paint look.is_painted paint }
 {
     if !look.is_painted {
@@ -63,7 +63,7 @@ fn before(look: Look, paint: Paint) -> &'static str
 }
 
 /// What stands behind painted words.
-fn behind(look: Look) -> &'static str
+fn paint_end(look: Look) -> &'static str
     ensures { result.now ≡ behind_paint look.is_painted }
 {
     if look.is_painted { "\u{1b}[0m" } else { "" }
@@ -92,7 +92,7 @@ pub fn push_painted<A: Allocator>(
 ) -> Result<(), AllocError>
     ensures { OnOk result (text.new.items ≡ text.old.items ++ painted look paint words.now) }
 {
-    push_three(text, before(look, paint), words, behind(look))
+    push_three(text, paint_start(look, paint), words, paint_end(look))
 }
 
 /// Adds a byte so many times.
@@ -110,7 +110,7 @@ fn push_repeated<A: Allocator>(
 }
 
 /// Adds this sign at the left of what is no line of the source.
-pub fn push_left<A: Allocator>(
+pub fn push_left_sign<A: Allocator>(
     text: &mut Vec<u8, A>,
     look: Look,
     sign: &str,
@@ -125,14 +125,14 @@ pub fn push_left<A: Allocator>(
 pub fn push_gutter<A: Allocator>(text: &mut Vec<u8, A>, look: Look) -> Result<(), AllocError>
     ensures { OnOk result (text.new.items ≡ text.old.items ++ gutter look) }
 {
-    push_left(text, look, " |")
+    push_left_sign(text, look, " |")
 }
 
 /// Adds what stands before a note beside the source.
-pub fn push_noted<A: Allocator>(text: &mut Vec<u8, A>, look: Look) -> Result<(), AllocError>
+pub fn push_note_sign<A: Allocator>(text: &mut Vec<u8, A>, look: Look) -> Result<(), AllocError>
     ensures { OnOk result (text.new.items ≡ text.old.items ++ noted look) }
 {
-    push_left(text, look, " =")?;
+    push_left_sign(text, look, " =")?;
     push_words(text, " ")
 }
 
@@ -148,8 +148,8 @@ pub fn push_quote<A: Allocator, B: Allocator>(
     let mut buffer = Buffer::new();
     let digits = buffer.format(number);
     push_repeated(text, look.width.saturating_sub(digits.len()), b' ')?;
-    push_three(text, before(look, Paint::Blue), digits, " |")?;
-    push_words(text, behind(look))?;
+    push_three(text, paint_start(look, Paint::Blue), digits, " |")?;
+    push_words(text, paint_end(look))?;
     push_words(text, " ")?;
     text.extend_from_slice(source.line(number))?;
     push_words(text, "\n")
@@ -207,13 +207,13 @@ pub fn push_sign<A: Allocator>(
     push_gutter(text, look)?;
     push_words(text, " ")?;
     text.extend_from_slice(front)?;
-    push_words(text, before(look, Paint::Red))?;
+    push_words(text, paint_start(look, Paint::Red))?;
     push_repeated(text, end_of(statement), mark)?;
-    push_words(text, behind(look))
+    push_words(text, paint_end(look))
 }
 
 /// Adds the line of the source with this number, and this sign below its statement.
-pub fn push_marked<A: Allocator, B: Allocator>(
+pub fn push_marked_line<A: Allocator, B: Allocator>(
     text: &mut Vec<u8, A>,
     look: Look,
     source: &Source<'_, B>,
@@ -252,9 +252,9 @@ pub fn push_sign_below<A: Allocator>(
     push_gutter(text, look)?;
     push_words(text, " ")?;
     push_indent(text, front)?;
-    push_words(text, before(look, paint))?;
+    push_words(text, paint_start(look, paint))?;
     push_repeated(text, span.count, mark)?;
-    push_words(text, behind(look))
+    push_words(text, paint_end(look))
 }
 
 /// Adds how many there are, and of what, which is one word.
@@ -279,7 +279,7 @@ pub fn push_place<A: Allocator>(
 ) -> Result<(), AllocError>
     ensures { OnOk result (text.new.items ≡ text.old.items ++ place look file.now number) }
 {
-    push_left(text, look, "-->")?;
+    push_left_sign(text, look, "-->")?;
     push_three(text, " ", file, ":")?;
     push_number(text, "", u64::from(number))?;
     push_words(text, "\n")?;

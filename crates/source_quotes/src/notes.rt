@@ -1,6 +1,6 @@
 //! Notes below a quote.
 
-use crate::look::{Look, push_noted, push_three};
+use crate::look::{Look, push_note_sign, push_three};
 use std::alloc::{AllocError, Allocator};
 use text_buffers::{push_number, push_words};
 
@@ -22,60 +22,60 @@ impl<A: Allocator> Notes<A> {
     }
 
     /// Adds words.
-    pub(crate) fn words(&mut self, words: &str) {
+    pub(crate) fn add_words(&mut self, words: &str) {
         self.is_short |= push_words(&mut self.text, words).is_err();
     }
 
     /// Begins a note.
     pub(crate) fn begin(&mut self, words: &str) {
-        self.is_short |= push_noted(&mut self.text, self.look).is_err();
-        self.words(words);
+        self.is_short |= push_note_sign(&mut self.text, self.look).is_err();
+        self.add_words(words);
     }
 
     /// Adds a note.
-    pub(crate) fn note(&mut self, words: &str) {
+    pub(crate) fn add_note(&mut self, words: &str) {
         self.begin(words);
-        self.words("\n");
+        self.add_words("\n");
     }
 
     /// Adds a note of what to do.
-    pub(crate) fn help(&mut self, words: &str) {
+    pub(crate) fn add_help(&mut self, words: &str) {
         self.begin("help: ");
-        self.words(words);
-        self.words("\n");
+        self.add_words(words);
+        self.add_words("\n");
     }
 
     /// Adds a word in quotes, and the words behind it.
-    pub(crate) fn quoted(&mut self, word: &str, behind: &str) {
+    pub(crate) fn add_quoted(&mut self, word: &str, behind: &str) {
         self.is_short |= push_three(&mut self.text, "`", word, "`").is_err();
-        self.words(behind);
+        self.add_words(behind);
     }
 
     /// Adds three pieces of text.
-    pub(crate) fn three(&mut self, first: &str, second: &str, third: &str) {
+    pub(crate) fn add_three(&mut self, first: &str, second: &str, third: &str) {
         self.is_short |= push_three(&mut self.text, first, second, third).is_err();
     }
 
     /// Adds the cell of an array in quotes, and the words behind it.
-    pub(crate) fn element(&mut self, name: &str, index: u64, behind: &str) {
-        self.three("`", name, "[");
-        self.number(index, "]`");
-        self.words(behind);
+    pub(crate) fn add_element(&mut self, name: &str, index: u64, behind: &str) {
+        self.add_three("`", name, "[");
+        self.add_number(index, "]`");
+        self.add_words(behind);
     }
 
     /// Adds a number, and the words behind it.
-    pub(crate) fn number(&mut self, number: u64, behind: &str) {
+    pub(crate) fn add_number(&mut self, number: u64, behind: &str) {
         self.is_short |= push_number(&mut self.text, "", number).is_err();
-        self.words(behind);
+        self.add_words(behind);
     }
 
     /// Adds the number of the line before which so many stand, and ends the note.
-    pub(crate) fn line(&mut self, before: usize) {
-        self.number((before as u64).saturating_add(1), "\n");
+    pub(crate) fn end_with_line(&mut self, before: usize) {
+        self.add_number((before as u64).saturating_add(1), "\n");
     }
 
     /// Adds a word with small letters in place of upper-case ones.
-    pub(crate) fn lowered(&mut self, word: &str) {
+    pub(crate) fn add_lowercase(&mut self, word: &str) {
         for byte in word.bytes() {
             self.is_short |= self.text.push(byte.to_ascii_lowercase()).is_err();
         }

@@ -16,7 +16,7 @@ fn is_negative(word: &str) -> bool {
 }
 
 /// Whether a word has this byte.
-fn has(word: &str, byte: u8) -> bool {
+fn has_byte(word: &str, byte: u8) -> bool {
     word.as_bytes().contains(&byte)
 }
 
@@ -28,11 +28,11 @@ fn has_upper_case(word: &str) -> bool {
 /// Whether a word joins others by a sign. Only `is_operand` takes a minus sign for one, which a name that is none may have too.
 fn has_sign(word: &str, is_operand: bool) -> bool {
     word.len() > 1
-        && (has(word, b'=')
-            || has(word, b'+')
-            || has(word, b'*')
-            || has(word, b'<')
-            || (is_operand && has(word, b'-')))
+        && (has_byte(word, b'=')
+            || has_byte(word, b'+')
+            || has_byte(word, b'*')
+            || has_byte(word, b'<')
+            || (is_operand && has_byte(word, b'-')))
 }
 
 /// Whether a word is an operator.
@@ -49,9 +49,9 @@ fn is_operand(word: &str) -> bool {
 pub(crate) fn of_c(word: &str) -> Option<WordMistake> {
     if word.starts_with("//") || word.starts_with("/*") {
         Some(WordMistake::Slashes)
-    } else if has(word, b'(') || has(word, b')') {
+    } else if has_byte(word, b'(') || has_byte(word, b')') {
         Some(WordMistake::Parentheses)
-    } else if has(word, b';') {
+    } else if has_byte(word, b';') {
         Some(WordMistake::Semicolon)
     } else {
         None
@@ -104,7 +104,7 @@ fn operand_shape(word: &str) -> Option<WordMistake> {
         None
     } else if is_negative(word) {
         Some(WordMistake::Negative)
-    } else if has(word, b'[') {
+    } else if has_byte(word, b'[') {
         Some(WordMistake::Element)
     } else if has_sign(word, true) {
         Some(WordMistake::Spaces)
@@ -214,7 +214,7 @@ fn word_shape(wanted: Wanted, word: &str, version: Version) -> Option<WordMistak
 }
 
 /// What is wrong with the shape of the word with this number on its line, and which part of it is wrong.
-pub(crate) fn misshapen(
+pub(crate) fn bad_shape(
     wanted: Wanted,
     word: &str,
     at: usize,

@@ -5,15 +5,15 @@ use crate::meant::Meant;
 use crate::mistake::WordMistake;
 use crate::part::Part;
 use crate::scene::Scene;
-use crate::shape::{is_operator, misshapen, of_c};
+use crate::shape::{bad_shape, is_operator, of_c};
 use std::alloc::Allocator;
 use text_words::Version;
 
 /// The first word that has another shape than its place wants.
-fn first_misshapen(form: Form, words: &[&str], version: Version) -> Option<(WordMistake, Part)> {
+fn first_bad_shape(form: Form, words: &[&str], version: Version) -> Option<(WordMistake, Part)> {
     for (at, word) in words.iter().enumerate() {
         if let Some(wanted) = form.place(at)
-            && let Some(found) = misshapen(wanted, word, at, version)
+            && let Some(found) = bad_shape(wanted, word, at, version)
         {
             return Some(found);
         }
@@ -47,7 +47,7 @@ fn is_cut(form: Form, count: usize) -> bool {
 
 /// Whether a line with this first word fits a form in full.
 fn fits(form: Form, words: &[&str], version: Version) -> bool {
-    first_misshapen(form, words, version).is_none()
+    first_bad_shape(form, words, version).is_none()
         && !is_cut(form, words.len())
         && words.len() <= most(form)
 }
@@ -84,7 +84,7 @@ fn bad_behind<B: Allocator>(
     {
         return (of_other(scene.meant), Part::Statement);
     }
-    if let Some(found) = first_misshapen(form, scene.words, version) {
+    if let Some(found) = first_bad_shape(form, scene.words, version) {
         return found;
     }
     if is_cut(form, scene.words.len()) {

@@ -64,7 +64,7 @@ pub enum ScopeKind {
 
 /// How a record is kept, in twelve bytes: the kind of its scope and its standing lie side by side.
 #[derive(Clone, Copy)]
-pub struct Kept {
+pub struct PackedRecord {
     /// The block, caller or join of the scope; of the root function 0.
     number: u32,
     children_left: u32,
@@ -73,11 +73,11 @@ pub struct Kept {
 }
 
 // Each page of them costs a fault when it is first written.
-const _: () = prove!(size_of::<Kept>() == 12);
+const _: () = prove!(size_of::<PackedRecord>() == 12);
 
-impl Kept {
+impl PackedRecord {
     #[inline(always)]
-    pub fn of(seen: Record) -> Kept
+    pub fn of(seen: Record) -> PackedRecord
         ensures { unpacked result ≡ seen }
     {
         let (kind, number) = match seen.scope {
@@ -86,7 +86,7 @@ impl Kept {
             Scope::Call { caller } => (ScopeKind::Call, caller),
             Scope::Block { join } => (ScopeKind::Block, join),
         };
-        Kept {
+        PackedRecord {
             number,
             children_left: seen.children_left,
             kind,
@@ -115,7 +115,7 @@ impl Kept {
 
 /// The record of a strand.
 #[inline(always)]
-pub fn record_of<A: Allocator>(records: &Vec<Kept, A>, strand: u32) -> Record
+pub fn record_of<A: Allocator>(records: &Vec<PackedRecord, A>, strand: u32) -> Record
     requires { strand < length (all_unpacked records.now.items) }
     ensures { result ≡ record_at (all_unpacked records.now.items) strand }
 {
@@ -124,18 +124,22 @@ pub fn record_of<A: Allocator>(records: &Vec<Kept, A>, strand: u32) -> Record
 
 /// Replaces the record of a strand.
 #[inline(always)]
-pub fn put<A: Allocator>(records: &mut Vec<Kept, A>, strand: u32, kept: Record)
+pub fn put<A: Allocator>(records: &mut Vec<PackedRecord, A>, strand: u32, kept: Record)
     requires { strand < length (all_unpacked records.old.items) }
     ensures put { IsPut (all_unpacked records.old.items) strand kept (all_unpacked records.new.items) }
     ensures len { vec_len records.new ≡ vec_len records.old }
     ensures capacity { vec_capacity records.new ≡ vec_capacity records.old }
 {
-    records[strand as usize] = Kept::of(kept);
+    records[strand as usize] = PackedRecord::of(kept);
 }
 
 /// Changes how a strand stands.
 #[inline(always)]
-pub fn set_standing<A: Allocator>(records: &mut Vec<Kept, A>, strand: u32, standing: Standing)
+pub fn set_standing<A: Allocator>(
+    records: &mut Vec<PackedRecord, A>,
+    strand: u32,
+    standing: Standing,
+)
     requires { strand < length (all_unpacked records.old.items) }
     ensures put { IsPut (all_unpacked records.old.items) strand
         (record (record_at (all_unpacked records.old.items) strand) { standing = standing }) (all_unpacked records.new.items) }
@@ -147,11 +151,11 @@ pub fn set_standing<A: Allocator>(records: &mut Vec<Kept, A>, strand: u32, stand
 
 /// Adds the record of the next strand, for which there is room.
 #[inline(always)]
-pub fn push<A: Allocator>(records: &mut Vec<Kept, A>, kept: Record)
+pub fn push<A: Allocator>(records: &mut Vec<PackedRecord, A>, kept: Record)
     requires { vec_len records.old < vec_capacity records.old }
     ensures items { all_unpacked records.new.items ≡ all_unpacked records.old.items ++ kept ∷ [] }
     ensures len { vec_len records.new ≡ vec_len records.old + 1 }
     ensures capacity { vec_capacity records.new ≡ vec_capacity records.old }
 {
-    records.push_reserved(Kept::of(kept));
+    records.push_reserved(PackedRecord::of(kept));
 }

@@ -12,7 +12,7 @@ ghost use Rattle.order_list.specs.Order.{most_items};
 ghost use Rattle.sp_labels.specs.Roster.{most_callers, Follows, HasBegun, HasFewLeft, event_of_spawn, event_of_sync, event_of_return};
 
 use crate::answer::{Returned, SpFault, Synced};
-use crate::record::{Kept, Record, Scope, Standing, push, put, record_of, set_standing};
+use crate::record::{PackedRecord, Record, Scope, Standing, push, put, record_of, set_standing};
 use model_strands::Spawned;
 use order_list::{OrderFault, OrderList};
 use slab::Slab;
@@ -62,7 +62,7 @@ fn reserve_caller<A: Allocator>(callers: &mut Slab<Scope, A>) -> Result<(), Allo
 
 /// The strands of one spawn-sync program.
 pub struct Strands<A: Allocator> {
-    records: Vec<Kept, A>,
+    records: Vec<PackedRecord, A>,
     /// The scope in which each called function was called, until it returns.
     callers: Slab<Scope, A>,
     english: OrderList<A>,
@@ -123,7 +123,7 @@ impl<A: Allocator> Strands<A> {
         let callers = Slab::new(alloc.clone()?);
         let english = OrderList::new(alloc.clone()?)?;
         let hebrew = OrderList::new(alloc)?;
-        records.push(Kept::of(Record::running(Scope::Root)))?;
+        records.push(PackedRecord::of(Record::running(Scope::Root)))?;
         Ok(Strands {
             records,
             callers,

@@ -22,7 +22,7 @@ pub enum Origin {
 }
 
 /// Where the strand stood before a spawn by this spawner, which began these.
-fn made_by(spawner: u32, spawned: Spawned, strand: u32) -> Origin
+fn origin_by(spawner: u32, spawned: Spawned, strand: u32) -> Origin
     ensures { (number : ℕ) (frames : ℕ → List ℕ) →
         with_frame (Some (split spawner spawned.child spawned.next spawned.join spawned.first)) number frames strand
         ≡ frames_from result strand number frames }
@@ -43,7 +43,7 @@ fn before_entry(entry: Entry, strand: u32) -> Origin
 {
     let asks = strand == entry.request.strand;
     match (entry.request.act, entry.answer) {
-        (Act::Spawn, Answer::Split(spawned)) => made_by(entry.request.strand, spawned, strand),
+        (Act::Spawn, Answer::Split(spawned)) => origin_by(entry.request.strand, spawned, strand),
         (Act::Call, Answer::Same) if asks => Origin::Opened(strand),
         (Act::Return, Answer::Resumed) if asks => Origin::Left,
         _ => Origin::Same(strand),

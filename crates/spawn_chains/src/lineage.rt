@@ -61,7 +61,7 @@ pub struct Lineage<A: Allocator> {
 }
 
 /// What an entry began, where it is a spawn.
-fn began(entry: Entry) -> Option<Spawned>
+fn spawn_of(entry: Entry) -> Option<Spawned>
     ensures { MatchOption result ((spawned : Spawned) → Began entry spawned → ⊥) (Began entry) }
 {
     match (entry.request.act, entry.answer) {
@@ -101,7 +101,7 @@ fn spawn_at(entries: &[Entry], number: usize) -> (u32, Spawned)
 
 /// Where the climb from two strands ends: at what one entry made, or at strand 0 twice. From the one whose maker is the later entry
 /// it goes on to the spawner, so it passes no spawn at which the two part.
-fn meeting(makers: &[usize], entries: &[Entry], strand: u32, other: u32) -> (u32, u32)
+fn find_meeting(makers: &[usize], entries: &[Entry], strand: u32, other: u32) -> (u32, u32)
     requires lineage { IsLineage makers.now (reverse entries.now) }
     requires strand { strand < length makers.now }
     requires other { other < length makers.now }
@@ -179,7 +179,7 @@ impl<A: Allocator> Lineage<A> {
         let mut makers = Vec::new(alloc);
         makers.push(0)?;
         for (before, entry) in entries.iter().enumerate() {
-            if let Some(spawned) = began(*entry) {
+            if let Some(spawned) = spawn_of(*entry) {
                 add_spawn(&mut makers, before + 1, spawned.first)?;
             }
         }
@@ -203,7 +203,7 @@ impl<A: Allocator> Lineage<A> {
         ensures found { IsSome result ↔ IsParallel (control_part (reverse entries.now)) strand other }
     {
         let makers = self.makers.as_slice();
-        let (one, two) = meeting(makers, entries, strand, other);
+        let (one, two) = find_meeting(makers, entries, strand, other);
         let entry = makers[one as usize];
         if entry == 0 {
             return None;
@@ -234,7 +234,7 @@ impl<A: Allocator> Lineage<A> {
         ensures { IfSome result (IsOutstanding (reverse entries.now) first second) }
     {
         let makers = self.makers.as_slice();
-        let (one, two) = meeting(makers, entries, first, second);
+        let (one, two) = find_meeting(makers, entries, first, second);
         if one == two {
             return if one == first {
                 open_behind(makers, entries, first, second)

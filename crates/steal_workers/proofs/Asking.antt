@@ -7,7 +7,7 @@ use Rattle.model_programs.specs.Exchanges.{Exchange}
 use Rattle.frame_steps.specs.States.{State}
 use Rattle.frame_steps.specs.Frames.{IsAfter}
 use Rattle.locked_replay.specs.declared.fault.RunFault.{RunFault}
-use Rattle.steal_workers.specs.declared.worker.Going.{Going}
+use Rattle.steal_workers.specs.declared.worker.NextStep.{NextStep}
 use Rattle.steal_workers.specs.Goings.{IsAtJoin}
 use Rattle.steal_workers.specs.Workers.{MeetsJoin, EndsAtJoin}
 
@@ -21,7 +21,7 @@ pub roomy : (functions : List Code) (function argument : ℕ) (history : List Ex
 roomy functions function argument history frame room after = record { goes_on = after.goes_on; joins = after.joins }
 
 -- where the answer is one at a join, the receipts end at a join
-pub ends_at_join : (result : Result Going RunFault) (receipts before : List Receipt) (receipt : Receipt) → receipts ≡ before ++ receipt ∷ [] → IfOk result (λ going. IsAtJoin going → MeetsJoin receipt.answer)
+pub ends_at_join : (result : Result NextStep RunFault) (receipts before : List Receipt) (receipt : Receipt) → receipts ≡ before ++ receipt ∷ [] → IfOk result (λ going. IsAtJoin going → MeetsJoin receipt.answer)
     → IfOk result (λ going. IsAtJoin going → EndsAtJoin receipts)
 ends_at_join (Ok going) receipts before receipt kept meets = λ at. (before, receipt, kept, meets at)
 ends_at_join (Err fault) receipts before receipt kept meets = tt

@@ -2,23 +2,23 @@
 use Rattle.std.proofs.Common.{◌≡◌, ℕ, zero, suc, ◌+◌, ◌<◌, List, [], ◌∷◌, ◌++◌, drop, take, map, length, set, get_or, refl, sym, subst, ap, arith, ◌∙◌}
 use Rattle.std.proofs.lemmas.List.{take_more, take_more_set, get_or-map, length-map}
 use Rattle.std.proofs.lemmas.List.Elements.{All-push, All-same}
-use Rattle.steal_workers.specs.declared.hand.Hand.{Hand}
-use Rattle.steal_workers.specs.Hands.{joined}
-use Rattle.steal_workers.specs.Reaches.{Deque, AllLeadTo, joined_each}
+use Rattle.steal_workers.specs.declared.pass_log.PassLog.{PassLog}
+use Rattle.steal_workers.specs.PassLogs.{joined}
+use Rattle.steal_workers.specs.StealHandles.{Deque, AllLeadTo, joined_each}
 
 -- none goes back
-pub joined_each-nil : (vs : List Hand) → joined_each vs [] ≡ vs
+pub joined_each-nil : (vs : List PassLog) → joined_each vs [] ≡ vs
 joined_each-nil [] = refl
 joined_each-nil (v ∷ vs) = refl
 
 -- one more goes back, to the owner behind those that have theirs
-pub joined_each-push : (vs ws : List Hand) (w d : Hand) → length ws < length (joined_each vs ws)
+pub joined_each-push : (vs ws : List PassLog) (w d : PassLog) → length ws < length (joined_each vs ws)
     → joined_each vs (ws ++ w ∷ []) ≡ set (joined_each vs ws) (length ws) (joined (get_or (joined_each vs ws) (length ws) d) w)
 joined_each-push [] ws w d within = absurd (omega (arith, within))
 joined_each-push (v ∷ vs) [] w d within = ap (λ rest. joined v w ∷ rest) (joined_each-nil vs)
 joined_each-push (v ∷ vs) (u ∷ ws) w d within = ap (λ rest. joined v u ∷ rest) (joined_each-push vs ws w d (omega (arith, within)))
 
-pub joined_more : (vs ws now : List Hand) (w v d : Hand) (place : ℕ) → place ≡ length ws → now ≡ joined_each vs ws → place < length now → get_or now place d ≡ v
+pub joined_more : (vs ws now : List PassLog) (w v d : PassLog) (place : ℕ) → place ≡ length ws → now ≡ joined_each vs ws → place < length now → get_or now place d ≡ v
     → set now place (joined v w) ≡ joined_each vs (ws ++ w ∷ [])
 joined_more vs ws now w v d place there same within had =
     let push = joined_each-push vs ws w d (omega (arith, there, ap length same, within)) in

@@ -11,21 +11,21 @@ use Rattle.locked_replay.specs.declared.worker.WorkerLog.{WorkerLog}
 use Rattle.std.specs.Global.{Vec}
 use Rattle.short_receipts.specs.Lists.{Listed}
 use Rattle.std.specs.List.{list_any}
-use Rattle.steal_workers.specs.declared.hand.Hand.{Hand}
-use Rattle.steal_workers.specs.declared.ends.Ends.{Ends}
+use Rattle.steal_workers.specs.declared.pass_log.PassLog.{PassLog}
+use Rattle.steal_workers.specs.declared.worker_deques.WorkerDeques.{WorkerDeques}
 use Rattle.steal_workers.specs.declared.worker.Worker.{Worker}
 use Rattle.steal_workers.specs.Beginning.{own_hands, HaveRoot, IsReady}
 use Rattle.steal_workers.specs.Ending.{saw_end}
 use Rattle.steal_workers.specs.Finishing.{finishes, some_finished}
-use Rattle.steal_workers.specs.Hands.{hand, pushing}
-use Rattle.steal_workers.specs.Reaches.{own_deque, own_view, deques_of, AllLeadTo}
+use Rattle.steal_workers.specs.PassLogs.{pass_log, pushing}
+use Rattle.steal_workers.specs.StealHandles.{own_deque, own_view, deques_of, AllLeadTo}
 use Rattle.steal_workers.specs.Workers.{station_of, stations_of, owns_of, others_of}
 use Rattle.steal_workers.proofs.Sums.{sum_by-map, list_any-map}
 
 -- the first of some idle owners pushes the first strand
-pub root_lies : (views : List Hand) (d : Hand) → 0 < length views → All (λ v. v ≡ hand [] []) views → HaveRoot (set views 0 (pushing 0 (get_or views 0 d)))
+pub root_lies : (views : List PassLog) (d : PassLog) → 0 < length views → All (λ v. v ≡ pass_log [] []) views → HaveRoot (set views 0 (pushing 0 (get_or views 0 d)))
 root_lies [] d some idle = absurd (omega (arith, some))
-root_lies (v ∷ vs) d some idle = (vs, ap (λ u. pushing 0 u ∷ vs) (All-head (λ v. v ≡ hand [] []) v vs idle), All-tail (λ v. v ≡ hand [] []) v vs idle)
+root_lies (v ∷ vs) d some idle = (vs, ap (λ u. pushing 0 u ∷ vs) (All-head (λ v. v ≡ pass_log [] []) v vs idle), All-tail (λ v. v ≡ pass_log [] []) v vs idle)
 
 module _ {L : Type 0} where
   -- so it is where the first of some ready workers begins
@@ -38,14 +38,14 @@ module _ {L : Type 0} where
       subst HaveRoot (sym after) (root_lies hands (own_view here.ends) some is.2)
 
   -- workers that were given the ends of all deques are ready
-  pub ready : (workers : List (Worker L)) (all : List Ends) → map (λ w. w.ends) workers ≡ all → 0 < length all → AllLeadTo (map own_deque all) (map deques_of all) → All (λ v. v ≡ hand [] []) (map own_view all) → IsReady workers
+  pub ready : (workers : List (Worker L)) (all : List WorkerDeques) → map (λ w. w.ends) workers ≡ all → 0 < length all → AllLeadTo (map own_deque all) (map deques_of all) → All (λ v. v ≡ pass_log [] []) (map own_view all) → IsReady workers
   ready workers all given some lead idle =
       let owns : map own_deque all ≡ owns_of (stations_of workers) = ap (map own_deque) (sym given) ∙ map-map own_deque (λ w. w.ends) workers ∙ sym (map-map (λ s. s.own) station_of workers) in
       let others : map deques_of all ≡ others_of (stations_of workers) = ap (map deques_of) (sym given) ∙ map-map deques_of (λ w. w.ends) workers ∙ sym (map-map (λ s. s.others) station_of workers) in
       let hands : map own_view all ≡ own_hands workers = ap (map own_view) (sym given) ∙ map-map own_view (λ w. w.ends) workers in (
         omega (arith, ap length given, length-map workers (λ w. w.ends), some),
         subst (λ ds. All (λ deques. deques ≡ ds) (others_of (stations_of workers))) owns (subst (AllLeadTo (map own_deque all)) others lead),
-        subst (All (λ v. v ≡ hand [] [])) hands idle,
+        subst (All (λ v. v ≡ pass_log [] [])) hands idle,
       )
 
   -- as many come back, and they had asked as much before

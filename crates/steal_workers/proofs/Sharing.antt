@@ -18,7 +18,7 @@ use Rattle.locked_replay.below.reducer_views.specs.contracts.pieces.Piece as Pie
 use Rattle.locked_replay.below.reducer_views.specs.contracts.views.Views as Views
 use Rattle.race_gate.specs.contracts.reducers.ReducerTracks as ReducerTracks
 use Rattle.race_gate.specs.contracts.short_gate.ShortGate as ShortGate
-use Rattle.locked_replay.specs.contracts.locked.Round as Round
+use Rattle.locked_replay.specs.contracts.locked.CountedGate as Round
 use Rattle.locked_replay.specs.contracts.locked.LockedGate as LockedGate
 
 piece_send : IsSend (Piece.the_row Heap.the_row ghosts)

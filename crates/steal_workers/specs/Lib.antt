@@ -3,9 +3,9 @@ pub mod Ending
 pub mod Faults
 pub mod Finishing
 pub mod Goings
-pub mod Hands
+pub mod PassLogs
 pub mod Places
-pub mod Reaches
+pub mod StealHandles
 pub mod Standing
 pub mod Tasks
 pub mod Workers

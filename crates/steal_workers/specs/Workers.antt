@@ -13,7 +13,7 @@ use Rattle.steal_workers.specs.declared.task.Task.{Task}
 use Rattle.steal_workers.specs.declared.worker.Worker.{Worker}
 use Rattle.steal_workers.specs.declared.joining.Room.{Room}
 use Rattle.steal_workers.specs.Faults.{fault_of}
-use Rattle.steal_workers.specs.Reaches.{Deque, own_deque, deques_of}
+use Rattle.steal_workers.specs.StealHandles.{Deque, own_deque, deques_of}
 
 -- the answers at which a task comes to a join, or the last child that ends there
 abbrev pub MeetsJoin : Answer → Type 0

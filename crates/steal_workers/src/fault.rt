@@ -21,7 +21,7 @@ pub(crate) fn fault_of(fault: GateFault) -> RunFault
 }
 
 /// What a refused answer means for the run.
-pub(crate) fn refusal_of(fault: FrameFault) -> RunFault
+pub(crate) fn frame_fault_of(fault: FrameFault) -> RunFault
     ensures { result ≡ refusal_of fault }
 {
     match fault {
@@ -31,7 +31,7 @@ pub(crate) fn refusal_of(fault: FrameFault) -> RunFault
 }
 
 /// What a fault of the lot means for the run.
-pub(crate) fn meeting_of(fault: LotFault) -> RunFault
+pub(crate) fn lot_fault_of(fault: LotFault) -> RunFault
     ensures { result ≡ meeting_of fault }
 {
     match fault {
@@ -41,7 +41,7 @@ pub(crate) fn meeting_of(fault: LotFault) -> RunFault
 }
 
 /// The fault of threads that could not all be started.
-pub fn of_threads(all: bool) -> Option<RunFault>
+pub fn thread_fault_of(all: bool) -> Option<RunFault>
     ensures { result ≡ refused_thread all }
 {
     if all { None } else { Some(RunFault::Memory) }

@@ -4,11 +4,11 @@ ghost use Rattle.std.specs.Prelude.{◌≡◌, ◌+◌, ◌≤◌, length, map, 
 ghost use Rattle.std.specs.List.{sum_by};
 ghost use Rattle.crossbeam_deque.specs.Handles.{worker_deque, worker_view};
 ghost use Rattle.locked_replay.specs.Logs.{all_receipts, all_asked};
-ghost use Rattle.steal_workers.specs.Reaches.{deque_of, view_of, views_of, joined_each, joined_all, AllLeadTo};
+ghost use Rattle.steal_workers.specs.StealHandles.{deque_of, view_of, views_of, joined_each, joined_all, AllLeadTo};
 ghost use Rattle.steal_workers.specs.Workers.{owns_of, others_of, stations_of, HasRoom};
 
-use crate::hand::Owner;
-use crate::reach::Reach;
+use crate::pass_log::Owner;
+use crate::steal_handle::StealHandle;
 use crate::worker::Worker;
 use locked_replay::WorkerLog;
 use std::alloc::{AllocError, Global};
@@ -18,7 +18,7 @@ use std::sync::ledger::Ledger;
 pub struct Room<'p, L: Ledger> {
     logs: Vec<WorkerLog<L>>,
     owners: Vec<Owner<'p>>,
-    passes: Vec<Vec<Reach<'p>>>,
+    passes: Vec<Vec<StealHandle<'p>>>,
 }
 
 impl<'p, L: Ledger> Drop for Room<'p, L> {
@@ -57,7 +57,7 @@ impl<'p, L: Ledger> Room<'p, L> {
             mut passes,
         } = self;
         for worker in workers {
-            let (log, ends) = worker.ended();
+            let (log, ends) = worker.into_parts();
             let (owner, reaches) = ends.into_parts();
             logs.push_reserved(log);
             owners.push_reserved(owner);
@@ -69,7 +69,7 @@ impl<'p, L: Ledger> Room<'p, L> {
 }
 
 /// All passes go back to the owners of their deques.
-fn join_all<'p>(owners: Vec<Owner<'p>>, passes: Vec<Vec<Reach<'p>>>) -> Vec<Owner<'p>>
+fn join_all<'p>(owners: Vec<Owner<'p>>, passes: Vec<Vec<StealHandle<'p>>>) -> Vec<Owner<'p>>
     requires { AllLeadTo (map worker_deque owners.items) (map (λ reaches. map deque_of reaches.items) passes.items) }
     ensures { map worker_view result.items ≡ joined_all (map worker_view owners.entry.items) (map views_of passes.entry.items) }
 {
@@ -81,7 +81,7 @@ fn join_all<'p>(owners: Vec<Owner<'p>>, passes: Vec<Vec<Reach<'p>>>) -> Vec<Owne
 }
 
 /// A worker's passes go back to the owners of their deques.
-fn join_each<'p>(owners: &mut Vec<Owner<'p>>, reaches: Vec<Reach<'p>>)
+fn join_each<'p>(owners: &mut Vec<Owner<'p>>, reaches: Vec<StealHandle<'p>>)
     requires { map deque_of reaches.items ≡ map worker_deque owners.old.items }
     ensures deques { map worker_deque owners.new.items ≡ map worker_deque owners.old.items }
     ensures views { map worker_view owners.new.items ≡ joined_each (map worker_view owners.old.items) (views_of reaches.entry) }

@@ -13,22 +13,22 @@
 //! that was stolen, is shown by tests and not proved. [`run_serially`] runs a program by one worker that enters each child at its spawn.
 #![tactic(auto)]
 
-mod ends;
 mod fault;
-mod hand;
 mod joining;
 mod lot;
+mod pass_log;
 mod pool;
-mod reach;
 mod serial;
+mod steal_handle;
 mod task;
 mod worker;
+mod worker_deques;
 
-pub use ends::{Ends, make_ends};
-pub use fault::{first_of, of_threads};
+pub use fault::{first_of, thread_fault_of};
 pub use joining::Room;
 pub use lot::{Lot, LotFault};
 pub use pool::run;
 pub use serial::run_serially;
 pub use task::Task;
 pub use worker::Worker;
+pub use worker_deques::{WorkerDeques, make_worker_deques};

@@ -63,7 +63,7 @@ fn holds<'p>(waiting: &Slab<Waiting<'p>>, slot: u32, join: u32) -> bool
 }
 
 /// The task of this join, where it waits in this slot.
-fn taken<'p>(waiting: &mut Slab<Waiting<'p>>, slot: u32, join: u32) -> Option<Task<'p>>
+fn take_waiting<'p>(waiting: &mut Slab<Waiting<'p>>, slot: u32, join: u32) -> Option<Task<'p>>
     ensures task { result ≡ task_in (get waiting.old slot) join }
     ensures others { OthersStay waiting.old waiting.new join }
 {
@@ -81,14 +81,14 @@ fn taken<'p>(waiting: &mut Slab<Waiting<'p>>, slot: u32, join: u32) -> Option<Ta
 
 /// What lies under the lock: a mark for each join up to some, and the tasks that wait.
 #[derive(Drop)]
-struct Places<'p> {
+struct JoinTable<'p> {
     marks: Vec<Mark>,
     waiting: Slab<Waiting<'p>>,
 }
 
-impl<'p> Places<'p> {
+impl<'p> JoinTable<'p> {
     /// Sees that there is a mark for this join.
-    fn reach(&mut self, join: u32) -> Result<(), AllocError>
+    fn reserve_mark(&mut self, join: u32) -> Result<(), AllocError>
         ensures ok { OnOk result (join < length self.new.marks.items) }
         ensures succeeds { join < length self.old.marks.items → IsOk result }
         ensures marks { (other : ℕ) → get_or self.new.marks.items other Mark.Unmet ≡ get_or self.old.marks.items other Mark.Unmet }
@@ -123,7 +123,7 @@ impl<'p> Places<'p> {
         ensures others { (other : ℕ) → other ≢ join →
             place_at self.new.marks.items self.new.waiting other ≡ place_at self.old.marks.items self.old.waiting other }
     {
-        if self.reach(join).is_err() {
+        if self.reserve_mark(join).is_err() {
             return Err(LotFault::Memory);
         }
         match self.marks[join as usize] {
@@ -149,11 +149,11 @@ impl<'p> Places<'p> {
         ensures others { (other : ℕ) → other ≢ join →
             place_at self.new.marks.items self.new.waiting other ≡ place_at self.old.marks.items self.old.waiting other }
     {
-        if self.reach(join).is_err() {
+        if self.reserve_mark(join).is_err() {
             return Err(LotFault::Memory);
         }
         match self.marks[join as usize] {
-            Mark::Parked(slot) => match taken(&mut self.waiting, slot, join) {
+            Mark::Parked(slot) => match take_waiting(&mut self.waiting, slot, join) {
                 Some(task) => {
                     self.marks[join as usize] = Mark::Met;
                     Ok(Some(task.on(join)))
@@ -175,7 +175,7 @@ impl<'p> Places<'p> {
 /// The tasks that wait for their joins, and whether the run is over. Any thread may call it.
 #[derive(Drop)]
 pub struct Lot<'p> {
-    places: Mutex<Places<'p>>,
+    places: Mutex<JoinTable<'p>>,
     /// 1 once the lot is closed, 0 before.
     closed: AtomicU64,
 }
@@ -184,7 +184,7 @@ impl<'p> Lot<'p> {
     /// An empty lot, which is not closed.
     pub fn new(alloc: Global) -> Lot<'p> {
         Lot {
-            places: Mutex::new(Places {
+            places: Mutex::new(JoinTable {
                 marks: Vec::new(alloc),
                 waiting: Slab::new(alloc),
             }),
@@ -225,7 +225,7 @@ impl<'p> Lot<'p> {
 
     /// Sleeps for so many microseconds, or until the lot is closed, and answers for how many it is to be the next time. It may come back
     /// at once.
-    pub(crate) fn doze<R: Wait>(&self, rt: &R, doze: u64) -> u64 {
+    pub(crate) fn sleep<R: Wait>(&self, rt: &R, doze: u64) -> u64 {
         self.closed.park_timeout(rt, 0, Duration::from_micros(doze));
         doze.saturating_mul(2).min(LONGEST_DOZE)
     }

@@ -4,18 +4,18 @@ ghost use Rattle.std.specs.Prelude.{◌≡◌, ◌+◌, ◌<◌, ◌≤◌, [], 
 ghost use Rattle.std.specs.List.{list_any, sum_by};
 ghost use Rattle.locked_replay.specs.Logs.{all_receipts, all_asked};
 ghost use Rattle.steal_workers.specs.Faults.{IsFirstOf};
-ghost use Rattle.steal_workers.specs.Hands.{hand};
-ghost use Rattle.steal_workers.specs.Reaches.{own_deque, own_view, deques_of, AllLeadTo};
+ghost use Rattle.steal_workers.specs.PassLogs.{pass_log};
+ghost use Rattle.steal_workers.specs.StealHandles.{own_deque, own_view, deques_of, AllLeadTo};
 ghost use Rattle.steal_workers.specs.Workers.{station_of, stations_of, owns_of, others_of, HasRoom, TornAtJoin};
 ghost use Rattle.steal_workers.specs.Beginning.{own_hands, HaveRoot, IsReady};
 ghost use Rattle.steal_workers.specs.Ending.{AreSomeOf, IsEnded, IsAnswered, IsTold, faults_of};
 ghost use Rattle.steal_workers.specs.Finishing.{finishes, some_finished};
 
-use crate::ends::{Ends, make_ends};
-use crate::fault::{first_of, of_threads};
+use crate::fault::{first_of, thread_fault_of};
 use crate::joining::Room;
 use crate::lot::Lot;
 use crate::worker::Worker;
+use crate::worker_deques::{WorkerDeques, make_worker_deques};
 use locked_replay::{Ask, RunFault, Seat, WorkerLog};
 use program_text::Program;
 use race_gate::{Answer, Receipt};
@@ -28,31 +28,31 @@ use std::thread;
 use std::thread::{Promise, PromisedHandle, Scope, Threads};
 
 /// A worker as it was before its thread began.
-struct Hired<'p, L: Ledger>(Snapshot<Worker<'p, L>>);
+struct IdleWorker<'p, L: Ledger>(Snapshot<Worker<'p, L>>);
 
-impl<'p, L: Ledger> Drop for Hired<'p, L> {
+impl<'p, L: Ledger> Drop for IdleWorker<'p, L> {
     fn drop(self) {
-        let Hired(_) = self;
+        let IdleWorker(_) = self;
     }
 }
 
-impl<'p, L: Ledger> Promise<Worker<'p, L>> for Hired<'p, L> {
+impl<'p, L: Ledger> Promise<Worker<'p, L>> for IdleWorker<'p, L> {
     ghost kept_by = { λ hired worker. (station_of worker ≡ station_of hired.0.value) × TornAtJoin worker };
 }
 
 /// A worker that runs.
-type Running<'p, L> = PromisedHandle<Worker<'p, L>, Hired<'p, L>>;
+type Running<'p, L> = PromisedHandle<Worker<'p, L>, IdleWorker<'p, L>>;
 
 /// The workers. The last of them has the given seat, and each other one a part of it.
 fn hire<'p, L: Ledger>(
     alloc: Global,
-    ends: Vec<Ends<'p>>,
+    ends: Vec<WorkerDeques<'p>>,
     mut seat: Seat<L>,
 ) -> Result<Vec<Worker<'p, L>>, AllocError>
     requires workers { 0 < vec_len ends }
     requires parts { vec_len ends ≤ seat.parts }
     requires lead { AllLeadTo (map own_deque ends.items) (map deques_of ends.items) }
-    requires views { All (λ v. v ≡ hand [] []) (map own_view ends.items) }
+    requires views { All (λ v. v ≡ pass_log [] []) (map own_view ends.items) }
     ensures workers { IfOk result (λ hired. vec_len hired ≡ vec_len ends.entry) }
     ensures ready { IfOk result (λ hired. IsReady hired.items) }
     ensures before { IfOk result (λ hired. sum_by (λ w. w.before) hired.items ≡ seat.asked) }
@@ -69,7 +69,7 @@ fn hire<'p, L: Ledger>(
 /// A worker for each of these ends, on a part of the seat.
 fn hire_each<'p, L: Ledger>(
     alloc: Global,
-    ends: Vec<Ends<'p>>,
+    ends: Vec<WorkerDeques<'p>>,
     seat: &mut Seat<L>,
 ) -> Result<Vec<Worker<'p, L>>, AllocError>
     requires { vec_len ends < seat.old.parts }
@@ -102,7 +102,7 @@ fn has_finished(receipts: &Receipts) -> bool
 }
 
 /// Whether the last receipt is that of the run's end.
-fn ends_finished(receipts: &Receipts) -> bool
+fn is_finished_last(receipts: &Receipts) -> bool
     ensures { result ≡ true → list_any (λ receipt. finishes receipt.answer) receipts.now.items ≡ true }
 {
     let count = receipts.len();
@@ -113,11 +113,11 @@ fn ends_finished(receipts: &Receipts) -> bool
 }
 
 /// Whether some log ends with the receipt of the run's end, as that of the worker does that saw it.
-fn some_log_ends<L: Ledger>(logs: &[WorkerLog<L>]) -> bool
+fn is_some_log_finished_last<L: Ledger>(logs: &[WorkerLog<L>]) -> bool
     ensures { result ≡ true → some_finished logs.now ≡ true }
 {
     for log in logs {
-        if ends_finished(&log.receipts) {
+        if is_finished_last(&log.receipts) {
             return true;
         }
     }
@@ -125,10 +125,10 @@ fn some_log_ends<L: Ledger>(logs: &[WorkerLog<L>]) -> bool
 }
 
 /// Whether some receipt is that of the run's end. The ends of the logs are looked at first.
-fn some_log_finished<L: Ledger>(logs: &[WorkerLog<L>]) -> bool
+fn is_some_log_finished<L: Ledger>(logs: &[WorkerLog<L>]) -> bool
     ensures { result ≡ some_finished logs.now }
 {
-    if some_log_ends(logs) {
+    if is_some_log_finished_last(logs) {
         return true;
     }
     logs.iter().any(|log| has_finished(&log.receipts))
@@ -159,7 +159,7 @@ fn start<
     let mut running = Vec::with_capacity(alloc, hired.len())?;
     let mut all = true;
     for worker in hired {
-        let before = Hired(Snapshot::of(&worker));
+        let before = IdleWorker(Snapshot::of(&worker));
         match scope.spawn_with(before, move || worker.run(rt, alloc, gate, lot)) {
             Ok(thread) => running.push_reserved(thread),
             Err(_refused) => {
@@ -173,7 +173,7 @@ fn start<
 }
 
 /// What a run answers whose workers are started and joined here. Room for what they bring back is made before the first of them begins.
-fn all_work<
+fn run_workers<
     's,
     'p: 's,
     E,
@@ -200,11 +200,11 @@ fn all_work<
     let room = Room::new(alloc, hired.len())?;
     hired[0].begin(alloc, program)?;
     let (running, all) = start(rt, alloc, scope, hired, gate, lot)?;
-    told(finish(rt, running, back), all, room)
+    collect_logs(join_workers(rt, running, back), all, room)
 }
 
 /// Waits for the workers, which come back in their order.
-fn finish<'p, L: Ledger, R: Threads>(
+fn join_workers<'p, L: Ledger, R: Threads>(
     rt: &R,
     running: Vec<Running<'p, L>>,
     mut back: Vec<Worker<'p, L>>,
@@ -236,7 +236,7 @@ fn first_fault<'p, L: Ledger>(
 
 /// What a run answers whose workers came back so: the first of their faults, where one met any or a thread could not be started, and
 /// otherwise their logs, where one of them saw the run's end.
-fn told<'p, L: Ledger>(
+fn collect_logs<'p, L: Ledger>(
     workers: Vec<Worker<'p, L>>,
     all: bool,
     room: Room<'p, L>,
@@ -250,11 +250,11 @@ fn told<'p, L: Ledger>(
         all_asked logs.items ≡ sum_by (λ w. w.before) workers.entry.items + length (all_receipts logs.items)) }
     ensures finished { IfOk result (λ logs. some_finished logs.items ≡ true) }
 {
-    if let Some(fault) = first_fault(of_threads(all), workers.as_slice()) {
+    if let Some(fault) = first_fault(thread_fault_of(all), workers.as_slice()) {
         return Err(fault);
     }
     let logs = room.settle(workers);
-    if some_log_finished(logs.as_slice()) {
+    if is_some_log_finished(logs.as_slice()) {
         Ok(logs)
     } else {
         Err(RunFault::Strange)
@@ -280,7 +280,7 @@ pub fn run<L: Ledger + Send + Sync, G: Ask<L> + Sync, R: Threads + Wait + Sync>(
     ensures finished { IfOk result (λ logs. some_finished logs.items ≡ true) }
     ensures answered { IsAnswered workers seat.asked result }
 {
-    let hired = hire(alloc, make_ends(alloc, workers)?, seat)?;
+    let hired = hire(alloc, make_worker_deques(alloc, workers)?, seat)?;
     let lot = Lot::new(alloc);
     let shared = &lot;
     thread::scope(
@@ -292,6 +292,6 @@ pub fn run<L: Ledger + Send + Sync, G: Ask<L> + Sync, R: Threads + Wait + Sync>(
                 × (all_asked logs.items ≡ sum_by (λ w. w.before) hired.entry.items + length (all_receipts logs.items))
                 × (some_finished logs.items ≡ true)) }
             ensures ended { IsEnded hired.entry.items result }
-        { all_work(rt, alloc, scope, program, hired, gate, shared) },
+        { run_workers(rt, alloc, scope, program, hired, gate, shared) },
     )
 }

@@ -2,9 +2,9 @@
 
 ghost use Rattle.std.specs.Prelude.{◌≡◌, ◌<◌, IfOk, IfSome, length};
 
-use crate::fault::{fault_of, refusal_of};
+use crate::fault::{fault_of, frame_fault_of};
 use crate::task::{Spare, Task};
-use crate::worker::spawned;
+use crate::worker::spawn_target;
 use function_steps::Target;
 use locked_replay::RunFault;
 use program_text::Program;
@@ -33,14 +33,16 @@ fn ask_next(gate: &mut ShortGate, task: &mut Task<'_>) -> Result<(Answer, Option
     }
     frame.reserve_call()?;
     let want = frame.next(program);
-    let target = spawned(frame, program, want.act);
+    let target = spawn_target(frame, program, want.act);
     let request = Request {
         strand: *strand,
         act: want.act,
         line: want.line,
     };
     let receipt = gate.judge(request).map_err(fault_of)?;
-    frame.answer(program, &receipt.answer).map_err(refusal_of)?;
+    frame
+        .answer(program, &receipt.answer)
+        .map_err(frame_fault_of)?;
     Ok((receipt.answer, target))
 }
 
@@ -59,7 +61,7 @@ fn enter_child<'p>(
     let Some(target) = target else {
         return Err(RunFault::Strange);
     };
-    let child = Task::spawned(alloc, spawner.program, child, target, spare)?;
+    let child = Task::for_child(alloc, spawner.program, child, target, spare)?;
     waiting.reserve(1)?;
     waiting.push_reserved(spawner.on(next));
     Ok(child)

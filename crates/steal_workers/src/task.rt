@@ -39,7 +39,7 @@ impl<'p> Drop for Task<'p> {
 }
 
 /// A function at its begin, in a frame of the reserve where there is one.
-fn begun(
+fn begin_frame(
     alloc: Global,
     program: &Program<Global>,
     target: Target,
@@ -79,11 +79,11 @@ impl<'p> Task<'p> {
             function,
             argument: 0,
         };
-        Task::spawned(alloc, program, 0, target, spare)
+        Task::for_child(alloc, program, 0, target, spare)
     }
 
     /// A function at its begin, on this strand. It takes memory only where no frame is in reserve.
-    pub(crate) fn spawned(
+    pub(crate) fn for_child(
         alloc: Global,
         program: &'p Program<Global>,
         strand: u32,
@@ -95,7 +95,7 @@ impl<'p> Task<'p> {
         ensures program { IfOk result (λ task. task.program ≡ program.entry) }
         ensures begun { IfOk result (IsBegun target.function target.argument) }
     {
-        let frame = begun(alloc, program, target, spare)?;
+        let frame = begin_frame(alloc, program, target, spare)?;
         Ok(Task {
             strand,
             program,

@@ -4,13 +4,13 @@ ghost use Rattle.std.specs.Prelude.{◌≡◌, ◌↔◌, ◌+◌, ◌<◌, [], 
 ghost use Rattle.std.specs.Prelude.{IfSome, IsTrue, MatchOption, OnOk, length, vec_len};
 ghost use Rattle.frame_steps.specs.Frames.{Stands};
 ghost use Rattle.locked_replay.specs.declared.fault.RunFault.{RunFault};
-ghost use Rattle.steal_workers.specs.Hands.{pushing};
+ghost use Rattle.steal_workers.specs.PassLogs.{pushing};
 ghost use Rattle.steal_workers.specs.Goings.{GoesOn, HandsOut, IsAtJoin};
 
-use crate::ends::Ends;
-use crate::fault::{fault_of, meeting_of, refusal_of};
+use crate::fault::{fault_of, frame_fault_of, lot_fault_of};
 use crate::lot::{DOZE, Lot};
 use crate::task::{Spare, Task};
+use crate::worker_deques::WorkerDeques;
 use crossbeam_utils::Backoff;
 use frame_steps::Frame;
 use function_steps::Target;
@@ -24,7 +24,11 @@ use std::sync::ledger::Ledger;
 use text_words::{Act, Request};
 
 /// The function that a frame spawns, which wants this act. The frame is not asked where it can be none.
-pub(crate) fn spawned(frame: &Frame<Global>, program: &Program<Global>, act: Act) -> Option<Target>
+pub(crate) fn spawn_target(
+    frame: &Frame<Global>,
+    program: &Program<Global>,
+    act: Act,
+) -> Option<Target>
     requires { Stands program.now.functions frame.now }
     ensures { IfSome result (λ target. target.function < length program.now.functions) }
 {
@@ -36,7 +40,7 @@ pub(crate) fn spawned(frame: &Frame<Global>, program: &Program<Global>, act: Act
 
 /// What a frame knew of its request before it was answered.
 #[derive(Clone, Copy)]
-struct Asked {
+struct RequestContext {
     /// The function that the request spawns.
     target: Option<Target>,
     /// The join of the block that was open.
@@ -45,7 +49,7 @@ struct Asked {
 
 /// Where a worker goes on after an answer.
 #[derive(Clone, Copy)]
-enum Going {
+enum NextStep {
     /// With the task that it has.
     Ahead,
     /// With another: the task waits for this join.
@@ -60,7 +64,7 @@ enum Going {
 fn hand_out<'p, R: Wait>(
     rt: &R,
     lot: &Lot<'p>,
-    going: Going,
+    going: NextStep,
     task: Task<'p>,
     spare: &mut Spare,
 ) -> Result<Option<Task<'p>>, RunFault>
@@ -68,13 +72,13 @@ fn hand_out<'p, R: Wait>(
     ensures torn { result ≡ Err RunFault.Torn → IsAtJoin going }
 {
     match going {
-        Going::Ahead => Ok(Some(task)),
-        Going::Parks(join) => lot.park(rt, join, task).map_err(meeting_of),
-        Going::Wakes(join) => {
+        NextStep::Ahead => Ok(Some(task)),
+        NextStep::Parks(join) => lot.park(rt, join, task).map_err(lot_fault_of),
+        NextStep::Wakes(join) => {
             task.retire(spare);
-            lot.wake(rt, join).map_err(meeting_of)
+            lot.wake(rt, join).map_err(lot_fault_of)
         }
-        Going::Ends => {
+        NextStep::Ends => {
             task.retire(spare);
             Ok(None)
         }
@@ -99,7 +103,7 @@ pub struct Worker<'p, L: Ledger> {
     pub(crate) before: u64,
     seat: Seat<L>,
     pub(crate) receipts: Receipts,
-    pub(crate) ends: Ends<'p>,
+    pub(crate) ends: WorkerDeques<'p>,
     spare: Spare,
     /// The fault that it met, once it has run.
     pub fault: Option<RunFault>,
@@ -120,11 +124,11 @@ impl<'p, L: Ledger> Drop for Worker<'p, L> {
 }
 
 impl<'p, L: Ledger> Worker<'p, L> {
-    ghost use Rattle.steal_workers.specs.Reaches.{own_view};
+    ghost use Rattle.steal_workers.specs.StealHandles.{own_view};
     ghost use Rattle.steal_workers.specs.Workers.{station_of, AsksFor, KeepsReceipt, MeetsJoin, EndsAtJoin, TornAtJoin, child_of};
 
     /// A worker on this seat, with these ends, which has done nothing yet.
-    pub fn new(alloc: Global, seat: Seat<L>, ends: Ends<'p>) -> Worker<'p, L>
+    pub fn new(alloc: Global, seat: Seat<L>, ends: WorkerDeques<'p>) -> Worker<'p, L>
         ensures before { result.before ≡ seat.asked }
         ensures ends { result.ends ≡ ends.entry }
     {
@@ -177,7 +181,7 @@ impl<'p, L: Ledger> Worker<'p, L> {
         gate: &G,
         lot: &Lot<'p>,
         task: &mut Task<'p>,
-    ) -> Result<Going, RunFault>
+    ) -> Result<NextStep, RunFault>
         ensures station { station_of self.new ≡ station_of self.old }
         ensures asks { OnOk result (AsksFor task.old self.old.receipts.items self.new.receipts.items) }
         ensures joins { IfOk result (λ going. IsAtJoin going → EndsAtJoin self.new.receipts.items) }
@@ -193,8 +197,8 @@ impl<'p, L: Ledger> Worker<'p, L> {
         }
         frame.reserve_call()?;
         let want = frame.next(program);
-        let asked = Asked {
-            target: spawned(frame, program, want.act),
+        let asked = RequestContext {
+            target: spawn_target(frame, program, want.act),
             join: frame.block_join(),
         };
         let request = Request {
@@ -203,7 +207,7 @@ impl<'p, L: Ledger> Worker<'p, L> {
             line: want.line,
         };
         let answer = self.ask(rt, gate, request)?;
-        frame.answer(program, &answer).map_err(refusal_of)?;
+        frame.answer(program, &answer).map_err(frame_fault_of)?;
         self.follow(rt, alloc, lot, program, strand, answer, asked)
     }
 
@@ -216,8 +220,8 @@ impl<'p, L: Ledger> Worker<'p, L> {
         program: &'p Program<Global>,
         strand: &mut u32,
         answer: Answer,
-        asked: Asked,
-    ) -> Result<Going, RunFault>
+        asked: RequestContext,
+    ) -> Result<NextStep, RunFault>
         requires { IfSome asked.target (λ t. t.function < length program.now.functions) }
         ensures station { station_of self.new ≡ station_of self.old }
         ensures pushed { OnOk result ((own_view self.new.ends).pushed ≡ (own_view self.old.ends).pushed ++ child_of answer) }
@@ -230,28 +234,28 @@ impl<'p, L: Ledger> Worker<'p, L> {
             Answer::Split(strands) => {
                 self.spawn(alloc, program, strands.child, asked.target)?;
                 *strand = strands.next;
-                Ok(Going::Ahead)
+                Ok(NextStep::Ahead)
             }
             Answer::Joined(join) => {
                 *strand = join;
-                Ok(Going::Ahead)
+                Ok(NextStep::Ahead)
             }
             Answer::Waits => match asked.join {
-                Some(join) => Ok(Going::Parks(join)),
+                Some(join) => Ok(NextStep::Parks(join)),
                 None => Err(RunFault::Strange),
             },
-            Answer::Ended => Ok(Going::Ends),
-            Answer::EndedJoined(join) => Ok(Going::Wakes(join)),
+            Answer::Ended => Ok(NextStep::Ends),
+            Answer::EndedJoined(join) => Ok(NextStep::Wakes(join)),
             Answer::Finished => {
                 lot.close(rt);
-                Ok(Going::Ends)
+                Ok(NextStep::Ends)
             }
             Answer::Same
             | Answer::Resumed
             | Answer::Granted
             | Answer::Value(_)
             | Answer::Refused { .. }
-            | Answer::Unset => Ok(Going::Ahead),
+            | Answer::Unset => Ok(NextStep::Ahead),
         }
     }
 
@@ -271,7 +275,7 @@ impl<'p, L: Ledger> Worker<'p, L> {
     {
         match target {
             Some(target) => {
-                let task = Task::spawned(alloc, program, child, target, &mut self.spare)?;
+                let task = Task::for_child(alloc, program, child, target, &mut self.spare)?;
                 self.ends.push(task)?;
                 Ok(())
             }
@@ -293,7 +297,7 @@ impl<'p, L: Ledger> Worker<'p, L> {
     {
         for _ in rt.forever() {
             match self.step(rt, alloc, gate, lot, &mut task)? {
-                Going::Ahead => {}
+                NextStep::Ahead => {}
                 going => match hand_out(rt, lot, going, task, &mut self.spare)? {
                     Some(next) => task = next,
                     None => return Ok(()),
@@ -327,7 +331,7 @@ impl<'p, L: Ledger> Worker<'p, L> {
                         break;
                     }
                     if backoff.is_completed() {
-                        doze = lot.doze(rt, doze);
+                        doze = lot.sleep(rt, doze);
                     } else {
                         backoff.snooze();
                     }
@@ -360,7 +364,7 @@ impl<'p, L: Ledger> Worker<'p, L> {
     }
 
     /// What the worker brings back, and its ends of the deques.
-    pub(crate) fn ended(self) -> (WorkerLog<L>, Ends<'p>)
+    pub(crate) fn into_parts(self) -> (WorkerLog<L>, WorkerDeques<'p>)
         ensures log { (result.0.seat.asked ≡ self.entry.before + length result.0.receipts.items)
             × (result.0.receipts ≡ self.entry.receipts) }
         ensures ends { result.1 ≡ self.entry.ends }

@@ -20,7 +20,7 @@ use Rattle.text_words.specs.Values.{Known}
 use Rattle.text_words.specs.Names.{memory_named, reducer_named, IsFresh}
 use Rattle.text_words.specs.Declarations.{cells_of, memory_from, memory_at, reducer_at, with_memory, with_reducer}
 use Rattle.text_words.specs.Index.{IsInRange, name_of_memory, named_by, named, meaning_at, IsApart, IsIndexed}
-use Rattle.text_words.specs.Slots.{number_of}
+use Rattle.text_words.specs.Slots.{name_number}
 use Rattle.text_words.proofs.Numbers.{later_one, get_old, get_new, position_old, position_new, number_at, number_new}
 
 -- ---- one more memory
@@ -41,16 +41,16 @@ fresh_unnamed known name f =
     ap (λ (mem : Option Mem). named_by mem (reducer_named known.reducers name)) f.0 ∙ ap (λ (reducer : Option ℕ). named_by None reducer) f.1
 
 module _ (known : Known) (cells : ℕ) (names : List (List ℕ)) (meanings : List Named) (indexed : IsIndexed known cells names meanings) where
-  number_within : (name : List ℕ) (number : ℕ) → number_of names name ≡ Some number → number < len meanings
+  number_within : (name : List ℕ) (number : ℕ) → name_number names name ≡ Some number → number < len meanings
   number_within name number e = let l = (number_at names name number e).0 in let p = indexed.paired in omega arith
 
-  unnumbered_by : (name : List ℕ) (o : Option ℕ) → number_of names name ≡ o → meaning_at meanings o ≡ None → number_of names name ≡ None
+  unnumbered_by : (name : List ℕ) (o : Option ℕ) → name_number names name ≡ o → meaning_at meanings o ≡ None → name_number names name ≡ None
   unnumbered_by name None e f = e
   unnumbered_by name (Some number) e f = absurd (let g = slice_get_cases meanings number in grind (arith, g, number_within name number e))
 
   -- a new name has no number
-  pub unnumbered : (name : List ℕ) → IsFresh known name → number_of names name ≡ None
-  unnumbered name fresh = unnumbered_by name (number_of names name) refl (indexed.finds name ∙ fresh_unnamed known name fresh)
+  pub unnumbered : (name : List ℕ) → IsFresh known name → name_number names name ≡ None
+  unnumbered name fresh = unnumbered_by name (name_number names name) refl (indexed.finds name ∙ fresh_unnamed known name fresh)
 
   meaning_old : (meaning : Named) (o : Option ℕ) → ((number : ℕ) → o ≡ Some number → number < len meanings) → meaning_at (meanings ++ meaning ∷ []) o ≡ meaning_at meanings o
   meaning_old meaning None within = refl
@@ -63,16 +63,16 @@ module _ (known : Known) (cells : ℕ) (names : List (List ℕ)) (meanings : Lis
   none_at : (name : List ℕ) → bytes_eq name key ≡ true → (memory_named known.mems name ≡ None) × (reducer_named known.reducers name ≡ None)
   none_at name e = let same = same_bytes name e in (ap (memory_named known.mems) same ∙ fresh.0, ap (reducer_named known.reducers) same ∙ fresh.1)
 
-  found_new : (meaning : Named) (name : List ℕ) → bytes_eq name key ≡ true → meaning_at (meanings ++ meaning ∷ []) (number_of (names ++ key ∷ []) name) ≡ Some meaning
+  found_new : (meaning : Named) (name : List ℕ) → bytes_eq name key ≡ true → meaning_at (meanings ++ meaning ∷ []) (name_number (names ++ key ∷ []) name) ≡ Some meaning
   found_new meaning name e =
-      ap (λ (n : List ℕ). meaning_at (meanings ++ meaning ∷ []) (number_of (names ++ key ∷ []) n)) (same_bytes name e)
+      ap (λ (n : List ℕ). meaning_at (meanings ++ meaning ∷ []) (name_number (names ++ key ∷ []) n)) (same_bytes name e)
       ∙ (ap (meaning_at (meanings ++ meaning ∷ [])) (number_new names key (unnumbered known cells names meanings indexed key fresh) ∙ ap Some indexed.paired)
       ∙ get_new meaning meanings)
 
-  found_old : (meaning : Named) (name : List ℕ) → bytes_eq name key ≡ false → meaning_at (meanings ++ meaning ∷ []) (number_of (names ++ key ∷ []) name) ≡ named known name
+  found_old : (meaning : Named) (name : List ℕ) → bytes_eq name key ≡ false → meaning_at (meanings ++ meaning ∷ []) (name_number (names ++ key ∷ []) name) ≡ named known name
   found_old meaning name e =
       ap (meaning_at (meanings ++ meaning ∷ [])) (position_old (bytes_eq name) key 0 names e)
-      ∙ (meaning_old known cells names meanings indexed meaning (number_of names name) (number_within known cells names meanings indexed name)
+      ∙ (meaning_old known cells names meanings indexed meaning (name_number names name) (number_within known cells names meanings indexed name)
       ∙ indexed.finds name)
 
   paired_more : (meaning : Named) → len (names ++ key ∷ []) ≡ len (meanings ++ meaning ∷ [])
@@ -83,7 +83,7 @@ module _ (known : Known) (cells : ℕ) (names : List (List ℕ)) (meanings : Lis
     the_memory = memory_at at known.mems key length
 
     finds_memory : (b : Bool) (name : List ℕ) → bytes_eq name key ≡ b
-        → meaning_at (meanings ++ name_of_memory the_memory ∷ []) (number_of (names ++ key ∷ []) name) ≡ named (with_memory at known key length) name
+        → meaning_at (meanings ++ name_of_memory the_memory ∷ []) (name_number (names ++ key ∷ []) name) ≡ named (with_memory at known key length) name
     finds_memory true name e =
         found_new (name_of_memory the_memory) name e
         ∙ sym (ap (λ (mem : Option Mem). named_by mem (reducer_named known.reducers name)) (find_new (λ (mem : Mem). bytes_eq name mem.name) the_memory known.mems (none_at name e).0 e))
@@ -120,7 +120,7 @@ module _ (known : Known) (cells : ℕ) (names : List (List ℕ)) (meanings : Lis
     the_reducer = reducer_at at key monoid
 
     finds_reducer : (b : Bool) (name : List ℕ) → bytes_eq name key ≡ b
-        → meaning_at (meanings ++ Reducer (len known.reducers) ∷ []) (number_of (names ++ key ∷ []) name) ≡ named (with_reducer at known key monoid) name
+        → meaning_at (meanings ++ Reducer (len known.reducers) ∷ []) (name_number (names ++ key ∷ []) name) ≡ named (with_reducer at known key monoid) name
     finds_reducer true name e =
         let there : reducer_named (known.reducers ++ the_reducer ∷ []) name ≡ Some (0 + len known.reducers) =
         position_new (λ (r : Reduction). bytes_eq name r.name) the_reducer 0 known.reducers (none_at name e).1 e in
@@ -156,15 +156,15 @@ module _ (known : Known) (cells : ℕ) (names : List (List ℕ)) (meanings : Lis
 
 module _ (known : Known) (cells : ℕ) (names : List (List ℕ)) (meanings : List Named) (indexed : IsIndexed known cells names meanings) where
   -- what stands at a name's number is what the name stands for
-  pub meaning_named : (name : List ℕ) (number : ℕ) (found : Named) → number_of names name ≡ Some number → slice_get meanings number ≡ Some found → Some found ≡ named known name
+  pub meaning_named : (name : List ℕ) (number : ℕ) (found : Named) → name_number names name ≡ Some number → slice_get meanings number ≡ Some found → Some found ≡ named known name
   meaning_named name number found e f = sym f ∙ (ap (meaning_at meanings) (sym e) ∙ indexed.finds name)
 
   pub meaning_lent : (lent : List Named) (key name : List ℕ) (number : ℕ) (found : Named) → lent ≡ meanings → bytes_eq key name ≡ true
-      → number_of names key ≡ Some number → slice_get lent number ≡ Some found → Some found ≡ named known name
+      → name_number names key ≡ Some number → slice_get lent number ≡ Some found → Some found ≡ named known name
   meaning_lent lent key name number found same equal e f =
-      meaning_named name number found (ap (number_of names) (sym ((bytes_decides key name).0 equal)) ∙ e) (ap (λ (xs : List Named). slice_get xs number) (sym same) ∙ f)
+      meaning_named name number found (ap (name_number names) (sym ((bytes_decides key name).0 equal)) ∙ e) (ap (λ (xs : List Named). slice_get xs number) (sym same) ∙ f)
 
-  pub none_named : (name : List ℕ) → number_of names name ≡ None → None ≡ named known name
+  pub none_named : (name : List ℕ) → name_number names name ≡ None → None ≡ named known name
   none_named name e = ap (meaning_at meanings) (sym e) ∙ indexed.finds name
 
   -- what is found is a name

@@ -10,7 +10,7 @@ use Rattle.std.proofs.lemmas.Bool.{false≢true}
 use Rattle.std.proofs.lemmas.Option.{slice_get-get_or, slice_get_past}
 use Rattle.std.proofs.lemmas.Iterator.Adapters.{position_from-zero}
 use Rattle.std.proofs.lemmas.List.Quantifiers.{position-Some}
-use Rattle.text_words.specs.Slots.{number_of}
+use Rattle.text_words.specs.Slots.{name_number}
 
 -- ---- elements of a longer list
 
@@ -74,17 +74,17 @@ module _ {X : Type 0} (test : X → Bool) where
 -- ---- numbers of names
 
 -- a name that has a number stands there
-pub number_at : (names : List (List ℕ)) (name : List ℕ) (number : ℕ) → number_of names name ≡ Some number → (number < length names) × (slice_get names number ≡ Some name)
+pub number_at : (names : List (List ℕ)) (name : List ℕ) (number : ℕ) → name_number names name ≡ Some number → (number < length names) × (slice_get names number ≡ Some name)
 number_at names name number e =
     let s = position-Some (bytes_eq name) names number [] (position_from-zero (bytes_eq name) names ∙ e) in
     (s.0, slice_get-get_or names number [] s.0 ∙ ap Some (sym ((bytes_decides name _).0 s.1)))
 
 -- a name that has no number stands nowhere
-pub number_none : (names : List (List ℕ)) (name : List ℕ) (number : ℕ) → number_of names name ≡ None → slice_get names number ≡ Some name → ⊥
+pub number_none : (names : List (List ℕ)) (name : List ℕ) (number : ℕ) → name_number names name ≡ None → slice_get names number ≡ Some name → ⊥
 number_none names name number e f = false≢true (sym (none_at (bytes_eq name) 0 names number name e f) ∙ (bytes_decides name name).1 refl)
 
-pub number_stays : (names : List (List ℕ)) (last name : List ℕ) (number : ℕ) → number_of names name ≡ Some number → number_of (names ++ last ∷ []) name ≡ Some number
+pub number_stays : (names : List (List ℕ)) (last name : List ℕ) (number : ℕ) → name_number names name ≡ Some number → name_number (names ++ last ∷ []) name ≡ Some number
 number_stays names last name number e = position_stays (bytes_eq name) last 0 names number e
 
-pub number_new : (names : List (List ℕ)) (name : List ℕ) → number_of names name ≡ None → number_of (names ++ name ∷ []) name ≡ Some (length names)
+pub number_new : (names : List (List ℕ)) (name : List ℕ) → name_number names name ≡ None → name_number (names ++ name ∷ []) name ≡ Some (length names)
 number_new names name none = position_new (bytes_eq name) name 0 names none ((bytes_decides name name).1 refl) ∙ ap Some (zero-add (length names))

@@ -14,7 +14,7 @@ use Rattle.std.proofs.lemmas.Map.Text.{btree_map_updates_str}
 use denote.Ref.{Bor}
 use Rattle.text_words.specs.declared.name_index.Seen.{Seen}
 use Rattle.text_words.specs.declared.name_index.Seen.TheVariants.{Free, Same, Other}
-use Rattle.text_words.specs.Slots.{number_of, first_slot, second_slot, overflow_at, HasName, IsTaken, IsStored, AreNumbered, IsOverflow, AreStored, IsNameIndex, KeepsTaken, AddsAt, KeepsOverflow, IsSeen}
+use Rattle.text_words.specs.Slots.{name_number, first_slot, second_slot, overflow_at, HasName, IsTaken, IsStored, AreNumbered, IsOverflow, AreStored, IsNameIndex, KeepsTaken, AddsAt, KeepsOverflow, IsSeen}
 use Rattle.text_words.proofs.Numbers.{get_cases, copied_get, number_at, number_none, number_stays, number_new}
 
 abbrev Tree : Type 0
@@ -61,21 +61,21 @@ pub adds_keep : (tree more : Tree) (name : List ℕ) (number : ℕ) → AddsAt t
 adds_keep tree more name number adds only other n e =
     elim (adds other) [ inl f ↦ f ∙ e | inr f ↦ f.1 ∙ ap Some (sym (only n (ap (overflow_at tree) (sym f.0) ∙ e))) ]
 
-pub adds_overflow : (names : List (List ℕ)) (tree more : Tree) (name : List ℕ) (number : ℕ) → IsOverflow names tree → number_of names name ≡ Some number → AddsAt tree more name number → IsOverflow names more
+pub adds_overflow : (names : List (List ℕ)) (tree more : Tree) (name : List ℕ) (number : ℕ) → IsOverflow names tree → name_number names name ≡ Some number → AddsAt tree more name number → IsOverflow names more
 adds_overflow names tree more name number is numbered adds other n e =
-    elim (adds other) [ inl f ↦ is other n (sym f ∙ e) | inr f ↦ ap (number_of names) f.0 ∙ (numbered ∙ (sym f.1 ∙ e)) ]
+    elim (adds other) [ inl f ↦ is other n (sym f ∙ e) | inr f ↦ ap (name_number names) f.0 ∙ (numbered ∙ (sym f.1 ∙ e)) ]
 
 -- the tree has a name under its number alone
-pub only_number : (names : List (List ℕ)) (tree : Tree) (name : List ℕ) (number : ℕ) → IsOverflow names tree → number_of names name ≡ Some number → (other : ℕ) → overflow_at tree name ≡ Some other → other ≡ number
+pub only_number : (names : List (List ℕ)) (tree : Tree) (name : List ℕ) (number : ℕ) → IsOverflow names tree → name_number names name ≡ Some number → (other : ℕ) → overflow_at tree name ≡ Some other → other ≡ number
 only_number names tree name number is numbered other e = let f : Some other ≡ Some number = sym (is name other e) ∙ numbered in cc
 
 -- ---- one more name
 
-pub numbered_more : (names : List (List ℕ)) (name : List ℕ) → AreNumbered names → number_of names name ≡ None → AreNumbered (names ++ name ∷ [])
+pub numbered_more : (names : List (List ℕ)) (name : List ℕ) → AreNumbered names → name_number names name ≡ None → AreNumbered (names ++ name ∷ [])
 numbered_more names name are fresh other number e =
     elim (get_cases name names number other e) [
       | inl f ↦ number_stays names name other number (are other number f)
-      | inr f ↦ ap (number_of (names ++ name ∷ [])) (sym f.1) ∙ (number_new names name fresh ∙ ap Some (sym f.0))
+      | inr f ↦ ap (name_number (names ++ name ∷ [])) (sym f.1) ∙ (number_new names name fresh ∙ ap Some (sym f.0))
     ]
 
 pub overflow_more : (names : List (List ℕ)) (name : List ℕ) (tree : Tree) → IsOverflow names tree → IsOverflow (names ++ name ∷ []) tree
@@ -88,36 +88,36 @@ none_by None f = refl
 none_by (Some number) f = absurd (f number refl)
 
 module _ (names : List (List ℕ)) (slots : List ℕ) (overflow : Tree) (is : IsNameIndex names slots overflow) (name : List ℕ) where
-  stored_of : (number : ℕ) → number_of names name ≡ Some number → IsStored slots overflow name number
+  stored_of : (number : ℕ) → name_number names name ≡ Some number → IsStored slots overflow name number
   stored_of number e = let at = number_at names name number e in is.stored name number at.0 at.1
 
-  pub free_first : slice_index slots (first_slot (length slots) name) ≡ 0 → number_of names name ≡ None
-  free_first free = none_by (number_of names name) (λ number e. elim (stored_of number e) [ inl h ↦ taken slots _ number h free | inr t ↦ t.0 free ])
+  pub free_first : slice_index slots (first_slot (length slots) name) ≡ 0 → name_number names name ≡ None
+  free_first free = none_by (name_number names name) (λ number e. elim (stored_of number e) [ inl h ↦ taken slots _ number h free | inr t ↦ t.0 free ])
 
-  pub no_slots : length slots ≡ 0 → number_of names name ≡ None
+  pub no_slots : length slots ≡ 0 → name_number names name ≡ None
   no_slots none = free_first (get_or_past slots (first_slot (length slots) name) 0 (omega (arith, none)))
 
-  pub same_number : (number : ℕ) → slice_get names number ≡ Some name → number_of names name ≡ Some number
+  pub same_number : (number : ℕ) → slice_get names number ≡ Some name → name_number names name ≡ Some number
   same_number number e = is.numbered name number e
 
   -- it is not in the first slot, which has another name
-  not_first : IsSeen names slots (first_slot (length slots) name) name Other → (number : ℕ) → number_of names name ≡ Some number
+  not_first : IsSeen names slots (first_slot (length slots) name) name Other → (number : ℕ) → name_number names name ≡ Some number
       → HasName slots (second_slot (length slots) name) number ⊎ (IsTaken slots (second_slot (length slots) name) × (overflow_at overflow name ≡ Some number))
   not_first seen number e = elim (stored_of number e) [ inl h ↦ absurd (seen.1 number (number_at names name number e).1 h) | inr t ↦ t.1 ]
 
-  pub free_second : IsSeen names slots (first_slot (length slots) name) name Other → slice_index slots (second_slot (length slots) name) ≡ 0 → number_of names name ≡ None
-  free_second seen free = none_by (number_of names name) (λ number e. elim (not_first seen number e) [ inl h ↦ taken slots _ number h free | inr t ↦ t.0 free ])
+  pub free_second : IsSeen names slots (first_slot (length slots) name) name Other → slice_index slots (second_slot (length slots) name) ≡ 0 → name_number names name ≡ None
+  free_second seen free = none_by (name_number names name) (λ number e. elim (not_first seen number e) [ inl h ↦ taken slots _ number h free | inr t ↦ t.0 free ])
 
   in_tree_by : IsSeen names slots (first_slot (length slots) name) name Other → IsSeen names slots (second_slot (length slots) name) name Other
-      → (o found : Option ℕ) → number_of names name ≡ o → overflow_at overflow name ≡ found → found ≡ o
+      → (o found : Option ℕ) → name_number names name ≡ o → overflow_at overflow name ≡ found → found ≡ o
   in_tree_by seen also None None e f = refl
   in_tree_by seen also None (Some number) e f = sym (is.in_overflow name number f) ∙ e
   in_tree_by seen also (Some number) found e f =
       elim (not_first seen number e) [ inl h ↦ absurd (also.1 number (number_at names name number e).1 h) | inr t ↦ sym f ∙ t.1 ]
 
   pub in_tree : IsSeen names slots (first_slot (length slots) name) name Other → IsSeen names slots (second_slot (length slots) name) name Other
-      → overflow_at overflow name ≡ number_of names name
-  in_tree seen also = in_tree_by seen also (number_of names name) (overflow_at overflow name) refl refl
+      → overflow_at overflow name ≡ name_number names name
+  in_tree seen also = in_tree_by seen also (name_number names name) (overflow_at overflow name) refl refl
 
 -- ---- what the calls say of slices
 
@@ -143,7 +143,7 @@ written_back n new old same e =
     let none : drop (length new) old ≡ [] = drop_all (length new) old (let l : length old ≤ length new = omega (arith, same) in l) in
     rw none (rw (append-nil new) (take_all n new (let l : length new ≤ n = omega (arith, same, e) in l)))
 
-pub numbered_item : (names : List (List ℕ)) → AreNumbered names → (i : ℕ) (o : Option (Bor (List ℕ))) → option_map now_of o ≡ slice_get names i → IfSome o (λ name. number_of names name.now ≡ Some i)
+pub numbered_item : (names : List (List ℕ)) → AreNumbered names → (i : ℕ) (o : Option (Bor (List ℕ))) → option_map now_of o ≡ slice_get names i → IfSome o (λ name. name_number names name.now ≡ Some i)
 numbered_item names are i None e = tt
 numbered_item names are i (Some name) e = are name.now i (sym e)
 
@@ -212,7 +212,7 @@ module _ (slots more : List ℕ) (tree grown : Tree) (same : length more ≡ len
         | inr f ↦ subst (λ (n : List ℕ). IsStored more grown n k) f.1 (subst (λ (i : ℕ). IsStored more grown name i) (sym f.0) stored)
       ]
 
-pub index_more : (names : List (List ℕ)) (slots more : List ℕ) (tree grown : Tree) (name : List ℕ) → IsNameIndex names slots tree → number_of names name ≡ None
+pub index_more : (names : List (List ℕ)) (slots more : List ℕ) (tree grown : Tree) (name : List ℕ) → IsNameIndex names slots tree → name_number names name ≡ None
     → length more ≡ length slots → KeepsTaken slots more → AddsAt tree grown name (length names) → IsStored more grown name (length names)
     → IsNameIndex (names ++ name ∷ []) more grown
 index_more names slots more tree grown name is fresh same kept adds stored =
@@ -235,7 +235,7 @@ pub stored_turn : (names : List (List ℕ)) (count len : ℕ) (items lent new : 
 stored_turn names count len items lent new before tree grown number name are value whole inv at same stored kept adds =
     let as_long : length new ≡ length items = same ∙ ap length value in
     let stays : KeepsTaken items new = subst (λ (xs : List ℕ). KeepsTaken xs new) value kept in
-    let numbered : number_of names name ≡ Some number = are name number at in
+    let numbered : name_number names name ≡ Some number = are name number at in
     let keeps : KeepsOverflow tree grown = adds_keep tree grown name number adds (only_number names tree name number inv.2 numbered) in
     subst (λ (xs : List ℕ). (length xs ≡ count) × AreStored (number + 1) names xs grown × IsOverflow names grown × KeepsOverflow before grown)
     (sym (written_back len new items as_long whole))
@@ -255,7 +255,7 @@ index_unchanged names len items lent new tree grown is value whole same kept unc
     })
 
 pub index_added : (names : List (List ℕ)) (len number : ℕ) (items lent new : List ℕ) (tree grown : Tree) (name : List ℕ) → IsNameIndex names items tree → lent ≡ items → len ≡ length items
-    → number_of names name ≡ None → number ≡ length names → length new ≡ length lent → KeepsTaken lent new → AddsAt tree grown name number → IsStored new grown name number
+    → name_number names name ≡ None → number ≡ length names → length new ≡ length lent → KeepsTaken lent new → AddsAt tree grown name number → IsStored new grown name number
     → IsNameIndex (names ++ name ∷ []) (take len (new ++ drop (length new) items)) grown
 index_added names len number items lent new tree grown name is value whole fresh last same kept adds stored =
     let as_long : length new ≡ length items = same ∙ ap length value in

@@ -10,7 +10,7 @@ use Rattle.model_reducers.specs.Limits.{most_reducers}
 use Rattle.text_words.specs.Values.{Known}
 use Rattle.text_words.specs.Names.{memory_named, reducer_named}
 use Rattle.text_words.specs.Declarations.{cells_of}
-use Rattle.text_words.specs.Slots.{number_of}
+use Rattle.text_words.specs.Slots.{name_number}
 
 -- its cells are among the most that a text has
 abbrev pub IsInRange : Mem → Type 0
@@ -38,7 +38,7 @@ meaning_at meanings (Some number) = slice_get meanings number
 
 -- the index finds what each name stands for, what is found is a name, and the cells are counted
 pub record IsIndexed (known : Known) (cells : ℕ) (names : List (List ℕ)) (meanings : List Named) : Type 0 where
-  pub finds : (name : List ℕ) → meaning_at meanings (number_of names name) ≡ named known name
+  pub finds : (name : List ℕ) → meaning_at meanings (name_number names name) ≡ named known name
   pub paired : length names ≡ length meanings
   pub apart : (name : List ℕ) → IsApart known name
   pub named_only : (name : List ℕ) (found : Named) → named known name ≡ Some found → IsName name

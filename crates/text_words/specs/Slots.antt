@@ -11,8 +11,8 @@ use Rattle.text_words.specs.declared.name_index.Seen.{Seen}
 use Rattle.text_words.specs.declared.name_index.Seen.TheVariants.{Free, Same, Other}
 
 -- The number of a name among these, from 0 on.
-abbrev pub number_of : List (List ℕ) → List ℕ → Option ℕ
-number_of names name = position_from (bytes_eq name) 0 names
+abbrev pub name_number : List (List ℕ) → List ℕ → Option ℕ
+name_number names name = position_from (bytes_eq name) 0 names
 
 abbrev pub hash_of : List ℕ → ℕ
 hash_of name = finish (write initial name)
@@ -49,11 +49,11 @@ IsStored slots overflow name number =
 
 -- Each name stands once, so its place is its number.
 abbrev pub AreNumbered : List (List ℕ) → Type 0
-AreNumbered names = (name : List ℕ) (number : ℕ) → slice_get names number ≡ Some name → number_of names name ≡ Some number
+AreNumbered names = (name : List ℕ) (number : ℕ) → slice_get names number ≡ Some name → name_number names name ≡ Some number
 
 -- The tree has numbers of these names alone.
 abbrev pub IsOverflow : List (List ℕ) → BTreeMap (Bor (List ℕ)) ℕ → Type 0
-IsOverflow names overflow = (name : List ℕ) (number : ℕ) → overflow_at overflow name ≡ Some number → number_of names name ≡ Some number
+IsOverflow names overflow = (name : List ℕ) (number : ℕ) → overflow_at overflow name ≡ Some number → name_number names name ≡ Some number
 
 -- Each of the first so many names is stored.
 abbrev pub AreStored : ℕ → List (List ℕ) → List ℕ → BTreeMap (Bor (List ℕ)) ℕ → Type 0

@@ -7,7 +7,7 @@ use access_table::{Kind, access_table};
 use model_accesses::{Act, Asked};
 
 /// The access that an act asks for, or None where it is an act of control.
-pub fn access_asked(act: Act) -> Option<Asked>
+pub fn asked_by(act: Act) -> Option<Asked>
     ensures { result ≡ access_asked act }
 {
     macro_rules! accesses {

@@ -5,7 +5,7 @@
 //! with the contract that it is the next one by that definition; [`is_name`] decides what a name is. [`Names::find`], and
 //! [`Names::find_bytes`] of bytes that need be no text, carry the theorem that what is found is what a name stands for behind the
 //! declarations so far, which [`Names::add_memory`] and [`Names::add_reducer`] extend by just one, or not at all where memory runs out.
-//! [`monoid_of`] and [`monoid_word`] are the spelling of monoids, [`access_asked`] says which access an act is, and [`both`] is the lower
+//! [`monoid_of`] and [`monoid_word`] are the spelling of monoids, [`asked_by`] says which access an act is, and [`both`] is the lower
 //! of two causes.
 #![tactic(auto)]
 
@@ -18,7 +18,7 @@ mod spelling;
 mod value;
 mod words;
 
-pub use asked::access_asked;
+pub use asked::asked_by;
 pub use fault::{Cause, TextFault, both};
 pub use model_accesses::{Act, Asked, Request};
 pub use model_reducers::Monoid;

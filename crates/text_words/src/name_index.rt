@@ -3,7 +3,7 @@
 ghost use Rattle.std.specs.Prelude.{◌≡◌, ◌+◌, ◌<◌, ◌≤◌, ℕ, List, ◌∷◌, ◌++◌, [], None, Some, OnOk, OnErr, IfOk, OnSome, IfSome, false, IsTrue, length, map, option_map, slice_get, slice_index};
 ghost use Rattle.std.specs.BTreeMap.{IsUnchanged};
 ghost use denote.Ref.{Bor};
-ghost use Rattle.text_words.specs.Slots.{number_of, hash_of, slot_of, first_slot, second_slot, overflow_at, IsTaken, IsStored, IsNameIndex, AreNumbered, IsOverflow, AreStored, KeepsTaken, AddsAt, KeepsOverflow, IsSeen, HasName};
+ghost use Rattle.text_words.specs.Slots.{name_number, hash_of, slot_of, first_slot, second_slot, overflow_at, IsTaken, IsStored, IsNameIndex, AreNumbered, IsOverflow, AreStored, KeepsTaken, AddsAt, KeepsOverflow, IsSeen, HasName};
 
 use std::alloc::{AllocError, Allocator};
 use std::collections::BTreeMap;
@@ -229,14 +229,14 @@ impl<'a, A: Allocator + Copy> NameIndex<'a, A> {
     #[inline(always)]
     pub fn get(&self, number: usize) -> Option<&'a [u8]>
         ensures name { option_map (λ (name : Bor (List ℕ)). name.now) result ≡ slice_get self.now number }
-        ensures number { IfSome result (λ name. number_of self.now name.now ≡ Some number) }
+        ensures number { IfSome result (λ name. name_number self.now name.now ≡ Some number) }
     {
         self.names.get(number).copied()
     }
 
     /// The number of a name.
     pub fn find(&self, name: &[u8]) -> Option<usize>
-        ensures { result ≡ number_of self.now name.now }
+        ensures { result ≡ name_number self.now name.now }
     {
         if self.slots.is_empty() {
             return None;
@@ -256,7 +256,7 @@ impl<'a, A: Allocator + Copy> NameIndex<'a, A> {
 
     /// Adds a name. Where all numbers are taken there is no room for another.
     pub fn add(&mut self, name: &'a [u8]) -> Result<(), AllocError>
-        requires fresh { number_of self.old name.now ≡ None }
+        requires fresh { name_number self.old name.now ≡ None }
         ensures ok { OnOk result (self.new ≡ self.old ++ name.now ∷ []) }
         ensures err { OnErr result (self.new ≡ self.old) }
     {

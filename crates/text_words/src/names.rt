@@ -143,13 +143,13 @@ impl<'a, A: Allocator + Copy> Names<'a, A> {
         let number = self.hints[hint_of(name)];
         match (self.index.get(number), self.meanings.get(number)) {
             (Some(key), Some(found)) if key == name => Some(*found),
-            _ => self.searched(name),
+            _ => self.search(name),
         }
     }
 
     /// What a name stands for, by the index.
     #[inline(never)]
-    fn searched(&self, name: &[u8]) -> Option<Named>
+    fn search(&self, name: &[u8]) -> Option<Named>
         ensures { result ≡ named self.now name.now }
     {
         match self.index.find(name) {

@@ -17,7 +17,8 @@ use command_words::{Color, Format, INPUT, Job, Language};
 use dag_drawing::Form;
 use judge_command::judge_stream;
 use other_commands::{
-    Manner, Rendering, draw_text, elide_text, explain_text, replay_text, traced_text, write_traced,
+    Manner, Rendering, draw_text, elide_text, explain_text, replay_text, trace_run_of_text,
+    write_traced_run,
 };
 use run_command::{OpenDoor, run_text};
 use std::alloc::Global;
@@ -321,7 +322,7 @@ fn record_file<H: Host, W: Write, R: Threads + Wait + Sync>(
         Ok(program) => program,
         Err(fault) => return Err(fault),
     };
-    let told = traced_text(threads, alloc, &mut program, workers, &OpenDoor, limit);
+    let told = trace_run_of_text(threads, alloc, &mut program, workers, &OpenDoor, limit);
     host.note(&program);
     let told = match told {
         Ok(told) => told,
@@ -331,7 +332,7 @@ fn record_file<H: Host, W: Write, R: Threads + Wait + Sync>(
         Ok(created) => created,
         Err(fault) => return Err(fault),
     };
-    let answer = write_traced(&told, &mut created, output);
+    let answer = write_traced_run(&told, &mut created, output);
     host.close(trace.as_str(), created);
     answer
 }

@@ -38,7 +38,7 @@ fn take_file<H: Host>(
 }
 
 /// What is told of the traces in some files, and the exit status.
-fn told_of_files<H: Host>(
+fn explain_texts<H: Host>(
     alloc: Global,
     host: &mut Watched<H>,
     is_painted: bool,
@@ -63,7 +63,7 @@ fn told_of_files<H: Host>(
             return Ok((told, 2));
         }
     }
-    Ok((traces.told(alloc, rendering)?, traces.status()))
+    Ok((traces.to_message(alloc, rendering)?, traces.status()))
 }
 
 /// Explains the traces in some files together.
@@ -88,7 +88,7 @@ pub(crate) fn explain_files<H: Host, W: Write>(
     ensures unwritten { IfErr result (λ fault. fault ≢ CliFault.Write → output.new ≡ output.old) }
     ensures lacking { lacks_first (H.lacks (held host.old)) (map string_bytes files.now) → IsErrOf result CliFault.Read }
 {
-    let (told, status) = told_of_files(alloc, host, is_painted, rendering, files)?;
+    let (told, status) = explain_texts(alloc, host, is_painted, rendering, files)?;
     write_text(output, told.as_slice())?;
     Ok(status)
 }

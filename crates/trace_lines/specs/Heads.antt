@@ -42,16 +42,16 @@ place_of (Get reducer) = reducer
 place_of _ = 0
 
 -- its value, and 0 where it has none
-abbrev pub value_of : Act → ℕ
-value_of (Write cell value) = value
-value_of (Bump cell value) = value
-value_of (Update reducer value) = value
-value_of (Put reducer value) = value
-value_of _ = 0
+abbrev pub act_value : Act → ℕ
+act_value (Write cell value) = value
+act_value (Bump cell value) = value
+act_value (Update reducer value) = value
+act_value (Put reducer value) = value
+act_value _ = 0
 
 -- the act of these numbers
-abbrev pub act_of : (tag place value : ℕ) → Act
-act_of tag place value =
+abbrev pub tagged_act : (tag place value : ℕ) → Act
+tagged_act tag place value =
     if tag == 0 then Spawn else
     if tag == 1 then Sync else
     if tag == 2 then Call else
@@ -78,7 +78,7 @@ line_of_head last head = record {
   request = record {
     strand = strand_in head;
     line = (last + 1) % 2 ^ 32;
-    act = act_of (tag_in head) (rest_in head % places) (rest_in head / places);
+    act = tagged_act (tag_in head) (rest_in head % places) (rest_in head / places);
   };
   at = (last + 1) % 2 ^ 32;
   marked = false;
@@ -88,7 +88,7 @@ line_of_head last head = record {
 -- marked
 abbrev pub line_of_numbers : (head value who spot : ℕ) → TraceLine
 line_of_numbers head value who spot = record {
-  request = record { strand = who / 2 ^ 32 % 2 ^ 32; line = who % 2 ^ 32; act = act_of (tag_in head) (rest_in head % 2 ^ 32) value };
+  request = record { strand = who / 2 ^ 32 % 2 ^ 32; line = who % 2 ^ 32; act = tagged_act (tag_in head) (rest_in head % 2 ^ 32) value };
   at = spot / 2 % 2 ^ 32;
   marked = spot % 2 == 1;
 }

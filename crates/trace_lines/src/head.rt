@@ -2,7 +2,7 @@
 
 ghost use Rattle.std.specs.Prelude.{◌≡◌, ◌≢◌, ◌↔◌, ◌<◌, ◌+◌, ◌*◌, ◌%◌, ◌^◌, IsTrue, false};
 ghost use Rattle.std.specs.Option.{IfSome};
-ghost use Rattle.trace_lines.specs.Heads.{tag_of as tag_spec, place_of as place_spec, value_of as value_spec, act_of as act_spec};
+ghost use Rattle.trace_lines.specs.Heads.{tag_of as tag_spec, place_of as place_spec, act_value as value_spec, tagged_act as act_spec};
 ghost use Rattle.trace_lines.specs.Heads.{strands, acts, places, marker, strand_in, tag_in, rest_in};
 ghost use Rattle.trace_lines.specs.Heads.{line_of_head as line_of_head_spec, line_of_numbers as line_of_numbers_spec};
 

@@ -79,7 +79,7 @@ fn add_last<A: Allocator + Copy>(
 }
 
 /// The text under a name.
-fn found<'b, A: Allocator + Copy>(
+fn find_text<'b, A: Allocator + Copy>(
     texts: &'b BTreeMap<String<A>, String<A>, A>,
     name: &str,
 ) -> Option<&'b str>
@@ -173,9 +173,9 @@ impl<A: Allocator + Copy> Notes<A> {
         ensures noted { option_map (λ text. text.now) result ≡ noted_text self.now cell.now }
         ensures told { (lines : List (List ℕ)) → AreNotes lines self.now → option_map (λ text. text.now) result ≡ text_told lines cell.now }
     {
-        match found(&self.cells, cell) {
+        match find_text(&self.cells, cell) {
             Some(text) => Some(text),
-            None => found(&self.memories, memory_of(cell)),
+            None => find_text(&self.memories, memory_of(cell)),
         }
     }
 

@@ -7,7 +7,7 @@ use Rattle.text_words.specs.Text.{lines, words}
 use Rattle.text_words.specs.Values.{Contents}
 use Rattle.trace_text.specs.Grammar.{ItemMeans}
 use Rattle.trace_text.specs.Items.{line_asked}
-use Rattle.trace_text.specs.Drafts.{Extends, IsRoomFault, IsTaken, IsStopped}
+use Rattle.trace_text.specs.Drafts.{AddsItem, IsRoomFault, IsTaken, IsStopped}
 use Rattle.trace_text.specs.Plain.{HasRequest}
 use Rattle.trace_text.proofs.Once.{item_clean}
 use Rattle.trace_text.proofs.RoomFaults.{line_taken}
@@ -24,7 +24,7 @@ module _ (at : ℕ) (before after : Contents) (text rest : List ℕ) (strand : �
   means : ItemMeans at before.known (words has.0) (line_asked at strand act mark)
   means = has.3 at
 
-  pub plain_taken : Extends at before (line_asked at strand act mark) after → IsTaken at before text rest after
+  pub plain_taken : AddsItem at before (line_asked at strand act mark) after → IsTaken at before text rest after
   plain_taken e = (has.0, first_line, shorter, line_asked at strand act mark, (e.0, has.2, means, e.1, e.2), e.3)
 
   pub plain_stopped : (fault : TextFault) → IsRoomFault at before (line_asked at strand act mark) fault → IsStopped at before text fault

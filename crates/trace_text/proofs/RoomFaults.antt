@@ -23,7 +23,7 @@ use Rattle.trace_text.specs.Faults.{LineFault, LinesFault, FaultOfLines, WordFau
 use Rattle.text_words.specs.declared.value.Mem.{Mem}
 use Rattle.text_words.specs.declared.value.Reducer.{Reducer}
 use Rattle.text_words.specs.declared.value.TraceLine.{TraceLine}
-use Rattle.trace_text.specs.Drafts.{so_far, IsRoomCause, Extends, IsRoomFault, IsLineFault, IsBodyFault, IsTextFault, IsTaken, IsStopped}
+use Rattle.trace_text.specs.Drafts.{so_far, IsRoomCause, AddsItem, IsRoomFault, IsLineFault, IsBodyFault, IsTextFault, IsTaken, IsStopped}
 use Rattle.trace_text.proofs.Outcomes.{clear}
 
 -- an act's keyword declares nothing
@@ -101,7 +101,7 @@ module _ (at : ℕ) (before : Contents) (line : List ℕ) (text : IsTextLine lin
 
 pub line_taken : {U : Type 0} (at : ℕ) (before after : Contents) (line : List ℕ) (item : Item) (r : Result U TextFault) → IsTextLine line
     → ItemMeans at before.known (words line) item → ((cause : Cause) → WordsFault before.known (words line) cause → ⊥)
-    → MatchResult r (λ _. Extends at before item after) (IsRoomFault at before item)
+    → MatchResult r (λ _. AddsItem at before item after) (IsRoomFault at before item)
     → MatchResult r (λ _. (x : Item) × LineMeans at before line x × (after ≡ extended at before x)) (IsLineFault at before line)
 line_taken at before after line item (Ok u) text m clean e = (item, (e.0, text, m, e.1, e.2), e.3)
 line_taken at before after line item (Err (At bad why)) text m clean e = (e.0, lowest_of_room at before line item text m clean why e.1)

@@ -21,8 +21,8 @@ abbrev pub SaysSo : ℕ → Known → Item → Type 0
 SaysSo at known item = (words : List (List ℕ)) × ItemMeans at known words item
 
 -- The item fits, and next is what was read with it.
-abbrev pub Extends : ℕ → Contents → Item → Contents → Type 0
-Extends at before item next = (at ≤ most_lines) × IsInOrder before item × HasRoom before item × (next ≡ extended at before item)
+abbrev pub AddsItem : ℕ → Contents → Item → Contents → Type 0
+AddsItem at before item next = (at ≤ most_lines) × IsInOrder before item × HasRoom before item × (next ≡ extended at before item)
 
 abbrev pub IsRoomCause : ℕ → Contents → Item → Cause → Type 0
 IsRoomCause at before item BadNesting = IsInOrder before item → ⊥

@@ -5,7 +5,7 @@ ghost use Rattle.trace_text.specs.declared.keyword.Keyword.{Keyword};
 ghost use Rattle.trace_text.specs.Lines.{spelling, asks, HasKeyword};
 
 use access_table::{Kind, kind_of, word};
-use text_words::{Act, Version, access_asked};
+use text_words::{Act, Version, asked_by};
 
 /// The first word of a line.
 #[derive(Clone, Copy)]
@@ -66,7 +66,7 @@ pub fn keyword_word(keyword: Keyword) -> &'static str
 pub fn keyword_for(act: Act) -> Keyword
     ensures { result ≡ asks act }
 {
-    if let Some(asked) = access_asked(act) {
+    if let Some(asked) = asked_by(act) {
         return Keyword::Access(asked.kind);
     }
     match act {

@@ -37,4 +37,4 @@ pub use text_words::{
     Request, Shape, TextFault, TraceLine, Version, Words, as_text, both, is_name, monoid_of,
     monoid_word, split_line, version_word, without_return,
 };
-pub use trace::{LINES, REDUCERS, Trace, header};
+pub use trace::{LINES, REDUCERS, Trace, read_header};

@@ -45,7 +45,7 @@ pub fn request_on(at: u32, strand: u32, act: Act, mark: Option<u32>) -> TraceLin
     }
 }
 
-fn asked(at: u32, strand: u32, act: Act, mark: Option<u32>) -> Item<'static>
+fn request_item(at: u32, strand: u32, act: Act, mark: Option<u32>) -> Item<'static>
     ensures { item_of result ≡ line_asked at strand act mark }
 {
     Item::Asked(request_on(at, strand, act, mark))
@@ -90,7 +90,7 @@ fn control(at: u32, act: Act, words: &mut Words<'_>) -> Result<Item<'static>, Ca
     let by = strand(words);
     let mark = mark(words);
     match both(by, mark) {
-        Ok((by, mark)) => Ok(asked(at, by, act, mark)),
+        Ok((by, mark)) => Ok(request_item(at, by, act, mark)),
         Err(why) => Err(why),
     }
 }
@@ -150,7 +150,12 @@ fn access<A: Allocator + Copy>(
     let value = value_for(kind, words);
     let mark = mark(words);
     match both(by, both(place, both(value, mark))) {
-        Ok((by, (place, (value, mark)))) => Ok(asked(at, by, act_of(kind, place, value), mark)),
+        Ok((by, (place, (value, mark)))) => Ok(request_item(
+            at,
+            by,
+            act_of(kind, place, value),
+            mark,
+        )),
         Err(why) => Err(why),
     }
 }

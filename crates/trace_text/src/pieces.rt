@@ -7,7 +7,7 @@ ghost use Rattle.trace_text.specs.Drafts.{IsTextFault};
 ghost use Rattle.trace_text.specs.Traces.{contents};
 ghost use Rattle.trace_text.specs.Pieces.{AreWholeLines, IsBegun};
 
-use crate::trace::{Draft, Trace, whole};
+use crate::trace::{Draft, Trace, read_whole};
 use std::alloc::Allocator;
 use text_words::TextFault;
 
@@ -50,7 +50,7 @@ impl<'a, A: Allocator + Copy> BegunTrace<'a, A> {
         if front.is_empty() {
             return Ok(None);
         }
-        match whole(alloc, front) {
+        match read_whole(alloc, front) {
             Ok((draft, at)) => {
                 if draft.lines.is_empty() {
                     Ok(None)

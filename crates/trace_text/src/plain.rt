@@ -112,7 +112,7 @@ fn value(bytes: &[u8]) -> Option<(u64, &[u8])>
 
 /// The mark behind a space, and the line feed. Few lines have one, and the code of those that have none stays small.
 #[inline(never)]
-fn marked(bytes: &[u8]) -> Option<(u32, &[u8])>
+fn take_mark(bytes: &[u8]) -> Option<(u32, &[u8])>
     ensures { (known : Known) → IfSome result (λ r. HasEnd known [] (Some Mark) bytes.now (if_there (Some r.0)) r.1.now) }
 {
     let [b' ', b'@', digits @ ..] = bytes else {
@@ -134,7 +134,7 @@ pub fn mark(bytes: &[u8]) -> Option<(Option<u32>, &[u8])>
     if let [b'\n', rest @ ..] = bytes {
         return Some((None, rest));
     }
-    let Some((line, rest)) = marked(bytes) else {
+    let Some((line, rest)) = take_mark(bytes) else {
         return None;
     };
     Some((Some(line), rest))

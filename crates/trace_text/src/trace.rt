@@ -17,7 +17,7 @@ ghost use Rattle.trace_text.specs.Items.{item_of};
 ghost use Rattle.trace_text.specs.Lines.{HasKeyword, IsControl};
 ghost use Rattle.trace_text.specs.declared.keyword.Keyword.TheVariants.{Access};
 ghost use Rattle.trace_text.specs.Plain.{BeginsRequest};
-ghost use Rattle.trace_text.specs.Drafts.{so_far, Extends, IsRoomFault, IsLineFault, IsHeaderFault};
+ghost use Rattle.trace_text.specs.Drafts.{so_far, AddsItem, IsRoomFault, IsLineFault, IsHeaderFault};
 ghost use Rattle.trace_text.specs.Drafts.{IsLinesFault, IsBodyFault, IsTextFault, IsTaken, IsStopped, Goes, SaysSo};
 
 use crate::keyword::{keyword_for, keyword_word};
@@ -71,7 +71,7 @@ impl<'a, A: Allocator + Copy> Draft<'a, A> {
     fn declare(&mut self, at: u32, name: &'a str, length: Option<u32>) -> Result<(), TextFault>
         requires { SaysSo at self.old.names (Declared name.now length) }
         ensures { MatchResult result
-            (λ _. Extends at (so_far self.old.names self.old.lines) (Declared name.now length) (so_far self.new.names self.new.lines))
+            (λ _. AddsItem at (so_far self.old.names self.old.lines) (Declared name.now length) (so_far self.new.names self.new.lines))
             (IsRoomFault at (so_far self.old.names self.old.lines) (Declared name.now length)) }
     {
         if !self.lines.is_empty() {
@@ -90,7 +90,7 @@ impl<'a, A: Allocator + Copy> Draft<'a, A> {
     fn reduce(&mut self, at: u32, name: &'a str, monoid: Monoid) -> Result<(), TextFault>
         requires { SaysSo at self.old.names (Reduces name.now monoid) }
         ensures { MatchResult result
-            (λ _. Extends at (so_far self.old.names self.old.lines) (Reduces name.now monoid) (so_far self.new.names self.new.lines))
+            (λ _. AddsItem at (so_far self.old.names self.old.lines) (Reduces name.now monoid) (so_far self.new.names self.new.lines))
             (IsRoomFault at (so_far self.old.names self.old.lines) (Reduces name.now monoid)) }
     {
         if !self.lines.is_empty() {
@@ -109,7 +109,7 @@ impl<'a, A: Allocator + Copy> Draft<'a, A> {
     #[inline(always)]
     fn ask(&mut self, at: u32, line: TraceLine) -> Result<(), TextFault>
         ensures { MatchResult result
-            (λ _. Extends at (so_far self.old.names self.old.lines) (Asked line) (so_far self.new.names self.new.lines))
+            (λ _. AddsItem at (so_far self.old.names self.old.lines) (Asked line) (so_far self.new.names self.new.lines))
             (IsRoomFault at (so_far self.old.names self.old.lines) (Asked line)) }
     {
         if at > LINES || self.lines.len() >= REQUESTS {
@@ -125,7 +125,7 @@ impl<'a, A: Allocator + Copy> Draft<'a, A> {
     fn add(&mut self, at: u32, item: Item<'a>) -> Result<(), TextFault>
         requires { SaysSo at self.old.names (item_of item) }
         ensures { MatchResult result
-            (λ _. Extends at (so_far self.old.names self.old.lines) (item_of item.entry) (so_far self.new.names self.new.lines))
+            (λ _. AddsItem at (so_far self.old.names self.old.lines) (item_of item.entry) (so_far self.new.names self.new.lines))
             (IsRoomFault at (so_far self.old.names self.old.lines) (item_of item.entry)) }
     {
         match item {
@@ -146,7 +146,7 @@ impl<'a, A: Allocator + Copy> Draft<'a, A> {
     fn add_behind(&mut self, at: u32, item: Item<'_>) -> Result<(), TextFault>
         requires some { self.old.lines ≢ [] }
         ensures { MatchResult result
-            (λ _. Extends at (so_far self.old.names self.old.lines) (item_of item.entry) (so_far self.new.names self.new.lines))
+            (λ _. AddsItem at (so_far self.old.names self.old.lines) (item_of item.entry) (so_far self.new.names self.new.lines))
             (IsRoomFault at (so_far self.old.names self.old.lines) (item_of item.entry)) }
     {
         match item {
@@ -164,7 +164,7 @@ impl<'a, A: Allocator + Copy> Draft<'a, A> {
     }
 
     /// What the line with the number `at` says, in its place or not.
-    fn said<'b>(&self, at: u32, line: &'b [u8]) -> Result<Item<'b>, TextFault>
+    fn read_item<'b>(&self, at: u32, line: &'b [u8]) -> Result<Item<'b>, TextFault>
         ensures { MatchResult result
             (λ item. IsTextLine line.now × ItemMeans at self.now.names (words line.now) (item_of item))
             (IsLineFault at (so_far self.now.names self.now.lines) line.now) }
@@ -186,7 +186,7 @@ impl<'a, A: Allocator + Copy> Draft<'a, A> {
             (IsStopped at (so_far self.old.names self.old.lines) text.now) }
     {
         let (line, rest) = split_line(text);
-        let item = match self.said(at, without_return(line)) {
+        let item = match self.read_item(at, without_return(line)) {
             Ok(item) => item,
             Err(fault) => return (rest, Some(fault)),
         };
@@ -383,7 +383,7 @@ impl<'a, A: Allocator + Copy> Draft<'a, A> {
             (IsStopped at (so_far self.old.names self.old.lines) text.now) }
     {
         let (line, rest) = split_line(text);
-        let item = match self.said(at, without_return(line)) {
+        let item = match self.read_item(at, without_return(line)) {
             Ok(item) => item,
             Err(fault) => return (rest, Some(fault)),
         };
@@ -476,7 +476,7 @@ fn version_named(words: &mut Words<'_>) -> Option<Version>
 }
 
 /// Reads the first line.
-pub fn header(line: &[u8]) -> Result<Version, TextFault>
+pub fn read_header(line: &[u8]) -> Result<Version, TextFault>
     ensures { MatchResult result (IsHeader line.now) (IsHeaderFault line.now) }
 {
     let Some(text) = as_text(line) else {
@@ -489,7 +489,7 @@ pub fn header(line: &[u8]) -> Result<Version, TextFault>
 }
 
 /// Reads the lines behind the first. It gives the number of the last line too.
-fn body<'a, A: Allocator + Copy>(
+fn read_body<'a, A: Allocator + Copy>(
     alloc: A,
     version: Version,
     text: &'a [u8],
@@ -510,7 +510,7 @@ fn body<'a, A: Allocator + Copy>(
 }
 
 /// Reads a text. It gives the number of its last line too.
-pub(crate) fn whole<'a, A: Allocator + Copy>(
+pub(crate) fn read_whole<'a, A: Allocator + Copy>(
     alloc: A,
     bytes: &'a [u8],
 ) -> Result<(Draft<'a, A>, u32), TextFault>
@@ -522,11 +522,11 @@ pub(crate) fn whole<'a, A: Allocator + Copy>(
         return Err(fault(1, Cause::BadHeader));
     }
     let (first, rest) = split_line(bytes);
-    let version = match header(without_return(first)) {
+    let version = match read_header(without_return(first)) {
         Ok(version) => version,
         Err(fault) => return Err(fault),
     };
-    body(alloc, version, rest)
+    read_body(alloc, version, rest)
 }
 
 /// How many cells the memories have.
@@ -607,7 +607,7 @@ impl<A: Allocator + Copy> Trace<A> {
     pub fn parse(alloc: A, bytes: &[u8]) -> Result<Trace<A>, TextFault>
         ensures { MatchResult result (λ trace. TextMeans bytes.now (contents trace)) (IsTextFault bytes.now) }
     {
-        match whole(alloc, bytes) {
+        match read_whole(alloc, bytes) {
             Ok((draft, _)) => Ok(Trace::of_draft(draft)),
             Err(fault) => Err(fault),
         }

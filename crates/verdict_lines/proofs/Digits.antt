@@ -4,7 +4,7 @@ use Rattle.std.proofs.lemmas.List.{take_more_set, take-take, length-take-le}
 use Rattle.std.proofs.lemmas.Grind.{take-set_at}
 use lib.Ieee.Fits.{and_l, and_r}
 use Rattle.std.proofs.Math.Seq.{take-append-add}
-use Rattle.verdict_lines.specs.declared.placed.TheConstants.{PAIRS}
+use Rattle.verdict_lines.specs.declared.slice_text.TheConstants.{PAIRS}
 
 abbrev are_pairs : ℕ → Bool
 are_pairs zero = true

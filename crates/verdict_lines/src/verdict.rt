@@ -8,14 +8,14 @@ ghost use Rattle.verdict_lines.specs.VerdictText.{fault_word, numbers_text, line
 ghost use Rattle.verdict_lines.specs.RefusedText.{earlier_told, new_told};
 ghost use Rattle.verdict_lines.specs.Rooms.{line_room};
 
-use crate::counted::Counted;
-use crate::placed::{put_bytes, put_mostly_small, put_number, put_word};
+use crate::digit_cache::DigitCache;
+use crate::slice_text::{put_bytes, put_mostly_small, put_number, put_word};
 use access_table::{Kind, rule_word};
 use model_accesses::Witness;
 use model_strands::Spawned;
 use race_gate::{Answer, GateFault, Reply};
 use std::alloc::{AllocError, Allocator};
-use text_words::{Act, access_asked};
+use text_words::{Act, asked_by};
 
 /// Room for each verdict line, in bytes: the longest is of four numbers, of at most 20 digits each, and the words between them.
 pub const LINE_ROOM: usize = 96;
@@ -26,7 +26,7 @@ pub fn rule_of_refusal(act: Act, witness: Kind) -> &'static str
     ensures word { refusal_word act witness ≡ Some result.now }
     ensures short { length result.now ≤ 16 }
 {
-    let Some(asked) = access_asked(act) else {
+    let Some(asked) = asked_by(act) else {
         unreachable!()
     };
     match rule_word(witness, asked.kind) {
@@ -37,7 +37,12 @@ pub fn rule_of_refusal(act: Act, witness: Kind) -> &'static str
 
 /// Puts a word, a number and a line feed at a place of a slice, and answers the place behind them. What stands before the place stays.
 #[inline(always)]
-pub fn put_told<const N: usize>(out: &mut [u8], at: usize, word: &[u8; N], number: u64) -> usize
+pub fn put_word_line<const N: usize>(
+    out: &mut [u8],
+    at: usize,
+    word: &[u8; N],
+    number: u64,
+) -> usize
     requires room { at + N + 21 ≤ length out.old }
     ensures len { length out.new ≡ length out.old }
     ensures put { take result out.new ≡ take at out.old ++ (word.now ++ decimal number ++ codes "\n") }
@@ -62,7 +67,7 @@ fn put_split(out: &mut [u8], at: usize, spawned: Spawned) -> usize
     let child = put_number(out, place, u64::from(spawned.child));
     let between = put_bytes(out, child, b" ");
     let next = put_number(out, between, u64::from(spawned.next));
-    put_told(out, next, b" ", u64::from(spawned.join))
+    put_word_line(out, next, b" ", u64::from(spawned.join))
 }
 
 /// Puts so many of these bytes at a place of a slice, and answers the place behind them. What stands before the place stays. All the bytes
@@ -117,7 +122,7 @@ fn put_rule(out: &mut [u8], at: usize, act: Act, witness: Kind) -> usize
     ensures len { length out.new ≡ length out.old }
     ensures put { take result out.new ≡ take at out.old ++ (codes " refused " ++ unwrap_or (refusal_word act witness) [] ++ codes " ") }
 {
-    let Some(asked) = access_asked(act) else {
+    let Some(asked) = asked_by(act) else {
         unreachable!()
     };
     let (earlier, count) = earlier_text(witness);
@@ -136,7 +141,7 @@ fn put_refusal(out: &mut [u8], at: usize, act: Act, witness: Witness) -> usize
         (codes " refused " ++ unwrap_or (refusal_word act witness.kind) [] ++ codes " " ++ decimal witness.entry ++ codes "\n") }
 {
     let end = put_rule(out, at, act, witness.kind);
-    put_told(out, end, b"", u64::from(witness.entry))
+    put_word_line(out, end, b"", u64::from(witness.entry))
 }
 
 /// Puts the end of a line that tells a join by a sync.
@@ -146,7 +151,7 @@ fn put_joined(out: &mut [u8], at: usize, join: u32) -> usize
     ensures len { length out.new ≡ length out.old }
     ensures put { take result out.new ≡ take at out.old ++ (codes " joined " ++ decimal join ++ codes "\n") }
 {
-    put_told(out, at, b" joined ", u64::from(join))
+    put_word_line(out, at, b" joined ", u64::from(join))
 }
 
 /// Puts the end of a line that tells a join by a return.
@@ -156,7 +161,7 @@ fn put_ended_joined(out: &mut [u8], at: usize, join: u32) -> usize
     ensures len { length out.new ≡ length out.old }
     ensures put { take result out.new ≡ take at out.old ++ (codes " ended-joined " ++ decimal join ++ codes "\n") }
 {
-    put_told(out, at, b" ended-joined ", u64::from(join))
+    put_word_line(out, at, b" ended-joined ", u64::from(join))
 }
 
 /// Puts the end of a line that tells a value.
@@ -215,7 +220,7 @@ fn put_fault(out: &mut [u8], at: usize, fault: GateFault) -> usize
 /// What stands before the place stays. The line is as [`verdict_lines`] writes it. `counted` is where entries' numbers are counted: one
 /// for all replies of a gate.
 #[inline(always)]
-pub fn put_verdict(out: &mut [u8], at: usize, reply: &Reply, counted: &mut Counted) -> usize
+pub fn put_verdict(out: &mut [u8], at: usize, reply: &Reply, counted: &mut DigitCache) -> usize
     requires words { HasWords reply.now }
     requires room { at + line_room ≤ length out.old }
     ensures len { length out.new ≡ length out.old }
@@ -234,7 +239,7 @@ pub fn put_verdict(out: &mut [u8], at: usize, reply: &Reply, counted: &mut Count
 fn push_verdict<A: Allocator>(
     text: &mut Vec<u8, A>,
     reply: &Reply,
-    counted: &mut Counted,
+    counted: &mut DigitCache,
 ) -> Result<(), AllocError>
     requires { HasWords reply.now }
     ensures { OnOk result (text.new.items ≡ text.old.items ++ line_of_reply reply.now) }
@@ -255,7 +260,7 @@ pub fn verdict_lines<A: Allocator>(alloc: A, replies: &[Reply]) -> Result<Vec<u8
     ensures { IfOk result (λ text. text.items ≡ verdict_text replies.now) }
 {
     let mut text = Vec::new(alloc);
-    let mut counted = Counted::new();
+    let mut counted = DigitCache::new();
     for reply in replies {
         push_verdict(&mut text, reply, &mut counted)?;
     }

@@ -123,7 +123,7 @@ fn ran_recorded<R: Abort + Threads + Wait + Sync>(
     Recorded {
         answer,
         trace_failed: trace.failed(),
-        trace_delivered: trace.delivered(),
+        trace_delivered: trace.is_delivered(),
         trace: trace.into_inner(),
         output_failed: output.failed(),
         output: output.into_inner(),

@@ -10,7 +10,7 @@ use std::process::Abort;
 use std::test::Fail;
 
 /// The item that is placed behind this one, or none without it or without room.
-fn placed(list: &mut OrderList<Global>, after: u32) -> Option<u32> {
+fn insert_behind(list: &mut OrderList<Global>, after: u32) -> Option<u32> {
     if list.reserved() > 0 && (after as usize) < list.len() {
         Some(list.insert_reserved(after))
     } else {
@@ -54,9 +54,9 @@ fn spawns(list: &mut OrderList<Global>, order: Order, spawner: u32, child: u32) 
         Order::Hebrew => (spawner, child),
     };
     list.reserve(3).is_ok()
-        && placed(list, spawner) == Some(child)
-        && placed(list, before_next) == Some(next)
-        && (spawner != 0 || placed(list, before_join) == Some(next.wrapping_add(1)))
+        && insert_behind(list, spawner) == Some(child)
+        && insert_behind(list, before_next) == Some(next)
+        && (spawner != 0 || insert_behind(list, before_join) == Some(next.wrapping_add(1)))
 }
 
 /// Whether ten thousand spawns in one block do, each by the strand behind the one before.
@@ -75,7 +75,7 @@ fn spawns_long(list: &mut OrderList<Global>, order: Order) -> bool {
 /// Whether a hundred thousand items are placed behind the first one, and stand in the other order.
 fn places_many(list: &mut OrderList<Global>) -> bool {
     for item in 1..100_001u32 {
-        if placed(list, 0) != Some(item) {
+        if insert_behind(list, 0) != Some(item) {
             return false;
         }
     }
@@ -114,7 +114,7 @@ use Step::{Has, HasNoRoom, IsNotBefore, Places, PlacesMany, Reserves, SpawnsLong
 fn goes(list: &mut OrderList<Global>, step: Step) -> bool {
     match step {
         Reserves(count, wanted) => list.reserve(count) == wanted,
-        Places(after, wanted) => placed(list, after) == Some(wanted),
+        Places(after, wanted) => insert_behind(list, after) == Some(wanted),
         Has(items, reserved) => list.len() == items && list.reserved() >= reserved,
         HasNoRoom => list.reserved() == 0,
         Stand(pairs) => stand_before(list, pairs),

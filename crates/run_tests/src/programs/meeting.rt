@@ -32,7 +32,7 @@ impl<'a, L: Ledger> Meeting<'a, L> {
         }
     }
 
-    pub fn both_met(&self) -> bool {
+    pub fn is_met_by_both(&self) -> bool {
         self.met.load(Ordering::SeqCst)
     }
 

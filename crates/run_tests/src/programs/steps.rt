@@ -1,7 +1,7 @@
 //! Single steps of functions: what statements compute, ask and make of an answer.
 
 use super::gathered::REFUSED;
-use function_steps::{Activation, act_of, answered, cell_of, line_of, result_of};
+use function_steps::{Activation, act_of, apply_answer, cell_of, line_of, result_of};
 use program_text::{Expression, Location, Operand, REGISTERS, Statement};
 use race_gate::Answer;
 use text_words::Act;
@@ -89,7 +89,7 @@ const ANSWERED: [Answered; 4] = [
 fn are_answered() -> bool {
     let mut registers = Activation::begin(0, 7).registers;
     for (statement, answer, is_one, ok) in ANSWERED {
-        if answered(&mut registers, statement, &answer) != is_one || !begin(&registers, ok, 7) {
+        if apply_answer(&mut registers, statement, &answer) != is_one || !begin(&registers, ok, 7) {
             return false;
         }
     }

@@ -42,7 +42,7 @@ fn finished_in(receipts: &Receipts) -> usize {
 }
 
 // How many receipts the logs hold, and how many of them are answered Finished.
-fn counted<L: Ledger>(logs: &[WorkerLog<L>]) -> (usize, usize) {
+fn count_receipts<L: Ledger>(logs: &[WorkerLog<L>]) -> (usize, usize) {
     let mut receipts = 0usize;
     let mut finished = 0usize;
     for log in logs {
@@ -65,7 +65,7 @@ fn finish<L: Ledger + Send + Sync, R: Threads + Wait + Sync>(
     requires workers { (0 < workers) × (workers ≤ 64) }
 {
     match run(rt, alloc, program, workers, locked, seat) {
-        Ok(logs) => counted(logs.as_slice()) == (713, 1),
+        Ok(logs) => count_receipts(logs.as_slice()) == (713, 1),
         Err(_) => false,
     }
 }
@@ -83,7 +83,7 @@ fn meet<L: Ledger + Send + Sync, R: Threads + Wait + Sync>(
     requires workers { (0 < workers) × (workers ≤ 64) }
 {
     let meeting = Meeting::new(locked);
-    run(rt, alloc, program, workers, &meeting, seat).is_ok() && meeting.both_met()
+    run(rt, alloc, program, workers, &meeting, seat).is_ok() && meeting.is_met_by_both()
 }
 
 // What workers do.

@@ -78,9 +78,9 @@ returns-in-Err-clause-fault g c bytes counted is =
     on_read (bytes ++ c.args.text.items) before now next c.loop-text.count c.loop-text.size c.loop-text.begun c.loop-text.text.items new _
     c.in_ok-read_until.ensures.taken (c.loop-text.invariant.read bytes counted is) in
     on_away (bytes ++ c.args.text.items) before next c.loop-text.count c.loop-text.begun new on
-    (g.R.Read.remaining (held c.read_away.new.input)) c.in-Err.fault c.read_away.result
+    (g.R.Read.remaining (held c.skip_rest.new.input)) c.in-Err.fault c.skip_rest.result
     (rw slice at (c.in-Err.ensures on.bytes on.begun_with))
-    (λ all long kept. c.read_away.ensures.fault all (search rules) kept)
+    (λ all long kept. c.skip_rest.ensures.fault all (search rules) kept)
 
 pub returns-in-Err-clause-calls : goal.returns-in-Err-clause-calls
 returns-in-Err-clause-calls g c =
@@ -88,11 +88,11 @@ returns-in-Err-clause-calls g c =
     let pieces = c.in_ok-read_until.ensures.taken in
     let long = ap length pieces.added in
     let longer = length-append c.loop-text.text.items pieces.pieces in
-    called_both _ _ _ (calls_of c.args.input.now) (calls_of c.read_until.new.input) (calls_of c.read_away.new.input)
+    called_both _ _ _ (calls_of c.args.input.now) (calls_of c.read_until.new.input) (calls_of c.skip_rest.new.input)
     (omega (arith, inv.grown, pieces.short, long, longer))
     (called_both (c.loop-text.count + length c.read_until.new.text.items - (c.args.done + length c.args.text.items)) _ _ (calls_of c.args.input.now) (calls_of c.loop-text.input) (calls_of c.read_until.new.input)
     (omega (arith, inv.grown, long, longer)) inv.calls (c.in_ok-read_until.ensures.counted (search rules)))
-    c.read_away.ensures.calls
+    c.skip_rest.ensures.calls
 
 pub returns-in-Ok-end-clause-ok : goal.returns-in-Ok-end-clause-ok
 returns-in-Ok-end-clause-ok g c bytes counted is =
@@ -149,16 +149,16 @@ returns-in_err-read_until-clause-failed g c =
     let gone = err_from_is_err_and c.from_residual.result c.from_residual.ensures.1 in
     step_failed _ Read _ c.in_err-read_until.field-0.0 (gone.1 ∙ ap (λ (f : CliFault). Err f) gone.2) c.in_err-read_until.ensures.failed
 
-pub read_away-requires-clause-fresh : goal.read_away-requires-clause-fresh
-read_away-requires-clause-fresh g c = c.in_ok-read_until.ensures.fresh
+pub skip_rest-requires-clause-fresh : goal.skip_rest-requires-clause-fresh
+skip_rest-requires-clause-fresh g c = c.in_ok-read_until.ensures.fresh
 
-pub read_away-requires-clause-room : goal.read_away-requires-clause-room
-read_away-requires-clause-room g c = omega (arith, c.read_until.auto.piece, c.loop-text.auto.piece, c.requires.room)
+pub skip_rest-requires-clause-room : goal.skip_rest-requires-clause-room
+skip_rest-requires-clause-room g c = omega (arith, c.read_until.auto.piece, c.loop-text.auto.piece, c.requires.room)
 
 pub returns-in-Err-clause-failed : goal.returns-in-Err-clause-failed
 returns-in-Err-clause-failed g c = (
-  λ is. let same : c.read_away.result ≡ Read = cc in c.read_away.ensures.failed.0 same,
-  λ is. ap (λ (f : CliFault). Err f) (c.read_away.ensures.failed.1 is),
+  λ is. let same : c.skip_rest.result ≡ Read = cc in c.skip_rest.ensures.failed.0 same,
+  λ is. ap (λ (f : CliFault). Err f) (c.skip_rest.ensures.failed.1 is),
 )
 
 pub returns-in-Ok-end-clause-failed : goal.returns-in-Ok-end-clause-failed

@@ -76,14 +76,14 @@ returns-in-Err-clause-fault g c =
     let between = g.R.Read.remaining (held c.read_until.new.input) in
     let head : List ℕ = c.read_until.new.text.items in
     let slice : c.as_slice-bytes.result.now ≡ head = c.as_slice-bytes.ensures.value in
-    c.read_away.ensures.fault head (search rules) (rw slice at c.in-Err.ensures) before
+    c.skip_rest.ensures.fault head (search rules) (rw slice at c.in-Err.ensures) before
     (head_read before between _ _ c.new-head.result.items head _ c.in_ok-read_until.ensures.taken c.new-head.ensures.items)
 
 pub returns-in-Err-clause-calls : goal.returns-in-Err-clause-calls
 returns-in-Err-clause-calls g c =
     let long : length c.as_slice-bytes.result.now ≡ length c.read_until.new.text.items = ap length c.as_slice-bytes.ensures.value in
-    called_both _ _ _ (calls_of c.args.input.now) (calls_of c.read_until.new.input) (calls_of c.read_away.new.input)
-    (omega (arith, long, c.in_ok-read_until.ensures.taken.short)) (c.in_ok-read_until.ensures.counted c.if-not-branch.false) c.read_away.ensures.calls
+    called_both _ _ _ (calls_of c.args.input.now) (calls_of c.read_until.new.input) (calls_of c.skip_rest.new.input)
+    (omega (arith, long, c.in_ok-read_until.ensures.taken.short)) (c.in_ok-read_until.ensures.counted c.if-not-branch.false) c.skip_rest.ensures.calls
 
 pub returns-in_err-read_until-2-clause-fault : goal.returns-in_err-read_until-2-clause-fault
 returns-in_err-read_until-2-clause-fault g c =
@@ -153,11 +153,11 @@ read_on-requires-clause-short g c =
     let rest : c.in_ok-text-in-Ok-Some.text.items ≡ drop c.in-Ok-Some.end head = rw slice at c.in_ok-text-in-Ok-Some.ensures in
     omega (arith, within, ap length rest, length-drop c.in-Ok-Some.end head, c.in_ok-read_until.ensures.taken.short)
 
-pub read_away-requires-clause-fresh : goal.read_away-requires-clause-fresh
-read_away-requires-clause-fresh g c = c.in_ok-read_until.ensures.fresh
+pub skip_rest-requires-clause-fresh : goal.skip_rest-requires-clause-fresh
+skip_rest-requires-clause-fresh g c = c.in_ok-read_until.ensures.fresh
 
-pub read_away-requires-clause-short : goal.read_away-requires-clause-short
-read_away-requires-clause-short g c =
+pub skip_rest-requires-clause-short : goal.skip_rest-requires-clause-short
+skip_rest-requires-clause-short g c =
     let long : length c.as_slice-bytes.result.now ≡ length c.read_until.new.text.items = ap length c.as_slice-bytes.ensures.value in
     omega (arith, long, c.in_ok-read_until.ensures.taken.short)
 
@@ -166,8 +166,8 @@ returns-clause-failed g c = never_failed c.parse_trace-2.result Read _ (IsFaultO
 
 pub returns-in-Err-clause-failed : goal.returns-in-Err-clause-failed
 returns-in-Err-clause-failed g c = (
-  λ is. let same : c.read_away.result ≡ Read = cc in c.read_away.ensures.failed.0 same,
-  λ is. ap (λ (f : CliFault). Err f) (c.read_away.ensures.failed.1 is),
+  λ is. let same : c.skip_rest.result ≡ Read = cc in c.skip_rest.ensures.failed.0 same,
+  λ is. ap (λ (f : CliFault). Err f) (c.skip_rest.ensures.failed.1 is),
 )
 
 pub returns-in-Ok-Some-clause-failed : goal.returns-in-Ok-Some-clause-failed

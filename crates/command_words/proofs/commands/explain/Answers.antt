@@ -8,9 +8,9 @@ use Rattle.command_words.proofs.commands.explain.Goals as goal
 pub returns : goal.returns
 returns c =
     let none : IsCommand (new_app (codes "explain")) c.long_about.result = search rules in
-    let one = argument_more _ _ _ _ _ none c.several-file.ensures c.in_ok-arg.ensures in
-    let two = argument_more _ _ _ _ _ one c.workers.ensures c.in_ok-arg-2.ensures in
+    let one = argument_more _ _ _ _ _ none c.required_words-file.ensures c.in_ok-arg.ensures in
+    let two = argument_more _ _ _ _ _ one c.workers_option.ensures c.in_ok-arg-2.ensures in
     let three = argument_more _ _ _ _ _ two c.flag-serial.ensures c.in_ok-arg-3.ensures in
-    let four = argument_more _ _ _ _ _ three c.entries.ensures c.in_ok-arg-4.ensures in
+    let four = argument_more _ _ _ _ _ three c.limit_option.ensures c.in_ok-arg-4.ensures in
     let five = argument_more _ _ _ _ _ four c.option-color.ensures c.in_ok-arg-5.ensures in
     IfOk-weaker c.arg-6.result _ (IsCommand (leaf explain)) (λ command adds. argument_more _ _ _ _ _ five c.option-format.ensures adds) c.arg-6.ensures

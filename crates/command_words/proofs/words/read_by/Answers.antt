@@ -12,5 +12,5 @@ returns-in-Ok-clause-job g c =
 
 pub returns-in-Err-clause-job : goal.returns-in-Err-clause-job
 returns-in-Err-clause-job g c =
-    IfOk-weaker c.shown.result _ (IsJobOf (map g.S.AsStr.text c.args.words.now))
-    (λ job shown. shown_job (app_of c.args.command) (map g.S.AsStr.text c.args.words.now) c.in-Err.error job (search rules) c.in-Err.ensures.kinds shown) c.shown.ensures.job
+    IfOk-weaker c.parser_answer.result _ (IsJobOf (map g.S.AsStr.text c.args.words.now))
+    (λ job shown. shown_job (app_of c.args.command) (map g.S.AsStr.text c.args.words.now) c.in-Err.error job (search rules) c.in-Err.ensures.kinds shown) c.parser_answer.ensures.job

@@ -9,5 +9,5 @@ pub returns : goal.returns
 returns g c wrote replies tells = record {
   lines = subst (λ (text : List ℕ). IsTold wrote (g.W.Write.contents (held c.tell_verdict.new.output)) (has_failed c.tell_verdict.new.output) c.tell_verdict.new.self.text text)
       (lines_more replies c.args.reply.now) (c.tell_verdict.ensures wrote (verdict_text replies) tells.lines);
-  met = c.meet.ensures replies tells.met;
+  met = c.add_reply.ensures replies tells.met;
 }

@@ -1,5 +1,5 @@
 use Rattle.std.proofs.Common.{take}
-use Rattle.judge_command.specs.Meetings.{HasMet}
+use Rattle.judge_command.specs.StatusFlags.{HasMet}
 use Rattle.judge_command.proofs.status.status_of.Given as goal
 
 abbrev pub invariant-loop-reply : goal.invariant-loop-reply

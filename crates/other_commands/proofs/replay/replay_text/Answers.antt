@@ -19,6 +19,6 @@ returns-in-Err-parse_trace-clause-fault g c =
 
 pub returns-clause-fault : goal.returns-clause-fault
 returns-clause-fault g c =
-    replay_cut _ _ _ _ _ _ _ _ c.in-Err-write_text.fault (search rules) c.in-Ok-replayed.ensures.ok
+    replay_cut _ _ _ _ _ _ _ _ c.in-Err-write_text.fault (search rules) c.in-Ok-replay_trace.ensures.ok
     (subst (λ (lines : List ℕ). StopsWriting (g.W.Write.contents (held c.args.output.now)) (g.W.Write.contents (held c.write_text.new.output)) lines c.in-Err-write_text.fault)
     c.as_slice.ensures.value c.in-Err-write_text.ensures.fault)

@@ -11,7 +11,7 @@ use Rattle.program_lines.proofs.line.call.Goals as goal
 pub returns-then-spawns : goal.returns-then-spawns
 returns-then-spawns g c =
     let scope = c.args.scope.now in
-    rw (c.if-spawns.true, c.does.ensures) (
+    rw (c.if-spawns.true, c.statement_item.ensures) (
       refl,
       refl,
       said scope Spawn (c.args.name.now ∷ c.args.value.now ∷ []) _ tt
@@ -21,7 +21,7 @@ returns-then-spawns g c =
 pub returns-else-spawns : goal.returns-else-spawns
 returns-else-spawns g c =
     let scope = c.args.scope.now in
-    rw (c.if-spawns.false, c.does-else-spawns.ensures) (
+    rw (c.if-spawns.false, c.statement_item-else-spawns.ensures) (
       refl,
       refl,
       said scope Call (c.args.name.now ∷ c.args.value.now ∷ []) _ tt

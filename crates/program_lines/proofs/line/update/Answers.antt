@@ -12,7 +12,7 @@ use Rattle.program_lines.proofs.line.update.Goals as goal
 pub returns-then-puts : goal.returns-then-puts
 returns-then-puts g c =
     let scope = c.args.scope.now in
-    rw (c.if-puts.true, c.does.ensures) (
+    rw (c.if-puts.true, c.statement_item.ensures) (
       refl,
       refl,
       said scope (Access kind.Put) (c.args.name.now ∷ c.args.value.now ∷ []) _ tt
@@ -22,7 +22,7 @@ returns-then-puts g c =
 pub returns-else-puts : goal.returns-else-puts
 returns-else-puts g c =
     let scope = c.args.scope.now in
-    rw (c.if-puts.false, c.does-else-puts.ensures) (
+    rw (c.if-puts.false, c.statement_item-else-puts.ensures) (
       refl,
       refl,
       said scope (Access kind.Update) (c.args.name.now ∷ c.args.value.now ∷ []) _ tt

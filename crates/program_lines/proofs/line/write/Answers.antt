@@ -11,7 +11,7 @@ use Rattle.program_lines.proofs.line.write.Goals as goal
 pub returns-then-bumps : goal.returns-then-bumps
 returns-then-bumps g c =
     let scope = c.args.scope.now in
-    rw (c.if-bumps.true, c.does.ensures) (
+    rw (c.if-bumps.true, c.statement_item.ensures) (
       refl,
       refl,
       said scope (Access kind.Bump) (c.args.place.now ∷ c.args.value.now ∷ []) _ (rw c.if-bumps.true at c.requires)
@@ -21,7 +21,7 @@ returns-then-bumps g c =
 pub returns-else-bumps : goal.returns-else-bumps
 returns-else-bumps g c =
     let scope = c.args.scope.now in
-    rw (c.if-bumps.false, c.does-else-bumps.ensures) (
+    rw (c.if-bumps.false, c.statement_item-else-bumps.ensures) (
       refl,
       refl,
       said scope (Access kind.Write) (c.args.place.now ∷ c.args.value.now ∷ []) _ tt

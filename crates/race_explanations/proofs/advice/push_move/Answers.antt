@@ -7,7 +7,7 @@ use Rattle.race_explanations.proofs.advice.push_move.Goals as goal
 
 pub returns : goal.returns
 returns c =
-    five_adds _ _ _ _ _ _ _ _ _ _ _ c.noted.ensures
-    (two_adds _ _ _ _ _ c.words.ensures
+    five_adds _ _ _ _ _ _ _ _ _ _ _ c.begin_source_note.ensures
+    (two_adds _ _ _ _ _ c.push_words.ensures
     (these _ _ _ _ c.push_line.ensures (ap (line_words (setting_of c.args.scene.now).origin) c.line_on-at.ensures)))
-    c.words-2.ensures (these _ _ _ _ c.push_function.ensures (ap (function_word (setting_of c.args.scene.now)) c.line_of.ensures)) c.words-3.ensures
+    c.push_words-2.ensures (these _ _ _ _ c.push_function.ensures (ap (function_word (setting_of c.args.scene.now)) c.line_of.ensures)) c.push_words-3.ensures

@@ -8,7 +8,7 @@ use Rattle.race_explanations.proofs.advice.push_parts.Goals as goal
 pub returns : goal.returns
 returns c =
     five_adds _ _ _ _ _ _ _ _ _ _ _ c.push_spawn.ensures
-    (two_adds _ _ _ _ _ c.words.ensures
+    (two_adds _ _ _ _ _ c.push_words.ensures
     (these _ _ _ _ c.push_line.ensures (ap (line_words (setting_of c.args.scene.now).origin) c.line_on-child_line.ensures)))
-    c.words-2.ensures (these _ _ _ _ c.push_function.ensures (ap (function_word (setting_of c.args.scene.now)) c.line_of.ensures))
-    (three_adds _ _ _ _ _ _ _ c.words-3.ensures c.push_line-2.ensures c.words-4.ensures)
+    c.push_words-2.ensures (these _ _ _ _ c.push_function.ensures (ap (function_word (setting_of c.args.scene.now)) c.line_of.ensures))
+    (three_adds _ _ _ _ _ _ _ c.push_words-3.ensures c.push_line-2.ensures c.push_words-4.ensures)

@@ -8,8 +8,8 @@ use Rattle.race_explanations.proofs.finding.body_of.Goals as goal
 
 pub returns : goal.returns
 returns c =
-    IfOk-weaker c.end.result (λ text. c.words.new.self ≡ Some text.items)
+    IfOk-weaker c.end.result (λ text. c.push_words.new.self ≡ Some text.items)
     (λ text. text.items ≡ body_text (setting_of c.args.scene.now) c.args.pair.now c.args.encounter.now)
     (λ text is. whole_text _ _ _ _ c.new-account.ensures
-    (four_adds _ _ _ _ _ _ _ _ _ c.push_earlier.ensures c.push_refused.ensures c.push_advice.ensures c.words.ensures) is)
+    (four_adds _ _ _ _ _ _ _ _ _ c.push_earlier.ensures c.push_refused.ensures c.push_advice.ensures c.push_words.ensures) is)
     c.end.ensures

@@ -13,6 +13,6 @@ returns c =
     IfOk-weaker c.end.result (λ text. c.push_reason.new.account ≡ Some text.items)
     (λ text. text.items ≡ kind_text (setting_of c.args.scene.now) c.args.reason)
     (λ text is. whole_text _ _ _ _ c.new-account.ensures
-    (three_adds _ _ _ _ _ _ _ (these _ _ _ _ c.red.ensures (ap (painted c.args.scene.now.look Red) c.sort_word.ensures)) c.words.ensures
+    (three_adds _ _ _ _ _ _ _ (these _ _ _ _ c.push_red.ensures (ap (painted c.args.scene.now.look Red) c.sort_word.ensures)) c.push_words.ensures
     c.push_reason.ensures) is)
     c.end.ensures

@@ -7,6 +7,6 @@ pub returns : goal.returns
 returns c =
     two_adds _ _ _ _ _
     (two_adds _ _ _ _ _
-    (five_adds _ _ _ _ _ _ _ _ _ _ _ (these _ _ _ _ c.bytes.ensures c.as_slice.ensures.value) (these _ _ _ _ c.bytes-2.ensures c.as_slice-2.ensures.value)
-    (these _ _ _ (left_out 1 (length c.args.finding.now.names.keys)) c.push_left_out.ensures (search rules)) c.words.ensures c.count.ensures) c.words-2.ensures)
-    (these _ _ _ _ c.bytes-3.ensures c.as_slice-3.ensures.value)
+    (five_adds _ _ _ _ _ _ _ _ _ _ _ (these _ _ _ _ c.push_bytes.ensures c.as_slice.ensures.value) (these _ _ _ _ c.push_bytes-2.ensures c.as_slice-2.ensures.value)
+    (these _ _ _ (left_out 1 (length c.args.finding.now.names.keys)) c.push_left_out.ensures (search rules)) c.push_words.ensures c.push_count.ensures) c.push_words-2.ensures)
+    (these _ _ _ _ c.push_bytes-3.ensures c.as_slice-3.ensures.value)

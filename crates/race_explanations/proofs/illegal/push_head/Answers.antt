@@ -2,4 +2,4 @@ use Rattle.race_explanations.proofs.Accounts.{four_adds}
 use Rattle.race_explanations.proofs.illegal.push_head.Goals as goal
 
 pub returns : goal.returns
-returns c = four_adds _ _ _ _ _ _ _ _ _ c.push_title.ensures c.place.ensures c.marked.ensures c.words.ensures
+returns c = four_adds _ _ _ _ _ _ _ _ _ c.push_title.ensures c.push_place.ensures c.push_marked_line.ensures c.push_words.ensures

@@ -3,4 +3,4 @@ use Rattle.race_explanations.proofs.illegal.push_help.Goals as goal
 
 pub returns : goal.returns
 returns c =
-    four_adds _ _ _ _ _ _ _ _ _ c.note.ensures c.words.ensures (these _ _ _ _ c.words-2.ensures c.help_words.ensures) c.words-3.ensures
+    four_adds _ _ _ _ _ _ _ _ _ c.begin_note.ensures c.push_words.ensures (these _ _ _ _ c.push_words-2.ensures c.help_words.ensures) c.push_words-3.ensures

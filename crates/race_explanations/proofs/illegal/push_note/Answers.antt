@@ -6,6 +6,6 @@ use Rattle.race_explanations.proofs.illegal.push_note.Goals as goal
 
 pub returns : goal.returns
 returns c =
-    five_adds _ _ _ _ _ _ _ _ _ _ _ c.note.ensures (these _ _ _ (codes "request " ++ decimal c.args.number) c.number.ensures (search rules))
-    (these _ _ _ (codes ": strand " ++ decimal (strand_of (request_line (contents c.args.trace.now).lines c.args.number))) c.number-2.ensures (search rules))
-    c.push_reason.ensures c.words.ensures
+    five_adds _ _ _ _ _ _ _ _ _ _ _ c.begin_note.ensures (these _ _ _ (codes "request " ++ decimal c.args.number) c.push_number.ensures (search rules))
+    (these _ _ _ (codes ": strand " ++ decimal (strand_of (request_line (contents c.args.trace.now).lines c.args.number))) c.push_number-2.ensures (search rules))
+    c.push_reason.ensures c.push_words.ensures

@@ -3,4 +3,4 @@ use Rattle.race_explanations.proofs.message.push_message.Goals as goal
 
 pub returns : goal.returns
 returns c =
-    five_adds _ _ _ _ _ _ _ _ _ _ _ c.push_title.ensures c.push_earlier.ensures c.push_refused.ensures c.push_advice.ensures c.words.ensures
+    five_adds _ _ _ _ _ _ _ _ _ _ _ c.push_title.ensures c.push_earlier.ensures c.push_refused.ensures c.push_advice.ensures c.push_words.ensures

@@ -6,5 +6,5 @@ use Rattle.race_explanations.proofs.message.push_refused.Goals as goal
 
 pub returns : goal.returns
 returns c =
-    three_adds _ _ _ _ _ _ _ c.push_access.ensures (these _ _ _ _ c.words.ensures c.verdict_words.ensures)
+    three_adds _ _ _ _ _ _ _ c.push_access.ensures (these _ _ _ _ c.push_words.ensures c.verdict_words.ensures)
     (these _ _ _ _ c.push_chain.ensures (ap (chain_text (setting_of c.args.scene.now)) c.as_slice.ensures.value))

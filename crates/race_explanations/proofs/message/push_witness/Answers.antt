@@ -6,5 +6,5 @@ use Rattle.race_explanations.proofs.message.push_witness.Goals as goal
 
 pub returns : goal.returns
 returns c =
-    four_adds _ _ _ _ _ _ _ _ _ c.push_access.ensures c.words.ensures
+    four_adds _ _ _ _ _ _ _ _ _ c.push_access.ensures c.push_words.ensures
     (these _ _ _ _ c.push_chain.ensures (ap (chain_text (setting_of c.args.scene.now)) c.as_slice.ensures.value)) c.push_between.ensures

@@ -6,4 +6,4 @@ use Rattle.race_explanations.proofs.paths.push_links_left_out.Goals as goal
 pub returns : goal.returns
 returns c =
     then_adds _ _ (nat_lt 8 c.args.count) _ [] (first_of (search rules, grind (arith, common_steps)))
-    (three_adds _ _ _ _ _ _ _ c.noted.ensures (these _ _ _ (decimal (c.args.count - 8)) c.number.ensures (search rules)) c.words.ensures)
+    (three_adds _ _ _ _ _ _ _ c.begin_source_note.ensures (these _ _ _ (decimal (c.args.count - 8)) c.push_number.ensures (search rules)) c.push_words.ensures)

@@ -9,6 +9,6 @@ use Rattle.race_explanations.proofs.title.push_headline.Goals as goal
 pub returns : goal.returns
 returns c =
     two_adds _ _ _ _ _
-    (five_adds _ _ _ _ _ _ _ _ _ _ _ (these _ _ _ _ c.red.ensures (ap (painted c.args.scene.now.look Red) c.sort_word.ensures)) c.words.ensures
+    (five_adds _ _ _ _ _ _ _ _ _ _ _ (these _ _ _ _ c.push_red.ensures (ap (painted c.args.scene.now.look Red) c.sort_word.ensures)) c.push_words.ensures
     c.push_reason.ensures (these _ _ _ (names_text (setting_of c.args.scene.now) c.args.pair.now.lines.reason c.args.places.now) c.push_names.ensures (search rules))
-    c.words-2.ensures) c.count.ensures
+    c.push_words-2.ensures) c.push_count.ensures

@@ -12,4 +12,4 @@ pub loop-place-preserved : goal.loop-place-preserved
 loop-place-preserved c =
     one_more (λ location. codes "," ++ spaced_name (setting_of c.args.scene.now) c.args.reason location) c.args.places.now
     c.loop-place.place-index _ _ _ _ (first_of (search rules, grind (arith, common_steps))) c.loop-place.invariant
-    (two_adds _ _ _ _ _ c.words.ensures c.push_name.ensures)
+    (two_adds _ _ _ _ _ c.push_words.ensures c.push_name.ensures)

@@ -6,7 +6,7 @@ use Rattle.model_accesses.specs.declared.request.Act.{Act}
 use Rattle.model_accesses.specs.declared.request.Act.TheVariants as act
 use Rattle.model_accesses.specs.declared.witness.Witness.{Witness}
 use Rattle.shadow_history.specs.Shadow.{Remembers}
-use Rattle.model_accesses.specs.Accesses.{witness_of}
+use Rattle.model_accesses.specs.Accesses.{access_of_witness}
 use Rattle.model_histories.specs.declared.answer.Answer.{Answer}
 use Rattle.model_histories.specs.declared.answer.Answer.TheVariants.{Split, Same, Joined, Waits, Resumed, Ended, EndedJoined, Finished, Granted, Value, Refused, Unset}
 use Rattle.model_races.specs.Accesses.{is_granted}
@@ -64,7 +64,7 @@ pub returns-in-Some-clause-judged : goal.returns-in-Some-clause-judged
 returns-in-Some-clause-judged g c history accesses follows remembers =
     let found = c.in-Some.ensures.witness history accesses follows remembers in
     record {
-      refused = ((λ t. (witness_of c.args.access.location c.in-Some.witness, found.races)), (λ race. tt));
+      refused = ((λ t. (access_of_witness c.args.access.location c.in-Some.witness, found.races)), (λ race. tt));
       witness = (found.races, c.rule.ensures.value);
       remembers = subst (λ xs. Remembers c.args.shadow.now history xs) (sym (append-nil accesses)) remembers;
     }

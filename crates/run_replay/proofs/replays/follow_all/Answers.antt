@@ -6,7 +6,7 @@ use Rattle.model_histories.specs.States.{opening}
 use Rattle.program_text.specs.Shapes.{shape_in}
 use Rattle.run_replay.specs.Slots.{PlaysIn}
 use Rattle.run_replay.specs.Turns.{IsEntered}
-use Rattle.run_replay.specs.Casts.{IsMisfit}
+use Rattle.run_replay.specs.FrameTables.{IsMisfit}
 use Rattle.run_replay.proofs.Openings.{opens_plays}
 use Rattle.run_replay.proofs.Told.{strange_at}
 use Rattle.run_replay.proofs.Followed.{so_many, one_further}

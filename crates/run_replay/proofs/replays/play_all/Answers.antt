@@ -26,8 +26,8 @@ next_number-number-requires g c =
     let kept = c.loop-entry.invariant.plays in
     omega (arith, kept.1.counted, kept.2.2.within)
 
-pub played-requires : goal.played-requires
-played-requires g c =
+pub judge_and_play-requires : goal.judge_and_play-requires
+judge_and_play-requires g c =
     let kept = c.loop-entry.invariant.plays in
     record { plays = (kept.0, kept.2) }
 

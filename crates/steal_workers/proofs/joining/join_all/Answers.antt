@@ -2,7 +2,7 @@ use Rattle.std.proofs.Common.{◌≡◌, map, sym, subst, ap, ◌∙◌}
 use Rattle.std.proofs.lemmas.List.Elements.{All-head, All-tail, All-same}
 use Rattle.std.specs.Vec.Iter.{into_iter_items}
 use Rattle.crossbeam_deque.specs.Handles.{worker_deque, worker_view}
-use Rattle.steal_workers.specs.Reaches.{deque_of, views_of, joined_all, AllLeadTo}
+use Rattle.steal_workers.specs.StealHandles.{deque_of, views_of, joined_all, AllLeadTo}
 use Rattle.steal_workers.proofs.joining.join_all.Goals as goal
 
 pub join_each-requires : goal.join_each-requires

@@ -1,7 +1,7 @@
 use Rattle.std.specs.Prelude.{◌≡◌, map}
 use Rattle.std.specs.Vec.Iter.{into_iter_items}
 use Rattle.crossbeam_deque.specs.Handles.{worker_deque, worker_view}
-use Rattle.steal_workers.specs.Reaches.{deque_of, views_of, joined_all, AllLeadTo}
+use Rattle.steal_workers.specs.StealHandles.{deque_of, views_of, joined_all, AllLeadTo}
 use Rattle.steal_workers.proofs.joining.join_all.Given as goal
 
 abbrev pub invariant-loop-reaches : goal.invariant-loop-reaches

@@ -2,7 +2,7 @@ use Rattle.std.proofs.Common.{rules, ◌≡◌, ◌<◌, ◌+◌, suc, drop, len
 use Rattle.std.proofs.Math.Seq.{map-set_same}
 use Rattle.std.proofs.lemmas.List.{map-append, map-set, get_or-map, length-map, length_push}
 use Rattle.crossbeam_deque.specs.Handles.{worker_deque, worker_view}
-use Rattle.steal_workers.specs.Reaches.{Owner, deque_of, view_of, joined_each}
+use Rattle.steal_workers.specs.StealHandles.{Owner, deque_of, view_of, joined_each}
 use Rattle.steal_workers.proofs.Joins.{drop_head, joined_each-nil, joined_more}
 use Rattle.steal_workers.proofs.joining.join_each.Goals as goal
 

@@ -1,7 +1,7 @@
 use Rattle.std.specs.Prelude.{◌≡◌, drop, length, map}
 use Rattle.std.specs.Vec.Iter.{into_iter_items}
 use Rattle.crossbeam_deque.specs.Handles.{worker_deque, worker_view}
-use Rattle.steal_workers.specs.Reaches.{deque_of, view_of, joined_each}
+use Rattle.steal_workers.specs.StealHandles.{deque_of, view_of, joined_each}
 use Rattle.steal_workers.proofs.joining.join_each.Given as goal
 
 abbrev pub invariant-loop-reach : goal.invariant-loop-reach

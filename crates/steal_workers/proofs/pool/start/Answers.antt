@@ -3,7 +3,7 @@ use Rattle.std.proofs.lemmas.List.{map-append, map-id}
 use Rattle.std.proofs.lemmas.Iterator.Adapters.{YieldsList-from_vec}
 use Rattle.std.proofs.lemmas.Iterator.Consumers.{YieldsList-end}
 use Rattle.std.specs.declared.thread.PromisedHandle.{PromisedHandle}
-use Rattle.steal_workers.specs.declared.pool.Hired.{Hired}
+use Rattle.steal_workers.specs.declared.pool.IdleWorker.{IdleWorker}
 use Rattle.steal_workers.specs.declared.worker.Worker.{Worker}
 use Rattle.steal_workers.specs.Ending.{AreSomeOf}
 use Rattle.steal_workers.proofs.Endings.{some-push, some-less}
@@ -11,7 +11,7 @@ use Rattle.steal_workers.proofs.pool.start.Goals as goal
 
 pub loop-worker-preserved-in-Ok : goal.loop-worker-preserved-in-Ok
 loop-worker-preserved-in-Ok g c =
-    let began = λ (h : PromisedHandle (Worker g.row.L.Denot) (Hired g.row.L.Denot)). h.promise.0.value in
+    let began = λ (h : PromisedHandle (Worker g.row.L.Denot) (IdleWorker g.row.L.Denot)). h.promise.0.value in
     let was = c.loop-worker.invariant in
     let running = c.loop-worker.running.items in
     let worker = c.in-Some.worker in

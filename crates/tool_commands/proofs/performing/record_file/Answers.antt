@@ -12,20 +12,20 @@ returns-in-Err-create-clause-fault g c =
 
 pub returns-clause-done : goal.returns-clause-done
 returns-clause-done g c =
-    recorded_ran _ _ _ c.args.limit _ _ _ c.in-Ok-told.ensures.ok (search rules) _ _ _ _ c.write_traced-answer.result
-    c.write_traced-answer.ensures.status c.write_traced-answer.ensures.kept c.write_traced-answer.ensures.written
+    recorded_ran _ _ _ c.args.limit _ _ _ c.in-Ok-told.ensures.ok (search rules) _ _ _ _ c.write_traced_run-answer.result
+    c.write_traced_run-answer.ensures.status c.write_traced_run-answer.ensures.kept c.write_traced_run-answer.ensures.written
 
 pub returns-clause-fault : goal.returns-clause-fault
 returns-clause-fault g c =
-    IfErr-weaker c.write_traced-answer.result _ _
-    (λ fault stops. not_written _ _ _ c.args.limit _ _ _ c.in-Ok-told.ensures.ok (search rules) _ _ _ _ fault stops) c.write_traced-answer.ensures.fault
+    IfErr-weaker c.write_traced_run-answer.result _ _
+    (λ fault stops. not_written _ _ _ c.args.limit _ _ _ c.in-Ok-told.ensures.ok (search rules) _ _ _ _ fault stops) c.write_traced_run-answer.ensures.fault
 
 pub returns-clause-recorded : goal.returns-clause-recorded
 returns-clause-recorded g c =
-    recorded_kept _ _ _ c.args.limit _ _ _ c.in-Ok-told.ensures.ok (search rules) _ _ _ _ _ _ c.write_traced-answer.result
-    c.write_traced-answer.ensures.status c.write_traced-answer.ensures.kept c.write_traced-answer.ensures.written (search rules) (search rules)
+    recorded_kept _ _ _ c.args.limit _ _ _ c.in-Ok-told.ensures.ok (search rules) _ _ _ _ _ _ c.write_traced_run-answer.result
+    c.write_traced_run-answer.ensures.status c.write_traced_run-answer.ensures.kept c.write_traced_run-answer.ensures.written (search rules) (search rules)
 
 pub returns-clause-recorded_first : goal.returns-clause-recorded_first
 returns-clause-recorded_first g c =
-    recorded_first _ _ _ c.args.limit _ _ _ c.in-Ok-told.ensures.ok (search rules) _ _ _ _ _ _ c.write_traced-answer.result
-    c.write_traced-answer.ensures.fault (search rules) (search rules)
+    recorded_first _ _ _ c.args.limit _ _ _ c.in-Ok-told.ensures.ok (search rules) _ _ _ _ _ _ c.write_traced_run-answer.result
+    c.write_traced_run-answer.ensures.fault (search rules) (search rules)

@@ -8,7 +8,7 @@ returns-in-Ok g c =
     let fits = rw (← is) at
     (access_fits known c.args.words.now c.strand-by.new.words c.place-place.new.words c.value_for-value.new.words c.strand-by.result c.place-place.result c.value_for-value.result
     c.mark-mark.result (c.strand-by.ensures known) (c.mark-mark.ensures known) c.args.kind c.place-place.ensures (c.value_for-value.ensures known)) in
-    rw (c.asked.ensures, c.act_of.ensures)
+    rw (c.request_item.ensures, c.act_of.ensures)
     (access_item known c.args.at c.args.kind c.args.words.now c.in-Ok.by c.in-Ok.place c.in-Ok.value c.in-Ok.mark c.requires fits)
 
 pub returns-in-Err : goal.returns-in-Err

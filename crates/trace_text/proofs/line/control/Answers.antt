@@ -9,7 +9,7 @@ pub returns-in-Ok : goal.returns-in-Ok
 returns-in-Ok c = λ known.
     let fits = rw (← c.in-Ok.ensures) at
     (takes known a_strand [] (Some Mark) c.args.words.now c.strand-by.new.words c.strand-by.result c.mark-mark.result OfNumber if_there (c.strand-by.ensures known) (c.mark-mark.ensures known)) in
-    rw c.asked.ensures (control_item known c.args.at c.args.act c.args.words.now c.in-Ok.by c.in-Ok.mark c.requires fits)
+    rw c.request_item.ensures (control_item known c.args.at c.args.act c.args.words.now c.in-Ok.by c.in-Ok.mark c.requires fits)
 
 pub returns-in-Err : goal.returns-in-Err
 returns-in-Err c = λ known.

@@ -1,5 +1,5 @@
 use Rattle.std.proofs.Common.{◌∷◌, length, ap, arith}
-use Rattle.branch_names.specs.Names.{Names, Given, number_of}
+use Rattle.branch_names.specs.Names.{Names, Given, branch_number}
 use Rattle.branch_names.specs.Packed.{name_of, names_of}
 use Rattle.branch_names.proofs.Events.{joined-known, given-joined}
 use Rattle.branch_names.proofs.Stored.{length-names, name-read, names-set}
@@ -19,11 +19,11 @@ pub returns-clause-follows : goal.returns-clause-follows
 returns-clause-follows g c event begins history follows legal =
     let items = ap (λ (branches : Names). branches.names) c.self.view_is in
     let kept = name-read c.self.inside.names.items c.args.self.now.names c.args.join c.index.result.now items (joined-known c.args.self.now c.args.join c.requires.takes) c.index.ensures in
-    given-joined (names_of c.self.inside.names.items) c.args.self.now _ history event c.args.join (number_of (name_of c.index.result.now)) items (names-set c.self.inside.names.items c.args.join c.begun.result (Given (number_of (name_of c.index.result.now))) c.begun.ensures) follows begins legal (ap number_of kept)
+    given-joined (names_of c.self.inside.names.items) c.args.self.now _ history event c.args.join (branch_number (name_of c.index.result.now)) items (names-set c.self.inside.names.items c.args.join c.begun.result (Given (branch_number (name_of c.index.result.now))) c.begun.ensures) follows begins legal (ap branch_number kept)
 
 pub invariant_of-self : goal.invariant_of-self
 invariant_of-self g c =
     let items = ap (λ (branches : Names). branches.names) c.self.view_is in
     let kept = name-read c.self.inside.names.items c.args.self.now.names c.args.join c.index.result.now items (joined-known c.args.self.now c.args.join c.requires.takes) c.index.ensures in
     let (event, begins, (history, follows, legal)) = c.requires.takes in
-    ((event ∷ history, given-joined (names_of c.self.inside.names.items) c.args.self.now _ history event c.args.join (number_of (name_of c.index.result.now)) items (names-set c.self.inside.names.items c.args.join c.begun.result (Given (number_of (name_of c.index.result.now))) c.begun.ensures) follows begins legal (ap number_of kept)), (λ e. absurd (cc)))
+    ((event ∷ history, given-joined (names_of c.self.inside.names.items) c.args.self.now _ history event c.args.join (branch_number (name_of c.index.result.now)) items (names-set c.self.inside.names.items c.args.join c.begun.result (Given (branch_number (name_of c.index.result.now))) c.begun.ensures) follows begins legal (ap branch_number kept)), (λ e. absurd (cc)))

@@ -43,16 +43,16 @@ returns-in_default g c =
     let e : statement_of functions before.top ≡ Some (Call line function argument) = ap (λ t. statement_of functions t) (sym top) ∙ sym c.statement.ensures.at ∙ c.in-Some-Call.is ∙ ap Some c.in-Some-Call.field-0-is in
     refused functions before c.args.answer.now c.requires.stands (λ m. c.in_default.not-Same (call_same functions before line function argument c.args.answer.now e m))
 
-pub returns-then-answered : goal.returns-then-answered
-returns-then-answered g c =
+pub returns-then-apply_answer : goal.returns-then-apply_answer
+returns-then-apply_answer g c =
     let functions = c.args.program.now.functions in
     let before = c.args.self.now in
     let top = ap (λ (s : State). s.top) c.self.view_is in
     let statement = c.in-Some.statement in
     let e : statement_of functions before.top ≡ Some statement = ap (λ t. statement_of functions t) (sym top) ∙ sym c.statement.ensures.at ∙ c.in-Some.is in
-    let r = ap (λ (t : Activation). answered statement c.args.answer.now t.registers) (sym top) ∙ taken _ _ _ c.answered.new.registers c.answered.ensures c.if-answered.true in
+    let r = ap (λ (t : Activation). answered statement c.args.answer.now t.registers) (sym top) ∙ taken _ _ _ c.apply_answer.new.registers c.apply_answer.ensures c.if-apply_answer.true in
     let same = λ (t : Activation). t.function in
-    statement_answered functions before c.go_on.new.self statement c.args.answer.now c.answered.new.registers _ c.requires.stands c.requires.wanting e r c.go_on.ensures.place
+    statement_answered functions before c.go_on.new.self statement c.args.answer.now c.apply_answer.new.registers _ c.requires.stands c.requires.wanting e r c.go_on.ensures.place
     (c.go_on.ensures.function ∙ ap same top) c.go_on.ensures.registers (c.go_on.ensures.join ∙ ap (λ (t : Activation). join_after c.args.answer.now t.join) top)
     (λ t is plain. ap (λ a. left functions a) (sym top) ∙ sym (left_same functions _ _) ∙ c.go_on.ensures.behind t (statement_same functions _ _ ∙ ap (λ a. statement_of functions a) top ∙ is) plain)
     (c.go_on.ensures.rest.0 ∙ ap (λ (s : State). s.callers) c.self.view_is) c.go_on.ensures.rest.1

@@ -10,4 +10,4 @@ returns c =
     four_adds _ _ _ _ _ _ _ _ _ (these _ _ _ (findings_text (take 20 c.args.self.now.list.items)) c.tell_findings.ensures
     (ap findings_text (front ∙ first_of_all c.args.self.now.list.items 20)))
     (these _ _ _ (findings_left_out (length c.args.self.now.list.items)) c.tell_left_out.ensures (search rules))
-    (these _ _ _ c.args.self.now.untold.items c.bytes.ensures (search rules)) c.tell_summary.ensures
+    (these _ _ _ c.args.self.now.untold.items c.push_bytes.ensures (search rules)) c.tell_summary.ensures

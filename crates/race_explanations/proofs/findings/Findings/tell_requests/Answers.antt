@@ -3,4 +3,4 @@ use Rattle.race_explanations.proofs.findings.Findings.tell_requests.Goals as goa
 
 pub returns : goal.returns
 returns c =
-    four_adds _ _ _ _ _ _ _ _ _ c.count.ensures c.words.ensures c.count-2.ensures c.words-2.ensures
+    four_adds _ _ _ _ _ _ _ _ _ c.push_count.ensures c.push_words.ensures c.push_count-2.ensures c.push_words-2.ensures

@@ -5,7 +5,7 @@ use Rattle.std.proofs.lemmas.Iterator.Adapters.{YieldsList-from_vec}
 use Rattle.std.proofs.lemmas.Iterator.Consumers.{YieldsList-end}
 use Rattle.crossbeam_deque.specs.Handles.{worker_deque}
 use Rattle.locked_replay.specs.Logs.{all_receipts}
-use Rattle.steal_workers.specs.Reaches.{deque_of, own_deque, deques_of}
+use Rattle.steal_workers.specs.StealHandles.{deque_of, own_deque, deques_of}
 use Rattle.steal_workers.specs.Workers.{station_of, stations_of, owns_of, others_of}
 use Rattle.steal_workers.proofs.Grown.{said_more, said_through, asked_more}
 use Rattle.steal_workers.proofs.Joins.{lead_same}
@@ -19,12 +19,12 @@ loop-worker-preserved g c =
       logs_room = search rules;
       owners_room = search rules;
       passes_room = search rules;
-      receipts = said_more (λ log. log.receipts) (λ w. w.receipts) c.loop-worker.logs.items _ _ yielded worker c.push_reserved.ensures.items was.receipts c.ended-log.ensures.log.1;
-      asked = asked_more c.loop-worker.logs.items _ _ yielded worker c.push_reserved.ensures.items was.asked c.ended-log.ensures.log.0;
+      receipts = said_more (λ log. log.receipts) (λ w. w.receipts) c.loop-worker.logs.items _ _ yielded worker c.push_reserved.ensures.items was.receipts c.into_parts-log.ensures.log.1;
+      asked = asked_more c.loop-worker.logs.items _ _ yielded worker c.push_reserved.ensures.items was.asked c.into_parts-log.ensures.log.0;
       owners = said_through worker_deque (λ s. s.own) station_of c.loop-worker.owners.items _ _ yielded worker c.push_reserved-in-loop-worker.ensures.items was.owners
-          (ap worker_deque c.into_parts-owner.ensures.0 ∙ ap own_deque c.ended-log.ensures.ends);
+          (ap worker_deque c.into_parts-owner.ensures.0 ∙ ap own_deque c.into_parts-log.ensures.ends);
       passes = said_through (λ reaches. map deque_of reaches.items) (λ s. s.others) station_of c.loop-worker.passes.items _ _ yielded worker c.push_reserved-in-loop-worker-2.ensures.items was.passes
-          (ap (λ reaches. map deque_of reaches.items) c.into_parts-owner.ensures.1 ∙ ap deques_of c.ended-log.ensures.ends);
+          (ap (λ reaches. map deque_of reaches.items) c.into_parts-owner.ensures.1 ∙ ap deques_of c.into_parts-log.ensures.ends);
     }
 
 pub join_all-requires : goal.join_all-requires

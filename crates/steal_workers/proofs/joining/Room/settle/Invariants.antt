@@ -3,7 +3,7 @@ use Rattle.std.specs.List.{sum_by}
 use Rattle.std.specs.Vec.Iter.{into_iter_len}
 use Rattle.crossbeam_deque.specs.Handles.{worker_deque}
 use Rattle.locked_replay.specs.Logs.{all_receipts, all_asked}
-use Rattle.steal_workers.specs.Reaches.{deque_of}
+use Rattle.steal_workers.specs.StealHandles.{deque_of}
 use Rattle.steal_workers.specs.Workers.{owns_of, others_of, stations_of}
 use Rattle.steal_workers.proofs.joining.Room.settle.Given as goal
 

@@ -1,7 +1,7 @@
 use Rattle.std.proofs.Common.{◌≡◌, ℕ, ◌∷◌, ◌++◌, [], List, None, length, map, sym, ap, subst, take, drop, ◌∙◌, arith}
 use Rattle.std.proofs.lemmas.List.{length-map}
 use denote.Ref.{Bor}
-use Rattle.text_words.specs.Slots.{number_of, IsNameIndex}
+use Rattle.text_words.specs.Slots.{name_number, IsNameIndex}
 use Rattle.text_words.proofs.SlotLemmas.{now_of, push_now, index_unchanged, index_added}
 use Rattle.text_words.proofs.name_index.NameIndex.add.Goals as goal
 
@@ -30,8 +30,8 @@ invariant_of-self-2 g c =
     let slots = c.make_room.new.slots in
     let is : IsNameIndex (map now_of items) slots.items c.make_room.new.overflow =
     subst (λ (names : List (Bor (List ℕ))). IsNameIndex (map now_of names) slots.items c.make_room.new.overflow) c.as_slice.ensures.value c.make_room.ensures.index in
-    let fresh : number_of (map now_of items) name ≡ None =
-    ap (λ (names : List (Bor (List ℕ))). number_of (map now_of names) name) c.reserve.ensures.items ∙ (rw (← c.self.view_is) at c.requires.fresh) in
+    let fresh : name_number (map now_of items) name ≡ None =
+    ap (λ (names : List (Bor (List ℕ))). name_number (map now_of names) name) c.reserve.ensures.items ∙ (rw (← c.self.view_is) at c.requires.fresh) in
     let counted : c.len-number.result ≡ inside.names.len = c.len-number.ensures in
     let kept : length items ≡ length inside.names.items = ap length c.reserve.ensures.items in
     let mapped : length (map now_of items) ≡ length items = length-map items now_of in

@@ -1,6 +1,6 @@
 use Rattle.std.proofs.Common.{subst}
 use Rattle.trace_text.specs.Grammar.{Item}
-use Rattle.trace_text.specs.Drafts.{so_far, Extends, IsRoomFault}
+use Rattle.trace_text.specs.Drafts.{so_far, AddsItem, IsRoomFault}
 use Rattle.trace_text.proofs.PlainTaken.{plain_taken, plain_stopped}
 use Rattle.trace_text.proofs.trace.Draft.ask_plain.Goals as goal
 
@@ -10,7 +10,7 @@ returns-in-Ok-clause-asked g c text begins =
     let after = so_far c.ask.new.self.names c.ask.new.self.lines in
     let end = c.in-Some in
     plain_taken c.args.at before after text end.rest.now c.args.strand c.args.act end.mark (begins end.mark end.rest.now (end.ensures before.known))
-    (subst (λ (item : Item). Extends c.args.at before item after) c.request_on.ensures c.in-Ok.ensures)
+    (subst (λ (item : Item). AddsItem c.args.at before item after) c.request_on.ensures c.in-Ok.ensures)
 
 pub returns-in-Err-clause-asked : goal.returns-in-Err-clause-asked
 returns-in-Err-clause-asked g c text begins =

@@ -1,8 +1,0 @@
-use Rattle.std.proofs.Common.{reverse, take}
-use Rattle.model_histories.specs.Entries.{control_part}
-use Rattle.dag_drawing.specs.Walks.{IsWalk}
-use Rattle.dag_drawing.proofs.walk.walked.Given as goal
-
--- what is known of the entries so far
-abbrev pub invariant-loop-before : goal.invariant-loop-before
-invariant-loop-before g l = IsWalk l.walk.begun.items l.walk.blocks.items l.walk.edges.items (control_part (reverse (take l.before l.entries)))

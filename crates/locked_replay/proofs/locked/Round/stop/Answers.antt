@@ -1,5 +1,0 @@
-use Rattle.std.proofs.Common.{rules}
-use Rattle.locked_replay.proofs.locked.Round.stop.Goals as goal
-
-pub returns : goal.returns
-returns g c = search rules

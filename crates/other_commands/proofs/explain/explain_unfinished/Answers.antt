@@ -1,0 +1,23 @@
+use Rattle.std.proofs.Common.{sym, ◌∙◌}
+use Rattle.other_commands.proofs.ExplanationCauses.{some_refused}
+use Rattle.other_commands.proofs.explain.explain_unfinished.Goals as goal
+
+pub returns-then-refusal_status-eq0 : goal.returns-then-refusal_status-eq0
+returns-then-refusal_status-eq0 c = record {
+  entries = c.args.entries.now;
+  run = c.requires.run.0;
+  full = c.requires.full;
+  unfinished = c.requires.run.1;
+  explains = c.in_ok-told.ensures;
+  refused_is = sym c.if-refusal_status-eq0.true ∙ c.refusal_status.ensures;
+}
+
+pub returns : goal.returns
+returns c = record {
+  entries = c.args.entries.now;
+  run = c.requires.run.0;
+  full = c.requires.full;
+  unfinished = c.requires.run.1;
+  explains = c.in_ok-told.ensures;
+  refused_is = some_refused c.args.entries.now (λ none. c.if-refusal_status-eq0.false (c.refusal_status.ensures ∙ none));
+}

@@ -1,5 +1,0 @@
-use Rattle.steal_workers.proofs.Balances.{pushes}
-use Rattle.steal_workers.proofs.ends.Ends.push.Goals as goal
-
-pub push_as-requires-clause-pushes : goal.push_as-requires-clause-pushes
-push_as-requires-clause-pushes c = pushes _ _ _

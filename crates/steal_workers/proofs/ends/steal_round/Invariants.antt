@@ -1,6 +1,0 @@
-use Rattle.std.specs.Prelude.{◌≡◌, map, vec_len}
-use Rattle.steal_workers.specs.Reaches.{deque_of, view_of}
-use Rattle.steal_workers.proofs.ends.steal_round.Given as goal
-
-abbrev pub invariant-loop : goal.invariant-loop
-invariant-loop l = (l.all ≡ vec_len l.reaches) × (map deque_of l.reaches.items ≡ map deque_of l.fn.reaches.items) × (map view_of l.reaches.items ≡ map view_of l.fn.reaches.items)

@@ -1,0 +1,12 @@
+use Rattle.std.proofs.Common.{sym, ◌∙◌}
+use Rattle.std.proofs.lemmas.Option.{slice_get_within}
+use Rattle.short_receipts.specs.Lists.{Listed}
+use Rattle.model_histories.specs.declared.reply.Receipt.{Receipt}
+use Rattle.steal_workers.proofs.Finished.{some_here}
+use Rattle.steal_workers.proofs.pool.is_finished_last.Goals as goal
+
+pub returns : goal.returns
+returns c ends =
+    let list : Listed = c.args.receipts.now in
+    let receipt : Receipt = c.get.result in
+    some_here list.items _ receipt (slice_get_within list.items _ receipt c.get.ensures) c.get.ensures (sym c.is_finishing.ensures ∙ ends)

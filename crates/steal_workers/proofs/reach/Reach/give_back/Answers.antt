@@ -1,5 +1,0 @@
-use Rattle.steal_workers.proofs.Balances.{merges}
-use Rattle.steal_workers.proofs.reach.Reach.give_back.Goals as goal
-
-pub absorb-requires-clause-rule : goal.absorb-requires-clause-rule
-absorb-requires-clause-rule c = merges _ _ _ _

@@ -1,0 +1,29 @@
+use Rattle.std.proofs.Common.{rules, ◌≡◌, ◌<◌, length, map, sym, ap, arith, ◌∙◌}
+use Rattle.std.proofs.Math.Seq.{map-set_same}
+use Rattle.std.proofs.lemmas.List.{map-set, take_all, length-map}
+use Rattle.std.proofs.lemmas.List.Elements.{All-same}
+use Rattle.steal_workers.specs.StealHandles.{own_deque, own_view, deques_of}
+use Rattle.steal_workers.proofs.Joins.{lead_more}
+use Rattle.steal_workers.proofs.worker_deques.make_worker_deques.Goals as goal
+
+pub loop-place-preserved : goal.loop-place-preserved
+loop-place-preserved c =
+    let was = c.loop-place.invariant in
+    let more = c.in_ok-reaches.ensures in
+    let at = c.loop-place.place in
+    let ends = c.make_steal_handles.new.ends.items in
+    let here = c.index_mut.result.now in
+    let value = c.index_mut.ensures.value in
+    let within : at < length ends = search rules in
+    let owns = map-set_same own_deque ends at _ here (ap own_deque value) ∙ more.deques in record {
+      workers = c.make_steal_handles.ensures.workers ∙ was.workers;
+      places = map-set_same (λ it. it.place) ends at _ here (ap (λ it. it.place) value) ∙ more.places ∙ was.places;
+      views = map-set_same own_view ends at _ here (ap own_view value) ∙ more.views ∙ was.views;
+      lead = lead_more _ _ _ _ _ _ at owns (map-set deques_of ends at _) more.reaches more.ok (omega (arith, length-map ends (deques_of), within)) was.lead;
+    }
+
+pub returns-clause-lead : goal.returns-clause-lead
+returns-clause-lead c =
+    let was = c.loop-place.invariant in
+    let others = map deques_of c.loop-place.ends.items in
+    All-same (λ deques. deques ≡ map own_deque c.loop-place.ends.items) _ _ (sym (take_all c.loop-place.place others (omega (arith, length-map c.loop-place.ends.items (deques_of), c.loop-place.ends.ok.0, was.workers, c.loop-place-test.false)))) was.lead
