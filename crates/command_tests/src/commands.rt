@@ -9,6 +9,7 @@ mod elisions;
 mod explanations;
 mod failures;
 mod hosts;
+mod many;
 mod pieces;
 mod recorded;
 mod records;

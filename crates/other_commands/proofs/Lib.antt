@@ -10,3 +10,6 @@ mod KeptRuns
 mod Recorded
 pub mod TracedCauses
 mod CleanSoFar
+mod DigestedSoFar
+mod DigestStatuses
+mod Unnoted

@@ -83,13 +83,13 @@ cut_text limit = (cut_words ++ decimal limit) ++ cut_behind
 abbrev pub TellsClean : Rendering → Manner → (text : List ℕ) → Contents → List Entry → (memory told : List ℕ) → Type 0
 TellsClean Text manner text program entries memory told = told ≡ clean_text program memory
 TellsClean Json manner text program entries memory told =
-    RecordsEntries CleanEnding 0 (program_setting false manner.file (lines text) program entries) (memory_told program.known.mems memory) [] told
+    RecordsEntries CleanEnding 0 (program_setting false manner.file (lines text) program entries) entries (memory_told program.known.mems memory) [] told
 
 -- where something was refused
 abbrev pub TellsRaces : Rendering → Manner → (text : List ℕ) → Contents → List Entry → (told : List ℕ) → Type 0
 TellsRaces Text manner text program entries told = IsExplanation manner.is_painted manner.file (lines text) program entries told
 TellsRaces Json manner text program entries told =
-    RecordsEntries RacedEnding 0 (program_setting false manner.file (lines text) program entries) null [] told
+    RecordsEntries RacedEnding 0 (program_setting false manner.file (lines text) program entries) entries null [] told
 
 -- where the limit ended the run: the races until then, and that it is no whole run
 abbrev pub TellsCut : Rendering → Manner → (text : List ℕ) → Contents → List Entry → (told : List ℕ) → Type 0
@@ -97,7 +97,7 @@ TellsCut Text manner text program entries told =
     (explanation : List ℕ) × (_ : IsExplanation manner.is_painted manner.file (lines text) program entries explanation) ×
     (told ≡ explanation ++ cut_text (length entries))
 TellsCut Json manner text program entries told =
-    RecordsEntries UnfinishedEnding 0 (program_setting false manner.file (lines text) program entries) null [] told
+    RecordsEntries UnfinishedEnding 0 (program_setting false manner.file (lines text) program entries) entries null [] told
 
 -- the faults of the text that can be told apart, the first of which is this one
 abbrev pub TellsFaulty : Rendering → Manner → Meant → (text : List ℕ) → Fault → (told : List ℕ) → Type 0
@@ -213,7 +213,7 @@ TellsEntries manner notes trace entries told =
 -- The value tells of the trace, and what was recorded.
 abbrev pub RecordsTrace : Notes Global → TraceContents → List Entry → (told : List ℕ) → Type 0
 RecordsTrace notes trace entries told =
-    RecordsEntries (ending_of (refusal_status entries)) 1 (trace_setting false notes trace.known entries) null (kept_runs notes) told
+    RecordsEntries (ending_of (refusal_status entries)) 1 (trace_setting false notes trace.known entries) entries null (kept_runs notes) told
 
 -- The trace is told, and what was recorded.
 abbrev pub TellsTrace : Rendering → Manner → Notes Global → TraceContents → List Entry → (told : List ℕ) → Type 0

@@ -8,3 +8,4 @@ pub mod Explanations
 pub mod Sorts
 pub mod Together
 pub mod Cleanness
+pub mod Digested

@@ -68,9 +68,9 @@ TellsTogether Json together told = IsTextOf (recorded_told together.records toge
 -- What is found in a trace is added to what is told in this form, and nothing to the other.
 abbrev pub AddsFound : Rendering → Manner → Notes Global → TraceContents → List Entry → (old new : Together) → Type 0
 AddsFound Text manner notes trace entries old new =
-    AddsTrace manner.file (trace_setting manner.is_painted notes trace.known entries) old.found new.found × (new.records ≡ old.records)
+    AddsTrace manner.file (trace_setting manner.is_painted notes trace.known entries) entries old.found new.found × (new.records ≡ old.records)
 AddsFound Json manner notes trace entries old new =
-    RecordsMore manner.file (trace_setting false notes trace.known entries) old.records new.records × (new.found ≡ old.found)
+    RecordsMore manner.file (trace_setting false notes trace.known entries) entries old.records new.records × (new.found ≡ old.found)
 
 -- The text means a trace, a gate answered each request of it, and what is found in it is added, by the notes of that very text. Where
 -- nothing was refused, that speaks for each order in which the strands can come.

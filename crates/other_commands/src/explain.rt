@@ -1,6 +1,6 @@
 //! Explaining a run of the program that a reader gives.
 
-ghost use Rattle.std.specs.Prelude.{◌≡◌, ◌↔◌, ◌<◌, ◌≤◌, ◌≢◌, ◌⊎◌, ◌++◌, true, false, length};
+ghost use Rattle.std.specs.Prelude.{◌≡◌, ◌↔◌, ◌<◌, ◌≤◌, ◌≢◌, ◌⊎◌, ◌++◌, true, false, List, length};
 ghost use Rattle.std.specs.Prelude.{reverse, decimal, IfOk, IfErr, OnOk, IsErrOf, IsTrue};
 ghost use Rattle.program_text.specs.Grammar.{TextMeans};
 ghost use Rattle.program_text.specs.Faults.{TextFaults};
@@ -18,11 +18,14 @@ ghost use Rattle.run_command.specs.Runs.{IsRunFault, WantsMore};
 ghost use Rattle.other_commands.specs.Explanations.{Manner as SpecManner, clean_words, clean_text, cut_words, cut_behind, cut_text};
 ghost use Rattle.other_commands.specs.Explanations.{TellsClean, TellsRaces, TellsCut, TellsFaulty};
 ghost use Rattle.fault_lists.specs.FaultLists.{HasFault};
-ghost use Rattle.model_histories.specs.Legal.{IsLegal};
+ghost use Rattle.model_histories.specs.declared.answer.Entry.{Entry as AnyEntry};
+ghost use Rattle.model_races.specs.Judged.{IsJudged};
+ghost use Rattle.race_pairs.specs.Digests.{IsDigest};
 ghost use Rattle.other_commands.specs.Explanations.{TellsEnd, IsBehindWarnings, status_of_end, ExplainsAs, Explains, IsUntold, StopsTelling, IsExplained, HasExplanationCause};
 
 use crate::elide::push_memory;
 use crate::explain_trace::explain_trace_text;
+use crate::judged::digest_of_run;
 use crate::memory::memory_value;
 use crate::sort::is_program;
 use command_streams::{CliFault, Watched, read_text, write_text};
@@ -32,6 +35,7 @@ use program_text::Program;
 use program_warnings::program_warnings;
 use race_explanations::explanation;
 use race_gate::{Entry, ShortGate};
+use race_pairs::Digest;
 use race_records::{Outcome as Ending, faults_record, run_record};
 use run_command::{
     Door, Outcome, PARTS, fault_of, outcome_of, refusal_status, serial_run, some_run,
@@ -144,11 +148,12 @@ fn clean_record(
     program: &Program<Global>,
     whole: &Whole,
 ) -> Result<Vec<u8>, AllocError>
-    requires legal { (shape : Shape) × IsLegal shape (reverse whole.now.entries.items) }
+    requires judged { (shape : Shape) × IsJudged shape (reverse whole.now.entries.items) }
+    requires few { length whole.now.entries.items ≤ most_entries }
     ensures { IfOk result (λ told. TellsClean Rendering.Json manner.now text.now (contents program.now) whole.now.entries.items whole.now.memory.items told.items) }
 {
     let memory = memory_value(alloc, program.mems.as_slice(), whole.memory.as_slice())?;
-    let entries = whole.entries.to_vec(alloc)?;
+    let digest = digest_of_run(alloc, &whole.entries)?;
     run_record(
         alloc,
         Ending::Clean,
@@ -156,7 +161,7 @@ fn clean_record(
         manner.file,
         text,
         program,
-        entries.as_slice(),
+        &digest,
     )
 }
 
@@ -168,7 +173,8 @@ fn explain_clean(
     program: &Program<Global>,
     whole: &Whole,
 ) -> Result<Vec<u8>, AllocError>
-    requires legal { (shape : Shape) × IsLegal shape (reverse whole.now.entries.items) }
+    requires judged { (shape : Shape) × IsJudged shape (reverse whole.now.entries.items) }
+    requires few { length whole.now.entries.items ≤ most_entries }
     ensures { IfOk result (λ told. TellsClean manner.now.rendering manner.now text.now (contents program.now) whole.now.entries.items whole.now.memory.items told.items) }
 {
     match manner.rendering {
@@ -183,10 +189,11 @@ fn races_told(
     manner: &Manner<'_>,
     text: &[u8],
     program: &Program<Global>,
-    entries: &[Entry],
+    digest: &Digest,
 ) -> Result<Vec<u8>, AllocError>
-    requires legal { (shape : Shape) × IsLegal shape (reverse entries.now) }
-    ensures { IfOk result (λ told. TellsRaces manner.now.rendering manner.now text.now (contents program.now) entries.now told.items) }
+    requires { (entries : List AnyEntry) × IsDigest entries digest.now }
+    ensures { IfOk result (λ told. (entries : List AnyEntry) → IsDigest entries digest.now →
+        TellsRaces manner.now.rendering manner.now text.now (contents program.now) entries told.items) }
 {
     match manner.rendering {
         Rendering::Text => explanation(
@@ -195,7 +202,7 @@ fn races_told(
             manner.file,
             text,
             program,
-            entries,
+            digest,
         ),
         Rendering::Json => run_record(
             alloc,
@@ -204,7 +211,7 @@ fn races_told(
             manner.file,
             text,
             program,
-            entries,
+            digest,
         ),
     }
 }
@@ -230,14 +237,15 @@ fn explain_whole(
     requires memory { IsMemory (shape_in program.now).cells (reverse whole.now.entries.items) whole.now.memory.items }
     requires clean { IsTrue whole.now.clean ↔ IsClean (reverse whole.now.entries.items) }
     requires within { length whole.now.entries.items ≤ limit }
+    requires limit { limit ≤ most_entries }
     ensures { IfOk result (λ told. TellsEnd manner.now text.now (contents program.now) limit told.0.items told.1) }
 {
     if whole.clean {
         let told = explain_clean(alloc, manner, text, program, whole)?;
         return Ok((told, End::Clean));
     }
-    let entries = whole.entries.to_vec(alloc)?;
-    let told = races_told(alloc, manner, text, program, entries.as_slice())?;
+    let digest = digest_of_run(alloc, &whole.entries)?;
+    let told = races_told(alloc, manner, text, program, &digest)?;
     Ok((told, End::Raced))
 }
 
@@ -247,20 +255,14 @@ fn cut_text_told(
     manner: &Manner<'_>,
     text: &[u8],
     program: &Program<Global>,
-    entries: &[Entry],
+    digest: &Digest,
 ) -> Result<Vec<u8>, AllocError>
-    requires legal { (shape : Shape) × IsLegal shape (reverse entries.now) }
-    ensures { IfOk result (λ told. TellsCut Rendering.Text manner.now text.now (contents program.now) entries.now told.items) }
+    requires { (entries : List AnyEntry) × IsDigest entries digest.now }
+    ensures { IfOk result (λ told. (entries : List AnyEntry) → IsDigest entries digest.now →
+        TellsCut Rendering.Text manner.now text.now (contents program.now) entries told.items) }
 {
-    let mut told = explanation(
-        alloc,
-        manner.is_painted,
-        manner.file,
-        text,
-        program,
-        entries,
-    )?;
-    push_cut(&mut told, entries.len())?;
+    let mut told = explanation(alloc, manner.is_painted, manner.file, text, program, digest)?;
+    push_cut(&mut told, digest.lines.len())?;
     Ok(told)
 }
 
@@ -270,13 +272,14 @@ fn limit_told(
     manner: &Manner<'_>,
     text: &[u8],
     program: &Program<Global>,
-    entries: &[Entry],
+    digest: &Digest,
 ) -> Result<Vec<u8>, AllocError>
-    requires legal { (shape : Shape) × IsLegal shape (reverse entries.now) }
-    ensures { IfOk result (λ told. TellsCut manner.now.rendering manner.now text.now (contents program.now) entries.now told.items) }
+    requires { (entries : List AnyEntry) × IsDigest entries digest.now }
+    ensures { IfOk result (λ told. (entries : List AnyEntry) → IsDigest entries digest.now →
+        TellsCut manner.now.rendering manner.now text.now (contents program.now) entries told.items) }
 {
     match manner.rendering {
-        Rendering::Text => cut_text_told(alloc, manner, text, program, entries),
+        Rendering::Text => cut_text_told(alloc, manner, text, program, digest),
         Rendering::Json => run_record(
             alloc,
             Ending::Unfinished,
@@ -284,7 +287,7 @@ fn limit_told(
             manner.file,
             text,
             program,
-            entries,
+            digest,
         ),
     }
 }
@@ -300,9 +303,11 @@ fn explain_unfinished(
 ) -> Result<(Vec<u8>, End), AllocError>
     requires run { IsUnfinishedRun program.now.functions (shape_in program.now) (reverse entries.now) }
     requires full { length entries.now ≡ limit }
+    requires limit { limit ≤ most_entries }
     ensures { IfOk result (λ told. TellsEnd manner.now text.now (contents program.now) limit told.0.items told.1) }
 {
-    let told = limit_told(alloc, manner, text, program, entries)?;
+    let digest = Digest::of(alloc, entries)?;
+    let told = limit_told(alloc, manner, text, program, &digest)?;
     if refusal_status(entries) == 0 {
         return Ok((told, End::Cut));
     }
@@ -318,7 +323,8 @@ fn explain_cut(
     gate: &ShortGate,
     limit: u32,
 ) -> Result<(Vec<u8>, End), CliFault>
-    requires { WantsMore (contents program.now) limit }
+    requires more { WantsMore (contents program.now) limit }
+    requires limit { limit ≤ most_entries }
     ensures ok { IfOk result (λ told. TellsEnd manner.now text.now (contents program.now) limit told.0.items told.1) }
     ensures fault { IfErr result (IsRunFault (contents program.now) limit) }
 {

@@ -5,10 +5,11 @@ ghost use Rattle.text_words.specs.Text.{lines};
 ghost use Rattle.trace_text.specs.Traces.{contents as trace_contents};
 ghost use Rattle.trace_text.specs.Grammar.{TextMeans as TraceMeans};
 ghost use Rattle.trace_notes.specs.Notes.{AreNotes, kept_runs};
-ghost use Rattle.model_histories.specs.Legal.{IsLegal};
-ghost use Rattle.model_histories.specs.Shapes.{Shape};
+ghost use Rattle.model_histories.specs.declared.answer.Entry.{Entry};
+ghost use Rattle.race_pairs.specs.Digests.{IsDigest};
 ghost use Rattle.run_command.specs.Outcomes.{refusal_status};
 ghost use Rattle.other_commands.specs.Cleanness.{IsAllClean};
+ghost use Rattle.other_commands.specs.Digested.{IsDigested};
 ghost use Rattle.other_commands.specs.Replays.{AnswersAll, StopsAt, StopsGate};
 ghost use Rattle.other_commands.specs.Explanations.{clean_trace_words, recorded_line, recorded_text, judged_text, TellsEntries, IsTraceTold, IsIllegalTold, IsUnjudgedTold};
 ghost use Rattle.other_commands.specs.Explanations.{Manner as SpecManner, IsUntoldTrace, ending_of, RecordsTrace, TellsTrace, TellsIllegal};
@@ -16,13 +17,15 @@ ghost use Rattle.other_commands.specs.Explanations.{Manner as SpecManner, IsUnto
 use crate::ask::{Stop, ask_all};
 use crate::clean::clean_count;
 use crate::explain::{Manner, Rendering, faults_told};
+use crate::judged::digest_of_trace;
 use crate::replay::fault_of_request;
 use command_streams::CliFault;
 use fault_lists::Fault;
+use memchr::memchr;
 use race_explanations::{Illegality, find_illegality, illegal_explanation, trace_explanation};
-use race_gate::{Entry, Gate};
+use race_gate::Gate;
+use race_pairs::Digest;
 use race_records::{Outcome as Ending, illegal_record, trace_record};
-use run_command::refusal_status;
 use source_quotes::{Meant, push_count};
 use std::alloc::{AllocError, Allocator, Global};
 use text_buffers::push_words;
@@ -55,15 +58,16 @@ fn explain_entries(
     manner: &Manner<'_>,
     notes: &Notes<Global>,
     trace: &Trace<Global>,
-    entries: &[Entry],
+    digest: &Digest,
 ) -> Result<Vec<u8>, AllocError>
-    requires legal { (shape : Shape) × IsLegal shape (reverse entries.now) }
-    ensures { IfOk result (λ told. TellsEntries manner.now notes.now (trace_contents trace.now) entries.now told.items) }
+    requires { (entries : List Entry) × IsDigest entries digest.now }
+    ensures { IfOk result (λ told. (entries : List Entry) → IsDigest entries digest.now →
+        TellsEntries manner.now notes.now (trace_contents trace.now) entries told.items) }
 {
-    if refusal_status(entries) == 0 {
-        return explain_clean(alloc, entries.len());
+    if digest.refusals == 0 {
+        return explain_clean(alloc, digest.lines.len());
     }
-    trace_explanation(alloc, manner.is_painted, notes, trace, entries)
+    trace_explanation(alloc, manner.is_painted, notes, trace, digest)
 }
 
 /// Adds what was recorded by one note.
@@ -73,6 +77,13 @@ pub(crate) fn push_run(told: &mut Vec<u8>, run: &str) -> Result<(), AllocError>
     push_words(told, "recorded: ")?;
     push_words(told, run)?;
     push_words(told, "\n")
+}
+
+/// The exit status of a trace: 1 where something was refused, else 0.
+fn status_of(digest: &Digest) -> u8
+    ensures { (entries : List Entry) → IsDigest entries digest.now → result ≡ refusal_status entries }
+{
+    if digest.refusals > 0 { 1 } else { 0 }
 }
 
 /// How a trace came out that was judged with this status.
@@ -90,18 +101,13 @@ fn entries_record(
     alloc: Global,
     notes: &Notes<Global>,
     trace: &Trace<Global>,
-    entries: &[Entry],
+    digest: &Digest,
 ) -> Result<Vec<u8>, AllocError>
-    requires legal { (shape : Shape) × IsLegal shape (reverse entries.now) }
-    ensures { IfOk result (λ told. RecordsTrace notes.now (trace_contents trace.now) entries.now told.items) }
+    requires { (entries : List Entry) × IsDigest entries digest.now }
+    ensures { IfOk result (λ told. (entries : List Entry) → IsDigest entries digest.now →
+        RecordsTrace notes.now (trace_contents trace.now) entries told.items) }
 {
-    trace_record(
-        alloc,
-        ending_of(refusal_status(entries)),
-        notes,
-        trace,
-        entries,
-    )
+    trace_record(alloc, ending_of(status_of(digest)), notes, trace, digest)
 }
 
 /// Adds what was recorded.
@@ -114,11 +120,14 @@ fn push_recorded(told: &mut Vec<u8>, notes: &Notes<Global>) -> Result<(), AllocE
     Ok(())
 }
 
-/// The notes of a text.
+/// The notes of a text. A text without `#` has none, and its lines are not looked at one by one.
 pub(crate) fn notes_of<A: Allocator + Copy>(alloc: A, text: &[u8]) -> Result<Notes<A>, AllocError>
     ensures { IfOk result (AreNotes (lines text.now)) }
 {
     let mut notes = Notes::new(alloc);
+    if memchr(b'#', text).is_none() {
+        return Ok(notes);
+    }
     notes.read(text)?;
     Ok(notes)
 }
@@ -163,7 +172,7 @@ pub(crate) fn explain_stop(
     ensures fault { IfErr result (λ fault. (fault ≡ CliFault.Memory) ⊎ StopsGate (trace_contents trace.now) fault) }
 {
     let entries = gate.history();
-    match find_illegality(alloc, entries, stop.request, stop.fault)? {
+    match find_illegality(entries, stop.request, stop.fault) {
         Some(why) => {
             let told = illegal_told(alloc, manner, text, trace, stop.number as usize, why)?;
             Ok(told)
@@ -178,12 +187,13 @@ fn verdict_text(
     manner: &Manner<'_>,
     notes: &Notes<Global>,
     trace: &Trace<Global>,
-    entries: &[Entry],
+    digest: &Digest,
 ) -> Result<Vec<u8>, AllocError>
-    requires legal { (shape : Shape) × IsLegal shape (reverse entries.now) }
-    ensures { IfOk result (λ told. TellsTrace Rendering.Text manner.now notes.now (trace_contents trace.now) entries.now told.items) }
+    requires { (entries : List Entry) × IsDigest entries digest.now }
+    ensures { IfOk result (λ told. (entries : List Entry) → IsDigest entries digest.now →
+        TellsTrace Rendering.Text manner.now notes.now (trace_contents trace.now) entries told.items) }
 {
-    let mut told = explain_entries(alloc, manner, notes, trace, entries)?;
+    let mut told = explain_entries(alloc, manner, notes, trace, digest)?;
     push_recorded(&mut told, notes)?;
     Ok(told)
 }
@@ -194,33 +204,46 @@ fn verdict_told(
     manner: &Manner<'_>,
     notes: &Notes<Global>,
     trace: &Trace<Global>,
-    entries: &[Entry],
+    digest: &Digest,
 ) -> Result<Vec<u8>, AllocError>
-    requires legal { (shape : Shape) × IsLegal shape (reverse entries.now) }
-    ensures { IfOk result (λ told. TellsTrace manner.now.rendering manner.now notes.now (trace_contents trace.now) entries.now told.items) }
+    requires { (entries : List Entry) × IsDigest entries digest.now }
+    ensures { IfOk result (λ told. (entries : List Entry) → IsDigest entries digest.now →
+        TellsTrace manner.now.rendering manner.now notes.now (trace_contents trace.now) entries told.items) }
 {
     match manner.rendering {
-        Rendering::Text => verdict_text(alloc, manner, notes, trace, entries),
-        Rendering::Json => entries_record(alloc, notes, trace, entries),
+        Rendering::Text => verdict_text(alloc, manner, notes, trace, digest),
+        Rendering::Json => entries_record(alloc, notes, trace, digest),
     }
 }
 
-/// What is told of a trace that a text means and whose requests this gate answered, and the exit status.
+/// What is told of a trace that a text means and whose requests a gate answered, and the exit status.
 fn explain_judged(
     alloc: Global,
     manner: &Manner<'_>,
     text: &[u8],
     trace: &Trace<Global>,
-    gate: &Gate<Global>,
+    digest: &Digest,
 ) -> Result<(Vec<u8>, u8), AllocError>
     requires means { TraceMeans text.now (trace_contents trace.now) }
-    requires answers { AnswersAll (trace_contents trace.now) gate.now }
+    requires digested { IsDigested (trace_contents trace.now) digest.now }
     ensures { IfOk result (λ told. IsTraceTold manner.now text.now told.0.items told.1) }
 {
     let notes = notes_of(alloc, text)?;
-    let entries = gate.history();
-    let told = verdict_told(alloc, manner, &notes, trace, entries)?;
-    Ok((told, refusal_status(entries)))
+    let told = verdict_told(alloc, manner, &notes, trace, digest)?;
+    Ok((told, status_of(digest)))
+}
+
+/// The digest of the entries of a gate that answered all requests of a trace.
+pub(crate) fn digest_of_gate(
+    alloc: Global,
+    trace: &Trace<Global>,
+    gate: &Gate<Global>,
+) -> Result<Digest, AllocError>
+    requires { AnswersAll (trace_contents trace.now) gate.now }
+    ensures { IfOk result (IsDigested (trace_contents trace.now)) }
+{
+    let _trace = trace;
+    Digest::of(alloc, gate.history())
 }
 
 /// What a person is told of a trace that a text means, in which nothing is refused among so many requests.
@@ -254,7 +277,10 @@ fn explain_history(
 {
     let (gate, stop) = ask_all(alloc, trace)?;
     match stop {
-        None => Ok(explain_judged(alloc, manner, text, trace, &gate)?),
+        None => {
+            let digest = digest_of_gate(alloc, trace, &gate)?;
+            Ok(explain_judged(alloc, manner, text, trace, &digest)?)
+        }
         Some(stop) => {
             let told = explain_stop(alloc, manner, text, trace, &gate, stop)?;
             Ok((told, 2))
@@ -262,7 +288,25 @@ fn explain_history(
     }
 }
 
-/// What a person is told of a trace that a text means, and the exit status. A history is kept only where something is refused or illegal.
+/// What is told of a trace that a text means, and the exit status. A history is kept only where a request is illegal.
+fn digest_told(
+    alloc: Global,
+    manner: &Manner<'_>,
+    text: &[u8],
+    trace: &Trace<Global>,
+) -> Result<(Vec<u8>, u8), CliFault>
+    requires { TraceMeans text.now (trace_contents trace.now) }
+    ensures ok { IfOk result (λ told. IsTraceTold manner.now text.now told.0.items told.1 ⊎ IsUnjudgedTold manner.now text.now told.0.items told.1) }
+    ensures fault { IfErr result (λ fault. (fault ≡ CliFault.Memory) ⊎ StopsGate (trace_contents trace.now) fault) }
+{
+    match digest_of_trace(alloc, trace)? {
+        Some(digest) => Ok(explain_judged(alloc, manner, text, trace, &digest)?),
+        None => explain_history(alloc, manner, text, trace),
+    }
+}
+
+/// What a person is told of a trace that a text means, and the exit status. More than a count is kept only where something is refused or
+/// illegal.
 fn trace_text_by(
     alloc: Global,
     manner: &Manner<'_>,
@@ -279,7 +323,7 @@ fn trace_text_by(
             let told = explain_clean_trace(alloc, text, trace, count)?;
             Ok((told, 0))
         }
-        None => explain_history(alloc, manner, text, trace),
+        None => digest_told(alloc, manner, text, trace),
     }
 }
 
@@ -296,7 +340,7 @@ fn explain_trace(
 {
     match manner.rendering {
         Rendering::Text => trace_text_by(alloc, manner, text, trace),
-        Rendering::Json => explain_history(alloc, manner, text, trace),
+        Rendering::Json => digest_told(alloc, manner, text, trace),
     }
 }
 

@@ -1,6 +1,6 @@
 //! Explaining several traces together.
 
-ghost use Rattle.std.specs.Prelude.{◌≡◌, ◌↔◌, ◌⊎◌, ◌==◌, ◌++◌, [], reverse, true, false, IfOk, IfErr, OnOk, IsErrOf, IsTrue, List, ℕ, map, flat_map, string_bytes};
+ghost use Rattle.std.specs.Prelude.{◌≡◌, ◌↔◌, ◌⊎◌, ◌==◌, ◌++◌, [], true, false, IfOk, IfErr, OnOk, IsErrOf, IsTrue, List, ℕ, map, flat_map, string_bytes};
 ghost use Rattle.std.specs.List.{list_any};
 ghost use Rattle.std.specs.Str.{bytes_eq};
 ghost use Rattle.trace_text.specs.Traces.{contents as trace_contents};
@@ -8,20 +8,22 @@ ghost use Rattle.trace_text.specs.Grammar.{TextMeans as TraceMeans};
 ghost use Rattle.trace_notes.specs.Notes.{kept_runs};
 ghost use Rattle.command_streams.specs.Watched.{held, has_failed};
 ghost use Rattle.command_streams.specs.Readings.{reading};
-ghost use Rattle.other_commands.specs.Replays.{AnswersAll, StopsGate};
+ghost use Rattle.other_commands.specs.Digested.{IsDigested};
+ghost use Rattle.other_commands.specs.Replays.{StopsGate};
 ghost use Rattle.other_commands.specs.Explanations.{IsUntoldTrace, recorded_line};
 ghost use Rattle.other_commands.specs.Together.{together_of, none_together, with_run, with_runs, together_text, together_status, AddsFound, TellsTogether};
-ghost use Rattle.model_histories.specs.Legal.{IsLegal};
-ghost use Rattle.model_histories.specs.Shapes.{Shape};
+ghost use Rattle.model_histories.specs.declared.answer.Entry.{Entry};
+ghost use Rattle.race_pairs.specs.Digests.{IsDigest};
 ghost use Rattle.other_commands.specs.Together.{AddsText, TakesText, TakesReading, StopsTaking};
 
 use crate::ask::ask_all;
 use crate::explain::{Manner, Rendering, faults_told};
-use crate::explain_trace::{explain_stop, notes_of, push_run};
+use crate::explain_trace::{digest_of_gate, explain_stop, notes_of, push_run};
+use crate::judged::digest_of_trace;
 use command_streams::{CliFault, Watched, read_text};
 use fault_lists::Fault;
 use race_explanations::Findings;
-use race_gate::{Entry, Gate};
+use race_pairs::Digest;
 use race_records::Records;
 use source_quotes::Meant;
 use std::alloc::{AllocError, Global};
@@ -112,17 +114,18 @@ impl Traces {
         }
     }
 
-    /// Adds what is found in a trace with these notes and these entries.
+    /// Adds what is found in a trace with these notes, of whose entries this is the digest.
     fn add_entries(
         &mut self,
         alloc: Global,
         manner: &Manner<'_>,
         notes: &Notes<Global>,
         trace: &Trace<Global>,
-        entries: &[Entry],
+        digest: &Digest,
     ) -> Result<(), AllocError>
-        requires legal { (shape : Shape) × IsLegal shape (reverse entries.now) }
-        ensures found { OnOk result (AddsFound manner.now.rendering manner.now notes.now (trace_contents trace.now) entries.now (together_of self.old) (together_of self.new)) }
+        requires { (entries : List Entry) × IsDigest entries digest.now }
+        ensures found { OnOk result ((entries : List Entry) → IsDigest entries digest.now →
+            AddsFound manner.now.rendering manner.now notes.now (trace_contents trace.now) entries (together_of self.old) (together_of self.new)) }
         ensures runs { (together_of self.new).runs ≡ (together_of self.old).runs }
     {
         match manner.rendering {
@@ -132,34 +135,33 @@ impl Traces {
                 manner.file,
                 notes,
                 trace,
-                entries,
+                digest,
             ),
-            Rendering::Json => self.records.add(alloc, manner.file, notes, trace, entries),
+            Rendering::Json => self.records.add(alloc, manner.file, notes, trace, digest),
         }
     }
 
-    /// Adds a trace that a text means and whose requests this gate answered.
+    /// Adds a trace that a text means and whose requests a gate answered.
     fn add(
         &mut self,
         alloc: Global,
         manner: &Manner<'_>,
         text: &[u8],
         trace: &Trace<Global>,
-        gate: &Gate<Global>,
+        digest: &Digest,
     ) -> Result<(), AllocError>
         requires means { TraceMeans text.now (trace_contents trace.now) }
-        requires answers { AnswersAll (trace_contents trace.now) gate.now }
+        requires digested { IsDigested (trace_contents trace.now) digest.now }
         ensures { OnOk result (AddsText manner.now text.now (together_of self.old) (together_of self.new)) }
     {
         let notes = notes_of(alloc, text)?;
-        let entries = gate.history();
-        self.add_entries(alloc, manner, &notes, trace, entries)?;
+        self.add_entries(alloc, manner, &notes, trace, digest)?;
         keep_runs(alloc, &mut self.runs, &notes)?;
         Ok(())
     }
 
-    /// Adds a trace that a text means, or tells its first illegal request.
-    fn take_trace(
+    /// Adds a trace that a text means, or tells its first illegal request, by a gate that keeps the history.
+    fn take_history(
         &mut self,
         alloc: Global,
         manner: &Manner<'_>,
@@ -173,10 +175,32 @@ impl Traces {
         let (gate, stop) = ask_all(alloc, trace)?;
         match stop {
             None => {
-                self.add(alloc, manner, text, trace, &gate)?;
+                let digest = digest_of_gate(alloc, trace, &gate)?;
+                self.add(alloc, manner, text, trace, &digest)?;
                 Ok(None)
             }
             Some(stop) => Ok(Some(explain_stop(alloc, manner, text, trace, &gate, stop)?)),
+        }
+    }
+
+    /// Adds a trace that a text means, or tells its first illegal request. A history is kept only where a request is illegal.
+    fn take_trace(
+        &mut self,
+        alloc: Global,
+        manner: &Manner<'_>,
+        text: &[u8],
+        trace: &Trace<Global>,
+    ) -> Result<Option<Vec<u8>>, CliFault>
+        requires { TraceMeans text.now (trace_contents trace.now) }
+        ensures ok { IfOk result (TakesText manner.now text.now (together_of self.old) (together_of self.new)) }
+        ensures fault { IfErr result (λ fault. (fault ≡ CliFault.Memory) ⊎ StopsGate (trace_contents trace.now) fault) }
+    {
+        match digest_of_trace(alloc, trace)? {
+            Some(digest) => {
+                self.add(alloc, manner, text, trace, &digest)?;
+                Ok(None)
+            }
+            None => self.take_history(alloc, manner, text, trace),
         }
     }
 

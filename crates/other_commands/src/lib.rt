@@ -21,6 +21,7 @@ mod elide;
 mod explain;
 mod explain_trace;
 mod explain_traces;
+mod judged;
 mod memory;
 mod replay;
 mod sort;

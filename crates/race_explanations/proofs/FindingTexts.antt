@@ -1,9 +1,9 @@
 -- The text of a finding is what is told of its pair.
 use Rattle.std.proofs.Common.{◌≡◌, ℕ, List, [], ◌++◌, Option, Some, None, length, map, codes, refl, sym, ap, ◌∙◌, append_assoc, append-nil}
-use Rattle.std.specs.Global.{Global, Vec}
+use Rattle.std.specs.Global.{Vec}
 use Rattle.std.proofs.lemmas.List.{length-map}
 use Rattle.source_quotes.specs.Quotes.{counted}
-use Rattle.race_pairs.specs.declared.tally.Pair.{Pair}
+use Rattle.race_pairs.specs.declared.race.Pair.{Pair}
 use Rattle.race_pairs.specs.declared.encounter.Encounter.{Encounter}
 use Rattle.race_pairs.specs.Places.{ArePlaces}
 use Rattle.race_explanations.specs.declared.finding.Finding.{Finding}
@@ -11,7 +11,8 @@ use Rattle.race_explanations.specs.Settings.{Origin, in_program, in_trace, Setti
 use Rattle.race_explanations.specs.Accounts.{Adds}
 use Rattle.race_explanations.specs.Titles.{told_names, left_out}
 use Rattle.race_explanations.specs.Messages.{message, earlier_text, refused_text, advice_text}
-use Rattle.race_explanations.specs.Explained.{IsEncounter}
+use Rattle.model_histories.specs.declared.answer.Entry.{Entry}
+use Rattle.race_pairs.specs.Encounters.{IsEncounter}
 use Rattle.race_explanations.specs.Findings.{kind_text, name_text, body_text, finding_text, IsOfTrace, IsFinding}
 use Rattle.race_explanations.proofs.Accounts.{never, some_is}
 
@@ -30,7 +31,7 @@ regrouped k n l s c z e r a b =
     ap (λ t. t ++ (e ++ r ++ a ++ b)) same ∙ sym (append_assoc head (e ++ r ++ a) b) ∙
     ap (λ t. t ++ b) (sym (append_assoc head (e ++ r) a) ∙ ap (λ t. t ++ a) (sym (append_assoc head e r) ∙ ap (λ t. t ++ e ++ r) (sym (append-nil head))))
 
-said : (origin : Origin) (setting : Setting) (finding : Finding) (pair : Pair) (places : List ℕ) (encounter : Encounter Global) → setting.origin ≡ origin → IsOfTrace origin →
+said : (origin : Origin) (setting : Setting) (finding : Finding) (pair : Pair) (places : List ℕ) (encounter : Encounter) → setting.origin ≡ origin → IsOfTrace origin →
     finding.kind.items ≡ kind_text setting pair.lines.reason → finding.name.items ≡ name_text setting pair.lines.reason places →
     finding.body.items ≡ body_text setting pair encounter → length finding.names.keys ≡ length (told_names setting pair.lines.reason places) → finding.times ≡ pair.times →
     finding_text finding ≡ message setting pair places encounter
@@ -46,13 +47,13 @@ said (in_trace notes) setting finding pair places encounter is trace kind name b
     (earlier_text reason setting pair encounter) (refused_text setting pair encounter) (advice_text reason setting pair encounter) (codes "\n") ∙
     rw is refl
 
-pub is_finding : (setting : Setting) (finding : Finding) (pair : Pair) (places : List ℕ) (encounter : Encounter Global) → IsOfTrace setting.origin →
-    ArePlaces setting.entries pair.lines places → IsEncounter setting.entries pair encounter →
+pub is_finding : (setting : Setting) (entries : List Entry) (finding : Finding) (pair : Pair) (places : List ℕ) (encounter : Encounter) → IsOfTrace setting.origin →
+    ArePlaces entries pair.lines places → IsEncounter entries pair encounter →
     finding.kind.items ≡ kind_text setting pair.lines.reason → finding.name.items ≡ name_text setting pair.lines.reason places →
     finding.body.items ≡ body_text setting pair encounter →
     map (λ (name : Vec ℕ). name.items) finding.names.keys ≡ told_names setting pair.lines.reason places → finding.times ≡ pair.times →
-    IsFinding setting pair finding
-is_finding setting finding pair places encounter trace are is kind name body names times = record {
+    IsFinding setting entries pair finding
+is_finding setting entries finding pair places encounter trace are is kind name body names times = record {
   places = places;
   encounter = encounter;
   are_places = are;

@@ -1,12 +1,13 @@
 -- One finding more among others.
-use Rattle.std.proofs.Common.{◌≡◌, ℕ, ◌+◌, ◌<◌, Bool, true, false, List, [], ◌∷◌, ◌++◌, length, min, take, drop, set, get_or, cond, refl, sym, ap, ◌∙◌, append_assoc, arith, subst}
-use Rattle.std.proofs.lemmas.List.{take_more, drop_more, take_all, drop_all, take-append-drop, length-take, set_at, get_or_read}
-use Rattle.race_pairs.specs.declared.tally.Pair.{Pair}
+use Rattle.std.proofs.Common.{◌≡◌, ℕ, ◌+◌, ◌<◌, Bool, true, false, List, [], ◌∷◌, ◌++◌, length, take, drop, map, set, get_or, cond, refl, sym, ap, ◌∙◌, append_assoc, arith, subst}
+use Rattle.std.proofs.lemmas.List.{take_more, drop_more, take_all, drop_all, take-append-drop, length-take, set_at, get_or_read, length-map, get_or-map}
+use Rattle.race_pairs.specs.declared.race.Pair.{Pair}
+use Rattle.race_pairs.specs.declared.race.Race.{Race}
 use Rattle.race_explanations.specs.declared.finding.Finding.{Finding}
 use Rattle.race_explanations.specs.Settings.{Setting}
 use Rattle.race_explanations.specs.Findings.{is_alike, joined, with_finding, with_findings, IsFinding, AllFound, none, more, AddsAll, AddsPairs}
 use Rattle.race_pairs.specs.Pairs.{ArePairs}
-use Rattle.race_explanations.proofs.Telling.{first_of_all}
+use Rattle.model_histories.specs.declared.answer.Entry.{Entry}
 
 -- none of those before the place is told as the other
 abbrev pub IsBehind : List Finding → Finding → ℕ → Type 0
@@ -55,28 +56,36 @@ with_more findings [] one = refl
 with_more findings (x ∷ some) one = with_more (with_finding findings x) some one
 
 -- no pair
-pub none_added : (setting : Setting) (findings : List Finding) → AddsAll setting [] findings findings
-none_added setting findings = record { findings = []; all_found = none; new_is = refl }
+pub none_added : (setting : Setting) (entries : List Entry) (findings : List Finding) → AddsAll setting entries [] findings findings
+none_added setting entries findings = record { findings = []; all_found = none; new_is = refl }
 
 -- one pair more
-pub one_added : (setting : Setting) (pairs : List Pair) (index : ℕ) (d : Pair) (finding : Finding) (old one two : List Finding) → index < length pairs →
-    AddsAll setting (take index pairs) old one → IsFinding setting (get_or pairs index d) finding → two ≡ with_finding one finding →
-    AddsAll setting (take (index + 1) pairs) old two
-one_added setting pairs index d finding old one two below before is new = record {
+pub one_added : (setting : Setting) (entries : List Entry) (pairs : List Pair) (index : ℕ) (d : Pair) (finding : Finding) (old one two : List Finding) → index < length pairs →
+    AddsAll setting entries (take index pairs) old one → IsFinding setting entries (get_or pairs index d) finding → two ≡ with_finding one finding →
+    AddsAll setting entries (take (index + 1) pairs) old two
+one_added setting entries pairs index d finding old one two below before is new = record {
   findings = before.findings ++ finding ∷ [];
-  all_found = subst (λ (first : List Pair). AllFound setting first (before.findings ++ finding ∷ [])) (sym (take_more pairs index d below))
+  all_found = subst (λ (first : List Pair). AllFound setting entries first (before.findings ++ finding ∷ [])) (sym (take_more pairs index d below))
       (more (get_or pairs index d) finding before.all_found is);
   new_is = new ∙ ap (λ l. with_finding l finding) before.new_is ∙ sym (with_more old before.findings finding);
 }
 
+-- one pair more of those of races
+pub race_added : (setting : Setting) (entries : List Entry) (races : List Race) (index : ℕ) (d : Race) (finding : Finding) (old one two : List Finding) → index < length races →
+    AddsAll setting entries (take index (map (λ (race : Race). race.pair) races)) old one → IsFinding setting entries (get_or races index d).pair finding →
+    two ≡ with_finding one finding → AddsAll setting entries (take (index + 1) (map (λ (race : Race). race.pair) races)) old two
+race_added setting entries races index d finding old one two below before is new =
+    one_added setting entries (map (λ (race : Race). race.pair) races) index d.pair finding old one two (omega (arith, below, length-map races (λ (race : Race). race.pair))) before
+    (subst (λ (pair : Pair). IsFinding setting entries pair finding) (sym (get_or-map (λ (race : Race). race.pair) races index d d.pair below)) is) new
+
 -- the first so many pairs
-pub pairs_added : (setting : Setting) (pairs front : List Pair) (old new : List Finding) (count : ℕ) → ArePairs setting.entries pairs →
-    front ≡ take (min (length pairs) 20) pairs → count ≡ length pairs → AddsAll setting front old new → AddsPairs setting old new count
-pairs_added setting pairs front old new count are is count_is adds = record {
+pub pairs_added : (setting : Setting) (entries : List Entry) (pairs front : List Pair) (old new : List Finding) (count : ℕ) → ArePairs entries pairs →
+    front ≡ take 20 pairs → count ≡ length pairs → AddsAll setting entries front old new → AddsPairs setting entries old new count
+pairs_added setting entries pairs front old new count are is count_is adds = record {
   pairs = pairs;
   are_pairs = are;
   count_is = count_is;
   findings = adds.findings;
-  all_found = subst (λ (some : List Pair). AllFound setting some adds.findings) (is ∙ first_of_all pairs 20) adds.all_found;
+  all_found = subst (λ (some : List Pair). AllFound setting entries some adds.findings) is adds.all_found;
   new_is = adds.new_is;
 }

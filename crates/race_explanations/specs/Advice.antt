@@ -6,10 +6,8 @@ use Rattle.trace_notes.specs.Places.{PlaceParts}
 use Rattle.trace_notes.specs.Notes.{noted_place}
 use Rattle.spawn_chains.specs.declared.lineage.Parting.{Parting}
 use Rattle.spawn_chains.specs.declared.lineage.OpenSpawn.{OpenSpawn}
-use Rattle.race_pairs.specs.Refusals.{line_at}
-use Rattle.race_pairs.specs.Encounters.{strand_at}
-use Rattle.race_pairs.specs.declared.refusal.Lines.{Lines}
-use Rattle.race_pairs.specs.declared.tally.Pair.{Pair}
+use Rattle.race_pairs.specs.Refusals.{line_in}
+use Rattle.race_pairs.specs.declared.race.Pair.{Pair}
 use Rattle.race_explanations.specs.Settings.{Origin, in_program, in_trace, Setting}
 use Rattle.race_explanations.specs.Names.{function_at}
 use Rattle.race_explanations.specs.Paths.{line_words, shown_line}
@@ -70,16 +68,12 @@ abbrev pub between : Setting → List ℕ
 between setting = between_in setting.look setting.origin
 
 -- the line of the one of a pair's two entries which is on this strand: the refused one, or else its witness
-abbrev pub line_by : Lines → ℕ → Option ℕ → ℕ
-line_by lines strand (Some refused) = if refused == strand then lines.line else lines.witness_line
-line_by lines strand None = lines.witness_line
-
-abbrev pub line_on : Setting → Pair → ℕ → ℕ
-line_on setting pair strand = line_by pair.lines strand (strand_at setting.entries pair.first)
+abbrev pub line_on : Pair → (refused : ℕ) → (strand : ℕ) → ℕ
+line_on pair refused strand = if refused == strand then pair.lines.line else pair.lines.witness_line
 
 -- the line of a spawn and a sign below it
 abbrev pub spawn_line : Setting → ℕ → List ℕ
-spawn_line setting entry_number = between setting ++ shown_line setting (line_at setting.entries entry_number) 45
+spawn_line setting entry_number = between setting ++ shown_line setting (line_in setting.lines entry_number) 45
 
 -- a function in a sentence
 abbrev pub spawner_word : Option (List ℕ) → List ℕ
@@ -98,10 +92,10 @@ abbrev pub function_word : Setting → ℕ → List ℕ
 function_word setting line = function_in setting.origin line
 
 -- That two strands part at a spawn: whither the child comes, and how its spawner goes on.
-abbrev pub parts_text : Setting → Pair → Parting → ℕ → List ℕ
-parts_text setting pair parting onward =
-    spawn_line setting parting.entry ++ (parts_words ++ line_words setting.origin (line_on setting pair parting.by_child)) ++
-    while_words ++ function_word setting (line_at setting.entries parting.entry) ++
+abbrev pub parts_text : Setting → Pair → (refused : ℕ) → Parting → ℕ → List ℕ
+parts_text setting pair refused parting onward =
+    spawn_line setting parting.entry ++ (parts_words ++ line_words setting.origin (line_on pair refused parting.by_child)) ++
+    while_words ++ function_word setting (line_in setting.lines parting.entry) ++
     (onward_words ++ line_words setting.origin onward ++ codes "\n")
 
 -- That a sync before a line would order two strands.
@@ -116,10 +110,10 @@ sync_text setting line onward =
     then noted setting.look ++ rounds_words setting.origin
     else missing_text setting line onward
 
-abbrev pub parting_text : Setting → Pair → Option Parting → ℕ → List ℕ
-parting_text setting pair (Some parting) onward =
-    parts_text setting pair parting onward ++ sync_text setting (line_at setting.entries parting.entry) onward
-parting_text setting pair None onward = []
+abbrev pub parting_text : Setting → Pair → (refused : ℕ) → Option Parting → ℕ → List ℕ
+parting_text setting pair refused (Some parting) onward =
+    parts_text setting pair refused parting onward ++ sync_text setting (line_in setting.lines parting.entry) onward
+parting_text setting pair refused None onward = []
 
 -- at which of two lines a spawn is outstanding
 abbrev pub open_words : Origin → ℕ → ℕ → List ℕ
@@ -127,19 +121,19 @@ open_words origin at not_at =
     (outstanding_words ++ line_words origin at) ++ (elsewhere_words ++ line_words origin not_at) ++ codes "\n"
 
 -- That a spawn is outstanding at one of two reads and not at the other.
-abbrev pub open_text : Setting → Pair → OpenSpawn → List ℕ
-open_text setting pair spawn =
-    spawn_line setting spawn.entry ++ open_words setting.origin (line_on setting pair spawn.parallel) (line_on setting pair spawn.ordered)
+abbrev pub open_text : Setting → Pair → (refused : ℕ) → OpenSpawn → List ℕ
+open_text setting pair refused spawn =
+    spawn_line setting spawn.entry ++ open_words setting.origin (line_on pair refused spawn.parallel) (line_on pair refused spawn.ordered)
 
 -- What makes a read the same in every run.
-abbrev pub move_text : Setting → Pair → OpenSpawn → List ℕ
-move_text setting pair spawn =
-    noted setting.look ++ (move_words ++ line_words setting.origin (line_on setting pair spawn.parallel)) ++
-    behind_words ++ function_word setting (line_at setting.entries spawn.entry) ++ ended_words
+abbrev pub move_text : Setting → Pair → (refused : ℕ) → OpenSpawn → List ℕ
+move_text setting pair refused spawn =
+    noted setting.look ++ (move_words ++ line_words setting.origin (line_on pair refused spawn.parallel)) ++
+    behind_words ++ function_word setting (line_in setting.lines spawn.entry) ++ ended_words
 
-abbrev pub outstanding_text : Setting → Pair → Option OpenSpawn → List ℕ
-outstanding_text setting pair (Some spawn) = open_text setting pair spawn ++ move_text setting pair spawn
-outstanding_text setting pair None = []
+abbrev pub outstanding_text : Setting → Pair → (refused : ℕ) → Option OpenSpawn → List ℕ
+outstanding_text setting pair refused (Some spawn) = open_text setting pair refused spawn ++ move_text setting pair refused spawn
+outstanding_text setting pair refused None = []
 
 -- What makes a get find something.
 abbrev pub put_text : Setting → List ℕ

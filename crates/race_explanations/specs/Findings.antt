@@ -1,14 +1,14 @@
 -- What is told of a pair of places that raced in a trace, in pieces, so that pairs of several traces that are told alike are told once.
 use Rattle.std.specs.Prelude.{ℕ, ◌≡◌, ◌<◌, Option, Some, None, slice_set, slice_index_or, ◌+◌, ◌-◌, ◌^◌, ◌==◌, ◌&&◌, min, nat_lt, Bool, List, [], ◌∷◌, ◌++◌, codes, flat_map, map, length, take, cond, if◌then◌else◌}
 use Rattle.std.specs.Str.{bytes_eq}
-use Rattle.std.specs.Global.{Global, Vec}
-use Rattle.std.specs.BTreeSet.{BTreeSet, insert_key}
+use Rattle.std.specs.Global.{Vec}
+use Rattle.std.specs.BTreeSet.{insert_key}
 use Rattle.std.specs.Ordering.{nat_cmp}
 use Rattle.std.specs.Cmp.Lexicographic.{slice_cmp}
 use Rattle.source_quotes.specs.declared.look.Paint.TheVariants.{Red}
 use Rattle.source_quotes.specs.Quotes.{painted, counted}
 use Rattle.race_pairs.specs.declared.refusal.Reason.{Reason}
-use Rattle.race_pairs.specs.declared.tally.Pair.{Pair}
+use Rattle.race_pairs.specs.declared.race.Pair.{Pair}
 use Rattle.race_pairs.specs.declared.encounter.Encounter.{Encounter}
 use Rattle.race_pairs.specs.Pairs.{ArePairs}
 use Rattle.race_pairs.specs.Places.{ArePlaces}
@@ -17,7 +17,9 @@ use Rattle.race_explanations.specs.declared.findings.Findings.{Findings}
 use Rattle.race_explanations.specs.Settings.{Origin, in_program, in_trace, Setting}
 use Rattle.race_explanations.specs.Titles.{sort_word, reason_words, listed_names, told_names, left_out}
 use Rattle.race_explanations.specs.Messages.{earlier_text, refused_text, advice_text, message}
-use Rattle.race_explanations.specs.Explained.{IsEncounter, refusals_among}
+use Rattle.model_histories.specs.declared.answer.Entry.{Entry}
+use Rattle.race_pairs.specs.Refusals.{refusals_among}
+use Rattle.race_pairs.specs.Encounters.{IsEncounter}
 
 -- ---- one pair
 
@@ -30,7 +32,7 @@ abbrev pub name_text : Setting → Reason → List ℕ → List ℕ
 name_text setting reason places = listed_names setting reason (take 1 places)
 
 -- the two accesses with what led there, and what would order them
-abbrev pub body_text : Setting → Pair → Encounter Global → List ℕ
+abbrev pub body_text : Setting → Pair → Encounter → List ℕ
 body_text setting pair encounter =
     earlier_text pair.lines.reason setting pair encounter ++ refused_text setting pair encounter ++
     advice_text pair.lines.reason setting pair encounter ++ codes "\n"
@@ -45,11 +47,11 @@ IsOfTrace (in_program file source functions) = ⊥
 IsOfTrace (in_trace notes) = Unit {0}
 
 -- The finding is that of the pair, and its text is what is told of the pair where its trace is told alone.
-pub record IsFinding (setting : Setting) (pair : Pair) (finding : Finding) : Type 0 where
+pub record IsFinding (setting : Setting) (entries : List Entry) (pair : Pair) (finding : Finding) : Type 0 where
   pub places : List ℕ
-  pub encounter : Encounter Global
-  pub are_places : ArePlaces setting.entries pair.lines places
-  pub is_encounter : IsEncounter setting.entries pair encounter
+  pub encounter : Encounter
+  pub are_places : ArePlaces entries pair.lines places
+  pub is_encounter : IsEncounter entries pair encounter
   pub kind_is : finding.kind.items ≡ kind_text setting pair.lines.reason
   pub name_is : finding.name.items ≡ name_text setting pair.lines.reason places
   pub body_is : finding.body.items ≡ body_text setting pair encounter
@@ -58,10 +60,10 @@ pub record IsFinding (setting : Setting) (pair : Pair) (finding : Finding) : Typ
   pub text_is : finding_text finding ≡ message setting pair places encounter
 
 -- The findings are those of the pairs, in their order.
-pub data AllFound (setting : Setting) : List Pair → List Finding → Type 0 where
-  none : AllFound setting [] []
-  more : {pairs : List Pair} {findings : List Finding} (pair : Pair) (finding : Finding) → AllFound setting pairs findings →
-      IsFinding setting pair finding → AllFound setting (pairs ++ pair ∷ []) (findings ++ finding ∷ [])
+pub data AllFound (setting : Setting) (entries : List Entry) : List Pair → List Finding → Type 0 where
+  none : AllFound setting entries [] []
+  more : {pairs : List Pair} {findings : List Finding} (pair : Pair) (finding : Finding) → AllFound setting entries pairs findings →
+      IsFinding setting entries pair finding → AllFound setting entries (pairs ++ pair ∷ []) (findings ++ finding ∷ [])
 
 -- ---- findings that are told alike
 
@@ -130,39 +132,39 @@ untold_in file count =
     if nat_lt 20 count then codes "and " ++ counted (count - 20) (codes "more pair") ++ codes " of places in " ++ file ++ codes "\n" else []
 
 -- with one trace more: the findings of its first twenty pairs, and how many pairs there are
-abbrev pub with_trace : (file : List ℕ) → (setting : Setting) → List Finding → (count : ℕ) → Found → Found
-with_trace file setting findings count found = record {
+abbrev pub with_trace : (file : List ℕ) → List Entry → List Finding → (count : ℕ) → Found → Found
+with_trace file entries findings count found = record {
   findings = with_findings found.findings findings;
   untold = found.untold ++ untold_in file count;
-  refusals = added_up found.refusals (refusals_among setting.entries);
-  requests = added_up found.requests (length setting.entries);
+  refusals = added_up found.refusals (refusals_among entries);
+  requests = added_up found.requests (length entries);
   traces = added_up found.traces 1;
 }
 
 -- Findings of the first twenty of so many pairs were added.
-pub record AddsPairs (setting : Setting) (old new : List Finding) (count : ℕ) : Type 0 where
+pub record AddsPairs (setting : Setting) (entries : List Entry) (old new : List Finding) (count : ℕ) : Type 0 where
   pub pairs : List Pair
-  pub are_pairs : ArePairs setting.entries pairs
+  pub are_pairs : ArePairs entries pairs
   pub count_is : count ≡ length pairs
   pub findings : List Finding
-  pub all_found : AllFound setting (take 20 pairs) findings
+  pub all_found : AllFound setting entries (take 20 pairs) findings
   pub new_is : new ≡ with_findings old findings
 
 -- Findings of all these pairs were added.
-pub record AddsAll (setting : Setting) (pairs : List Pair) (old new : List Finding) : Type 0 where
+pub record AddsAll (setting : Setting) (entries : List Entry) (pairs : List Pair) (old new : List Finding) : Type 0 where
   pub findings : List Finding
-  pub all_found : AllFound setting pairs findings
+  pub all_found : AllFound setting entries pairs findings
   pub new_is : new ≡ with_findings old findings
 
 -- A trace was added.
-pub record AddsTrace (file : List ℕ) (setting : Setting) (old new : Found) : Type 0 where
+pub record AddsTrace (file : List ℕ) (setting : Setting) (entries : List Entry) (old new : Found) : Type 0 where
   pub count : ℕ
   pub pairs : List Pair
-  pub are_pairs : ArePairs setting.entries pairs
+  pub are_pairs : ArePairs entries pairs
   pub count_is : count ≡ length pairs
   pub findings : List Finding
-  pub all_found : AllFound setting (take 20 pairs) findings
-  pub new_is : new ≡ with_trace file setting findings count old
+  pub all_found : AllFound setting entries (take 20 pairs) findings
+  pub new_is : new ≡ with_trace file entries findings count old
 
 -- ---- what is told of them
 

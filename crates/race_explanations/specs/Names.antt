@@ -1,13 +1,10 @@
 -- Words for what stands in a program and in a run of it.
 use Rattle.std.specs.Prelude.{ℕ, nat_lt, List, [], ◌∷◌, codes, take, drop, Option, Some, None, if◌then◌else◌}
 use Rattle.model_accesses.specs.Table.{spelling}
-use Rattle.model_accesses.specs.declared.asked.Asked.{Asked}
-use Rattle.model_accesses.specs.declared.request.Act.{Act}
-use Rattle.model_accesses.specs.declared.request.Act.TheVariants.{Spawn}
-use Rattle.model_accesses.specs.Asking.{access_asked}
 use Rattle.model_bodies.specs.Codes.{Code}
-use Rattle.model_histories.specs.declared.answer.Entry.{Entry}
-use Rattle.race_pairs.specs.Refusals.{entry_at}
+use Rattle.race_pairs.specs.declared.refusal.Side.{Side}
+use Rattle.race_pairs.specs.declared.encounter.Way.{Way}
+use Rattle.race_pairs.specs.declared.encounter.Way.TheVariants.{Spawned, Called}
 use Rattle.source_quotes.specs.Lines.{blanks, statement_length}
 
 -- the name of the last of the functions that begins before a line, and else this name
@@ -19,30 +16,15 @@ name_before name (function ∷ functions) line = if nat_lt function.line line th
 abbrev pub function_at : List Code → ℕ → List ℕ
 function_at functions line = name_before [] functions line
 
--- what was done by an access
-abbrev pub asked_word : Option Asked → List ℕ
-asked_word (Some asked) = spelling asked.kind
-asked_word None = []
+-- what an access did, where there is one
+abbrev pub side_word : Option Side → List ℕ
+side_word (Some side) = spelling side.kind
+side_word None = []
 
-abbrev pub entry_word : Option Entry → List ℕ
-entry_word (Some entry) = asked_word (access_asked entry.request.act)
-entry_word None = []
-
--- what the entry with this number did
-abbrev pub word_at : List Entry → ℕ → List ℕ
-word_at entries number = entry_word (entry_at entries number)
-
--- how an entry came to a function
-abbrev pub way_of_act : Act → List ℕ
-way_of_act Spawn = codes "spawned"
-way_of_act act = codes "called"
-
-abbrev pub way_of_entry : Option Entry → List ℕ
-way_of_entry (Some entry) = way_of_act entry.request.act
-way_of_entry None = []
-
-abbrev pub way_at : List Entry → ℕ → List ℕ
-way_at entries number = way_of_entry (entry_at entries number)
+-- how a spawn or a call came to a function
+abbrev pub way_word : Way → List ℕ
+way_word Spawned = codes "spawned"
+way_word Called = codes "called"
 
 -- the statement on a line, without the blanks before it and what is behind it
 abbrev pub statement : List ℕ → List ℕ

@@ -2,13 +2,15 @@
 use Rattle.std.specs.Prelude.{ℕ, ◌-◌, nat_lt, List, [], ◌++◌, codes, flat_map, length, take, decimal, replicate, Option, Some, None, if◌then◌else◌}
 use Rattle.source_quotes.specs.declared.look.Look.{Look}
 use Rattle.source_quotes.specs.declared.look.Paint.TheVariants.{Blue}
-use Rattle.source_quotes.specs.Lines.{line_in}
+use Rattle.source_quotes.specs.Lines.{line_in as source_line}
 use Rattle.source_quotes.specs.Quotes.{marked, noted, gutter, painted}
 use Rattle.trace_notes.specs.Places.{PlaceParts}
 use Rattle.trace_notes.specs.Notes.{noted_place}
-use Rattle.race_pairs.specs.Refusals.{line_at}
+use Rattle.race_pairs.specs.declared.refusal.Side.{Side}
+use Rattle.race_pairs.specs.declared.encounter.Link.{Link}
+use Rattle.race_pairs.specs.Refusals.{line_in}
 use Rattle.race_explanations.specs.Settings.{Origin, in_program, in_trace, Setting}
-use Rattle.race_explanations.specs.Names.{function_at, word_at, way_at, statement}
+use Rattle.race_explanations.specs.Names.{function_at, side_word, way_word, statement}
 
 -- ---- words
 
@@ -74,26 +76,24 @@ shown_line setting line mark = shown setting.look setting.origin line mark
 
 -- the statement on a line, behind what is told of it
 abbrev pub statement_text : Origin → ℕ → List ℕ
-statement_text (in_program file source functions) line = codes ": " ++ statement (line_in source line) ++ codes "\n"
+statement_text (in_program file source functions) line = codes ": " ++ statement (source_line source line) ++ codes "\n"
 statement_text (in_trace notes) line = codes "\n"
 
 -- ---- texts
 
--- The line of the entry with this number, and below it what it did and in which function.
-abbrev pub access_text : Setting → ℕ → ℕ → List ℕ
-access_text setting entry_number mark =
-    shown_line setting (line_at setting.entries entry_number) mark ++ codes " this " ++ word_at setting.entries entry_number ++
-    shown_within setting.origin (line_at setting.entries entry_number)
+-- The line of the entry with this number, and below it what its access did and in which function.
+abbrev pub access_text : Setting → ℕ → Option Side → ℕ → List ℕ
+access_text setting entry_number side mark =
+    shown_line setting (line_in setting.lines entry_number) mark ++ codes " this " ++ side_word side ++
+    shown_within setting.origin (line_in setting.lines entry_number)
 
 -- a spawn or a call on the way to an access
-abbrev pub link_text : Setting → ℕ → List ℕ
-link_text setting entry_number =
-    noted setting.look ++ way_at setting.entries entry_number ++ codes " at " ++
-    line_words setting.origin (line_at setting.entries entry_number) ++
-    within setting.origin (line_at setting.entries entry_number) ++
-    statement_text setting.origin (line_at setting.entries entry_number)
+abbrev pub link_text : Setting → Link → List ℕ
+link_text setting link =
+    noted setting.look ++ way_word link.way ++ codes " at " ++ line_words setting.origin (line_in setting.lines link.entry) ++
+    within setting.origin (line_in setting.lines link.entry) ++ statement_text setting.origin (line_in setting.lines link.entry)
 
-abbrev pub links_text : Setting → List ℕ → List ℕ
+abbrev pub links_text : Setting → List Link → List ℕ
 links_text setting chain = flat_map (link_text setting) chain
 
 -- how many spawns and calls are left out
@@ -101,5 +101,5 @@ abbrev pub links_left_out : Setting → ℕ → List ℕ
 links_left_out setting count = if nat_lt 8 count then noted setting.look ++ decimal (count - 8) ++ more_words else []
 
 -- The innermost eight of the spawns and calls that led to an access, and how many more there are.
-abbrev pub chain_text : Setting → List ℕ → List ℕ
+abbrev pub chain_text : Setting → List Link → List ℕ
 chain_text setting chain = links_text setting (take 8 chain) ++ links_left_out setting (length chain)

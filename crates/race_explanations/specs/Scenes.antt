@@ -15,5 +15,5 @@ setting_of scene = record {
   origin = origin_of scene.origin;
   mems = scene.mems.now;
   reducers = scene.reducers.now;
-  entries = scene.entries.now;
+  lines = scene.digest.now.lines.items;
 }

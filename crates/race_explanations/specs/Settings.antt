@@ -3,7 +3,6 @@ use Rattle.std.specs.Prelude.{ℕ, List}
 use Rattle.text_words.specs.declared.value.Mem.{Mem}
 use Rattle.text_words.specs.declared.value.Reducer.{Reducer}
 use Rattle.model_bodies.specs.Codes.{Code}
-use Rattle.model_histories.specs.declared.answer.Entry.{Entry}
 use Rattle.source_quotes.specs.declared.look.Look.{Look}
 use Rattle.std.specs.Global.{Global}
 use Rattle.trace_notes.specs.declared.notes.Notes.{Notes}
@@ -14,10 +13,10 @@ pub data Origin : Type 0 where
   in_program : (file : List ℕ) → (source : List (List ℕ)) → (functions : List Code) → Origin
   in_trace : (notes : Notes Global) → Origin
 
--- how quotes look, where lines stand, the memories and reducers that are named, and the entries of the run, oldest first
+-- how quotes look, where lines stand, the memories and reducers that are named, and the line of each entry of the run, the oldest first
 pub record Setting : Type 0 where
   pub look : Look
   pub origin : Origin
   pub mems : List Mem
   pub reducers : List Reducer
-  pub entries : List Entry
+  pub lines : List ℕ

@@ -14,7 +14,7 @@ use Rattle.source_quotes.specs.Quotes.{painted, counted, place}
 use Rattle.trace_notes.specs.Notes.{noted_text}
 use Rattle.race_pairs.specs.declared.refusal.Reason.{Reason}
 use Rattle.race_pairs.specs.declared.refusal.Reason.TheVariants.{Race, ViewRead, Unset}
-use Rattle.race_pairs.specs.declared.tally.Pair.{Pair}
+use Rattle.race_pairs.specs.declared.race.Pair.{Pair}
 use Rattle.race_explanations.specs.Settings.{Origin, in_program, in_trace, Setting}
 
 abbrev pub sort_word : Reason → List ℕ

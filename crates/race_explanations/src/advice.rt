@@ -13,7 +13,7 @@ use crate::account::Account;
 use crate::paths::{push_line, push_shown};
 use crate::scene::{Origin, Scene};
 use crate::words::{function_in, line_of};
-use race_pairs::{Pair, strand_at};
+use race_pairs::Pair;
 use spawn_chains::{OpenSpawn, Parting};
 use std::alloc::Global;
 use trace_notes::Place;
@@ -32,12 +32,13 @@ pub(crate) fn push_between(account: &mut Account, scene: &Scene<'_, '_>)
 }
 
 /// The line of the one of a pair's two entries which is on this strand: the refused one, or else its witness.
-pub fn line_on(scene: &Scene<'_, '_>, pair: &Pair, strand: u32) -> u32
-    ensures { result ≡ line_on (setting_of scene.now) pair.now strand }
+pub fn line_on(pair: &Pair, refused: u32, strand: u32) -> u32
+    ensures { result ≡ line_on pair.now refused strand }
 {
-    match strand_at(scene.entries, pair.first) {
-        Some(refused) if refused == strand => pair.lines.line,
-        _ => pair.lines.witness_line,
+    if refused == strand {
+        pair.lines.line
+    } else {
+        pair.lines.witness_line
     }
 }
 
@@ -89,13 +90,14 @@ fn push_parts(
     account: &mut Account,
     scene: &Scene<'_, '_>,
     pair: &Pair,
+    refused: u32,
     parting: &Parting,
     onward: u32,
 )
-    ensures { Adds account.old (parts_text (setting_of scene.now) pair.now parting.now onward) account.new }
+    ensures { Adds account.old (parts_text (setting_of scene.now) pair.now refused parting.now onward) account.new }
 {
     push_spawn(account, scene, parting.entry);
-    let child_line = line_on(scene, pair, parting.by_child);
+    let child_line = line_on(pair, refused, parting.by_child);
     account.push_words(" here they part: what is spawned comes to ");
     push_line(account, scene, child_line);
     account.push_words(", while ");
@@ -148,14 +150,15 @@ pub(crate) fn push_parting(
     account: &mut Account,
     scene: &Scene<'_, '_>,
     pair: &Pair,
+    refused: u32,
     parting: Option<Parting>,
     onward: u32,
 )
-    ensures { Adds account.old (parting_text (setting_of scene.now) pair.now parting onward) account.new }
+    ensures { Adds account.old (parting_text (setting_of scene.now) pair.now refused parting onward) account.new }
 {
     match parting {
         Some(parting) => {
-            push_parts(account, scene, pair, &parting, onward);
+            push_parts(account, scene, pair, refused, &parting, onward);
             push_sync(account, scene, line_of(scene, parting.entry), onward);
         }
         None => {}
@@ -163,25 +166,37 @@ pub(crate) fn push_parting(
 }
 
 /// Adds that a spawn is outstanding at one of two reads and not at the other.
-fn push_open(account: &mut Account, scene: &Scene<'_, '_>, pair: &Pair, spawn: &OpenSpawn)
-    ensures { Adds account.old (open_text (setting_of scene.now) pair.now spawn.now) account.new }
+fn push_open(
+    account: &mut Account,
+    scene: &Scene<'_, '_>,
+    pair: &Pair,
+    refused: u32,
+    spawn: &OpenSpawn,
+)
+    ensures { Adds account.old (open_text (setting_of scene.now) pair.now refused spawn.now) account.new }
 {
     push_spawn(account, scene, spawn.entry);
-    let at = line_on(scene, pair, spawn.parallel);
+    let at = line_on(pair, refused, spawn.parallel);
     account.push_words(" this spawn is outstanding at ");
     push_line(account, scene, at);
-    let not_at = line_on(scene, pair, spawn.ordered);
+    let not_at = line_on(pair, refused, spawn.ordered);
     account.push_words(", and not at ");
     push_line(account, scene, not_at);
     account.push_words("\n");
 }
 
 /// Adds what makes a read the same in every run.
-fn push_move(account: &mut Account, scene: &Scene<'_, '_>, pair: &Pair, spawn: &OpenSpawn)
-    ensures { Adds account.old (move_text (setting_of scene.now) pair.now spawn.now) account.new }
+fn push_move(
+    account: &mut Account,
+    scene: &Scene<'_, '_>,
+    pair: &Pair,
+    refused: u32,
+    spawn: &OpenSpawn,
+)
+    ensures { Adds account.old (move_text (setting_of scene.now) pair.now refused spawn.now) account.new }
 {
     account.begin_source_note(scene);
-    let at = line_on(scene, pair, spawn.parallel);
+    let at = line_on(pair, refused, spawn.parallel);
     account.push_words("help: move what stands on ");
     push_line(account, scene, at);
     account.push_words(" behind the `sync` of ");
@@ -194,14 +209,15 @@ pub(crate) fn push_outstanding(
     account: &mut Account,
     scene: &Scene<'_, '_>,
     pair: &Pair,
+    refused: u32,
     spawn: Option<OpenSpawn>,
 )
-    ensures { Adds account.old (outstanding_text (setting_of scene.now) pair.now spawn) account.new }
+    ensures { Adds account.old (outstanding_text (setting_of scene.now) pair.now refused spawn) account.new }
 {
     match spawn {
         Some(spawn) => {
-            push_open(account, scene, pair, &spawn);
-            push_move(account, scene, pair, &spawn);
+            push_open(account, scene, pair, refused, &spawn);
+            push_move(account, scene, pair, refused, &spawn);
         }
         None => {}
     }

@@ -1,20 +1,18 @@
 //! What is told of a pair of places that raced in a trace, in pieces, so that pairs of several traces that are told alike are told once.
 
-ghost use Rattle.std.specs.Prelude.{◌≡◌, IfOk, OnOk, reverse};
-ghost use Rattle.model_histories.specs.Shapes.{Shape};
-ghost use Rattle.model_histories.specs.Legal.{IsLegal};
-ghost use Rattle.spawn_chains.specs.Makers.{IsLineage};
+ghost use Rattle.std.specs.Prelude.{◌≡◌, List, map, IfOk, OnOk};
+ghost use Rattle.model_histories.specs.declared.answer.Entry.{Entry};
+ghost use Rattle.race_pairs.specs.Digests.{IsDigest};
+ghost use Rattle.race_pairs.specs.Encounters.{IsRaceOf, AreRacesOf};
 ghost use Rattle.race_explanations.specs.Scenes.{setting_of};
 ghost use Rattle.race_explanations.specs.Findings.{kind_text, name_text, body_text, IsOfTrace, IsFinding, AddsAll, AddsPairs};
 
 use crate::account::Account;
-use crate::explanations::PAIRS;
 use crate::merge::join_finding;
 use crate::message::{push_advice, push_earlier, push_refused};
 use crate::scene::Scene;
 use crate::title::{display_names, push_list, push_reason, sort_word};
-use race_pairs::{Encounter, Pair, Reason, pairs, places};
-use spawn_chains::Lineage;
+use race_pairs::{Encounter, Pair, Race, Reason};
 use std::alloc::{AllocError, Global};
 use std::collections::BTreeSet;
 
@@ -93,7 +91,7 @@ fn body_of(
     alloc: Global,
     scene: &Scene<'_, '_>,
     pair: &Pair,
-    encounter: &Encounter<Global>,
+    encounter: &Encounter,
 ) -> Result<Vec<u8>, AllocError>
     ensures { IfOk result (λ text. text.items ≡ body_text (setting_of scene.now) pair.now encounter.now) }
 {
@@ -106,29 +104,24 @@ fn body_of(
 }
 
 /// The finding of a pair of places.
-pub fn finding_of(
-    alloc: Global,
-    scene: &Scene<'_, '_>,
-    lineage: &Lineage<Global>,
-    pair: &Pair,
-) -> Result<Finding, AllocError>
-    requires lineage { IsLineage lineage.now (reverse scene.now.entries.now) }
-    requires legal { (shape : Shape) × IsLegal shape (reverse scene.now.entries.now) }
+pub fn finding_of(alloc: Global, scene: &Scene<'_, '_>, race: &Race) -> Result<Finding, AllocError>
+    requires race { (entries : List Entry) × IsRaceOf entries scene.now.digest.now race.now }
     requires trace { IsOfTrace (setting_of scene.now).origin }
-    ensures { IfOk result (IsFinding (setting_of scene.now) pair.now) }
+    ensures { IfOk result (λ finding. (entries : List Entry) → IsRaceOf entries scene.now.digest.now race.now →
+        IsFinding (setting_of scene.now) entries race.now.pair finding) }
 {
-    let found = places(alloc, scene.entries, pair)?;
-    let encounter = Encounter::new(alloc, lineage, scene.entries, pair)?;
-    let reason = pair.lines.reason;
+    let encounter = Encounter::new(alloc, scene.digest, race)?;
+    let places = race.places.as_slice();
+    let reason = race.pair.lines.reason;
     let kind = kind_of(alloc, scene, reason)?;
-    let name = name_of(alloc, scene, reason, found.as_slice())?;
-    let names = display_names(alloc, scene, reason, found.as_slice())?;
-    let body = body_of(alloc, scene, pair, &encounter)?;
+    let name = name_of(alloc, scene, reason, places)?;
+    let names = display_names(alloc, scene, reason, places)?;
+    let body = body_of(alloc, scene, &race.pair, &encounter)?;
     Ok(Finding {
         kind,
         name,
         names,
-        times: pair.times,
+        times: race.pair.times,
         body,
     })
 }
@@ -137,17 +130,16 @@ pub fn finding_of(
 fn add_all(
     alloc: Global,
     scene: &Scene<'_, '_>,
-    lineage: &Lineage<Global>,
-    pairs: &[Pair],
+    races: &[Race],
     findings: &mut Vec<Finding>,
 ) -> Result<(), AllocError>
-    requires lineage { IsLineage lineage.now (reverse scene.now.entries.now) }
-    requires legal { (shape : Shape) × IsLegal shape (reverse scene.now.entries.now) }
+    requires races { (entries : List Entry) × AreRacesOf entries scene.now.digest.now races.now }
     requires trace { IsOfTrace (setting_of scene.now).origin }
-    ensures { OnOk result (AddsAll (setting_of scene.now) pairs.now findings.old.items findings.new.items) }
+    ensures { OnOk result ((entries : List Entry) → AreRacesOf entries scene.now.digest.now races.now →
+        AddsAll (setting_of scene.now) entries (map (λ race. race.pair) races.now) findings.old.items findings.new.items) }
 {
-    for pair in pairs {
-        let finding = finding_of(alloc, scene, lineage, pair)?;
+    for race in races {
+        let finding = finding_of(alloc, scene, race)?;
         join_finding(findings, finding)?;
     }
     Ok(())
@@ -159,13 +151,11 @@ pub(crate) fn add_pairs(
     scene: &Scene<'_, '_>,
     findings: &mut Vec<Finding>,
 ) -> Result<usize, AllocError>
-    requires legal { (shape : Shape) × IsLegal shape (reverse scene.now.entries.now) }
+    requires digest { (entries : List Entry) × IsDigest entries scene.now.digest.now }
     requires trace { IsOfTrace (setting_of scene.now).origin }
-    ensures { IfOk result (AddsPairs (setting_of scene.now) findings.old.items findings.new.items) }
+    ensures { IfOk result (λ count. (entries : List Entry) → IsDigest entries scene.now.digest.now →
+        AddsPairs (setting_of scene.now) entries findings.old.items findings.new.items count) }
 {
-    let lineage = Lineage::new(alloc, scene.entries)?;
-    let found = pairs(alloc, scene.entries)?;
-    let (first, _) = found.as_slice().split_at(found.len().min(PAIRS));
-    add_all(alloc, scene, &lineage, first, findings)?;
-    Ok(found.len())
+    add_all(alloc, scene, scene.digest.races(), findings)?;
+    Ok(scene.digest.pair_count())
 }

@@ -1,8 +1,8 @@
 //! What is found in several traces, told together.
 
-ghost use Rattle.std.specs.Prelude.{◌≡◌, ◌++◌, ◌==◌, IfOk, OnOk, length, take, reverse};
-ghost use Rattle.model_histories.specs.Shapes.{Shape};
-ghost use Rattle.model_histories.specs.Legal.{IsLegal};
+ghost use Rattle.std.specs.Prelude.{◌≡◌, ◌++◌, ◌==◌, List, IfOk, OnOk, length, take};
+ghost use Rattle.model_histories.specs.declared.answer.Entry.{Entry};
+ghost use Rattle.race_pairs.specs.Digests.{IsDigest};
 ghost use Rattle.trace_text.specs.Traces.{contents as trace_contents};
 ghost use Rattle.race_explanations.specs.Accounts.{Adds};
 ghost use Rattle.race_explanations.specs.Explained.{trace_setting};
@@ -10,10 +10,10 @@ ghost use Rattle.race_explanations.specs.Findings.{found_of, nothing_found, unto
 ghost use Rattle.race_explanations.specs.Findings.{requests_text, at_pairs, found_summary, clean_found_text, races_found_text, found_text};
 
 use crate::account::Account;
-use crate::explanations::{PAIRS, refusal_count, trace_scene};
 use crate::finding::{Finding, add_pairs};
+use crate::settings::trace_scene;
 use crate::title::push_left_out;
-use race_gate::Entry;
+use race_pairs::{Digest, PAIRS};
 use source_quotes::push_count;
 use std::alloc::{AllocError, Global};
 use text_buffers::push_words;
@@ -118,7 +118,7 @@ impl Findings {
         }
     }
 
-    /// Adds what is found in a trace, whose entries are given from the oldest on: its first twenty pairs of places. Errors where there is
+    /// Adds what is found in a trace, of whose entries this is the digest: its first twenty pairs of places. Errors where there is
     /// no memory.
     pub fn add<'s>(
         &mut self,
@@ -127,16 +127,17 @@ impl Findings {
         file: &str,
         notes: &'s Notes<Global>,
         trace: &'s Trace<Global>,
-        entries: &'s [Entry],
+        digest: &'s Digest,
     ) -> Result<(), AllocError>
-        requires legal { (shape : Shape) × IsLegal shape (reverse entries.now) }
-        ensures { OnOk result (AddsTrace file.now (trace_setting is_painted notes.now (trace_contents trace.now).known entries.now) (found_of self.old) (found_of self.new)) }
+        requires { (entries : List Entry) × IsDigest entries digest.now }
+        ensures { OnOk result ((entries : List Entry) → IsDigest entries digest.now →
+            AddsTrace file.now (trace_setting is_painted notes.now (trace_contents trace.now).known entries) entries (found_of self.old) (found_of self.new)) }
     {
-        let scene = trace_scene(is_painted, notes, trace, entries);
+        let scene = trace_scene(is_painted, notes, trace, digest);
         let count = add_pairs(alloc, &scene, &mut self.list)?;
         push_untold(&mut self.untold, file, count)?;
-        self.refusals = self.refusals.saturating_add(refusal_count(entries));
-        self.requests = self.requests.saturating_add(entries.len());
+        self.refusals = self.refusals.saturating_add(digest.refusals);
+        self.requests = self.requests.saturating_add(digest.lines.len());
         self.traces = self.traces.saturating_add(1);
         Ok(())
     }

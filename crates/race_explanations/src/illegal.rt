@@ -15,7 +15,7 @@ ghost use Rattle.race_explanations.specs.Illegal.{error_title, request_note, hel
 use crate::account::Account;
 use race_gate::{Entry, GateFault};
 use source_quotes::{Look, Paint, Source, statement_of};
-use spawn_chains::{Lineage, Standing, standing_of};
+use spawn_chains::{Standing, count_strands, standing_of};
 use std::alloc::{AllocError, Global};
 use text_words::{Request, TraceLine};
 use trace_text::Trace;
@@ -36,43 +36,31 @@ pub enum Illegality {
 }
 
 /// Why a strand does not run, where it does not.
-fn illegality_of_strand(
-    alloc: Global,
-    entries: &[Entry],
-    strand: u32,
-) -> Result<Option<Illegality>, AllocError>
+fn illegality_of_strand(entries: &[Entry], strand: u32) -> Option<Illegality>
     requires { (shape : Shape) × IsLegal shape (reverse entries.now) }
-    ensures { IfOk result (λ found. IfSome found (λ why. (state : State) (request : Request) → state.history ≡ reverse entries.now →
-        request.strand ≡ strand → HasReason state request why)) }
+    ensures { IfSome result (λ why. (state : State) (request : Request) → state.history ≡ reverse entries.now →
+        request.strand ≡ strand → HasReason state request why) }
 {
-    Ok(match standing_of(entries, strand) {
+    match standing_of(entries, strand) {
         Standing::Ended(number) => Some(Illegality::Ended(number)),
         Standing::Reserved(number) => Some(Illegality::NotBegun(number)),
-        Standing::Absent => {
-            let lineage = Lineage::new(alloc, entries)?;
-            Some(Illegality::NoStrand(lineage.count()))
-        }
+        Standing::Absent => Some(Illegality::NoStrand(count_strands(entries))),
         Standing::Running => None,
-    })
+    }
 }
 
 /// Why a gate with these entries, the oldest first, does not answer a request with this fault. None where the fault is none of the request:
-/// the gate was stopped, is at its limit, or has no memory. Errors where there is no memory.
-pub fn find_illegality(
-    alloc: Global,
-    entries: &[Entry],
-    request: Request,
-    fault: GateFault,
-) -> Result<Option<Illegality>, AllocError>
+/// the gate was stopped, is at its limit, or has no memory.
+pub fn find_illegality(entries: &[Entry], request: Request, fault: GateFault) -> Option<Illegality>
     requires { (shape : Shape) × IsLegal shape (reverse entries.now) }
-    ensures { IfOk result (λ found. IfSome found (λ why. (state : State) → state.history ≡ reverse entries.now → HasCause state request fault →
-        HasReason state request why)) }
+    ensures { IfSome result (λ why. (state : State) → state.history ≡ reverse entries.now → HasCause state request fault →
+        HasReason state request why) }
 {
     match fault {
-        GateFault::NotRunning => illegality_of_strand(alloc, entries, request.strand),
-        GateFault::BadName => Ok(Some(Illegality::NoName)),
-        GateFault::Unsynced => Ok(Some(Illegality::OpenBlock)),
-        GateFault::Stopped | GateFault::Limit | GateFault::Memory => Ok(None),
+        GateFault::NotRunning => illegality_of_strand(entries, request.strand),
+        GateFault::BadName => Some(Illegality::NoName),
+        GateFault::Unsynced => Some(Illegality::OpenBlock),
+        GateFault::Stopped | GateFault::Limit | GateFault::Memory => None,
     }
 }
 
@@ -91,7 +79,7 @@ pub fn request_line(trace: &Trace<Global>, number: usize) -> Option<TraceLine>
 }
 
 /// The number of a line.
-fn at_of(line: Option<TraceLine>) -> u32
+pub fn at_of(line: Option<TraceLine>) -> u32
     ensures { result ≡ at_of line }
 {
     match line {
@@ -101,7 +89,7 @@ fn at_of(line: Option<TraceLine>) -> u32
 }
 
 /// The strand that asks on a line.
-fn strand_of(line: Option<TraceLine>) -> u32
+pub fn strand_of(line: Option<TraceLine>) -> u32
     ensures { result ≡ strand_of line }
 {
     match line {

@@ -17,17 +17,20 @@ mod merge;
 mod message;
 mod paths;
 mod scene;
+mod settings;
 mod title;
 mod words;
 
 pub use advice::line_on;
-pub use explanations::{explanation, refusal_count, trace_explanation, trace_scene};
+pub use explanations::{explanation, trace_explanation};
 pub use finding::{Finding, finding_of};
 pub use findings::Findings;
 pub use illegal::{
-    Illegality, find_illegality, help_words, illegal_explanation, request_line, title_words,
+    Illegality, at_of, find_illegality, help_words, illegal_explanation, request_line, strand_of,
+    title_words,
 };
 pub use merge::join_finding;
 pub use scene::{Origin, Scene};
+pub use settings::{program_scene, trace_scene};
 pub use title::display_names;
-pub use words::{function_in, line_of, way_at, word_at};
+pub use words::{function_in, line_of, side_word, way_word};

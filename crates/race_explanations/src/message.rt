@@ -27,15 +27,10 @@ fn verdict_words(reason: Reason) -> &'static str
 }
 
 /// Adds the earlier access, and what led there.
-fn push_witness(
-    account: &mut Account,
-    scene: &Scene<'_, '_>,
-    pair: &Pair,
-    encounter: &Encounter<Global>,
-)
+fn push_witness(account: &mut Account, scene: &Scene<'_, '_>, pair: &Pair, encounter: &Encounter)
     ensures { Adds account.old (witness_text (setting_of scene.now) pair.now encounter.now) account.new }
 {
-    push_access(account, scene, pair.witness, b'-');
+    push_access(account, scene, pair.witness, encounter.witness, b'-');
     account.push_words("\n");
     push_chain(account, scene, encounter.witness_chain.as_slice());
     push_between(account, scene);
@@ -46,7 +41,7 @@ pub(crate) fn push_earlier(
     account: &mut Account,
     scene: &Scene<'_, '_>,
     pair: &Pair,
-    encounter: &Encounter<Global>,
+    encounter: &Encounter,
 )
     ensures { Adds account.old (earlier_text pair.now.lines.reason (setting_of scene.now) pair.now encounter.now) account.new }
 {
@@ -61,11 +56,11 @@ pub(crate) fn push_refused(
     account: &mut Account,
     scene: &Scene<'_, '_>,
     pair: &Pair,
-    encounter: &Encounter<Global>,
+    encounter: &Encounter,
 )
     ensures { Adds account.old (refused_text (setting_of scene.now) pair.now encounter.now) account.new }
 {
-    push_access(account, scene, pair.first, b'^');
+    push_access(account, scene, pair.first, Some(encounter.refused), b'^');
     account.push_words(verdict_words(pair.lines.reason));
     push_chain(account, scene, encounter.chain.as_slice());
 }
@@ -75,16 +70,19 @@ pub(crate) fn push_advice(
     account: &mut Account,
     scene: &Scene<'_, '_>,
     pair: &Pair,
-    encounter: &Encounter<Global>,
+    encounter: &Encounter,
 )
     ensures { Adds account.old (advice_text pair.now.lines.reason (setting_of scene.now) pair.now encounter.now) account.new }
 {
+    let refused = encounter.refused.strand;
     match pair.lines.reason {
         Reason::Race { .. } => {
             let onward = line_of(scene, encounter.onward.unwrap_or(0));
-            push_parting(account, scene, pair, encounter.parting, onward);
+            push_parting(account, scene, pair, refused, encounter.parting, onward);
         }
-        Reason::ViewRead => push_outstanding(account, scene, pair, encounter.outstanding),
+        Reason::ViewRead => {
+            push_outstanding(account, scene, pair, refused, encounter.outstanding);
+        },
         Reason::Unset => push_put(account, scene),
     }
 }
@@ -96,7 +94,7 @@ pub(crate) fn push_message(
     scene: &Scene<'_, '_>,
     pair: &Pair,
     places: &[u32],
-    encounter: &Encounter<Global>,
+    encounter: &Encounter,
 )
     ensures { Adds account.old (message (setting_of scene.now) pair.now places.now encounter.now) account.new }
 {

@@ -12,7 +12,8 @@ ghost use Rattle.race_explanations.specs.Paths.{access_text, link_text, links_te
 
 use crate::account::Account;
 use crate::scene::{Origin, Scene};
-use crate::words::{function_in, line_of, way_at, word_at};
+use crate::words::{function_in, line_of, side_word, way_word};
+use race_pairs::{Link, Side};
 use source_quotes::statement_of;
 use std::alloc::Global;
 use trace_notes::{Notes, Place};
@@ -123,14 +124,20 @@ pub(crate) fn push_shown(account: &mut Account, scene: &Scene<'_, '_>, line: u32
     }
 }
 
-/// Adds the line of the entry with this number, and below it what it did and in which function.
-pub(crate) fn push_access(account: &mut Account, scene: &Scene<'_, '_>, number: usize, mark: u8)
-    ensures { Adds account.old (access_text (setting_of scene.now) number mark) account.new }
+/// Adds the line of the entry with this number, and below it what its access did and in which function.
+pub(crate) fn push_access(
+    account: &mut Account,
+    scene: &Scene<'_, '_>,
+    number: usize,
+    side: Option<Side>,
+    mark: u8,
+)
+    ensures { Adds account.old (access_text (setting_of scene.now) number side mark) account.new }
 {
     let line = line_of(scene, number);
     push_shown(account, scene, line, mark);
     account.push_words(" this ");
-    account.push_words(word_at(scene, number));
+    account.push_words(side_word(side));
     push_shown_within(account, scene, line);
 }
 
@@ -149,12 +156,12 @@ fn push_statement(account: &mut Account, scene: &Scene<'_, '_>, line: u32)
 }
 
 /// Adds a spawn or a call on the way to an access.
-fn push_link(account: &mut Account, scene: &Scene<'_, '_>, number: usize)
-    ensures { Adds account.old (link_text (setting_of scene.now) number) account.new }
+fn push_link(account: &mut Account, scene: &Scene<'_, '_>, link: Link)
+    ensures { Adds account.old (link_text (setting_of scene.now) link) account.new }
 {
-    let line = line_of(scene, number);
+    let line = line_of(scene, link.entry);
     account.begin_source_note(scene);
-    account.push_words(way_at(scene, number));
+    account.push_words(way_word(link.way));
     account.push_words(" at ");
     push_line(account, scene, line);
     push_within(account, scene, line);
@@ -162,11 +169,11 @@ fn push_link(account: &mut Account, scene: &Scene<'_, '_>, number: usize)
 }
 
 /// Adds spawns and calls on the way to an access.
-fn push_links(account: &mut Account, scene: &Scene<'_, '_>, chain: &[usize])
+fn push_links(account: &mut Account, scene: &Scene<'_, '_>, chain: &[Link])
     ensures { Adds account.old (links_text (setting_of scene.now) chain.now) account.new }
 {
-    for number in chain {
-        push_link(account, scene, *number);
+    for link in chain {
+        push_link(account, scene, *link);
     }
 }
 
@@ -183,7 +190,7 @@ fn push_links_left_out(account: &mut Account, scene: &Scene<'_, '_>, count: usiz
 }
 
 /// Adds the innermost eight of the spawns and calls that led to an access, and how many more there are.
-pub(crate) fn push_chain(account: &mut Account, scene: &Scene<'_, '_>, chain: &[usize])
+pub(crate) fn push_chain(account: &mut Account, scene: &Scene<'_, '_>, chain: &[Link])
     ensures { Adds account.old (chain_text (setting_of scene.now) chain.now) account.new }
 {
     let (told, _) = chain.split_at(chain.len().min(LINKS));

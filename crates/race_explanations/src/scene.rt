@@ -4,7 +4,7 @@ ghost use Rattle.std.specs.Prelude.{IsTrue};
 ghost use Rattle.trace_text.specs.Shapes.{is_numbered};
 
 use program_text::Program;
-use race_gate::Entry;
+use race_pairs::Digest;
 use source_quotes::{Look, Source};
 use std::alloc::Global;
 use text_words::{Mem, Reducer};
@@ -29,7 +29,7 @@ pub enum Origin<'s, 'a> {
     },
 }
 
-/// What races are told from: where lines stand, the memories and reducers that are named, and the entries of a run, the oldest first.
+/// What races are told from: where lines stand, the memories and reducers that are named, and what is kept of the entries of a run.
 #[derive(Drop)]
 pub struct Scene<'s, 'a> {
     /// How quotes look.
@@ -40,7 +40,7 @@ pub struct Scene<'s, 'a> {
     pub mems: &'s [Mem],
     /// The reducers that are declared.
     pub reducers: &'s [Reducer],
-    /// The entries of the run.
-    pub entries: &'s [Entry],
+    /// What is kept of the entries of the run.
+    pub digest: &'s Digest,
     ghost numbered: { IsTrue (is_numbered 0 mems.now) },
 }

@@ -2,16 +2,15 @@
 
 ghost use Rattle.std.specs.Prelude.{◌≡◌};
 ghost use Rattle.program_text.specs.Programs.{contents};
-ghost use Rattle.race_pairs.specs.Refusals.{line_at};
+ghost use Rattle.race_pairs.specs.Refusals.{line_in};
 ghost use Rattle.race_explanations.specs.Scenes.{setting_of};
-ghost use Rattle.race_explanations.specs.Names.{function_at, word_at, way_at};
+ghost use Rattle.race_explanations.specs.Names.{function_at, side_word, way_word};
 
 use crate::scene::Scene;
 use access_table::word;
 use program_text::Program;
-use race_pairs::entry_at;
+use race_pairs::{Side, Way, line_in};
 use std::alloc::{Allocator, Global};
-use text_words::{Act, asked_by};
 
 /// The name of the function of a program in which a line stands.
 pub fn function_in<A: Allocator>(program: &Program<A>, line: u32) -> &str
@@ -29,33 +28,27 @@ pub fn function_in<A: Allocator>(program: &Program<A>, line: u32) -> &str
 
 /// The line of the entry with this number.
 pub fn line_of(scene: &Scene<'_, '_>, number: usize) -> u32
-    ensures { result ≡ line_at scene.now.entries.now number }
+    ensures { result ≡ line_in (setting_of scene.now).lines number }
 {
-    race_pairs::line_at(scene.entries, number)
+    line_in(scene.digest.lines.as_slice(), number)
 }
 
-/// What the access did that is the entry with this number.
-pub fn word_at(scene: &Scene<'_, '_>, number: usize) -> &'static str
-    ensures { result.now ≡ word_at scene.now.entries.now number }
+/// What an access did, where there is one.
+pub fn side_word(side: Option<Side>) -> &'static str
+    ensures { result.now ≡ side_word side }
 {
-    match entry_at(scene.entries, number) {
-        Some(entry) => match asked_by(entry.request.act) {
-            Some(asked) => word(asked.kind),
-            None => "",
-        },
+    match side {
+        Some(side) => word(side.kind),
         None => "",
     }
 }
 
-/// How the entry with this number came to a function.
-pub fn way_at(scene: &Scene<'_, '_>, number: usize) -> &'static str
-    ensures { result.now ≡ way_at scene.now.entries.now number }
+/// How a spawn or a call came to a function.
+pub fn way_word(way: Way) -> &'static str
+    ensures { result.now ≡ way_word way }
 {
-    match entry_at(scene.entries, number) {
-        Some(entry) => match entry.request.act {
-            Act::Spawn => "spawned",
-            _ => "called",
-        },
-        None => "",
+    match way {
+        Way::Spawned => "spawned",
+        Way::Called => "called",
     }
 }

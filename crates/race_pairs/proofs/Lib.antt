@@ -1,6 +1,11 @@
-pub mod Entries
 pub mod Firsts
 pub mod Counted
 pub mod Placed
+pub mod Grown
+pub mod Nearer
+pub mod Linked
 pub mod Encountered
+pub mod Knowing
+pub mod Witnesses
+pub mod Digesting
 pub mod Same

@@ -1,5 +1,5 @@
 -- The places of a pair as the entries go on.
-use Rattle.std.proofs.Common.{◌≡◌, ◌≢◌, ◌⊎◌, inl, inr, ℕ, suc, ◌+◌, ◌<◌, ◌≤◌, Bool, true, false, not, cond, eqb, List, [], ◌∷◌, ◌++◌, refl, sym, ap, ◌∙◌, subst, arith}
+use Rattle.std.proofs.Common.{◌≡◌, ◌≢◌, ◌⊎◌, inl, inr, ℕ, suc, ◌<◌, ◌≤◌, Bool, true, false, cond, eqb, List, [], ◌∷◌, ◌++◌, sym, ap, ◌∙◌, subst, arith}
 use Rattle.std.specs.List.{list_any}
 use Rattle.std.proofs.lemmas.Bool.{false≢true}
 use Rattle.std.proofs.lemmas.Bool.Decides.{eqb_tells}
@@ -9,14 +9,8 @@ use Rattle.model_histories.specs.declared.answer.Entry.{Entry}
 use Rattle.race_pairs.specs.declared.refusal.Lines.{Lines}
 use Rattle.race_pairs.specs.declared.refusal.Refusal.{Refusal}
 use Rattle.race_pairs.specs.Firsts.{IsFirst}
-use Rattle.race_pairs.specs.Places.{HasPlace, ArePlacesUpTo}
+use Rattle.race_pairs.specs.Places.{HasPlace, IsPlaced}
 use Rattle.race_pairs.proofs.Firsts.{firsts_same, firsts_more}
-
--- the places so far, and a set of them
-pub record Placed (told : List Entry) (lines : Lines) (last : ℕ) (places seen : List ℕ) : Type 0 where
-  pub placed : ArePlacesUpTo told lines last places
-  pub has : (place : ℕ) → list_any (eqb place) seen ≡ true → (number : ℕ) × (number ≤ last) × HasPlace told lines number place
-  pub misses : (place : ℕ) → list_any (eqb place) seen ≡ false → (number : ℕ) → number ≤ last → HasPlace told lines number place → ⊥
 
 single_place : (told : List Entry) (lines : Lines) (number one other : ℕ) → HasPlace told lines number one → HasPlace told lines number other → one ≡ other
 single_place told lines number one other h k =
@@ -33,7 +27,7 @@ reached number last le = go (below_or_beyond number (suc last))
     go (inr ge) = inr (omega arith)
 
 pub placed_none : (told : List Entry) (lines : Lines) (last : ℕ) (places seen : List ℕ) → ((place : ℕ) → HasPlace told lines (suc last) place → ⊥) →
-    Placed told lines last places seen → Placed told lines (suc last) places seen
+    IsPlaced told lines last places seen → IsPlaced told lines (suc last) places seen
 placed_none told lines last places seen never_here p = record {
   placed = record {
     numbers = p.placed.numbers;
@@ -50,7 +44,7 @@ placed_none told lines last places seen never_here p = record {
 -- what the set has and misses with one place more
 module _ (told : List Entry) (lines : Lines) (last : ℕ) (places seen more : List ℕ) (place : ℕ) (at : HasPlace told lines (suc last) place)
     (grown : (other : ℕ) → list_any (eqb other) more ≡ cond (eqb place other) true (list_any (eqb other) seen))
-    (p : Placed told lines last places seen)
+    (p : IsPlaced told lines last places seen)
   where
     has_more : (other : ℕ) → list_any (eqb other) more ≡ true → (number : ℕ) × (number ≤ suc last) × HasPlace told lines number other
     has_more other e = go (eqb_tells place other)
@@ -73,7 +67,7 @@ module _ (told : List Entry) (lines : Lines) (last : ℕ) (places seen more : Li
             p.misses other (ap (λ (b : Bool). cond b true (list_any (eqb other) seen)) (sym t.0) ∙ (sym (grown other) ∙ e)) number old h
         go (inr t) (inr new) = t.1 (single_place told lines (suc last) place other at (subst (λ (n : ℕ). HasPlace told lines n other) new h))
 
-    pub placed_old : list_any (eqb place) seen ≡ true → Placed told lines (suc last) places more
+    pub placed_old : list_any (eqb place) seen ≡ true → IsPlaced told lines (suc last) places more
     placed_old known = record {
       placed = record {
         numbers = p.placed.numbers;
@@ -91,7 +85,7 @@ module _ (told : List Entry) (lines : Lines) (last : ℕ) (places seen more : Li
             let lt : old.0 < suc last = omega arith in
             first.2 old.0 lt (subst (HasPlace told lines old.0) (single_place told lines (suc last) place first.0 at first.1) old.2)
 
-    pub placed_new : list_any (eqb place) seen ≡ false → Placed told lines (suc last) (places ++ (place ∷ [])) more
+    pub placed_new : list_any (eqb place) seen ≡ false → IsPlaced told lines (suc last) (places ++ (place ∷ [])) more
     placed_new missing = record {
       placed = record {
         numbers = p.placed.numbers ++ (suc last ∷ []);
@@ -103,38 +97,18 @@ module _ (told : List Entry) (lines : Lines) (last : ℕ) (places seen more : Li
       misses = misses_more;
     }
 
--- As the code has it.
-
-one_more : (before : ℕ) → before + 1 ≡ suc before
-one_more before = omega arith
-
-pub next_none : (told : List Entry) (lines : Lines) (before : ℕ) (places seen : List ℕ) → ((place : ℕ) → HasPlace told lines (before + 1) place → ⊥) →
-    Placed told lines before places seen → Placed told lines (before + 1) places seen
-next_none told lines before places seen never_here p =
-    subst (λ (n : ℕ). Placed told lines n places seen) (sym (one_more before))
-    (placed_none told lines before places seen (λ place h. never_here place (subst (λ (n : ℕ). HasPlace told lines n place) (sym (one_more before)) h)) p)
-
-not_false : (b c : Bool) → c ≡ not b → c ≡ false → b ≡ true
-not_false true c e f = refl
-not_false false c e f = absurd (false≢true (sym f ∙ e))
-
-not_true : (b c : Bool) → c ≡ not b → c ≡ true → b ≡ false
-not_true true c e f = absurd (false≢true (sym e ∙ f))
-not_true false c e f = refl
-
-pub next_old : (told : List Entry) (lines : Lines) (before : ℕ) (places seen more : List ℕ) (place : ℕ) → HasPlace told lines (before + 1) place →
-    ((other : ℕ) → list_any (eqb other) more ≡ cond (eqb place other) true (list_any (eqb other) seen)) → Placed told lines before places seen →
-    (added : Bool) → added ≡ not (list_any (eqb place) seen) → added ≡ false → Placed told lines (before + 1) places more
-next_old told lines before places seen more place at grown p added e f =
-    subst (λ (n : ℕ). Placed told lines n places more) (sym (one_more before))
-    (placed_old told lines before places seen more place (subst (λ (n : ℕ). HasPlace told lines n place) (one_more before) at) grown p
-    (not_false (list_any (eqb place) seen) added e f))
-
-pub next_new : (told : List Entry) (lines : Lines) (before : ℕ) (places longer seen more : List ℕ) (place : ℕ) → HasPlace told lines (before + 1) place →
-    ((other : ℕ) → list_any (eqb other) more ≡ cond (eqb place other) true (list_any (eqb other) seen)) → Placed told lines before places seen →
-    (added : Bool) → added ≡ not (list_any (eqb place) seen) → added ≡ true → longer ≡ places ++ (place ∷ []) → Placed told lines (before + 1) longer more
-next_new told lines before places longer seen more place at grown p added e f is =
-    subst (λ (n : ℕ). Placed told lines n longer more) (sym (one_more before))
-    (subst (λ (xs : List ℕ). Placed told lines (suc before) xs more) (sym is)
-    (placed_new told lines before places seen more place (subst (λ (n : ℕ). HasPlace told lines n place) (one_more before) at) grown p
-    (not_true (list_any (eqb place) seen) added e f)))
+-- no place yet
+pub placed_never : (told : List Entry) (lines : Lines) (last : ℕ) → ((number place : ℕ) → number ≤ last → HasPlace told lines number place → ⊥) →
+    IsPlaced told lines last [] []
+placed_never told lines last never = record {
+  placed = record {
+    numbers = [];
+    firsts = record {
+      rise = λ i j d lt within. absurd (omega (arith, within));
+      each = λ number. (λ c. absurd (omega (arith, c.1)), λ t. absurd (never number t.1.0 t.0 t.1.1));
+    };
+    each = tt;
+  };
+  has = λ place e. absurd (false≢true e);
+  misses = λ place e number le h. never number place le h;
+}

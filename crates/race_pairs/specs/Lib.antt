@@ -1,6 +1,11 @@
 pub mod Refusals
 pub mod Firsts
 pub mod Pairs
-pub mod Tallies
 pub mod Places
+pub mod Races
+pub mod Sightings
+pub mod Known
+pub mod Kept
+pub mod Digests
+pub mod Onward
 pub mod Encounters

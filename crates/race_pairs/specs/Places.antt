@@ -1,6 +1,6 @@
 -- The cells or reducers on which two lines raced.
-use Rattle.std.specs.Prelude.{◌≡◌, ℕ, List, length, Some}
-use Rattle.std.specs.List.{AllZip}
+use Rattle.std.specs.Prelude.{◌≡◌, ◌≤◌, ℕ, true, false, List, length, eqb, Some}
+use Rattle.std.specs.List.{AllZip, list_any}
 use Rattle.model_histories.specs.declared.answer.Entry.{Entry}
 use Rattle.race_pairs.specs.declared.refusal.Lines.{Lines}
 use Rattle.race_pairs.specs.declared.refusal.Refusal.{Refusal}
@@ -22,3 +22,9 @@ pub record ArePlacesUpTo (told : List Entry) (lines : Lines) (last : ℕ) (place
 -- those of all refusals with these lines
 abbrev pub ArePlaces : List Entry → Lines → List ℕ → Type 0
 ArePlaces told lines places = ArePlacesUpTo told lines (length told) places
+
+-- the places so far, and a set of them
+pub record IsPlaced (told : List Entry) (lines : Lines) (last : ℕ) (places seen : List ℕ) : Type 0 where
+  pub placed : ArePlacesUpTo told lines last places
+  pub has : (place : ℕ) → list_any (eqb place) seen ≡ true → (number : ℕ) × (number ≤ last) × HasPlace told lines number place
+  pub misses : (place : ℕ) → list_any (eqb place) seen ≡ false → (number : ℕ) → number ≤ last → HasPlace told lines number place → ⊥

@@ -1,25 +1,45 @@
 //! How the strands of a refused access and its witness came about.
 
-ghost use Rattle.std.specs.Prelude.{◌≡◌, reverse, IfOk, MatchOption};
-ghost use Rattle.model_histories.specs.Shapes.{Shape};
-ghost use Rattle.model_histories.specs.Legal.{IsLegal};
-ghost use Rattle.spawn_chains.specs.Makers.{IsLineage};
-ghost use Rattle.race_pairs.specs.Encounters.{chain_at, strand_at, strands_of, PartAt, GoesOn, IsOpenAt};
+ghost use Rattle.std.specs.Prelude.{◌≡◌, List, map, reverse, unwrap_or, Some, IfOk};
+ghost use Rattle.std.specs.Option.{option_map};
+ghost use Rattle.model_histories.specs.declared.answer.Entry.{Entry};
+ghost use Rattle.spawn_chains.specs.Lineages.{IsSomeLineage};
+ghost use Rattle.race_pairs.specs.Refusals.{access_at, IsSideAt};
+ghost use Rattle.race_pairs.specs.Digests.{IsDigest};
+ghost use Rattle.race_pairs.specs.Encounters.{chain_at, PartAt, GoesOn, IsOpenAt, way_at, link_at, IsLineageOf, IsEncounter, IsRaceOf, IsMet};
 
+use crate::digest::Digest;
 use crate::onward::toward;
-use crate::refusal::{Reason, entry_at};
-use crate::tally::Pair;
-use race_gate::Entry;
-use spawn_chains::{Lineage, OpenSpawn, Parting, chain};
-use std::alloc::{AllocError, Allocator};
+use crate::race::Race;
+use crate::refusal::{Reason, Side};
+use spawn_chains::{Lineage, OpenSpawn, Opener, Parting};
+use std::alloc::{AllocError, Global};
+
+/// How a spawn or a call came to a function.
+#[derive(Clone, Copy, Debug, PartialEq, Eq)]
+pub enum Way {
+    Spawned,
+    Called,
+}
+
+/// A spawn or a call that encloses an access.
+#[derive(Clone, Copy, Debug, PartialEq, Eq)]
+pub struct Link {
+    /// The number of its entry, from 1 on.
+    pub entry: usize,
+    pub way: Way,
+}
 
 /// How the strands of the first refused access of a pair and of its witness came about. Entries go by their numbers, from 1 on.
-#[derive(Debug, Drop)]
-pub struct Encounter<A: Allocator> {
+pub struct Encounter {
+    /// The refused access.
+    pub refused: Side,
+    /// Its witness, where there is one.
+    pub witness: Option<Side>,
     /// The spawns and calls that enclose the refused access, the innermost first.
-    pub chain: Vec<usize, A>,
+    pub chain: Vec<Link>,
     /// Those that enclose its witness.
-    pub witness_chain: Vec<usize, A>,
+    pub witness_chain: Vec<Link>,
     /// The spawn at which the two strands part, where they are parallel.
     pub parting: Option<Parting>,
     /// Where there is one, the first spawn or call behind it that encloses the access which its next strand reaches, or this access.
@@ -28,61 +48,97 @@ pub struct Encounter<A: Allocator> {
     pub outstanding: Option<OpenSpawn>,
 }
 
-/// The spawns and calls that enclose the entry with this number; none where there is no such entry.
-fn chain_at<A: Allocator>(
-    alloc: A,
-    entries: &[Entry],
-    number: usize,
-) -> Result<Vec<usize, A>, AllocError>
-    ensures { IfOk result (λ chain. chain.items ≡ chain_at entries.now number) }
+/// Written out, so that what lets it go calls one function.
+impl Drop for Encounter {
+    fn drop(self) {
+        let Encounter {
+            refused: _,
+            witness: _,
+            chain: _,
+            witness_chain: _,
+            parting: _,
+            onward: _,
+            outstanding: _,
+        } = self;
+    }
+}
+
+/// How a spawn or a call came to a function.
+fn way_of(opener: Opener) -> Way
+    ensures { result ≡ unwrap_or (option_map (λ spawned. Way.Spawned) opener.spawned) Way.Called }
 {
-    match entry_at(entries, number) {
-        Some(entry) => chain(alloc, &entries[..number - 1], entry.request.strand),
+    match opener.spawned {
+        Some(_) => Way::Spawned,
+        None => Way::Called,
+    }
+}
+
+/// How the spawn or call with this number came to a function.
+fn way_at(lineage: &Lineage<Global>, number: usize) -> Way
+    requires { IsSomeLineage lineage.now }
+    ensures { (told : List Entry) → IsLineageOf lineage.now told → result ≡ way_at told number }
+{
+    match lineage.opener(number) {
+        Some(opener) => way_of(opener),
+        None => Way::Called,
+    }
+}
+
+/// Spawns and calls by their numbers.
+fn links_at(
+    alloc: Global,
+    lineage: &Lineage<Global>,
+    numbers: &[usize],
+) -> Result<Vec<Link>, AllocError>
+    requires { IsSomeLineage lineage.now }
+    ensures { IfOk result (λ links. (told : List Entry) → IsLineageOf lineage.now told → links.items ≡ map (link_at told) numbers.now) }
+{
+    let mut links = Vec::new(alloc);
+    for number in numbers {
+        links.push(Link {
+            entry: *number,
+            way: way_at(lineage, *number),
+        })?;
+    }
+    Ok(links)
+}
+
+/// The numbers of the spawns and calls that enclose the access that the entry with this number is.
+fn chain_at(
+    alloc: Global,
+    digest: &Digest,
+    number: usize,
+    side: Option<Side>,
+) -> Result<Vec<usize>, AllocError>
+    requires { (told : List Entry) × IsDigest told digest.now × IsSideAt told number side }
+    ensures { IfOk result (λ chain. (told : List Entry) → IsDigest told digest.now → IsSideAt told number side → chain.items ≡ chain_at told number) }
+{
+    match side {
+        Some(side) => digest.lineage.chain(alloc, number, side.strand),
         None => Ok(Vec::new(alloc)),
     }
 }
 
-/// The strand of the entry with this number, from 1 on; none where there is no such entry.
-pub fn strand_at(entries: &[Entry], number: usize) -> Option<u32>
-    ensures { result ≡ strand_at entries.now number }
-{
-    let entry = entry_at(entries, number)?;
-    Some(entry.request.strand)
-}
-
-/// The strands of the refused access and of its witness.
-fn strands_of(entries: &[Entry], pair: Pair) -> Option<(u32, u32)>
-    ensures { result ≡ strands_of entries.now pair }
-{
-    let refused = strand_at(entries, pair.first)?;
-    let witness = strand_at(entries, pair.witness)?;
-    Some((refused, witness))
-}
-
 /// The spawn at which the two strands part.
-fn parting_of<A: Allocator>(lineage: &Lineage<A>, entries: &[Entry], pair: Pair) -> Option<Parting>
-    requires lineage { IsLineage lineage.now (reverse entries.now) }
-    requires legal { (shape : Shape) × IsLegal shape (reverse entries.now) }
-    ensures { PartAt entries.now pair result }
+fn parting_of(digest: &Digest, race: &Race) -> Option<Parting>
+    requires { (told : List Entry) × IsRaceOf told digest.now race.now }
+    ensures { (told : List Entry) → IsRaceOf told digest.now race.now → PartAt told race.now.pair result }
 {
-    let (refused, witness) = strands_of(entries, pair)?;
-    lineage.parting(entries, refused, witness)
+    let witness = race.witness?;
+    digest.lineage.parting(race.refused.strand, witness.strand)
 }
 
 /// Of a view-read race a spawn that is outstanding at one of the two strands.
-fn outstanding_of<A: Allocator>(
-    lineage: &Lineage<A>,
-    entries: &[Entry],
-    pair: Pair,
-) -> Option<OpenSpawn>
-    requires lineage { IsLineage lineage.now (reverse entries.now) }
-    requires legal { (shape : Shape) × IsLegal shape (reverse entries.now) }
-    ensures { IsOpenAt entries.now pair result }
+fn outstanding_of(digest: &Digest, race: &Race) -> Option<OpenSpawn>
+    requires { (told : List Entry) × IsRaceOf told digest.now race.now }
+    ensures { (told : List Entry) → IsRaceOf told digest.now race.now → IsOpenAt told race.now.pair result }
 {
-    match pair.lines.reason {
+    match race.pair.lines.reason {
         Reason::ViewRead => {
-            let (refused, witness) = strands_of(entries, pair)?;
-            lineage.outstanding(entries, witness, refused)
+            let witness = race.witness?;
+            digest
+                .lineage
+                .outstanding(witness.strand, race.refused.strand)
         }
         _ => None,
     }
@@ -91,49 +147,36 @@ fn outstanding_of<A: Allocator>(
 /// Where the strand that goes on behind the spawn comes to.
 fn onward_of(
     parting: Option<Parting>,
-    entries: &[Entry],
-    pair: Pair,
+    race: &Race,
     chain: &[usize],
     witness_chain: &[usize],
 ) -> Option<usize>
-    requires part { PartAt entries.now pair parting }
-    requires chain { chain.now ≡ chain_at entries.now pair.first }
-    requires witness_chain { witness_chain.now ≡ chain_at entries.now pair.witness }
-    ensures { GoesOn entries.now pair parting result }
+    requires { (told : List Entry) × IsMet told race.now parting chain.now witness_chain.now }
+    ensures { (told : List Entry) → IsMet told race.now parting chain.now witness_chain.now → GoesOn told race.now.pair parting result }
 {
     let parting = parting?;
-    let refused = strand_at(entries, pair.first)?;
-    if parting.by_next == refused {
-        return Some(toward(parting.entry, pair.first, chain));
+    if parting.by_next == race.refused.strand {
+        return Some(toward(parting.entry, race.pair.first, chain));
     }
-    Some(toward(parting.entry, pair.witness, witness_chain))
+    Some(toward(parting.entry, race.pair.witness, witness_chain))
 }
 
-impl<A: Allocator + Copy> Encounter<A> {
-    /// Of a pair of the lines that raced in a history, whose entries are given from the oldest on, with their lineage. Its time is linear
-    /// in the entries. Errors where there is no memory.
-    pub fn new(
-        alloc: A,
-        lineage: &Lineage<A>,
-        entries: &[Entry],
-        pair: &Pair,
-    ) -> Result<Encounter<A>, AllocError>
-        requires lineage { IsLineage lineage.now (reverse entries.now) }
-        requires legal { (shape : Shape) × IsLegal shape (reverse entries.now) }
-        ensures chain { IfOk result (λ encounter. encounter.chain.items ≡ chain_at entries.now pair.now.first) }
-        ensures witness_chain { IfOk result (λ encounter. encounter.witness_chain.items ≡ chain_at entries.now pair.now.witness) }
-        ensures parting { IfOk result (λ encounter. PartAt entries.now pair.now encounter.parting) }
-        ensures onward { IfOk result (λ encounter. GoesOn entries.now pair.now encounter.parting encounter.onward) }
-        ensures outstanding { IfOk result (λ encounter. IsOpenAt entries.now pair.now encounter.outstanding) }
+impl Encounter {
+    /// Of one of the pairs of the lines that raced in a history, of which this is the digest. Errors where there is no memory.
+    pub fn new(alloc: Global, digest: &Digest, race: &Race) -> Result<Encounter, AllocError>
+        requires { (told : List Entry) × IsRaceOf told digest.now race.now }
+        ensures { IfOk result (λ encounter. (told : List Entry) → IsRaceOf told digest.now race.now → IsEncounter told race.now.pair encounter) }
     {
-        let parting = parting_of(lineage, entries, *pair);
-        let outstanding = outstanding_of(lineage, entries, *pair);
-        let chain = chain_at(alloc, entries, pair.first)?;
-        let witness_chain = chain_at(alloc, entries, pair.witness)?;
-        let onward = onward_of(parting, entries, *pair, &chain, &witness_chain);
+        let parting = parting_of(digest, race);
+        let outstanding = outstanding_of(digest, race);
+        let chain = chain_at(alloc, digest, race.pair.first, Some(race.refused))?;
+        let witness_chain = chain_at(alloc, digest, race.pair.witness, race.witness)?;
+        let onward = onward_of(parting, race, &chain, &witness_chain);
         Ok(Encounter {
-            chain,
-            witness_chain,
+            refused: race.refused,
+            witness: race.witness,
+            chain: links_at(alloc, &digest.lineage, &chain)?,
+            witness_chain: links_at(alloc, &digest.lineage, &witness_chain)?,
             parting,
             onward,
             outstanding,

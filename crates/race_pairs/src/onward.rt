@@ -1,7 +1,7 @@
 //! Where the strand that goes on behind a spawn comes to an access.
 
 ghost use Rattle.std.specs.Prelude.{ℕ, List, [], ◌∷◌, ◌++◌};
-ghost use Rattle.race_pairs.specs.Encounters.{IsLeast, IsToward};
+ghost use Rattle.race_pairs.specs.Onward.{IsLeast, IsToward};
 
 /// The least of the numbers above the spawn's, with one number more.
 fn nearer(spawn: usize, least: Option<usize>, number: usize) -> Option<usize>

@@ -1,7 +1,7 @@
 //! What one entry tells of a refusal.
 
 ghost use Rattle.std.specs.Prelude.{◌≡◌};
-ghost use Rattle.race_pairs.specs.Refusals.{reason_by, refusal_asked, refusal_told, entry_at, line_at, lines_of, refusal_at, lines_at};
+ghost use Rattle.race_pairs.specs.Refusals.{reason_by, refusal_asked, refusal_told, side_of, named_by};
 
 use model_accesses::{Kind, Rule};
 use race_gate::{Answer, Entry};
@@ -40,6 +40,13 @@ pub struct Refusal {
     pub place: u32,
     /// The number of the entry of its witness, and 0 where there is none.
     pub witness: usize,
+}
+
+/// An access that raced.
+#[derive(Clone, Copy, Debug, PartialEq, Eq)]
+pub struct Side {
+    pub strand: u32,
+    pub kind: Kind,
 }
 
 /// Why an access of the one kind was refused for an earlier one of the other, by the rule that was answered.
@@ -81,40 +88,26 @@ pub fn refusal_of(entry: Entry) -> Option<Refusal>
     refusal_for(entry.request.line, entry.answer, asked)
 }
 
-/// The entry with this number, from 1 on, of entries that are given from the oldest on, or None where there is none.
-pub fn entry_at(entries: &[Entry], number: usize) -> Option<Entry>
-    ensures { result ≡ entry_at entries.now number }
+/// By which strand an entry's access is, and of which kind, where it is one.
+pub(crate) fn side_of(entry: Entry) -> Option<Side>
+    ensures { result ≡ side_of entry }
 {
-    if number == 0 {
-        return None;
-    }
-    entries.get(number - 1).copied()
+    let asked = asked_by(entry.request.act)?;
+    Some(Side {
+        strand: entry.request.strand,
+        kind: asked.kind,
+    })
 }
 
-/// The line of the entry with this number, or 0 where there is none.
-pub fn line_at(entries: &[Entry], number: usize) -> u32
-    ensures { result ≡ line_at entries.now number }
+/// The witness that an answer names.
+pub(crate) fn named_by(answer: Answer) -> Option<Side>
+    ensures { result ≡ named_by answer }
 {
-    match entry_at(entries, number) {
-        Some(entry) => entry.request.line,
-        None => 0,
+    match answer {
+        Answer::Refused { witness, .. } => Some(Side {
+            strand: witness.strand,
+            kind: witness.kind,
+        }),
+        _ => None,
     }
-}
-
-/// The lines of a refusal among the entries.
-pub(crate) fn lines_of(entries: &[Entry], refusal: Refusal) -> Lines
-    ensures { result ≡ lines_of entries.now refusal }
-{
-    Lines {
-        reason: refusal.reason,
-        line: refusal.line,
-        witness_line: line_at(entries, refusal.witness),
-    }
-}
-
-/// The refusal that the entry with this number tells.
-pub(crate) fn refusal_at(entries: &[Entry], number: usize) -> Option<Refusal>
-    ensures { result ≡ refusal_at entries.now number }
-{
-    refusal_of(entry_at(entries, number)?)
 }

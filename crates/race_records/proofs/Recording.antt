@@ -1,46 +1,50 @@
 -- What is told of pairs, one by one.
-use Rattle.std.proofs.Common.{◌≡◌, ℕ, ◌+◌, ◌<◌, min, List, [], ◌∷◌, ◌++◌, length, take, get_or, sym, subst, ap, ◌∙◌}
-use Rattle.std.proofs.lemmas.List.{take_more}
+use Rattle.std.proofs.Common.{◌≡◌, ℕ, ◌+◌, ◌<◌, List, [], ◌∷◌, ◌++◌, length, take, map, get_or, sym, subst, ap, ◌∙◌, arith}
+use Rattle.std.proofs.lemmas.List.{take_more, length-map, get_or-map}
 use Rattle.serde_json.specs.Data.{Data}
-use Rattle.race_pairs.specs.declared.tally.Pair.{Pair}
+use Rattle.model_histories.specs.declared.answer.Entry.{Entry}
+use Rattle.race_pairs.specs.declared.race.Pair.{Pair}
+use Rattle.race_pairs.specs.declared.race.Race.{Race}
 use Rattle.race_explanations.specs.Settings.{Setting}
-use Rattle.race_explanations.proofs.Telling.{first_of_all}
-use Rattle.std.specs.Global.{Global}
 use Rattle.race_pairs.specs.Pairs.{ArePairs}
 use Rattle.race_pairs.specs.Places.{ArePlaces}
 use Rattle.race_pairs.specs.declared.encounter.Encounter.{Encounter}
+use Rattle.race_pairs.specs.Encounters.{IsEncounter}
 use Rattle.race_explanations.specs.Titles.{told_names}
-use Rattle.race_explanations.specs.Explained.{IsEncounter}
 use Rattle.race_records.specs.declared.document.Outcome.{Outcome}
 use Rattle.race_records.specs.Values.{IsTextOf}
 use Rattle.race_records.specs.Races.{RaceParts, parts_of, race_told, Records, AllRecorded, none, more}
 use Rattle.race_records.specs.Documents.{SummaryParts, document_told, summary_of, RecordsEntries}
 
 -- no pair
-pub none_recorded : (setting : Setting) (told : List Data) → told ≡ [] → AllRecorded setting [] told
-none_recorded setting told is = subst (λ (all : List Data). AllRecorded setting [] all) (sym is) none
+pub none_recorded : (setting : Setting) (entries : List Entry) (told : List Data) → told ≡ [] → AllRecorded setting entries [] told
+none_recorded setting entries told is = subst (λ (all : List Data). AllRecorded setting entries [] all) (sym is) none
 
 -- one pair more
-pub one_recorded : (setting : Setting) (pairs : List Pair) (index : ℕ) (d : Pair) (one : Data) (told new : List Data) → index < length pairs →
-    AllRecorded setting (take index pairs) told → Records setting (get_or pairs index d) one → new ≡ told ++ one ∷ [] →
-    AllRecorded setting (take (index + 1) pairs) new
-one_recorded setting pairs index d one told new below before records is =
-    subst (λ (first : List Pair). AllRecorded setting first new) (sym (take_more pairs index d below))
-    (subst (λ (all : List Data). AllRecorded setting (take index pairs ++ get_or pairs index d ∷ []) all) (sym is)
+pub one_recorded : (setting : Setting) (entries : List Entry) (pairs : List Pair) (index : ℕ) (d : Pair) (one : Data) (told new : List Data) →
+    index < length pairs → AllRecorded setting entries (take index pairs) told → Records setting entries (get_or pairs index d) one →
+    new ≡ told ++ one ∷ [] → AllRecorded setting entries (take (index + 1) pairs) new
+one_recorded setting entries pairs index d one told new below before records is =
+    subst (λ (first : List Pair). AllRecorded setting entries first new) (sym (take_more pairs index d below))
+    (subst (λ (all : List Data). AllRecorded setting entries (take index pairs ++ get_or pairs index d ∷ []) all) (sym is)
     (more (get_or pairs index d) one before records))
 
--- the first so many pairs
-pub first_recorded : (setting : Setting) (pairs front : List Pair) (most : ℕ) (told : List Data) →
-    front ≡ take (min (length pairs) most) pairs → AllRecorded setting front told → AllRecorded setting (take most pairs) told
-first_recorded setting pairs front most told is all =
-    subst (λ (some : List Pair). AllRecorded setting some told) (is ∙ first_of_all pairs most) all
+-- one pair more of those of races
+pub race_recorded : (setting : Setting) (entries : List Entry) (races : List Race) (index : ℕ) (d : Race) (one : Data) (told new : List Data) →
+    index < length races → AllRecorded setting entries (take index (map (λ (race : Race). race.pair) races)) told →
+    Records setting entries (get_or races index d).pair one → new ≡ told ++ one ∷ [] →
+    AllRecorded setting entries (take (index + 1) (map (λ (race : Race). race.pair) races)) new
+race_recorded setting entries races index d one told new below before records is =
+    one_recorded setting entries (map (λ (race : Race). race.pair) races) index d.pair one told new
+    (omega (arith, below, length-map races (λ (race : Race). race.pair))) before
+    (subst (λ (pair : Pair). Records setting entries pair one) (sym (get_or-map (λ (race : Race). race.pair) races index d d.pair below)) records) is
 
 -- what is told of a pair
-pub is_recorded : (setting : Setting) (pair : Pair) (places : List ℕ) (encounter : Encounter Global) (value : Data) (parts : RaceParts)
-    (names : List (List ℕ)) (times : ℕ) → ArePlaces setting.entries pair.lines places → IsEncounter setting.entries pair encounter →
+pub is_recorded : (setting : Setting) (entries : List Entry) (pair : Pair) (places : List ℕ) (encounter : Encounter) (value : Data) (parts : RaceParts)
+    (names : List (List ℕ)) (times : ℕ) → ArePlaces entries pair.lines places → IsEncounter entries pair encounter →
     parts ≡ parts_of setting pair encounter → names ≡ told_names setting pair.lines.reason places → times ≡ pair.times →
-    value ≡ race_told parts names times → Records setting pair value
-is_recorded setting pair places encounter value parts names times are is parts_are names_are times_are told = record {
+    value ≡ race_told parts names times → Records setting entries pair value
+is_recorded setting entries pair places encounter value parts names times are is parts_are names_are times_are told = record {
   places = places;
   encounter = encounter;
   are_places = are;
@@ -51,15 +55,15 @@ is_recorded setting pair places encounter value parts names times are is parts_a
 }
 
 -- what is told of the entries
-pub entries_recorded : (outcome : Outcome) (traces : ℕ) (setting : Setting) (memory : Data) (runs : List (List ℕ)) (pairs front : List Pair) (races untold : List Data)
-    (summary : SummaryParts) (value : Data) (text : List ℕ) → ArePairs setting.entries pairs → front ≡ take (min (length pairs) 20) pairs →
-    AllRecorded setting front races → untold ≡ [] → summary ≡ summary_of outcome traces setting.entries pairs →
-    value ≡ document_told summary memory races runs untold → IsTextOf value text → RecordsEntries outcome traces setting memory runs text
-entries_recorded outcome traces setting memory runs pairs front races untold summary value text are is all empty summary_is told is_text = record {
+pub entries_recorded : (outcome : Outcome) (traces : ℕ) (setting : Setting) (entries : List Entry) (memory : Data) (runs : List (List ℕ)) (pairs front : List Pair)
+    (races untold : List Data) (summary : SummaryParts) (value : Data) (text : List ℕ) → ArePairs entries pairs → front ≡ take 20 pairs →
+    AllRecorded setting entries front races → untold ≡ [] → summary ≡ summary_of outcome traces entries (length pairs) →
+    value ≡ document_told summary memory races runs untold → IsTextOf value text → RecordsEntries outcome traces setting entries memory runs text
+entries_recorded outcome traces setting entries memory runs pairs front races untold summary value text are is all empty summary_is told is_text = record {
   pairs = pairs;
   are_pairs = are;
   races = races;
-  are_races = first_recorded setting pairs front 20 races is all;
+  are_races = subst (λ (some : List Pair). AllRecorded setting entries some races) is all;
   is_text = subst (λ (v : Data). IsTextOf v text)
       (told ∙ ap (λ (u : List Data). document_told summary memory races runs u) empty ∙ ap (λ (s : SummaryParts). document_told s memory races runs []) summary_is) is_text;
 }

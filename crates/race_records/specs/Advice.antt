@@ -1,13 +1,12 @@
 -- Where two strands part, and what would order them.
 use Rattle.std.specs.Prelude.{ℕ, ◌==◌, List, ◌++◌, codes, Option, Some, None, unwrap_or, if◌then◌else◌}
-use Rattle.std.specs.Global.{Global}
 use Rattle.serde_json.specs.Data.{Data, null, string, object, member, no_members}
 use Rattle.spawn_chains.specs.declared.lineage.Parting.{Parting}
 use Rattle.spawn_chains.specs.declared.lineage.OpenSpawn.{OpenSpawn}
-use Rattle.race_pairs.specs.Refusals.{line_at}
+use Rattle.race_pairs.specs.Refusals.{line_in}
 use Rattle.race_pairs.specs.declared.refusal.Reason.{Reason}
 use Rattle.race_pairs.specs.declared.refusal.Reason.TheVariants.{Race, ViewRead, Unset}
-use Rattle.race_pairs.specs.declared.tally.Pair.{Pair}
+use Rattle.race_pairs.specs.declared.race.Pair.{Pair}
 use Rattle.race_pairs.specs.declared.encounter.Encounter.{Encounter}
 use Rattle.race_explanations.specs.Settings.{Origin, in_program, in_trace, Setting}
 use Rattle.race_explanations.specs.Paths.{line_words}
@@ -18,20 +17,20 @@ use Rattle.race_records.specs.Accesses.{place_told}
 -- ---- places
 
 -- the spawn where two strands part, and whither its child and its next strand come
-abbrev pub parting_told : Setting → Pair → ℕ → Option Parting → Data
-parting_told setting pair onward (Some parting) =
-    object (member (codes "child") (site_told setting.origin (line_on setting pair parting.by_child))
+abbrev pub parting_told : Setting → Pair → (refused : ℕ) → ℕ → Option Parting → Data
+parting_told setting pair refused onward (Some parting) =
+    object (member (codes "child") (site_told setting.origin (line_on pair refused parting.by_child))
     (member (codes "next") (site_told setting.origin onward)
     (member (codes "spawn") (place_told setting parting.entry) no_members)))
-parting_told setting pair onward None = null
+parting_told setting pair refused onward None = null
 
 -- the spawn that is outstanding at one of two reads and not at the other
-abbrev pub outstanding_told : Setting → Pair → Option OpenSpawn → Data
-outstanding_told setting pair (Some spawn) =
-    object (member (codes "at") (site_told setting.origin (line_on setting pair spawn.parallel))
-    (member (codes "not_at") (site_told setting.origin (line_on setting pair spawn.ordered))
+abbrev pub outstanding_told : Setting → Pair → (refused : ℕ) → Option OpenSpawn → Data
+outstanding_told setting pair refused (Some spawn) =
+    object (member (codes "at") (site_told setting.origin (line_on pair refused spawn.parallel))
+    (member (codes "not_at") (site_told setting.origin (line_on pair refused spawn.ordered))
     (member (codes "spawn") (place_told setting spawn.entry) no_members)))
-outstanding_told setting pair None = null
+outstanding_told setting pair refused None = null
 
 -- ---- help
 
@@ -55,13 +54,13 @@ move_help setting at line =
     codes ", where this spawn has ended"
 
 abbrev pub parting_help : Setting → ℕ → Option Parting → Data
-parting_help setting onward (Some parting) = string (sync_help setting (line_at setting.entries parting.entry) onward)
+parting_help setting onward (Some parting) = string (sync_help setting (line_in setting.lines parting.entry) onward)
 parting_help setting onward None = null
 
-abbrev pub outstanding_help : Setting → Pair → Option OpenSpawn → Data
-outstanding_help setting pair (Some spawn) =
-    string (move_help setting (line_on setting pair spawn.parallel) (line_at setting.entries spawn.entry))
-outstanding_help setting pair None = null
+abbrev pub outstanding_help : Setting → Pair → (refused : ℕ) → Option OpenSpawn → Data
+outstanding_help setting pair refused (Some spawn) =
+    string (move_help setting (line_on pair refused spawn.parallel) (line_in setting.lines spawn.entry))
+outstanding_help setting pair refused None = null
 
 abbrev pub put_help : List ℕ
 put_help = codes "a `put` into it has to come first in the serial order"
@@ -69,21 +68,22 @@ put_help = codes "a `put` into it has to come first in the serial order"
 -- ---- of a pair
 
 -- where the next strand of the spawn goes on
-abbrev pub onward_line : Setting → Encounter Global → ℕ
-onward_line setting encounter = line_at setting.entries (unwrap_or encounter.onward 0)
+abbrev pub onward_line : Setting → Encounter → ℕ
+onward_line setting encounter = line_in setting.lines (unwrap_or encounter.onward 0)
 
 -- what would order the two
-abbrev pub help_told : Reason → Setting → Pair → Encounter Global → Data
+abbrev pub help_told : Reason → Setting → Pair → Encounter → Data
 help_told (Race earlier refused) setting pair encounter = parting_help setting (onward_line setting encounter) encounter.parting
-help_told ViewRead setting pair encounter = outstanding_help setting pair encounter.outstanding
+help_told ViewRead setting pair encounter = outstanding_help setting pair encounter.refused.strand encounter.outstanding
 help_told Unset setting pair encounter = string put_help
 
 -- the two strands of a race part at a spawn
-abbrev pub parting_of : Reason → Setting → Pair → Encounter Global → Data
-parting_of (Race earlier refused) setting pair encounter = parting_told setting pair (onward_line setting encounter) encounter.parting
+abbrev pub parting_of : Reason → Setting → Pair → Encounter → Data
+parting_of (Race earlier refused) setting pair encounter =
+    parting_told setting pair encounter.refused.strand (onward_line setting encounter) encounter.parting
 parting_of reason setting pair encounter = null
 
 -- a spawn is outstanding at one of the two reads of a view-read race
-abbrev pub outstanding_of : Reason → Setting → Pair → Encounter Global → Data
-outstanding_of ViewRead setting pair encounter = outstanding_told setting pair encounter.outstanding
+abbrev pub outstanding_of : Reason → Setting → Pair → Encounter → Data
+outstanding_of ViewRead setting pair encounter = outstanding_told setting pair encounter.refused.strand encounter.outstanding
 outstanding_of reason setting pair encounter = null

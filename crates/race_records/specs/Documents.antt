@@ -2,10 +2,10 @@
 use Rattle.std.specs.Prelude.{ℕ, List, [], codes, length, take, Option, Some}
 use Rattle.serde_json.specs.Data.{Data, string, object, member, no_members}
 use Rattle.model_histories.specs.declared.answer.Entry.{Entry}
+use Rattle.race_pairs.specs.Refusals.{refusals_among}
 use Rattle.race_pairs.specs.Pairs.{ArePairs}
-use Rattle.race_pairs.specs.declared.tally.Pair.{Pair}
+use Rattle.race_pairs.specs.declared.race.Pair.{Pair}
 use Rattle.race_explanations.specs.Settings.{Setting}
-use Rattle.race_explanations.specs.Explained.{refusals_among}
 use Rattle.race_records.specs.declared.document.Outcome.{Outcome}
 use Rattle.race_records.specs.declared.document.Outcome.TheVariants.{Clean, Raced, Unfinished}
 use Rattle.race_records.specs.Values.{text_told, count_told, list_told, number_or_null, IsTextOf}
@@ -38,10 +38,10 @@ document_told summary memory races recorded untold =
     (member (codes "untold") (list_told (λ file. file) untold)
     (member (codes "version") (count_told 1) no_members))))))))))
 
-abbrev pub summary_of : (outcome : Outcome) → (traces : ℕ) → List Entry → List Pair → SummaryParts
+abbrev pub summary_of : (outcome : Outcome) → (traces : ℕ) → List Entry → (pairs : ℕ) → SummaryParts
 summary_of outcome traces entries pairs = record {
   outcome = outcome;
-  pairs = Some (length pairs);
+  pairs = Some pairs;
   refusals = refusals_among entries;
   requests = length entries;
   traces = traces;
@@ -49,9 +49,10 @@ summary_of outcome traces entries pairs = record {
 
 -- The text tells of the entries, the oldest first, as the value says: of each of the first twenty pairs of places that raced, how many
 -- pairs there are, and how many refusals there were.
-pub record RecordsEntries (outcome : Outcome) (traces : ℕ) (setting : Setting) (memory : Data) (recorded : List (List ℕ)) (text : List ℕ) : Type 0 where
+pub record RecordsEntries (outcome : Outcome) (traces : ℕ) (setting : Setting) (entries : List Entry) (memory : Data)
+    (recorded : List (List ℕ)) (text : List ℕ) : Type 0 where
   pub pairs : List Pair
-  pub are_pairs : ArePairs setting.entries pairs
+  pub are_pairs : ArePairs entries pairs
   pub races : List Data
-  pub are_races : AllRecorded setting (take 20 pairs) races
-  pub is_text : IsTextOf (document_told (summary_of outcome traces setting.entries pairs) memory races recorded []) text
+  pub are_races : AllRecorded setting entries (take 20 pairs) races
+  pub is_text : IsTextOf (document_told (summary_of outcome traces entries (length pairs)) memory races recorded []) text

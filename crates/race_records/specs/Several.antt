@@ -1,13 +1,15 @@
 -- What is told of several traces together.
 use Rattle.std.specs.Prelude.{ℕ, ◌≡◌, ◌-◌, nat_lt, List, [], ◌∷◌, ◌++◌, codes, length, map, take, Option, Some, None, cond, if◌then◌else◌}
-use Rattle.std.specs.Global.{Global, Vec}
+use Rattle.std.specs.Global.{Vec}
 use Rattle.serde_json.specs.Data.{Data, null, object, member, no_members}
+use Rattle.model_histories.specs.declared.answer.Entry.{Entry}
+use Rattle.race_pairs.specs.Refusals.{refusals_among}
 use Rattle.race_pairs.specs.Pairs.{ArePairs}
-use Rattle.race_pairs.specs.declared.tally.Pair.{Pair}
+use Rattle.race_pairs.specs.Encounters.{IsEncounter}
+use Rattle.race_pairs.specs.declared.race.Pair.{Pair}
 use Rattle.race_pairs.specs.declared.encounter.Encounter.{Encounter}
 use Rattle.race_explanations.specs.declared.finding.Finding.{Finding}
 use Rattle.race_explanations.specs.Settings.{Setting}
-use Rattle.race_explanations.specs.Explained.{IsEncounter, refusals_among}
 use Rattle.race_explanations.specs.Findings.{added_up, with_finding, IsFinding}
 use Rattle.race_records.specs.declared.document.Outcome.{Outcome}
 use Rattle.race_records.specs.declared.document.Outcome.TheVariants.{Clean, Raced}
@@ -34,16 +36,17 @@ with_kept kept finding race = record {
 }
 
 -- The race tells of the pair.
-pub record IsRace (setting : Setting) (pair : Pair) (race : RaceParts) : Type 0 where
-  pub encounter : Encounter Global
-  pub is_encounter : IsEncounter setting.entries pair encounter
+pub record IsRace (setting : Setting) (entries : List Entry) (pair : Pair) (race : RaceParts) : Type 0 where
+  pub encounter : Encounter
+  pub is_encounter : IsEncounter entries pair encounter
   pub parts_are : race ≡ parts_of setting pair encounter
 
 -- The findings and the races of these pairs were added, one pair after another.
-pub data AddsKept (setting : Setting) (old : Kept) : List Pair → Kept → Type 0 where
-  none : AddsKept setting old [] old
-  more : {pairs : List Pair} {kept : Kept} (pair : Pair) (finding : Finding) (race : RaceParts) → AddsKept setting old pairs kept →
-      IsFinding setting pair finding → IsRace setting pair race → AddsKept setting old (pairs ++ pair ∷ []) (with_kept kept finding race)
+pub data AddsKept (setting : Setting) (entries : List Entry) (old : Kept) : List Pair → Kept → Type 0 where
+  none : AddsKept setting entries old [] old
+  more : {pairs : List Pair} {kept : Kept} (pair : Pair) (finding : Finding) (race : RaceParts) → AddsKept setting entries old pairs kept →
+      IsFinding setting entries pair finding → IsRace setting entries pair race →
+      AddsKept setting entries old (pairs ++ pair ∷ []) (with_kept kept finding race)
 
 -- What is kept of several traces: also the files of which not all pairs are kept, and how many refusals, requests and traces there were.
 pub record Recorded : Type 0 where
@@ -65,21 +68,21 @@ abbrev pub untold_in : (file : List ℕ) → (count : ℕ) → List Data
 untold_in file count = if nat_lt 20 count then untold_told file (count - 20) ∷ [] else []
 
 -- The first twenty of so many pairs were added, and nothing else has changed.
-pub record AddsPairs (setting : Setting) (old new : Recorded) (count : ℕ) : Type 0 where
+pub record AddsPairs (setting : Setting) (entries : List Entry) (old new : Recorded) (count : ℕ) : Type 0 where
   pub pairs : List Pair
-  pub are_pairs : ArePairs setting.entries pairs
+  pub are_pairs : ArePairs entries pairs
   pub count_is : count ≡ length pairs
-  pub kept : AddsKept setting old.kept (take 20 pairs) new.kept
+  pub kept : AddsKept setting entries old.kept (take 20 pairs) new.kept
   pub rest : new ≡ record old { kept = new.kept }
 
 -- A trace was added: its first twenty pairs.
-pub record AddsTrace (file : List ℕ) (setting : Setting) (old new : Recorded) : Type 0 where
+pub record AddsTrace (file : List ℕ) (setting : Setting) (entries : List Entry) (old new : Recorded) : Type 0 where
   pub pairs : List Pair
-  pub are_pairs : ArePairs setting.entries pairs
-  pub kept : AddsKept setting old.kept (take 20 pairs) new.kept
+  pub are_pairs : ArePairs entries pairs
+  pub kept : AddsKept setting entries old.kept (take 20 pairs) new.kept
   pub untold_is : new.untold ≡ old.untold ++ untold_in file (length pairs)
-  pub refusals_are : new.refusals ≡ added_up old.refusals (refusals_among setting.entries)
-  pub requests_are : new.requests ≡ added_up old.requests (length setting.entries)
+  pub refusals_are : new.refusals ≡ added_up old.refusals (refusals_among entries)
+  pub requests_are : new.requests ≡ added_up old.requests (length entries)
   pub traces_are : new.traces ≡ added_up old.traces 1
 
 -- ---- what is told of it

@@ -7,7 +7,8 @@ ghost use Rattle.race_records.specs.Values.{list_told};
 ghost use Rattle.race_records.specs.Accesses.{place_told, link_told, access_told};
 
 use crate::site::line_value;
-use race_explanations::{Scene, line_of, way_at, word_at};
+use race_explanations::{Scene, line_of, side_word, way_word};
+use race_pairs::{Link, Side};
 use serde_json::{Value, json};
 use std::alloc::{AllocError, Global};
 
@@ -26,30 +27,30 @@ pub(crate) fn place_value(
 }
 
 /// A spawn or a call on the way to an access.
-fn link_value(alloc: Global, scene: &Scene<'_, '_>, number: usize) -> Result<Value, AllocError>
-    ensures { IfOk result (λ value. view value ≡ link_told (setting_of scene.now) number) }
+fn link_value(alloc: Global, scene: &Scene<'_, '_>, link: Link) -> Result<Value, AllocError>
+    ensures { IfOk result (λ value. view value ≡ link_told (setting_of scene.now) link) }
 {
-    let place = place_value(alloc, scene, number)?;
-    json!(in alloc; {"place": place, "way": way_at(scene, number)})
+    let place = place_value(alloc, scene, link.entry)?;
+    json!(in alloc; {"place": place, "way": way_word(link.way)})
 }
 
 /// Spawns and calls on the way to an access.
 fn link_values(
     alloc: Global,
     scene: &Scene<'_, '_>,
-    chain: &[usize],
+    chain: &[Link],
 ) -> Result<Vec<Value>, AllocError>
     ensures { IfOk result (λ values. map view values.items ≡ map (link_told (setting_of scene.now)) chain.now) }
 {
     let mut values = Vec::new(alloc);
-    for number in chain {
-        values.push(link_value(alloc, scene, *number)?)?;
+    for link in chain {
+        values.push(link_value(alloc, scene, *link)?)?;
     }
     Ok(values)
 }
 
 /// The innermost spawns and calls on the way to an access.
-fn within_value(alloc: Global, scene: &Scene<'_, '_>, chain: &[usize]) -> Result<Value, AllocError>
+fn within_value(alloc: Global, scene: &Scene<'_, '_>, chain: &[Link]) -> Result<Value, AllocError>
     ensures { IfOk result (λ value. view value ≡ list_told (link_told (setting_of scene.now)) (take 8 chain.now)) }
 {
     let (told, _) = chain.split_at(chain.len().min(LINKS));
@@ -61,9 +62,10 @@ pub(crate) fn access_value(
     alloc: Global,
     scene: &Scene<'_, '_>,
     number: usize,
-    chain: &[usize],
+    side: Option<Side>,
+    chain: &[Link],
 ) -> Result<Value, AllocError>
-    ensures { IfOk result (λ value. view value ≡ access_told (setting_of scene.now) number chain.now) }
+    ensures { IfOk result (λ value. view value ≡ access_told (setting_of scene.now) number side chain.now) }
 {
     let within = within_value(alloc, scene, chain)?;
     let place = place_value(alloc, scene, number)?;
@@ -71,6 +73,6 @@ pub(crate) fn access_value(
         "further": chain.len().saturating_sub(LINKS),
         "place": place,
         "within": within,
-        "word": word_at(scene, number)
+        "word": side_word(side)
     })
 }

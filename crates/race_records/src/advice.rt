@@ -168,13 +168,14 @@ fn outstanding_help(
     alloc: Global,
     scene: &Scene<'_, '_>,
     pair: &Pair,
+    refused: u32,
     spawn: Option<OpenSpawn>,
 ) -> Result<Value, AllocError>
-    ensures { IfOk result (λ value. view value ≡ outstanding_help (setting_of scene.now) pair.now spawn) }
+    ensures { IfOk result (λ value. view value ≡ outstanding_help (setting_of scene.now) pair.now refused spawn) }
 {
     match spawn {
         Some(spawn) => {
-            let at = line_on(scene, pair, spawn.parallel);
+            let at = line_on(pair, refused, spawn.parallel);
             let line = line_of(scene, spawn.entry);
             Ok(Value::from(move_help(alloc, scene, at, line)?))
         }
@@ -187,15 +188,16 @@ fn parting_value(
     alloc: Global,
     scene: &Scene<'_, '_>,
     pair: &Pair,
+    refused: u32,
     onward: u32,
     parting: Option<Parting>,
 ) -> Result<Value, AllocError>
-    ensures { IfOk result (λ value. view value ≡ parting_told (setting_of scene.now) pair.now onward parting) }
+    ensures { IfOk result (λ value. view value ≡ parting_told (setting_of scene.now) pair.now refused onward parting) }
 {
     let Some(parting) = parting else {
         return Ok(Value::Null);
     };
-    let child = line_value(alloc, scene, line_on(scene, pair, parting.by_child))?;
+    let child = line_value(alloc, scene, line_on(pair, refused, parting.by_child))?;
     let next = line_value(alloc, scene, onward)?;
     let spawn = place_value(alloc, scene, parting.entry)?;
     json!(in alloc; {"child": child, "next": next, "spawn": spawn})
@@ -206,21 +208,22 @@ fn outstanding_value(
     alloc: Global,
     scene: &Scene<'_, '_>,
     pair: &Pair,
+    refused: u32,
     spawn: Option<OpenSpawn>,
 ) -> Result<Value, AllocError>
-    ensures { IfOk result (λ value. view value ≡ outstanding_told (setting_of scene.now) pair.now spawn) }
+    ensures { IfOk result (λ value. view value ≡ outstanding_told (setting_of scene.now) pair.now refused spawn) }
 {
     let Some(spawn) = spawn else {
         return Ok(Value::Null);
     };
-    let at = line_value(alloc, scene, line_on(scene, pair, spawn.parallel))?;
-    let not_at = line_value(alloc, scene, line_on(scene, pair, spawn.ordered))?;
+    let at = line_value(alloc, scene, line_on(pair, refused, spawn.parallel))?;
+    let not_at = line_value(alloc, scene, line_on(pair, refused, spawn.ordered))?;
     let place = place_value(alloc, scene, spawn.entry)?;
     json!(in alloc; {"at": at, "not_at": not_at, "spawn": place})
 }
 
 /// Where the next strand of the spawn goes on.
-fn onward_line(scene: &Scene<'_, '_>, encounter: &Encounter<Global>) -> u32
+fn onward_line(scene: &Scene<'_, '_>, encounter: &Encounter) -> u32
     ensures { result ≡ onward_line (setting_of scene.now) encounter.now }
 {
     line_of(scene, encounter.onward.unwrap_or(0))
@@ -231,7 +234,7 @@ pub(crate) fn help_value(
     alloc: Global,
     scene: &Scene<'_, '_>,
     pair: &Pair,
-    encounter: &Encounter<Global>,
+    encounter: &Encounter,
 ) -> Result<Value, AllocError>
     ensures { IfOk result (λ value. view value ≡ help_told pair.now.lines.reason (setting_of scene.now) pair.now encounter.now) }
 {
@@ -240,7 +243,10 @@ pub(crate) fn help_value(
             let onward = onward_line(scene, encounter);
             parting_help(alloc, scene, onward, encounter.parting)
         }
-        Reason::ViewRead => outstanding_help(alloc, scene, pair, encounter.outstanding),
+        Reason::ViewRead => {
+            let refused = encounter.refused.strand;
+            outstanding_help(alloc, scene, pair, refused, encounter.outstanding)
+        }
         Reason::Unset => Value::try_from_str(alloc, PUT_HELP),
     }
 }
@@ -250,14 +256,15 @@ pub(crate) fn parting_of(
     alloc: Global,
     scene: &Scene<'_, '_>,
     pair: &Pair,
-    encounter: &Encounter<Global>,
+    encounter: &Encounter,
 ) -> Result<Value, AllocError>
     ensures { IfOk result (λ value. view value ≡ parting_of pair.now.lines.reason (setting_of scene.now) pair.now encounter.now) }
 {
     match pair.lines.reason {
         Reason::Race { .. } => {
             let onward = onward_line(scene, encounter);
-            parting_value(alloc, scene, pair, onward, encounter.parting)
+            let refused = encounter.refused.strand;
+            parting_value(alloc, scene, pair, refused, onward, encounter.parting)
         }
         Reason::ViewRead | Reason::Unset => Ok(Value::Null),
     }
@@ -268,12 +275,15 @@ pub(crate) fn outstanding_of(
     alloc: Global,
     scene: &Scene<'_, '_>,
     pair: &Pair,
-    encounter: &Encounter<Global>,
+    encounter: &Encounter,
 ) -> Result<Value, AllocError>
     ensures { IfOk result (λ value. view value ≡ outstanding_of pair.now.lines.reason (setting_of scene.now) pair.now encounter.now) }
 {
     match pair.lines.reason {
-        Reason::ViewRead => outstanding_value(alloc, scene, pair, encounter.outstanding),
+        Reason::ViewRead => {
+            let refused = encounter.refused.strand;
+            outstanding_value(alloc, scene, pair, refused, encounter.outstanding)
+        }
         Reason::Race { .. } | Reason::Unset => Ok(Value::Null),
     }
 }

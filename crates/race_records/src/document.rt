@@ -1,10 +1,11 @@
 //! What is told of a run or of a trace.
 
-ghost use Rattle.std.specs.Prelude.{◌≡◌, [], false, IfOk, map, reverse, string_bytes};
+ghost use Rattle.std.specs.Prelude.{◌≡◌, [], false, List, IfOk, length, map, string_bytes};
 ghost use Rattle.text_words.specs.Text.{lines};
-ghost use Rattle.model_histories.specs.Shapes.{Shape};
-ghost use Rattle.model_histories.specs.Legal.{IsLegal};
-ghost use Rattle.spawn_chains.specs.Makers.{IsLineage};
+ghost use Rattle.model_histories.specs.declared.answer.Entry.{Entry};
+ghost use Rattle.race_pairs.specs.Known.{known_count};
+ghost use Rattle.race_pairs.specs.Digests.{IsDigest};
+ghost use Rattle.race_pairs.specs.Encounters.{AreRacesOf};
 ghost use Rattle.program_text.specs.Programs.{contents};
 ghost use Rattle.trace_text.specs.Traces.{contents as trace_contents};
 ghost use Rattle.trace_notes.specs.Notes.{kept_runs};
@@ -19,18 +20,13 @@ ghost use Rattle.race_records.specs.SummaryViews.{summary_parts};
 use crate::race::pair_value;
 use crate::value::{size_or_null, texts_value, value_text};
 use program_text::Program;
-use race_explanations::{Origin, Scene, refusal_count, trace_scene};
-use race_gate::Entry;
-use race_pairs::{Pair, pairs};
+use race_explanations::{Scene, program_scene, trace_scene};
+use race_pairs::Digest;
 use serde_json::{Value, json};
-use source_quotes::{Look, Source};
-use spawn_chains::Lineage;
+use source_quotes::Source;
 use std::alloc::{AllocError, Global};
 use trace_notes::Notes;
 use trace_text::Trace;
-
-/// How many pairs are told of at most.
-pub(crate) const PAIRS: usize = 20;
 
 /// How a run or a trace came out.
 #[derive(Clone, Copy, Debug, PartialEq, Eq)]
@@ -96,29 +92,29 @@ pub(crate) fn document_value(
 fn pair_values(
     alloc: Global,
     scene: &Scene<'_, '_>,
-    lineage: &Lineage<Global>,
-    pairs: &[Pair],
+    races: &[race_pairs::Race],
 ) -> Result<Vec<Value>, AllocError>
-    requires lineage { IsLineage lineage.now (reverse scene.now.entries.now) }
-    requires legal { (shape : Shape) × IsLegal shape (reverse scene.now.entries.now) }
-    ensures { IfOk result (λ values. AllRecorded (setting_of scene.now) pairs.now (map view values.items)) }
+    requires { (entries : List Entry) × AreRacesOf entries scene.now.digest.now races.now }
+    ensures { IfOk result (λ values. (entries : List Entry) → AreRacesOf entries scene.now.digest.now races.now →
+        AllRecorded (setting_of scene.now) entries (map (λ race. race.pair) races.now) (map view values.items)) }
 {
     let mut values = Vec::new(alloc);
-    for pair in pairs {
-        values.push(pair_value(alloc, scene, lineage, pair)?)?;
+    for race in races {
+        values.push(pair_value(alloc, scene, race)?)?;
     }
     Ok(values)
 }
 
-/// How the entries of a scene came out.
-fn summary_of(outcome: Outcome, traces: usize, entries: &[Entry], pairs: &[Pair]) -> Summary
-    ensures { summary_parts result ≡ summary_of outcome traces entries.now pairs.now }
+/// How the entries came out of which this is the digest.
+fn summary_of(outcome: Outcome, traces: usize, digest: &Digest) -> Summary
+    ensures { (entries : List Entry) → IsDigest entries digest.now →
+        summary_parts result ≡ summary_of outcome traces entries (known_count digest.now.races.known) }
 {
     Summary {
         outcome,
-        pairs: Some(pairs.len()),
-        refusals: refusal_count(entries),
-        requests: entries.len(),
+        pairs: Some(digest.pair_count()),
+        refusals: digest.refusals,
+        requests: digest.lines.len(),
         traces,
     }
 }
@@ -132,20 +128,18 @@ fn entries_record(
     memory: Value,
     recorded: &[String],
 ) -> Result<Vec<u8>, AllocError>
-    requires legal { (shape : Shape) × IsLegal shape (reverse scene.now.entries.now) }
-    ensures { IfOk result (λ text. RecordsEntries outcome traces (setting_of scene.now) (view memory) (map string_bytes recorded.now) text.items) }
+    requires { (entries : List Entry) × IsDigest entries scene.now.digest.now }
+    ensures { IfOk result (λ text. (entries : List Entry) → IsDigest entries scene.now.digest.now →
+        RecordsEntries outcome traces (setting_of scene.now) entries (view memory) (map string_bytes recorded.now) text.items) }
 {
-    let lineage = Lineage::new(alloc, scene.entries)?;
-    let found = pairs(alloc, scene.entries)?;
-    let (first, _) = found.as_slice().split_at(found.len().min(PAIRS));
-    let races = pair_values(alloc, scene, &lineage, first)?;
-    let summary = summary_of(outcome, traces, scene.entries, found.as_slice());
+    let races = pair_values(alloc, scene, scene.digest.races())?;
+    let summary = summary_of(outcome, traces, scene.digest);
     let untold = Vec::new(alloc);
     let document = document_value(alloc, summary, memory, races, recorded, untold)?;
     value_text(alloc, &document)
 }
 
-/// Tells of the entries of a run of a program, the oldest first, as JSON: all that
+/// Tells of the entries of a run of a program, of which this is the digest, as JSON: all that
 /// [`explanation`](race_explanations::explanation) tells, with the final memory where it is known. Errors where there is no memory.
 pub fn run_record<'s>(
     alloc: Global,
@@ -154,40 +148,30 @@ pub fn run_record<'s>(
     file: &'s str,
     text: &[u8],
     program: &'s Program<Global>,
-    entries: &'s [Entry],
+    digest: &'s Digest,
 ) -> Result<Vec<u8>, AllocError>
-    requires legal { (shape : Shape) × IsLegal shape (reverse entries.now) }
-    ensures { IfOk result (λ told. RecordsEntries outcome 0 (program_setting false file.now (lines text.now) (contents program.now) entries.now)
-        (view memory) [] told.items) }
+    requires { (entries : List Entry) × IsDigest entries digest.now }
+    ensures { IfOk result (λ told. (entries : List Entry) → IsDigest entries digest.now →
+        RecordsEntries outcome 0 (program_setting false file.now (lines text.now) (contents program.now) entries) entries (view memory) [] told.items) }
 {
     let source = Source::new(alloc, text)?;
-    let scene = Scene {
-        look: Look::of(false, &source),
-        origin: Origin::Program {
-            file,
-            source: &source,
-            program,
-        },
-        mems: program.mems.as_slice(),
-        reducers: program.reducers.as_slice(),
-        entries,
-    };
+    let scene = program_scene(false, file, &source, program, digest);
     entries_record(alloc, &scene, outcome, 0, memory, &[])
 }
 
-/// Tells of the entries of a trace with these notes, the oldest first, as JSON: all that
+/// Tells of the entries of a trace with these notes, of which this is the digest, as JSON: all that
 /// [`trace_explanation`](race_explanations::trace_explanation) tells, and what was recorded. Errors where there is no memory.
 pub fn trace_record<'s>(
     alloc: Global,
     outcome: Outcome,
     notes: &'s Notes<Global>,
     trace: &'s Trace<Global>,
-    entries: &'s [Entry],
+    digest: &'s Digest,
 ) -> Result<Vec<u8>, AllocError>
-    requires legal { (shape : Shape) × IsLegal shape (reverse entries.now) }
-    ensures { IfOk result (λ told. RecordsEntries outcome 1 (trace_setting false notes.now (trace_contents trace.now).known entries.now)
-        null (kept_runs notes.now) told.items) }
+    requires { (entries : List Entry) × IsDigest entries digest.now }
+    ensures { IfOk result (λ told. (entries : List Entry) → IsDigest entries digest.now →
+        RecordsEntries outcome 1 (trace_setting false notes.now (trace_contents trace.now).known entries) entries null (kept_runs notes.now) told.items) }
 {
-    let scene = trace_scene(false, notes, trace, entries);
+    let scene = trace_scene(false, notes, trace, digest);
     entries_record(alloc, &scene, outcome, 1, Value::Null, notes.runs())
 }

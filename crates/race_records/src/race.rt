@@ -1,10 +1,9 @@
 //! What is told of a pair of places that raced.
 
-ghost use Rattle.std.specs.Prelude.{◌≡◌, ℕ, IfOk, map, reverse, string_bytes};
+ghost use Rattle.std.specs.Prelude.{◌≡◌, ℕ, List, IfOk, map, string_bytes};
 ghost use Rattle.std.specs.Global.{Vec};
-ghost use Rattle.model_histories.specs.Shapes.{Shape};
-ghost use Rattle.model_histories.specs.Legal.{IsLegal};
-ghost use Rattle.spawn_chains.specs.Makers.{IsLineage};
+ghost use Rattle.model_histories.specs.declared.answer.Entry.{Entry};
+ghost use Rattle.race_pairs.specs.Encounters.{IsRaceOf};
 ghost use Rattle.serde_json.specs.View.{view};
 ghost use Rattle.race_explanations.specs.Scenes.{setting_of};
 ghost use Rattle.race_records.specs.Values.{list_told};
@@ -16,9 +15,8 @@ use crate::advice::{help_value, outstanding_of, parting_of};
 use crate::value::text_value;
 use access_table::word;
 use race_explanations::{Scene, display_names};
-use race_pairs::{Encounter, Pair, Reason, places};
+use race_pairs::{Encounter, Pair, Reason};
 use serde_json::{Value, json};
-use spawn_chains::Lineage;
 use std::alloc::{AllocError, Global};
 use std::collections::BTreeSet;
 
@@ -78,7 +76,7 @@ fn witness_value(
     alloc: Global,
     scene: &Scene<'_, '_>,
     pair: &Pair,
-    encounter: &Encounter<Global>,
+    encounter: &Encounter,
 ) -> Result<Value, AllocError>
     ensures { IfOk result (λ value. view value ≡ witness_told pair.now.lines.reason (setting_of scene.now) pair.now encounter.now) }
 {
@@ -87,6 +85,7 @@ fn witness_value(
             alloc,
             scene,
             pair.witness,
+            encounter.witness,
             encounter.witness_chain.as_slice(),
         ),
         Reason::Unset => Ok(Value::Null),
@@ -98,14 +97,20 @@ pub(crate) fn race_of(
     alloc: Global,
     scene: &Scene<'_, '_>,
     pair: &Pair,
-    encounter: &Encounter<Global>,
+    encounter: &Encounter,
 ) -> Result<Race, AllocError>
     ensures { IfOk result (λ race. race_parts race ≡ parts_of (setting_of scene.now) pair.now encounter.now) }
 {
     let help = help_value(alloc, scene, pair, encounter)?;
     let outstanding = outstanding_of(alloc, scene, pair, encounter)?;
     let parting = parting_of(alloc, scene, pair, encounter)?;
-    let refused = access_value(alloc, scene, pair.first, encounter.chain.as_slice())?;
+    let refused = access_value(
+        alloc,
+        scene,
+        pair.first,
+        Some(encounter.refused),
+        encounter.chain.as_slice(),
+    )?;
     let witness = witness_value(alloc, scene, pair, encounter)?;
     Ok(Race {
         reason: pair.lines.reason,
@@ -164,16 +169,15 @@ pub(crate) fn race_value(
 pub(crate) fn pair_value(
     alloc: Global,
     scene: &Scene<'_, '_>,
-    lineage: &Lineage<Global>,
-    pair: &Pair,
+    race: &race_pairs::Race,
 ) -> Result<Value, AllocError>
-    requires lineage { IsLineage lineage.now (reverse scene.now.entries.now) }
-    requires legal { (shape : Shape) × IsLegal shape (reverse scene.now.entries.now) }
-    ensures { IfOk result (λ value. Records (setting_of scene.now) pair.now (view value)) }
+    requires { (entries : List Entry) × IsRaceOf entries scene.now.digest.now race.now }
+    ensures { IfOk result (λ value. (entries : List Entry) → IsRaceOf entries scene.now.digest.now race.now →
+        Records (setting_of scene.now) entries race.now.pair (view value)) }
 {
-    let found = places(alloc, scene.entries, pair)?;
-    let encounter = Encounter::new(alloc, lineage, scene.entries, pair)?;
-    let names = display_names(alloc, scene, pair.lines.reason, found.as_slice())?;
-    let race = race_of(alloc, scene, pair, &encounter)?;
-    race_value(alloc, &race, &names, pair.times)
+    let encounter = Encounter::new(alloc, scene.digest, race)?;
+    let reason = race.pair.lines.reason;
+    let names = display_names(alloc, scene, reason, race.places.as_slice())?;
+    let told = race_of(alloc, scene, &race.pair, &encounter)?;
+    race_value(alloc, &told, &names, race.pair.times)
 }

@@ -1,9 +1,9 @@
 //! What is found in several traces, told together.
 
-ghost use Rattle.std.specs.Prelude.{◌≡◌, ◌==◌, ◌++◌, false, IfOk, OnOk, length, map, reverse, string_bytes};
-ghost use Rattle.model_histories.specs.Shapes.{Shape};
-ghost use Rattle.model_histories.specs.Legal.{IsLegal};
-ghost use Rattle.spawn_chains.specs.Makers.{IsLineage};
+ghost use Rattle.std.specs.Prelude.{◌≡◌, ◌==◌, ◌++◌, false, List, IfOk, OnOk, length, map, string_bytes};
+ghost use Rattle.model_histories.specs.declared.answer.Entry.{Entry};
+ghost use Rattle.race_pairs.specs.Digests.{IsDigest};
+ghost use Rattle.race_pairs.specs.Encounters.{IsRaceOf, AreRacesOf};
 ghost use Rattle.trace_text.specs.Traces.{contents as trace_contents};
 ghost use Rattle.serde_json.specs.View.{view};
 ghost use Rattle.race_explanations.specs.Scenes.{setting_of};
@@ -15,14 +15,12 @@ ghost use Rattle.race_records.specs.SummaryViews.{summary_parts};
 ghost use Rattle.race_records.specs.Several.{with_race, IsRace, AddsKept, nothing_recorded, untold_told, untold_in, AddsPairs, AddsTrace, races_told, all_of, outcome_of, summary_recorded, recorded_told};
 ghost use Rattle.race_records.specs.SeveralViews.{kept_of, recorded_of};
 
-use crate::document::{Outcome, PAIRS, Summary, document_value};
+use crate::document::{Outcome, Summary, document_value};
 use crate::race::{Race, race_of, race_value};
 use crate::value::{text_value, value_text};
-use race_explanations::{Finding, Scene, finding_of, join_finding, refusal_count, trace_scene};
-use race_gate::Entry;
-use race_pairs::{Encounter, Pair, pairs};
+use race_explanations::{Finding, Scene, finding_of, join_finding, trace_scene};
+use race_pairs::{Digest, Encounter, PAIRS};
 use serde_json::{Value, json};
-use spawn_chains::Lineage;
 use std::alloc::{AllocError, Global};
 use trace_notes::Notes;
 use trace_text::Trace;
@@ -78,35 +76,34 @@ fn keep(
 fn pair_race(
     alloc: Global,
     scene: &Scene<'_, '_>,
-    lineage: &Lineage<Global>,
-    pair: &Pair,
+    race: &race_pairs::Race,
 ) -> Result<Race, AllocError>
-    requires lineage { IsLineage lineage.now (reverse scene.now.entries.now) }
-    requires legal { (shape : Shape) × IsLegal shape (reverse scene.now.entries.now) }
-    ensures { IfOk result (λ race. IsRace (setting_of scene.now) pair.now (race_parts race)) }
+    requires { (entries : List Entry) × IsRaceOf entries scene.now.digest.now race.now }
+    ensures { IfOk result (λ told. (entries : List Entry) → IsRaceOf entries scene.now.digest.now race.now →
+        IsRace (setting_of scene.now) entries race.now.pair (race_parts told)) }
 {
-    let encounter = Encounter::new(alloc, lineage, scene.entries, pair)?;
-    race_of(alloc, scene, pair, &encounter)
+    let encounter = Encounter::new(alloc, scene.digest, race)?;
+    race_of(alloc, scene, &race.pair, &encounter)
 }
 
 /// Adds pairs.
 fn keep_all(
     alloc: Global,
     scene: &Scene<'_, '_>,
-    lineage: &Lineage<Global>,
-    pairs: &[Pair],
+    found: &[race_pairs::Race],
     findings: &mut Vec<Finding>,
     races: &mut Vec<Race>,
 ) -> Result<(), AllocError>
-    requires lineage { IsLineage lineage.now (reverse scene.now.entries.now) }
-    requires legal { (shape : Shape) × IsLegal shape (reverse scene.now.entries.now) }
+    requires found { (entries : List Entry) × AreRacesOf entries scene.now.digest.now found.now }
     requires trace { IsOfTrace (setting_of scene.now).origin }
-    ensures { OnOk result (AddsKept (setting_of scene.now) (kept_of findings.old.items races.old.items) pairs.now (kept_of findings.new.items races.new.items)) }
+    ensures { OnOk result ((entries : List Entry) → AreRacesOf entries scene.now.digest.now found.now →
+        AddsKept (setting_of scene.now) entries (kept_of findings.old.items races.old.items) (map (λ race. race.pair) found.now)
+        (kept_of findings.new.items races.new.items)) }
 {
-    for pair in pairs {
-        let finding = finding_of(alloc, scene, lineage, pair)?;
-        let race = pair_race(alloc, scene, lineage, pair)?;
-        keep(findings, races, finding, race)?;
+    for race in found {
+        let finding = finding_of(alloc, scene, race)?;
+        let told = pair_race(alloc, scene, race)?;
+        keep(findings, races, finding, told)?;
     }
     Ok(())
 }
@@ -192,25 +189,22 @@ impl Records {
 
     /// Adds the first pairs of a scene of a trace, and answers how many pairs it has.
     fn add_pairs(&mut self, alloc: Global, scene: &Scene<'_, '_>) -> Result<usize, AllocError>
-        requires legal { (shape : Shape) × IsLegal shape (reverse scene.now.entries.now) }
+        requires digest { (entries : List Entry) × IsDigest entries scene.now.digest.now }
         requires trace { IsOfTrace (setting_of scene.now).origin }
-        ensures { IfOk result (λ count. AddsPairs (setting_of scene.now) (recorded_of self.old) (recorded_of self.new) count) }
+        ensures { IfOk result (λ count. (entries : List Entry) → IsDigest entries scene.now.digest.now →
+            AddsPairs (setting_of scene.now) entries (recorded_of self.old) (recorded_of self.new) count) }
     {
-        let lineage = Lineage::new(alloc, scene.entries)?;
-        let found = pairs(alloc, scene.entries)?;
-        let (first, _) = found.as_slice().split_at(found.len().min(PAIRS));
         keep_all(
             alloc,
             scene,
-            &lineage,
-            first,
+            scene.digest.races(),
             &mut self.findings,
             &mut self.races,
         )?;
-        Ok(found.len())
+        Ok(scene.digest.pair_count())
     }
 
-    /// Adds what is found in a trace, whose entries are given from the oldest on: its first twenty pairs of places, joined as
+    /// Adds what is found in a trace, of whose entries this is the digest: its first twenty pairs of places, joined as
     /// [`Findings::add`](race_explanations::Findings::add) joins them. Errors where there is no memory.
     pub fn add<'s>(
         &mut self,
@@ -218,16 +212,17 @@ impl Records {
         file: &str,
         notes: &'s Notes<Global>,
         trace: &'s Trace<Global>,
-        entries: &'s [Entry],
+        digest: &'s Digest,
     ) -> Result<(), AllocError>
-        requires legal { (shape : Shape) × IsLegal shape (reverse entries.now) }
-        ensures { OnOk result (AddsTrace file.now (trace_setting false notes.now (trace_contents trace.now).known entries.now) (recorded_of self.old) (recorded_of self.new)) }
+        requires { (entries : List Entry) × IsDigest entries digest.now }
+        ensures { OnOk result ((entries : List Entry) → IsDigest entries digest.now →
+            AddsTrace file.now (trace_setting false notes.now (trace_contents trace.now).known entries) entries (recorded_of self.old) (recorded_of self.new)) }
     {
-        let scene = trace_scene(false, notes, trace, entries);
+        let scene = trace_scene(false, notes, trace, digest);
         let count = self.add_pairs(alloc, &scene)?;
         push_untold(alloc, &mut self.untold, file, count)?;
-        self.refusals = self.refusals.saturating_add(refusal_count(entries));
-        self.requests = self.requests.saturating_add(entries.len());
+        self.refusals = self.refusals.saturating_add(digest.refusals);
+        self.requests = self.requests.saturating_add(digest.lines.len());
         self.traces = self.traces.saturating_add(1);
         Ok(())
     }

@@ -6,13 +6,14 @@ ghost use Rattle.text_words.specs.Text.{lines};
 ghost use Rattle.trace_text.specs.Traces.{contents as trace_contents};
 ghost use Rattle.serde_json.specs.View.{view};
 ghost use Rattle.fault_lists.specs.FaultLists.{HasFault};
-ghost use Rattle.race_explanations.specs.Illegal.{at_of, strand_of};
 ghost use Rattle.race_records.specs.Values.{IsTextOf};
 ghost use Rattle.race_records.specs.Unjudged.{cause_word, fault_told, RecordsFault, RecordsFaults, RecordsText, faulty_told, request_told, illegal_told};
 
 use crate::value::{text_value, value_text};
 use fault_lists::{Fault, list_others};
-use race_explanations::{Illegality, help_words, illegal_explanation, request_line, title_words};
+use race_explanations::{
+    Illegality, at_of, help_words, illegal_explanation, request_line, strand_of, title_words,
+};
 use serde_json::{Value, json};
 use source_quotes::{Meant, Source, fault_message};
 use std::alloc::{AllocError, Global};
@@ -133,26 +134,6 @@ pub fn faults_record(
     )?;
     let document = faulty_value(alloc, values, others.is_more)?;
     value_text(alloc, &document)
-}
-
-/// The number of a line.
-fn at_of(line: Option<TraceLine>) -> u32
-    ensures { result ≡ at_of line }
-{
-    match line {
-        Some(line) => line.at,
-        None => 0,
-    }
-}
-
-/// The strand that asks on a line.
-fn strand_of(line: Option<TraceLine>) -> u32
-    ensures { result ≡ strand_of line }
-{
-    match line {
-        Some(line) => line.request.strand,
-        None => 0,
-    }
 }
 
 /// An illegal request, with what a person is told of it.

@@ -12,7 +12,7 @@ use Rattle.model_strands.specs.Strands.{Begun, unused}
 use Rattle.model_strands.specs.Legal.{Legal}
 use Rattle.model_strands.specs.Dag.{Reaches, IsParallel}
 use Rattle.model_strands.specs.Addresses.{address}
-use Rattle.law_strands.proofs.Words.{◌▹◌, prefix_of_longer, prefix_longer, last_same}
+use Rattle.law_strands.proofs.Words.{◌▹◌, prefix_refl, prefix_of_longer, prefix_longer, last_same}
 use Rattle.law_strands.proofs.Addresses.{addresses}
 use Rattle.law_strands.proofs.Law.{reach_precedes, precedes_reach}
 use Rattle.law_strands.proofs.Orders.{address_tests_law}
@@ -101,6 +101,16 @@ beyond entries l one w (suc bound) y lt known x p =
               let earlier = ih v.spawner lower v.spawner_known q in omega (arith, earlier, v.earlier))
           | inr e ↦ beside v (last_same (address (control_part entries) w.spawner) (address (control_part entries) v.spawner) x v.word e).0
         ]
+
+pub climbs_first : (entries : Entries) (strand other : ℕ) → strand < unused (control_part entries) → other < unused (control_part entries) →
+    Climbs entries strand other strand other
+climbs_first entries strand other known also = record {
+  one_known = known;
+  two_known = also;
+  one_begins = prefix_refl (address (control_part entries) strand);
+  two_begins = prefix_refl (address (control_part entries) other);
+  parallel_alike = refl;
+}
 
 pub climbs_swap : (entries : Entries) (strand other one two : ℕ) → Climbs entries strand other one two → Climbs entries other strand two one
 climbs_swap entries strand other one two c =

@@ -1,5 +1,5 @@
 -- A spawn that is outstanding at a strand: the other one of the strands that it began is parallel to it.
-use Rattle.std.proofs.Common.{◌≡◌, ◌≢◌, ◌⊎◌, inl, inr, ℕ, zero, suc, ◌<◌, true, false, List, [], ◌∷◌, ◌++◌, get_or, Option, Some, None, refl, sym, ap, ◌∙◌, subst, append_assoc, arith}
+use Rattle.std.proofs.Common.{◌≡◌, ◌≢◌, ◌⊎◌, inl, inr, ℕ, zero, suc, ◌<◌, true, false, [], ◌∷◌, ◌++◌, Option, Some, None, refl, sym, ap, ◌∙◌, subst, append_assoc, arith}
 use Rattle.std.specs.Prelude.{MatchOption, IfSome}
 use Rattle.model_strands.specs.Address.{Word, child, next, join, Address}
 use Rattle.law_addresses.specs.Address.{parallel, IsPrefix}
@@ -17,12 +17,11 @@ use Rattle.law_strands.proofs.Range.{ranges}
 use Rattle.law_strands.proofs.Orders.{address_tests_law}
 use Rattle.model_histories.specs.Entries.{Entries, control_part}
 use Rattle.spawn_chains.specs.declared.lineage.OpenSpawn.{OpenSpawn}
-use Rattle.spawn_chains.specs.Makers.{IsSpawn, maker, IsLineage}
+use Rattle.spawn_chains.specs.Makers.{IsSpawn, maker}
 use Rattle.spawn_chains.specs.Climbs.{Climbs}
 use Rattle.spawn_chains.specs.OpenSpawns.{IsNeither, IsOpposite, IsOutstanding}
 use Rattle.spawn_chains.proofs.Made.{Made, origins}
 use Rattle.spawn_chains.proofs.Climbing.{made, same_spawn, climbs_swap}
-use Rattle.spawn_chains.proofs.Parted.{maker_is}
 
 -- Addresses behind one spawner.
 
@@ -178,17 +177,15 @@ spawner_leads entries l earlier strand here way begun later spawner spawned at_h
           let alike : maker entries earlier ≡ maker entries here = ap (maker entries) same in absurd (omega arith))
     ]
 
-pub way_back : (makers : List ℕ) (entries : Entries) → IsLineage makers entries → (earlier strand here : ℕ) → OnWay entries earlier strand here →
-    Begun (control_part entries) earlier → get_or makers earlier 0 < get_or makers here 0 → (spawner : ℕ) (spawned : Spawned) →
-    IsSpawn entries (get_or makers here 0) spawner spawned → OnWay entries earlier strand spawner × (maker entries spawner < maker entries here)
-way_back makers entries lineage earlier strand here way begun later spawner spawned is =
-    let at_maker = maker_is makers entries lineage here way.known in
-    let at_earlier = maker_is makers entries lineage earlier (known_of entries lineage.legal earlier begun) in
-    let at_here = spot entries lineage.legal here way.known (omega (arith, at_maker)) spawner spawned
-    (subst (λ (n : ℕ). IsSpawn entries n spawner spawned) at_maker is) in (
+pub way_back : (entries : Entries) → Legal (control_part entries) → (earlier strand here : ℕ) → OnWay entries earlier strand here →
+    Begun (control_part entries) earlier → maker entries earlier < maker entries here → (spawner : ℕ) (spawned : Spawned) →
+    IsSpawn entries (maker entries here) spawner spawned → OnWay entries earlier strand spawner × (maker entries spawner < maker entries here)
+way_back entries l earlier strand here way begun later spawner spawned is =
+    let at_here = spot entries l here way.known (omega arith) spawner spawned
+    is in (
       record {
         known = at_here.spawner_known;
-        leads = spawner_leads entries lineage.legal earlier strand here way begun (omega (arith, at_maker, at_earlier)) spawner spawned at_here;
+        leads = spawner_leads entries l earlier strand here way begun (omega arith) spawner spawned at_here;
         begins = prefix_of_longer (address (control_part entries) spawner) (address (control_part entries) strand) at_here.word
             (subst (λ (z : Address). IsPrefix z (address (control_part entries) strand)) at_here.own_at way.begins);
       },
@@ -196,24 +193,22 @@ way_back makers entries lineage earlier strand here way begun later spawner spaw
     )
 
 -- the strand came by one of the two that run behind the spawn
-pub way_outstanding : (makers : List ℕ) (entries : Entries) → IsLineage makers entries → (earlier strand here : ℕ) → OnWay entries earlier strand here →
-    Begun (control_part entries) earlier → Begun (control_part entries) strand → get_or makers earlier 0 < get_or makers here 0 →
-    (spawner : ℕ) (spawned : Spawned) → IsSpawn entries (get_or makers here 0) spawner spawned → (peer : ℕ) → IsOpposite spawned here peer →
+pub way_outstanding : (entries : Entries) → Legal (control_part entries) → (earlier strand here : ℕ) → OnWay entries earlier strand here →
+    Begun (control_part entries) earlier → Begun (control_part entries) strand → maker entries earlier < maker entries here →
+    (number : ℕ) → number ≡ maker entries here → (spawner : ℕ) (spawned : Spawned) → IsSpawn entries (maker entries here) spawner spawned → (peer : ℕ) → IsOpposite spawned here peer →
     IsOutstanding entries earlier strand
-    (record { entry = get_or makers here 0; spawner = spawner; spawned = spawned; peer = peer; parallel = strand; ordered = earlier })
-way_outstanding makers entries lineage earlier strand here way begun begun_too later spawner spawned is peer opposite =
-    let at_maker = maker_is makers entries lineage here way.known in
-    let at_earlier = maker_is makers entries lineage earlier (known_of entries lineage.legal earlier begun) in
-    let at_here = spot entries lineage.legal here way.known (omega (arith, at_maker)) spawner spawned
-    (subst (λ (n : ℕ). IsSpawn entries n spawner spawned) at_maker is) in
+    (record { entry = number; spawner = spawner; spawned = spawned; peer = peer; parallel = strand; ordered = earlier })
+way_outstanding entries l earlier strand here way begun begun_too later number number_is spawner spawned is peer opposite =
+    let at_here = spot entries l here way.known (omega arith) spawner spawned
+    is in
     record {
-      spawn = is;
+      spawn = subst (λ (n : ℕ). IsSpawn entries n spawner spawned) (sym number_is) is;
       side = side_of spawned here peer opposite;
       strands = inr (refl, refl);
       begun = peer_begun entries spawner spawned here peer at_here opposite;
-      parallel_to = peer_parallel entries lineage.legal spawner spawned here peer strand at_here opposite begun_too way.begins;
-      ordered_with = peer_behind entries lineage.legal spawner spawned here peer earlier at_here opposite begun
-          (spawner_leads entries lineage.legal earlier strand here way begun (omega (arith, at_maker, at_earlier)) spawner spawned at_here);
+      parallel_to = peer_parallel entries l spawner spawned here peer strand at_here opposite begun_too way.begins;
+      ordered_with = peer_behind entries l spawner spawned here peer earlier at_here opposite begun
+          (spawner_leads entries l earlier strand here way begun (omega arith) spawner spawned at_here);
     }
 
 -- Two climbs that came to two strands that one spawn made.
@@ -225,13 +220,12 @@ root_of entries l strand known none = elim (origins entries l strand known) [
   | inr w ↦ absurd (let up : maker entries w.spawner < maker entries strand = w.earlier in omega arith)
 ]
 
-pub some_maker : (makers : List ℕ) (entries : Entries) → IsLineage makers entries → (first second one two : ℕ) → Climbs entries first second one two →
-    maker entries one ≡ maker entries two → one ≢ two → 0 < get_or makers one 0
-some_maker makers entries lineage first second one two c alike differ =
-    elim (zero_or_more (get_or makers one 0)) [
-      | inl e ↦ (let at_one = maker_is makers entries lineage one c.one_known in
-          absurd (differ (root_of entries lineage.legal one c.one_known (sym at_one ∙ e) ∙
-          sym (root_of entries lineage.legal two c.two_known (sym alike ∙ (sym at_one ∙ e))))))
+pub some_maker : (entries : Entries) → Legal (control_part entries) → (first second one two : ℕ) → Climbs entries first second one two →
+    maker entries one ≡ maker entries two → one ≢ two → 0 < maker entries one
+some_maker entries l first second one two c alike differ =
+    elim (zero_or_more (maker entries one)) [
+      | inl e ↦ (absurd (differ (root_of entries l one c.one_known (e) ∙
+          sym (root_of entries l two c.two_known (sym alike ∙ (e))))))
       | inr lt ↦ lt
     ]
   where
@@ -245,25 +239,24 @@ opposite_of spawned side (Some one) told peer e = let is : one ≡ peer = cc in 
 opposite_of spawned side None told peer e = absurd (cc)
 
 -- at the side of the first the peer is parallel to the first and not to the second
-pub outstanding_first : (makers : List ℕ) (entries : Entries) → IsLineage makers entries → (first second one two : ℕ) →
+pub outstanding_first : (entries : Entries) → Legal (control_part entries) → (first second one two : ℕ) →
     Climbs entries first second one two → Begun (control_part entries) first → Begun (control_part entries) second →
     maker entries one ≡ maker entries two → one ≢ two → (number : ℕ) → number ≡ maker entries one → (spawner : ℕ) (spawned : Spawned) →
     IsSpawn entries number spawner spawned → (peer : ℕ) → IsOpposite spawned one peer →
     IsOutstanding entries first second
     (record { entry = number; spawner = spawner; spawned = spawned; peer = peer; parallel = first; ordered = second })
-outstanding_first makers entries lineage first second one two c begun begun_too alike differ number at_number spawner spawned is peer opposite =
-    let at_one = maker_is makers entries lineage one c.one_known in
-    let some = some_maker makers entries lineage first second one two c alike differ in
+outstanding_first entries l first second one two c begun begun_too alike differ number at_number spawner spawned is peer opposite =
+    let some = some_maker entries l first second one two c alike differ in
     let spawn_one = subst (λ (n : ℕ). IsSpawn entries n spawner spawned) at_number is in
-    let spot_one = spot entries lineage.legal one c.one_known (omega (arith, at_one)) spawner spawned spawn_one in
-    let spot_two = spot entries lineage.legal two c.two_known (omega (arith, at_one)) spawner spawned (subst (λ (n : ℕ). IsSpawn entries n spawner spawned) alike spawn_one) in
+    let spot_one = spot entries l one c.one_known (omega arith) spawner spawned spawn_one in
+    let spot_two = spot entries l two c.two_known (omega arith) spawner spawned (subst (λ (n : ℕ). IsSpawn entries n spawner spawned) alike spawn_one) in
     record {
       spawn = is;
       side = side_of spawned one peer opposite;
       strands = inl (refl, refl);
       begun = peer_begun entries spawner spawned one peer spot_one opposite;
-      parallel_to = peer_parallel entries lineage.legal spawner spawned one peer first spot_one opposite begun c.one_begins;
-      ordered_with = peer_ordered entries lineage.legal spawner spawned one two peer second spot_one spot_two c.two_known differ opposite begun_too c.two_begins;
+      parallel_to = peer_parallel entries l spawner spawned one peer first spot_one opposite begun c.one_begins;
+      ordered_with = peer_ordered entries l spawner spawned one two peer second spot_one spot_two c.two_known differ opposite begun_too c.two_begins;
     }
 
 pub outstanding_swap : (entries : Entries) (first second : ℕ) (found : OpenSpawn) → IsOutstanding entries second first found → IsOutstanding entries first second found
@@ -277,37 +270,35 @@ outstanding_swap entries first second found o = record {
 }
 
 -- at the side of the second the other way round
-pub outstanding_second : (makers : List ℕ) (entries : Entries) → IsLineage makers entries → (first second one two : ℕ) →
+pub outstanding_second : (entries : Entries) → Legal (control_part entries) → (first second one two : ℕ) →
     Climbs entries first second one two → Begun (control_part entries) first → Begun (control_part entries) second →
     maker entries one ≡ maker entries two → one ≢ two → (number : ℕ) → number ≡ maker entries one → (spawner : ℕ) (spawned : Spawned) →
     IsSpawn entries number spawner spawned → (peer : ℕ) → IsOpposite spawned two peer →
     IsOutstanding entries first second
     (record { entry = number; spawner = spawner; spawned = spawned; peer = peer; parallel = second; ordered = first })
-outstanding_second makers entries lineage first second one two c begun begun_too alike differ number at_number spawner spawned is peer opposite =
+outstanding_second entries l first second one two c begun begun_too alike differ number at_number spawner spawned is peer opposite =
     outstanding_swap entries first second _
-    (outstanding_first makers entries lineage second first two one (climbs_swap entries first second one two c) begun_too begun (sym alike)
+    (outstanding_first entries l second first two one (climbs_swap entries first second one two c) begun_too begun (sym alike)
     (λ e. differ (sym e)) number (at_number ∙ alike) spawner spawned is peer opposite)
 
 -- what is told of one of the two sides
-pub outstanding_told : (makers : List ℕ) (entries : Entries) → IsLineage makers entries → (first second one two : ℕ) →
+pub outstanding_told : (entries : Entries) → Legal (control_part entries) → (first second one two : ℕ) →
     Climbs entries first second one two → Begun (control_part entries) first → Begun (control_part entries) second →
-    maker entries one ≡ maker entries two → one ≢ two → (spawner : ℕ) (spawned : Spawned) →
-    IsSpawn entries (get_or makers one 0) spawner spawned → (side : ℕ × ℕ × ℕ) → (side ≡ (one, first, second)) ⊎ (side ≡ (two, second, first)) →
+    maker entries one ≡ maker entries two → one ≢ two → (number : ℕ) → number ≡ maker entries one → (spawner : ℕ) (spawned : Spawned) →
+    IsSpawn entries number spawner spawned → (side : ℕ × ℕ × ℕ) → (side ≡ (one, first, second)) ⊎ (side ≡ (two, second, first)) →
     (found : Option ℕ) → MatchOption found (IsNeither spawned side.0) (IsOpposite spawned side.0) → (peer : ℕ) → found ≡ Some peer →
     IsOutstanding entries first second
-    (record { entry = get_or makers one 0; spawner = spawner; spawned = spawned; peer = peer; parallel = side.1; ordered = side.2 })
-outstanding_told makers entries lineage first second one two c begun begun_too alike differ spawner spawned is side (inl e) found told peer f =
-    let at_one = maker_is makers entries lineage one c.one_known in
+    (record { entry = number; spawner = spawner; spawned = spawned; peer = peer; parallel = side.1; ordered = side.2 })
+outstanding_told entries l first second one two c begun begun_too alike differ number number_is spawner spawned is side (inl e) found told peer f =
     let opposite = subst (λ (z : ℕ). IsOpposite spawned z peer) (ap (λ (z : ℕ × ℕ × ℕ). z.0) e) (opposite_of spawned side.0 found told peer f) in
     subst (λ (z : ℕ × ℕ × ℕ). IsOutstanding entries first second
-    (record { entry = get_or makers one 0; spawner = spawner; spawned = spawned; peer = peer; parallel = z.1; ordered = z.2 })) (sym e)
-    (outstanding_first makers entries lineage first second one two c begun begun_too alike differ (get_or makers one 0) at_one spawner spawned is peer opposite)
-outstanding_told makers entries lineage first second one two c begun begun_too alike differ spawner spawned is side (inr e) found told peer f =
-    let at_one = maker_is makers entries lineage one c.one_known in
+    (record { entry = number; spawner = spawner; spawned = spawned; peer = peer; parallel = z.1; ordered = z.2 })) (sym e)
+    (outstanding_first entries l first second one two c begun begun_too alike differ number number_is spawner spawned is peer opposite)
+outstanding_told entries l first second one two c begun begun_too alike differ number number_is spawner spawned is side (inr e) found told peer f =
     let opposite = subst (λ (z : ℕ). IsOpposite spawned z peer) (ap (λ (z : ℕ × ℕ × ℕ). z.0) e) (opposite_of spawned side.0 found told peer f) in
     subst (λ (z : ℕ × ℕ × ℕ). IsOutstanding entries first second
-    (record { entry = get_or makers one 0; spawner = spawner; spawned = spawned; peer = peer; parallel = z.1; ordered = z.2 })) (sym e)
-    (outstanding_second makers entries lineage first second one two c begun begun_too alike differ (get_or makers one 0) at_one spawner spawned is peer opposite)
+    (record { entry = number; spawner = spawner; spawned = spawned; peer = peer; parallel = z.1; ordered = z.2 })) (sym e)
+    (outstanding_second entries l first second one two c begun begun_too alike differ number number_is spawner spawned is peer opposite)
 
 pub swapped : (entries : Entries) (first second : ℕ) (found : Option OpenSpawn) → IfSome found (IsOutstanding entries second first) →
     IfSome found (IsOutstanding entries first second)

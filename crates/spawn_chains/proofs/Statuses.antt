@@ -1,7 +1,7 @@
 -- Statuses of a strand, followed back from entry to entry.
 use Rattle.std.proofs.Common.{◌≡◌, ◌≢◌, ◌⊎◌, inl, inr, ℕ, suc, ◌+◌, ◌-◌, ◌<◌, ◌≤◌, Bool, true, false, List, [], ◌∷◌, ◌++◌, length, get_or, take, drop, reverse, refl, sym, ap, ◌∙◌, subst, arith}
 use Rattle.std.proofs.lemmas.Bool.{false≢true}
-use Rattle.std.proofs.lemmas.List.{reverse-append, take-append-drop, take_all, drop_more}
+use Rattle.std.proofs.lemmas.List.{reverse-append, take-append-drop}
 use Rattle.model_strands.specs.declared.spawned.Spawned.{Spawned}
 use Rattle.model_strands.specs.History.{split, History}
 use Rattle.model_strands.specs.Updated.{updated}
@@ -13,7 +13,6 @@ use Rattle.model_histories.specs.Legal.{IsLegal}
 use Rattle.model_histories.specs.Shapes.{Shape}
 use Rattle.spawn_chains.specs.declared.standing.Effect.{Effect}
 use Rattle.spawn_chains.specs.declared.standing.Effect.TheVariants.{Begins, Ends, Reserves, Stays}
-use Rattle.spawn_chains.specs.declared.standing.Standing.TheVariants.{Ended, Reserved}
 use Rattle.spawn_chains.specs.Makers.{HasNumber, Began}
 use Rattle.spawn_chains.specs.Standings.{status_behind, IsEnd, IsKeptBack}
 use Rattle.spawn_chains.proofs.Numbers.{so_far, number_next}

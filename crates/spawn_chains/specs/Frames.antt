@@ -3,8 +3,6 @@ use Rattle.std.specs.Prelude.{ℕ, suc, true, false, List, [], ◌∷◌, length
 use Rattle.model_strands.specs.Updated.{updated}
 use Rattle.model_strands.specs.History.{Event, split, call, resumed}
 use Rattle.model_histories.specs.Entries.{Entries, event_of}
-use Rattle.spawn_chains.specs.declared.frames.Origin.{Origin}
-use Rattle.spawn_chains.specs.declared.frames.Origin.TheVariants.{Same, Opened, Left}
 
 -- without the first
 abbrev pub behind : List ℕ → List ℕ
@@ -26,9 +24,3 @@ with_frame event number frames = frames
 abbrev pub frames : Entries → ℕ → List ℕ
 frames [] = λ strand. []
 frames (entry ∷ entries) = with_frame (event_of entry) (suc (length entries)) (frames entries)
-
--- a strand's frames after an entry with this number, by those before it
-abbrev pub frames_from : Origin → ℕ → ℕ → (ℕ → List ℕ) → List ℕ
-frames_from (Same before) strand number frames = frames before
-frames_from (Opened before) strand number frames = number ∷ frames before
-frames_from Left strand number frames = behind (frames strand)

@@ -4,3 +4,7 @@ pub mod Climbs
 pub mod Frames
 pub mod OpenSpawns
 pub mod Standings
+pub mod Openers
+pub mod Lineages
+pub mod Growths
+pub mod Steps

@@ -1,14 +1,12 @@
 -- Which entry made each strand.
-use Rattle.std.specs.Prelude.{◌≡◌, ◌⊎◌, ◌<◌, ℕ, suc, true, false, List, [], ◌∷◌, length, slice_index, Option, Some}
+use Rattle.std.specs.Prelude.{◌≡◌, ◌⊎◌, ℕ, suc, true, false, [], ◌∷◌, length, Option, Some}
 use Rattle.model_accesses.specs.declared.request.Act.TheVariants.{Spawn}
 use Rattle.model_strands.specs.declared.spawned.Spawned.{Spawned}
 use Rattle.model_strands.specs.Updated.{updated}
 use Rattle.model_strands.specs.History.{Event, split}
-use Rattle.model_strands.specs.Strands.{unused}
-use Rattle.model_strands.specs.Legal.{Legal}
 use Rattle.model_histories.specs.declared.answer.Answer.TheVariants.{Split}
 use Rattle.model_histories.specs.declared.answer.Entry.{Entry}
-use Rattle.model_histories.specs.Entries.{Entries, event_of, control_part}
+use Rattle.model_histories.specs.Entries.{Entries, event_of}
 
 -- the entry has this number
 abbrev pub HasNumber : Entries → ℕ → Entry → Type 0
@@ -36,9 +34,3 @@ with_maker event number makers = makers
 abbrev pub maker : Entries → ℕ → ℕ
 maker [] = λ strand. 0
 maker (entry ∷ entries) = with_maker (event_of entry) (suc (length entries)) (maker entries)
-
--- the entries are legal, and these are the makers of their strands and reserved joins, in order
-pub record IsLineage (makers : List ℕ) (entries : Entries) : Type 0 where
-  pub legal : Legal (control_part entries)
-  pub len : length makers ≡ unused (control_part entries)
-  pub each : (strand : ℕ) → strand < length makers → slice_index makers strand ≡ maker entries strand

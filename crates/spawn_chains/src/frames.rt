@@ -1,83 +1,95 @@
-//! The spawns and calls that lead to where a strand stands.
+//! In which frames a strand stands.
 
-ghost use Rattle.std.specs.Prelude.{◌≡◌, ℕ, List, reverse, IfOk, Some};
-ghost use Rattle.model_strands.specs.History.{split};
-ghost use Rattle.model_histories.specs.Entries.{event_of};
-ghost use Rattle.spawn_chains.specs.Frames.{with_frame, frames, frames_from};
+ghost use Rattle.std.specs.Prelude.{◌≡◌, ◌<◌, ◌≤◌, ◌++◌, ℕ, suc, List, length, IfOk};
+ghost use Rattle.model_histories.specs.Entries.{Entries};
+ghost use Rattle.spawn_chains.specs.Frames.{frames};
+ghost use Rattle.spawn_chains.specs.Lineages.{Encloses, IsNumberAt, Begins, AreKept, AreSomeKept};
 
-use model_strands::Spawned;
-use race_gate::{Answer, Entry};
+use crate::kept::{Frame, Strand, Turn};
 use std::alloc::{AllocError, Allocator};
-use text_words::Act;
 
-/// Where a strand stood before an entry.
-#[derive(Clone, Copy, Debug, PartialEq, Eq)]
-pub enum Origin {
-    /// Where this strand stood.
-    Same(u32),
-    /// The entry opened a function there, from where this strand stood.
-    Opened(u32),
-    /// In one function more, from which the entry returned.
-    Left,
-}
-
-/// Where the strand stood before a spawn by this spawner, which began these.
-fn origin_by(spawner: u32, spawned: Spawned, strand: u32) -> Origin
-    ensures { (number : ℕ) (frames : ℕ → List ℕ) →
-        with_frame (Some (split spawner spawned.child spawned.next spawned.join spawned.first)) number frames strand
-        ≡ frames_from result strand number frames }
+/// The place of the frame in which a strand begins.
+pub(crate) fn first_place(opened: &[Frame], strand: u32, maker: u32) -> u32
+    requires { (first : ℕ) × Begins opened.now strand maker first }
+    ensures { (first : ℕ) → Begins opened.now strand maker first → result ≡ first }
 {
-    if spawned.first && strand == spawned.join || strand == spawned.next {
-        Origin::Same(spawner)
-    } else if strand == spawned.child {
-        Origin::Opened(spawner)
-    } else {
-        Origin::Same(strand)
+    if maker == 0 {
+        return 0;
+    }
+    let frame = opened[maker as usize - 1];
+    match frame.opener.spawned {
+        Some(spawned) if spawned.child == strand => maker,
+        _ => frame.outer,
     }
 }
 
-/// Where the strand stood before the entry.
-fn before_entry(entry: Entry, strand: u32) -> Origin
-    ensures { (number : ℕ) (frames : ℕ → List ℕ) →
-        with_frame (event_of entry) number frames strand ≡ frames_from result strand number frames }
+/// The place of the frame in which a strand stands.
+pub(crate) fn place_now(opened: &[Frame], turns: &[Turn], strands: &[Strand], strand: u32) -> u32
+    requires kept { AreSomeKept opened.now turns.now strands.now }
+    requires strand { strand < length strands.now }
+    ensures { (entries : Entries) → AreKept opened.now turns.now strands.now entries → Encloses opened.now result (frames entries strand) }
 {
-    let asks = strand == entry.request.strand;
-    match (entry.request.act, entry.answer) {
-        (Act::Spawn, Answer::Split(spawned)) => origin_by(entry.request.strand, spawned, strand),
-        (Act::Call, Answer::Same) if asks => Origin::Opened(strand),
-        (Act::Return, Answer::Resumed) if asks => Origin::Left,
-        _ => Origin::Same(strand),
+    let it = strands[strand as usize];
+    if it.turn == 0 {
+        return first_place(opened, strand, it.maker);
     }
+    turns[it.turn as usize - 1].frame
 }
 
-/// The numbers of the entries of the spawns and calls that enclose what the strand does behind these entries, which are given from
-/// the oldest on; the innermost comes first. Its time is linear in the entries. Errors where there is no memory.
-pub fn chain<A: Allocator>(
-    alloc: A,
-    entries: &[Entry],
+/// The place of the frame in which a strand began, where that was before the entry with this number.
+fn place_first(opened: &[Frame], strand: u32, maker: u32, number: usize) -> u32
+    requires { (first : ℕ) × Begins opened.now strand maker first }
+    ensures begun { (first made : ℕ) → Begins opened.now strand maker first → IsNumberAt opened.now maker made → made < number → result ≡ first }
+    ensures none { (made : ℕ) → IsNumberAt opened.now maker made → number ≤ made → result ≡ 0 }
+{
+    if maker != 0 && opened[maker as usize - 1].opener.number as usize >= number {
+        return 0;
+    }
+    first_place(opened, strand, maker)
+}
+
+/// The place of the frame in which a strand stood before the entry with this number.
+pub(crate) fn place_before(
+    opened: &[Frame],
+    turns: &[Turn],
+    strands: &[Strand],
     strand: u32,
-) -> Result<Vec<usize, A>, AllocError>
-    ensures { IfOk result (λ chain. chain.items ≡ frames (reverse entries.now) strand) }
+    number: usize,
+) -> u32
+    requires { AreSomeKept opened.now turns.now strands.now }
+    ensures { (later earlier : Entries) → AreKept opened.now turns.now strands.now (later ++ earlier) → number ≡ suc (length earlier) →
+        Encloses opened.now result (frames earlier strand) }
 {
-    let mut chain = Vec::new(alloc);
-    let mut here = strand;
-    // How many functions were entered that have been left again.
-    let mut left: usize = 0;
-    let mut at = entries.len();
-    'back: while at != 0 {
-        match before_entry(entries[at - 1], here) {
-            Origin::Same(before) => here = before,
-            Origin::Left => left += 1,
-            Origin::Opened(before) => {
-                here = before;
-                if left == 0 {
-                    chain.push(at)?;
-                } else {
-                    left -= 1;
-                }
-            }
-        }
-        at -= 1;
+    if strand as usize >= strands.len() {
+        return 0;
     }
-    Ok(chain)
+    let it = strands[strand as usize];
+    let mut at = it.turn;
+    'back: while at != 0 {
+        let turn = turns[at as usize - 1];
+        if (turn.number as usize) < number {
+            return turn.frame;
+        }
+        at = turn.before;
+    }
+    place_first(opened, strand, it.maker, number)
+}
+
+/// The numbers of the openers of the frame at a place and of those round it, the innermost first. Errors where there is no memory.
+pub(crate) fn numbers_from<A: Allocator>(
+    alloc: A,
+    opened: &[Frame],
+    place: u32,
+) -> Result<Vec<usize, A>, AllocError>
+    requires { (numbers : List ℕ) × Encloses opened.now place numbers }
+    ensures { IfOk result (λ found. (numbers : List ℕ) → Encloses opened.now place numbers → found.items ≡ numbers) }
+{
+    let mut found = Vec::new(alloc);
+    let mut at = place;
+    'outward: while at != 0 {
+        let frame = opened[at as usize - 1];
+        found.push(frame.opener.number as usize)?;
+        at = frame.outer;
+    }
+    Ok(found)
 }

@@ -1,10 +1,11 @@
 //! What has become of a strand.
 
-ghost use Rattle.std.specs.Prelude.{◌≡◌, ◌∷◌, ℕ, true, reverse};
+ghost use Rattle.std.specs.Prelude.{◌≡◌, ◌+◌, ◌∷◌, ℕ, true, reverse, MatchOption, if◌then◌else◌};
 ghost use Rattle.model_strands.specs.declared.spawned.Spawned.{Spawned};
 ghost use Rattle.model_strands.specs.History.{split, joined, History};
-ghost use Rattle.model_strands.specs.Strands.{Status, over, running, status};
+ghost use Rattle.model_strands.specs.Strands.{Status, over, running, status, unused};
 ghost use Rattle.model_strands.specs.Updated.{updated};
+ghost use Rattle.model_strands.specs.Legal.{Legal};
 ghost use Rattle.model_histories.specs.Entries.{Entries, control_part};
 ghost use Rattle.model_histories.specs.Legal.{IsLegal};
 ghost use Rattle.model_histories.specs.Shapes.{Shape};
@@ -122,4 +123,41 @@ pub fn standing_of(entries: &[Entry], strand: u32) -> Standing
     } else {
         Standing::Absent
     }
+}
+
+/// What an entry began, where it is a spawn.
+fn spawned_by(entry: Entry) -> Option<Spawned>
+    ensures { MatchOption result ((spawned : Spawned) → Began entry spawned → ⊥) (Began entry) }
+{
+    match (entry.request.act, entry.answer) {
+        (Act::Spawn, Answer::Split(spawned)) => Some(spawned),
+        _ => None,
+    }
+}
+
+/// The least number that no strand and no join has behind a spawn that began these.
+fn count_behind(spawned: Spawned) -> usize
+    ensures { result ≡ spawned.child + (if spawned.first then 3 else 2) }
+{
+    if spawned.first {
+        spawned.child as usize + 3
+    } else {
+        spawned.child as usize + 2
+    }
+}
+
+/// How many numbers strands and joins have behind these entries, which are given from the oldest on: the least number that none has.
+/// Its time is linear in the entries.
+pub fn count_strands(entries: &[Entry]) -> usize
+    requires { Legal (control_part (reverse entries.now)) }
+    ensures { result ≡ unused (control_part (reverse entries.now)) }
+{
+    let mut at = entries.len();
+    'back: while at != 0 {
+        if let Some(spawned) = spawned_by(entries[at - 1]) {
+            return count_behind(spawned);
+        }
+        at -= 1;
+    }
+    1
 }

@@ -1,10 +1,13 @@
 //! Worked histories: where the strands of two entries part, and what encloses an entry.
 
+ghost use Rattle.std.specs.Prelude.{◌≤◌, IfSome};
+ghost use Rattle.spawn_chains.specs.Lineages.{IsLineage};
+
 use super::asked::{Deed, asked};
 use Act::{Bump, Call, Return, Spawn, Sync};
-use race_gate::{Entry, Gate};
-use spawn_chains::{Lineage, chain};
-use std::alloc::Global;
+use race_gate::Gate;
+use spawn_chains::Lineage;
+use std::alloc::{AllocError, Global};
 use text_words::Act;
 
 /// The number of a spawn's entry, the strand that came by its child, and the one that came by its next.
@@ -18,18 +21,32 @@ type Enclosed<'a> = (usize, &'a [usize]);
 
 const ADDS: Act = Bump(0, 1);
 
+/// The lineage of a gate's entries.
+fn lineage_of(alloc: Global, gate: &Gate<Global>) -> Option<Lineage<Global>>
+    ensures { IfSome result (λ lineage. IsLineage lineage gate.now.history) }
+{
+    let entries = gate.history();
+    if entries.len() > 1_000_000 {
+        return None;
+    }
+    match Lineage::of(alloc, entries) {
+        Ok(lineage) => Some(lineage),
+        Err(_) => None,
+    }
+}
+
 /// Whether the strands of the two entries part there.
 fn part_at(alloc: Global, gate: &Gate<Global>, first: usize, second: usize, wanted: Told) -> bool {
     let entries = gate.history();
     if first == 0 || second == 0 || first > entries.len() || second > entries.len() {
         return false;
     }
-    let Ok(lineage) = Lineage::new(alloc, entries) else {
+    let Some(lineage) = lineage_of(alloc, gate) else {
         return false;
     };
     let strand = entries[first - 1].request.strand;
     let other = entries[second - 1].request.strand;
-    let parting = lineage.parting(entries, strand, other);
+    let parting = lineage.parting(strand, other);
     match parting {
         Some(found) => wanted == Some((found.entry, found.by_child, found.by_next)),
         None => wanted.is_none(),
@@ -47,21 +64,24 @@ fn they_part(alloc: Global, gate: &Gate<Global>, cases: &[Parted]) -> bool {
 }
 
 /// Whether these entries enclose what the strand of the entry with this number does there.
-fn enclose(alloc: Global, entries: &[Entry], number: usize, wanted: &[usize]) -> bool {
+fn enclose(alloc: Global, gate: &Gate<Global>, number: usize, wanted: &[usize]) -> bool {
+    let entries = gate.history();
     if number == 0 || number > entries.len() {
         return false;
     }
-    let strand = entries[number - 1].request.strand;
-    match chain(alloc, &entries[..number - 1], strand) {
+    let Some(lineage) = lineage_of(alloc, gate) else {
+        return false;
+    };
+    match lineage.chain(alloc, number, entries[number - 1].request.strand) {
         Ok(found) => found.as_slice() == wanted,
         Err(_) => false,
     }
 }
 
 /// Whether what encloses each entry is what is said.
-fn are_enclosed(alloc: Global, entries: &[Entry], cases: &[Enclosed<'_>]) -> bool {
+fn are_enclosed(alloc: Global, gate: &Gate<Global>, cases: &[Enclosed<'_>]) -> bool {
     for (number, wanted) in cases {
-        if !enclose(alloc, entries, *number, wanted) {
+        if !enclose(alloc, gate, *number, wanted) {
             return false;
         }
     }
@@ -71,9 +91,7 @@ fn are_enclosed(alloc: Global, entries: &[Entry], cases: &[Enclosed<'_>]) -> boo
 /// Whether a gate that is asked for these acts answers them, and then the partings are so, and what encloses entries.
 fn are_told(alloc: Global, deeds: &[Deed], parted: &[Parted], enclosed: &[Enclosed<'_>]) -> bool {
     match asked(alloc, 1, &[], deeds) {
-        Some(gate) => {
-            they_part(alloc, &gate, parted) && are_enclosed(alloc, gate.history(), enclosed)
-        }
+        Some(gate) => they_part(alloc, &gate, parted) && are_enclosed(alloc, &gate, enclosed),
         None => false,
     }
 }
@@ -195,6 +213,49 @@ const HISTORIES: &[History<'static>] = &[
         &[],
         &[(3, &[2, 1]), (4, &[1]), (7, &[1]), (8, &[])],
     ),
+    // In a spawned function two calls, in the inner one a spawn, whose child calls and returns; the join returns from both, with a call
+    // between.
+    (
+        &[
+            (0, 1, Spawn),
+            (1, 1, Call),
+            (1, 1, Call),
+            (1, 1, ADDS),
+            (1, 1, Spawn),
+            (4, 1, Call),
+            (4, 1, ADDS),
+            (4, 1, Return),
+            (4, 1, ADDS),
+            (5, 1, ADDS),
+            (4, 1, Return),
+            (5, 1, Sync),
+            (6, 1, ADDS),
+            (6, 1, Return),
+            (6, 1, ADDS),
+            (6, 1, Call),
+            (6, 1, ADDS),
+            (6, 1, Return),
+            (6, 1, Return),
+            (6, 1, ADDS),
+            (2, 1, ADDS),
+        ],
+        &[(7, 10, Some((5, 4, 5))), (20, 21, Some((1, 6, 2)))],
+        &[
+            (2, &[1]),
+            (3, &[2, 1]),
+            (4, &[3, 2, 1]),
+            (6, &[5, 3, 2, 1]),
+            (7, &[6, 5, 3, 2, 1]),
+            (9, &[5, 3, 2, 1]),
+            (10, &[3, 2, 1]),
+            (13, &[3, 2, 1]),
+            (15, &[2, 1]),
+            (17, &[16, 2, 1]),
+            (19, &[2, 1]),
+            (20, &[1]),
+            (21, &[]),
+        ],
+    ),
 ];
 
 #[test]
@@ -204,16 +265,50 @@ fn where_strands_part_and_what_encloses_them(rt: HostRuntime) {
     }
 }
 
-/// Fifty spawns: the one with the number n has the child 2n and the next 2n + 1, but for the first.
+/// So many spawns one after another: the one with the number n has the child 2n and the next 2n + 1, but for the first.
+fn spawns(alloc: Global, count: u32) -> Result<Vec<Deed, Global>, AllocError>
+    requires { count ≤ 100_000 }
+{
+    let mut deeds = Vec::new(alloc);
+    for before in 0..count {
+        let strand = match before {
+            0 => 0,
+            1 => 2,
+            _ => 2 * before + 1,
+        };
+        deeds.push((strand, 1, Spawn))?;
+    }
+    Ok(deeds)
+}
+
+/// Whether two more accesses, by these strands, part where it is said, and what encloses them is so.
+fn are_told_behind(
+    alloc: Global,
+    count: u32,
+    strands: (u32, u32),
+    parted: &[Parted],
+    enclosed: &[Enclosed<'_>],
+) -> bool
+    requires { count ≤ 100_000 }
+{
+    let Ok(mut deeds) = spawns(alloc, count) else {
+        return false;
+    };
+    if deeds.push((strands.0, 1, ADDS)).is_err() || deeds.push((strands.1, 1, ADDS)).is_err() {
+        return false;
+    }
+    are_told(alloc, &deeds, parted, enclosed)
+}
+
 #[test]
 fn a_loop(rt: HostRuntime) {
-    let mut deeds = [(0u32, 1u32, Spawn); 52];
-    deeds[1] = (2, 1, Spawn);
-    for before in 2..50u32 {
-        deeds[before as usize] = (2 * before + 1, 1, Spawn);
-    }
-    deeds[50] = (40, 1, ADDS);
-    deeds[51] = (80, 1, ADDS);
     const PARTED: &[Parted] = &[(51, 52, Some((20, 40, 80))), (52, 1, None)];
-    assert!(rt; are_told(rt.alloc(), &deeds, PARTED, &[]));
+    assert!(rt; are_told_behind(rt.alloc(), 50, (40, 80), PARTED, &[]));
+}
+
+#[test]
+fn a_long_loop(rt: HostRuntime) {
+    const PARTED: &[Parted] = &[(100_001, 100_002, Some((50_000, 100_000, 200_001)))];
+    const ENCLOSED: &[Enclosed<'static>] = &[(100_001, &[50_000]), (100_002, &[]), (70_000, &[])];
+    assert!(rt; are_told_behind(rt.alloc(), 100_000, (100_000, 200_001), PARTED, ENCLOSED));
 }

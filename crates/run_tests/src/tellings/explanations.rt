@@ -6,6 +6,7 @@ use Act::{Call, Get, Put, Return, Spawn, Sync, Write};
 use program_text::Program;
 use race_explanations::explanation;
 use race_gate::Gate;
+use race_pairs::Digest;
 use std::alloc::{AllocError, Global};
 use std::process::Abort;
 use text_words::Act;
@@ -19,8 +20,13 @@ fn is_told(
     gate: &Gate<Global>,
     wanted: &str,
 ) -> Result<(), AllocError> {
+    let entries = gate.history();
+    if entries.len() > 1_000_000 {
+        return Err(AllocError);
+    }
+    let digest = Digest::of(alloc, entries)?;
     let bytes = text.as_bytes();
-    let told = explanation(alloc, false, "p.cilk", bytes, program, gate.history())?;
+    let told = explanation(alloc, false, "p.cilk", bytes, program, &digest)?;
     is_text(rt, told.as_slice(), wanted);
     Ok(())
 }

@@ -9,7 +9,7 @@ use std::alloc::{AllocError, Global};
 use text_words::{Monoid, Monoids, Shape};
 
 /// The most entries of these gates.
-const MOST_ENTRIES: u32 = 1_000;
+const MOST_ENTRIES: u32 = 1_000_000;
 
 /// A gate of so many cells and of these reducers.
 pub fn gate_of(alloc: Global, cells: u32, monoids: &[Monoid]) -> Result<Gate<Global>, AllocError>

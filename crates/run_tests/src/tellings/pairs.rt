@@ -3,10 +3,9 @@
 use super::asked::{Deed, asked};
 use Act::{Call, Get, Put, Read, Return, Spawn, Write};
 use model_accesses::Kind;
-use race_gate::{Entry, Gate};
-use race_pairs::{Encounter, Lines, Pair, Reason, line_at, pairs, places, strand_at};
-use spawn_chains::Lineage;
-use std::alloc::{AllocError, Global};
+use race_gate::Gate;
+use race_pairs::{Digest, Encounter, Lines, Link, Pair, Race, Reason, Way, line_in};
+use std::alloc::Global;
 use text_words::{Act, Monoid};
 
 const WRITES: Reason = Reason::Race {
@@ -30,27 +29,26 @@ macro_rules! pair {
     };
 }
 
-/// Whether the pairs of the gate's history are these.
-fn has_pairs(alloc: Global, gate: &Gate<Global>, wanted: &[Pair]) -> bool {
-    match pairs(alloc, gate.history()) {
-        Ok(found) => found.as_slice() == wanted,
-        Err(_) => false,
-    }
-}
-
-/// Whether the pair raced on these cells of the gate's history.
-fn has_places(alloc: Global, gate: &Gate<Global>, pair: &Pair, wanted: &[u32]) -> bool {
-    match places(alloc, gate.history(), pair) {
-        Ok(cells) => cells.as_slice() == wanted,
-        Err(_) => false,
-    }
-}
-
-/// How the strands of a pair came about.
-fn met(alloc: Global, gate: &Gate<Global>, pair: &Pair) -> Result<Encounter<Global>, AllocError> {
+/// The digest of the gate's history.
+fn digest_of(alloc: Global, gate: &Gate<Global>) -> Option<Digest> {
     let entries = gate.history();
-    let lineage = Lineage::new(alloc, entries)?;
-    Encounter::new(alloc, &lineage, entries, pair)
+    if entries.len() > 1_000_000 {
+        return None;
+    }
+    Digest::of(alloc, entries).ok()
+}
+
+/// Whether the races of a digest are of these pairs.
+fn has_pairs(races: &[Race], wanted: &[Pair]) -> bool {
+    if races.len() != wanted.len() {
+        return false;
+    }
+    for (place, race) in races.iter().enumerate() {
+        if race.pair != wanted[place] {
+            return false;
+        }
+    }
+    true
 }
 
 /// Where two strands part: the number of the spawn's entry, the strand that came by its child, and the one that came by its next.
@@ -63,21 +61,21 @@ type Open = (usize, u32, u32, u32, u32);
 /// What is told of how the strands of a pair came about.
 #[derive(Clone, Copy)]
 struct Known<'a> {
-    chain: &'a [usize],
-    witness_chain: &'a [usize],
+    chain: &'a [Link],
+    witness_chain: &'a [Link],
     parted: Option<Parted>,
     onward: Option<usize>,
     open: Option<Open>,
 }
 
-fn parted(met: &Encounter<Global>) -> Option<Parted> {
+fn parted(met: &Encounter) -> Option<Parted> {
     match met.parting {
         Some(found) => Some((found.entry, found.by_child, found.by_next)),
         None => None,
     }
 }
 
-fn open(met: &Encounter<Global>) -> Option<Open> {
+fn open(met: &Encounter) -> Option<Open> {
     match met.outstanding {
         Some(found) => Some((
             found.entry,
@@ -91,7 +89,7 @@ fn open(met: &Encounter<Global>) -> Option<Open> {
 }
 
 /// Whether this is told of how the strands came about.
-fn is_known(met: &Encounter<Global>, known: &Known<'_>) -> bool {
+fn is_known(met: &Encounter, known: &Known<'_>) -> bool {
     met.chain.as_slice() == known.chain
         && met.witness_chain.as_slice() == known.witness_chain
         && parted(met) == known.parted
@@ -109,12 +107,15 @@ enum Told<'a> {
     Met(Known<'a>),
 }
 
-/// Whether this is told of a pair of the gate's history.
-fn is_told(alloc: Global, gate: &Gate<Global>, pair: &Pair, told: &Told<'_>) -> bool {
+/// Whether this is told of the last race of a digest.
+fn is_told(alloc: Global, digest: &Digest, told: &Told<'_>) -> bool {
+    let Some(race) = digest.races().last() else {
+        return false;
+    };
     match told {
         Told::Nothing => true,
-        Told::Places(cells) => has_places(alloc, gate, pair, cells),
-        Told::Met(known) => match met(alloc, gate, pair) {
+        Told::Places(cells) => race.places.as_slice() == *cells,
+        Told::Met(known) => match Encounter::new(alloc, digest, race) {
             Ok(met) => is_known(&met, known),
             Err(_) => false,
         },
@@ -126,12 +127,37 @@ type Case<'a> = (&'a [Deed], &'a [Pair], Told<'a>);
 
 /// Whether a gate that is asked for these acts has these pairs, and this is told of the last one.
 fn is_found(alloc: Global, deeds: &[Deed], pairs: &[Pair], told: &Told<'_>) -> bool {
-    match (asked(alloc, 2, &[Monoid::Sum], deeds), pairs.last()) {
-        (Some(gate), Some(pair)) => {
-            has_pairs(alloc, &gate, pairs) && is_told(alloc, &gate, pair, told)
+    let Some(gate) = asked(alloc, 2, &[Monoid::Sum], deeds) else {
+        return false;
+    };
+    match digest_of(alloc, &gate) {
+        Some(digest) => {
+            digest.pair_count() == pairs.len()
+                && has_pairs(digest.races(), pairs)
+                && is_told(alloc, &digest, told)
         }
-        _ => false,
+        None => false,
     }
+}
+
+/// A call by its number.
+macro_rules! called {
+    ($number:literal) => {
+        Link {
+            entry: $number,
+            way: Way::Called,
+        }
+    };
+}
+
+/// A spawn by its number.
+macro_rules! spawned {
+    ($number:literal) => {
+        Link {
+            entry: $number,
+            way: Way::Spawned,
+        }
+    };
 }
 
 const READ_BEHIND_WRITE: Reason = Reason::Race {
@@ -204,8 +230,8 @@ const CASES: &[Case<'static>] = &[
         ],
         &[pair!(WRITES, (12, 9), (7, 4), 1)],
         Told::Met(Known {
-            chain: &[6, 1],
-            witness_chain: &[3, 2, 1],
+            chain: &[called!(6), called!(1)],
+            witness_chain: &[called!(3), spawned!(2), called!(1)],
             parted: Some((2, 1, 2)),
             onward: Some(6),
             open: None,
@@ -216,7 +242,7 @@ const CASES: &[Case<'static>] = &[
         &[(0, 1, Spawn), (2, 4, Write(0, 1)), (1, 5, Write(0, 2))],
         &[pair!(WRITES, (5, 4), (3, 2), 1)],
         Told::Met(Known {
-            chain: &[1],
+            chain: &[spawned!(1)],
             witness_chain: &[],
             parted: Some((1, 1, 2)),
             onward: Some(2),
@@ -235,19 +261,94 @@ fn lines_that_raced(rt: HostRuntime) {
 /// The lines of a history, with those before the first and behind the last.
 const LINES: &[(usize, u32)] = &[(0, 0), (1, 3), (2, 8), (3, 0)];
 
-/// Whether the history has these lines, and a strand at its second entry and none behind it.
-fn has_numbers(entries: &[Entry]) -> bool {
+/// Whether a digest has these lines.
+fn has_lines(digest: &Digest) -> bool {
     for (number, line) in LINES {
-        if line_at(entries, *number) != *line {
+        if line_in(digest.lines.as_slice(), *number) != *line {
             return false;
         }
     }
-    strand_at(entries, 2) == Some(2) && strand_at(entries, 3) == None
+    digest.lines.len() == 2 && digest.refusals == 0 && digest.pair_count() == 0
+}
+
+/// Whether the digest of what a gate was asked for has these lines.
+fn are_known(alloc: Global, deeds: &[Deed]) -> bool {
+    let Some(gate) = asked(alloc, 2, &[Monoid::Sum], deeds) else {
+        return false;
+    };
+    match digest_of(alloc, &gate) {
+        Some(digest) => has_lines(&digest),
+        None => false,
+    }
 }
 
 #[test]
 fn numbers(rt: HostRuntime) {
     const DEEDS: &[Deed] = &[(0, 3, Spawn), (2, 8, Write(0, 1))];
-    let gate = asked(rt.alloc(), 2, &[Monoid::Sum], DEEDS);
-    assert!(rt; matches!(&gate, Some(gate) if has_numbers(gate.history())));
+    assert!(rt; are_known(rt.alloc(), DEEDS));
+}
+
+/// A child that writes on line 1, and what follows it that writes on each of 25 lines.
+const MANY: &[Deed] = &[
+    (0, 1, Spawn),
+    (1, 1, Write(0, 1)),
+    (2, 11, Write(0, 1)),
+    (2, 12, Write(0, 1)),
+    (2, 13, Write(0, 1)),
+    (2, 14, Write(0, 1)),
+    (2, 15, Write(0, 1)),
+    (2, 16, Write(0, 1)),
+    (2, 17, Write(0, 1)),
+    (2, 18, Write(0, 1)),
+    (2, 19, Write(0, 1)),
+    (2, 20, Write(0, 1)),
+    (2, 21, Write(0, 1)),
+    (2, 22, Write(0, 1)),
+    (2, 23, Write(0, 1)),
+    (2, 24, Write(0, 1)),
+    (2, 25, Write(0, 1)),
+    (2, 26, Write(0, 1)),
+    (2, 27, Write(0, 1)),
+    (2, 28, Write(0, 1)),
+    (2, 29, Write(0, 1)),
+    (2, 30, Write(0, 1)),
+    (2, 31, Write(0, 1)),
+    (2, 32, Write(0, 1)),
+    (2, 33, Write(0, 1)),
+    (2, 34, Write(0, 1)),
+    (2, 35, Write(0, 1)),
+    (2, 11, Write(1, 1)),
+    (2, 35, Write(0, 1)),
+    (2, 12, Write(0, 1)),
+];
+
+/// Whether of 25 pairs the first twenty are kept, of which the second came twice, and 27 refusals were counted.
+fn has_first(digest: &Digest) -> bool {
+    for (place, race) in digest.races().iter().enumerate() {
+        let wanted = Pair {
+            lines: Lines {
+                reason: WRITES,
+                line: 11 + place as u32,
+                witness_line: 1,
+            },
+            first: place + 3,
+            witness: 2,
+            times: if place == 1 { 2 } else { 1 },
+        };
+        if race.pair != wanted || race.places.as_slice() != [0] {
+            return false;
+        }
+    }
+    digest.races().len() == 20 && digest.pair_count() == 25 && digest.refusals == 27
+}
+
+#[test]
+fn more_than_twenty_pairs(rt: HostRuntime) {
+    let alloc = rt.alloc();
+    let gate = asked(alloc, 2, &[Monoid::Sum], MANY);
+    let digest = match &gate {
+        Some(gate) => digest_of(alloc, gate),
+        None => None,
+    };
+    assert!(rt; matches!(&digest, Some(digest) if has_first(digest)));
 }

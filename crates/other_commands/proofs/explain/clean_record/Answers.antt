@@ -1,12 +1,21 @@
-use Rattle.std.proofs.Common.{List, reverse, sym, subst, ◌∙◌}
-use Rattle.model_histories.specs.declared.answer.Entry.{Entry}
-use Rattle.model_histories.specs.Legal.{IsLegal}
+use Rattle.std.proofs.Common.{List, [], false, subst}
+use Rattle.std.proofs.lemmas.Result.{IfOk-weaker}
+use Rattle.text_words.specs.Text.{lines}
+use Rattle.serde_json.specs.Data.{Data}
+use Rattle.program_text.specs.Programs.{contents}
+use Rattle.race_explanations.specs.Explained.{program_setting}
+use Rattle.race_records.specs.declared.document.Outcome.TheVariants.{Clean}
+use Rattle.race_records.specs.Documents.{RecordsEntries}
 use Rattle.other_commands.proofs.explain.clean_record.Goals as goal
 
 pub run_record-requires : goal.run_record-requires
-run_record-requires c = record {
-  legal = (
-    c.requires.legal.0,
-    subst (λ (entries : List Entry). IsLegal c.requires.legal.0 (reverse entries)) (sym (c.as_slice-3.ensures.value ∙ c.in_ok-entries.ensures)) c.requires.legal.1,
-  );
-}
+run_record-requires c = (c.args.whole.now.entries.items, c.in_ok-digest.ensures)
+
+pub returns : goal.returns
+returns c =
+    let entries = c.args.whole.now.entries.items in
+    IfOk-weaker c.run_record.result _ _
+    (λ told records. subst (λ (memory : Data). RecordsEntries Clean 0
+    (program_setting false c.args.manner.now.file (lines c.args.text.now) (contents c.args.program.now) entries) entries memory [] told.items)
+    c.in_ok-memory.ensures (records entries c.in_ok-digest.ensures))
+    c.run_record.ensures

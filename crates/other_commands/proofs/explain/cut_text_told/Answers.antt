@@ -2,4 +2,4 @@ use Rattle.std.proofs.Common.{rules}
 use Rattle.other_commands.proofs.explain.cut_text_told.Goals as goal
 
 pub returns : goal.returns
-returns c = (c.in_ok-told.told.items, search rules, c.in_ok-push_cut.ensures)
+returns c = λ entries is. (c.in_ok-told.told.items, search rules, search rules)

@@ -1,6 +1,4 @@
-use Rattle.std.proofs.Common.{rules, List, reverse, sym, subst, ◌∙◌}
-use Rattle.model_histories.specs.declared.answer.Entry.{Entry}
-use Rattle.model_histories.specs.Legal.{IsLegal}
+use Rattle.std.proofs.Common.{rules, reverse}
 use Rattle.program_text.specs.Shapes.{shape_in}
 use Rattle.locked_replay.proofs.Wholes.{program_law}
 use Rattle.other_commands.proofs.explain.explain_whole.Goals as goal
@@ -17,14 +15,20 @@ returns-then-whole c = record {
   tells = search rules;
 }
 
-pub explain_clean-requires : goal.explain_clean-requires
-explain_clean-requires c = record { legal = (shape_in c.args.program.now, c.requires.run.0.run.judged.legal) }
+pub explain_clean-requires-clause-judged : goal.explain_clean-requires-clause-judged
+explain_clean-requires-clause-judged c = (shape_in c.args.program.now, c.requires.run.0.run.judged)
+
+pub digest_of_run-requires-clause-judged : goal.digest_of_run-requires-clause-judged
+digest_of_run-requires-clause-judged c = (shape_in c.args.program.now, c.requires.run.0.run.judged)
 
 pub races_told-requires : goal.races_told-requires
-races_told-requires c = record {
-  legal = (
-    shape_in c.args.program.now,
-    subst (λ (entries : List Entry). IsLegal (shape_in c.args.program.now) (reverse entries)) (sym (c.as_slice.ensures.value ∙ c.in_ok-entries.ensures))
-        c.requires.run.0.run.judged.legal,
-  );
+races_told-requires c = (c.args.whole.now.entries.items, c.in_ok-digest.ensures)
+
+pub returns : goal.returns
+returns c = record {
+  entries = c.args.whole.now.entries.items;
+  run = c.requires.run;
+  within = c.requires.within;
+  raced = λ clean. c.if-whole.false (c.requires.clean.1 clean);
+  explains = c.in_ok-told.ensures c.args.whole.now.entries.items c.in_ok-digest.ensures;
 }

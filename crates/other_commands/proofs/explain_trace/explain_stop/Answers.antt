@@ -18,7 +18,7 @@ returns-in_ok-told-in-Some-clause-ok c = record {
   stop = c.args.stop;
   stops = c.requires.stops;
   why = c.in-Some.why;
-  reason = (rw c.in-Some.is at c.in_ok-why.ensures) c.args.gate.now (sym c.history-entries.ensures.entries) c.requires.stops.first.0;
+  reason = c.in-Some.ensures c.args.gate.now (sym c.history-entries.ensures.entries) c.requires.stops.first.0;
   tells = c.in_ok-told-in-Some.ensures;
   status_is = refl;
 }

@@ -1,8 +1,18 @@
-use Rattle.std.proofs.Common.{ap, codes}
+use Rattle.std.proofs.Common.{rules, ◌≡◌, ap, ◌∙◌, codes, length}
+use Rattle.std.proofs.lemmas.List.{length-map}
+use Rattle.model_histories.specs.declared.answer.Entry.{Entry}
 use Rattle.source_quotes.specs.Quotes.{counted}
+use Rattle.race_pairs.specs.Known.{known_count}
+use Rattle.race_explanations.specs.Scenes.{setting_of}
+use Rattle.race_explanations.specs.Explained.{among}
 use Rattle.race_explanations.proofs.Accounts.{these, two_adds}
 use Rattle.race_explanations.proofs.explanations.push_summary.Goals as goal
 
 pub returns : goal.returns
-returns c =
-    two_adds _ _ _ _ _ (these _ _ _ _ c.push_count.ensures (ap (λ count. counted count (codes "refusal")) c.refusal_count.ensures)) c.push_among.ensures
+returns c = λ entries is.
+    let len_is : c.len.result ≡ length c.args.scene.now.digest.now.lines.items = search rules in
+    two_adds _ _ _ _ _ (these _ _ _ _ c.push_count.ensures (ap (λ count. counted count (codes "refusal")) is.refusals))
+    (these _ _ _ (among (setting_of c.args.scene.now).origin (known_count c.args.scene.now.digest.now.races.known) (length entries)) c.push_among.ensures
+    (ap (λ count. among (setting_of c.args.scene.now).origin count c.len.result) c.pair_count.ensures ∙
+    ap (among (setting_of c.args.scene.now).origin (known_count c.args.scene.now.digest.now.races.known))
+    (len_is ∙ (ap length is.lines ∙ length-map entries (λ (entry : Entry). entry.request.line)))))

@@ -1,13 +1,16 @@
-use Rattle.std.proofs.Common.{rules, arith}
+use Rattle.std.proofs.Common.{rules, arith, subst}
 use Rattle.std.proofs.lemmas.Grind.{common_steps}
+use Rattle.race_pairs.specs.declared.race.Race.{Race}
+use Rattle.race_explanations.specs.Findings.{IsFinding}
 use Rattle.race_explanations.specs.Scenes.{setting_of}
-use Rattle.race_explanations.proofs.Merging.{none_added, one_added}
+use Rattle.race_explanations.proofs.Merging.{none_added, race_added}
 use Rattle.race_explanations.proofs.finding.add_all.Goals as goal
 
-pub loop-pair-init : goal.loop-pair-init
-loop-pair-init c = none_added (setting_of c.args.scene.now) c.args.findings.now.items
+pub loop-race-init : goal.loop-race-init
+loop-race-init c = λ entries are. none_added (setting_of c.args.scene.now) entries c.args.findings.now.items
 
-pub loop-pair-preserved : goal.loop-pair-preserved
-loop-pair-preserved c =
-    one_added (setting_of c.args.scene.now) c.args.pairs.now c.loop-pair.pair-index _ _ _ _ _ (first_of (search rules, grind (arith, common_steps)))
-    c.loop-pair.invariant c.in_ok-finding.ensures c.in_ok-join_finding.ensures
+pub loop-race-preserved : goal.loop-race-preserved
+loop-race-preserved c = λ entries are.
+    race_added (setting_of c.args.scene.now) entries c.args.races.now c.loop-race.race-index c.race-item.result _ _ _ _ (first_of (search rules, grind (arith, common_steps)))
+    (c.loop-race.invariant entries are) (subst (λ (race : Race). IsFinding (setting_of c.args.scene.now) entries race.pair c.in_ok-finding.finding) c.race-item.is
+    (c.in_ok-finding.ensures entries (are.0, search rules))) c.in_ok-join_finding.ensures

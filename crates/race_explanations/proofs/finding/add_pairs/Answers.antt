@@ -1,13 +1,24 @@
-use Rattle.std.proofs.Common.{rules, reverse}
-use Rattle.race_gate.proofs.Races.{legal-part}
+use Rattle.std.proofs.Common.{length, map, sym, ap, subst, ◌∙◌}
+use Rattle.std.specs.List.{All}
+use Rattle.race_pairs.specs.declared.race.Race.{Race}
+use Rattle.race_pairs.specs.Kept.{IsRace}
+use Rattle.race_pairs.proofs.Knowing.{knows_count}
+use Rattle.race_pairs.proofs.Digesting.{races_now}
 use Rattle.race_explanations.specs.Scenes.{setting_of}
 use Rattle.race_explanations.proofs.Merging.{pairs_added}
 use Rattle.race_explanations.proofs.finding.add_pairs.Goals as goal
 
-pub new-requires : goal.new-requires
-new-requires c = legal-part c.requires.legal.0 (reverse c.args.scene.now.entries.now) c.requires.legal.1
+pub add_all-requires-clause-races : goal.add_all-requires-clause-races
+add_all-requires-clause-races c =
+    let entries = c.requires.digest.0 in (
+      entries,
+      (c.requires.digest.1, subst (All (IsRace entries (length entries))) (sym c.races.ensures) (races_now entries c.args.scene.now.digest.now c.requires.digest.1).are.each),
+    )
 
 pub returns : goal.returns
-returns c =
-    pairs_added (setting_of c.args.scene.now) c.in_ok-found.found.items c.split_at.result.0.now _ _ _ (search rules) (search rules) (search rules)
-    c.in_ok-add_all.ensures
+returns c = λ entries d.
+    let kept = races_now entries c.args.scene.now.digest.now d in
+    let r = kept.are in
+    pairs_added (setting_of c.args.scene.now) entries r.pairs (map (λ (race : Race). race.pair) c.races.result.now) _ _ _ r.are_pairs
+    (ap (map (λ (race : Race). race.pair)) c.races.ensures ∙ r.first) (c.pair_count.ensures ∙ (knows_count c.args.scene.now.digest.now.races.known kept.lines kept.knows ∙ r.counted))
+    (c.in_ok-add_all.ensures entries (d, subst (All (IsRace entries (length entries))) (sym c.races.ensures) r.each))

@@ -1,4 +1,4 @@
-use Rattle.std.proofs.Common.{rules, ◌++◌, ◌∷◌, [], sym, ap, ◌∙◌, append_assoc}
+use Rattle.std.proofs.Common.{◌++◌, ◌∷◌, [], sym, ap, ◌∙◌, append_assoc}
 use Rattle.std.specs.BTreeSet.{insert_key}
 use Rattle.race_explanations.proofs.Named.{name_cmp, with_names_more}
 use Rattle.race_explanations.proofs.merge.add_names.Goals as goal

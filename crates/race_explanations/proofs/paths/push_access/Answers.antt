@@ -8,5 +8,5 @@ pub returns : goal.returns
 returns c =
     four_adds _ _ _ _ _ _ _ _ _
     (these _ _ _ _ c.push_shown.ensures (ap (λ line. shown_line (setting_of c.args.scene.now) line c.args.mark) c.line_of-line.ensures)) c.push_words.ensures
-    (these _ _ _ _ c.push_words-2.ensures c.word_at.ensures)
+    (these _ _ _ _ c.push_words-2.ensures c.side_word.ensures)
     (these _ _ _ _ c.push_shown_within.ensures (ap (shown_within (setting_of c.args.scene.now).origin) c.line_of-line.ensures))

@@ -5,5 +5,5 @@ use Rattle.race_explanations.specs.Paths.{links_text}
 use Rattle.race_explanations.proofs.paths.push_links.Given as goal
 
 -- the spawns and calls so far are told
-abbrev pub invariant-loop-number : goal.invariant-loop-number
-invariant-loop-number l = Adds l.initial.account (links_text (setting_of l.scene) (take l.number-index l.chain)) l.account
+abbrev pub invariant-loop-link : goal.invariant-loop-link
+invariant-loop-link l = Adds l.initial.account (links_text (setting_of l.scene) (take l.link-index l.chain)) l.account

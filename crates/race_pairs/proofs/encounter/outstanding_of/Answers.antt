@@ -1,13 +1,15 @@
-use Rattle.std.proofs.Common.{sym, ◌∙◌}
-use Rattle.race_pairs.proofs.Encountered.{strand_begun, strands_are}
+use Rattle.std.proofs.Common.{reverse}
+use Rattle.race_pairs.proofs.Encountered.{begun_both, open_some}
 use Rattle.race_pairs.proofs.encounter.outstanding_of.Goals as goal
 
-pub outstanding-requires-clause-first : goal.outstanding-requires-clause-first
-outstanding-requires-clause-first g c =
-    strand_begun c.args.entries.now c.requires.legal _ _
-    (strands_are c.args.entries.now c.args.pair _ _ (sym c.strands_of.ensures ∙ c.in_ok-refused-in-ViewRead.was)).1
+pub outstanding-requires : goal.outstanding-requires
+outstanding-requires c =
+    let begun = begun_both c.requires.0 c.args.digest.now c.args.race.now c.in_ok-witness-in-ViewRead.witness c.requires.1 c.in_ok-witness-in-ViewRead.was in
+    (reverse c.requires.0, (begun.0, begun.2, begun.1))
 
-pub outstanding-requires-clause-second : goal.outstanding-requires-clause-second
-outstanding-requires-clause-second g c =
-    strand_begun c.args.entries.now c.requires.legal _ _
-    (strands_are c.args.entries.now c.args.pair _ _ (sym c.strands_of.ensures ∙ c.in_ok-refused-in-ViewRead.was)).0
+pub returns-in_ok-witness-in-ViewRead : goal.returns-in_ok-witness-in-ViewRead
+returns-in_ok-witness-in-ViewRead c = λ told is.
+    let side = c.in_ok-witness-in-ViewRead.witness in
+    let begun = begun_both told c.args.digest.now c.args.race.now side is c.in_ok-witness-in-ViewRead.was in
+    open_some told c.args.race.now side c.outstanding.result is.1 c.in-ViewRead.is c.in_ok-witness-in-ViewRead.was
+    (c.outstanding.ensures (reverse told) (begun.0, begun.2, begun.1))

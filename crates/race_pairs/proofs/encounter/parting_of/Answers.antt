@@ -1,15 +1,14 @@
-use Rattle.std.proofs.Common.{sym, ◌∙◌}
-use Rattle.race_pairs.proofs.Encountered.{strand_begun, strands_are, part_told}
+use Rattle.std.proofs.Common.{reverse}
+use Rattle.race_pairs.proofs.Encountered.{begun_both, part_some}
 use Rattle.race_pairs.proofs.encounter.parting_of.Goals as goal
 
-pub parting-requires-clause-strand : goal.parting-requires-clause-strand
-parting-requires-clause-strand g c =
-    strand_begun c.args.entries.now c.requires.legal _ _ (strands_are c.args.entries.now c.args.pair _ _ (sym c.strands_of.ensures ∙ c.in_ok-refused.was)).0
-
-pub parting-requires-clause-other : goal.parting-requires-clause-other
-parting-requires-clause-other g c =
-    strand_begun c.args.entries.now c.requires.legal _ _ (strands_are c.args.entries.now c.args.pair _ _ (sym c.strands_of.ensures ∙ c.in_ok-refused.was)).1
+pub parting-requires : goal.parting-requires
+parting-requires c =
+    (reverse c.requires.0, begun_both c.requires.0 c.args.digest.now c.args.race.now c.in_ok-witness.witness c.requires.1 c.in_ok-witness.was)
 
 pub returns : goal.returns
-returns g c =
-    part_told c.args.entries.now c.args.pair _ _ _ (sym c.strands_of.ensures ∙ c.in_ok-refused.was) c.parting.ensures.parts c.parting.ensures.found
+returns c = λ told is.
+    let side = c.in_ok-witness.witness in
+    let begun = begun_both told c.args.digest.now c.args.race.now side is c.in_ok-witness.was in
+    part_some told c.args.race.now side c.parting.result is.1 c.in_ok-witness.was
+    (c.parting.ensures.parts (reverse told) begun) (c.parting.ensures.found (reverse told) begun)

@@ -1,6 +1,6 @@
 use Rattle.std.proofs.Common.{subst}
-use Rattle.race_pairs.specs.Encounters.{IsLeast}
-use Rattle.race_pairs.proofs.Encountered.{least_nearer}
+use Rattle.race_pairs.specs.Onward.{IsLeast}
+use Rattle.race_pairs.proofs.Nearer.{least_nearer}
 use Rattle.race_pairs.proofs.onward.nearer.Goals as goal
 
 pub returns-in-Some : goal.returns-in-Some

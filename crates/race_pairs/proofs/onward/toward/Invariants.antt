@@ -1,5 +1,5 @@
 use Rattle.std.proofs.Common.{take}
-use Rattle.race_pairs.specs.Encounters.{IsLeast}
+use Rattle.race_pairs.specs.Onward.{IsLeast}
 use Rattle.race_pairs.proofs.onward.toward.Given as goal
 
 abbrev pub invariant-loop-number : goal.invariant-loop-number

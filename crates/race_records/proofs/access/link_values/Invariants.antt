@@ -5,5 +5,5 @@ use Rattle.race_records.specs.Accesses.{link_told}
 use Rattle.race_records.proofs.access.link_values.Given as goal
 
 -- the values of the spawns and calls so far
-abbrev pub invariant-loop-number : goal.invariant-loop-number
-invariant-loop-number l = map view l.values.items ≡ map (link_told (setting_of l.scene)) (take l.number-index l.chain)
+abbrev pub invariant-loop-link : goal.invariant-loop-link
+invariant-loop-link l = map view l.values.items ≡ map (link_told (setting_of l.scene)) (take l.link-index l.chain)

@@ -1,7 +1,9 @@
-use Rattle.std.proofs.Common.{rules, ℕ, ◌≡◌, map}
+use Rattle.std.proofs.Common.{rules, ℕ, List, ◌≡◌, map}
 use Rattle.std.specs.Global.{Vec}
 use Rattle.std.proofs.lemmas.Result.{IfOk-weaker}
 use Rattle.serde_json.specs.View.{view}
+use Rattle.model_histories.specs.declared.answer.Entry.{Entry}
+use Rattle.race_pairs.specs.Encounters.{IsRaceOf}
 use Rattle.race_explanations.specs.Scenes.{setting_of}
 use Rattle.race_records.specs.RaceViews.{race_parts}
 use Rattle.race_records.specs.Races.{race_told, Records}
@@ -10,17 +12,10 @@ use Rattle.race_records.proofs.race.pair_value.Goals as goal
 
 pub returns : goal.returns
 returns c =
+    let pair = c.args.race.now.pair in
     IfOk-weaker c.race_value.result
-    (λ value. view value ≡ race_told (race_parts c.in_ok-race.race) (map (λ (name : Vec ℕ). name.items) c.in_ok-names.names.keys) c.args.pair.now.times)
-    (λ value. Records (setting_of c.args.scene.now) c.args.pair.now (view value))
-    (λ value is. is_recorded (setting_of c.args.scene.now) c.args.pair.now c.in_ok-found.found.items c.in_ok-encounter.encounter (view value) _ _ _
-    (search rules)
-    (record {
-      chain = search rules;
-      witness_chain = search rules;
-      parting = search rules;
-      onward = search rules;
-      outstanding = search rules;
-    })
-    (search rules) (search rules) (search rules) is)
+    (λ value. view value ≡ race_told (race_parts c.in_ok-told.told) (map (λ (name : Vec ℕ). name.items) c.in_ok-names.names.keys) pair.times)
+    (λ value. (entries : List Entry) → IsRaceOf entries c.args.scene.now.digest.now c.args.race.now → Records (setting_of c.args.scene.now) entries pair (view value))
+    (λ value is entries race. is_recorded (setting_of c.args.scene.now) entries pair c.args.race.now.places.items c.in_ok-encounter.encounter (view value) _ _ _
+    race.1.placed.placed (c.in_ok-encounter.ensures entries race) (search rules) (search rules) (search rules) is)
     c.race_value.ensures

@@ -1,4 +1,4 @@
-use Rattle.std.proofs.Common.{◌≡◌, ◌-◌, zero, get_or, refl, arith}
+use Rattle.std.proofs.Common.{◌≡◌, zero, refl, arith}
 use Rattle.spawn_chains.specs.declared.standing.Effect.TheVariants.{Begins, Ends, Reserves}
 use Rattle.spawn_chains.proofs.Numbers.{no_entry}
 use Rattle.spawn_chains.proofs.Statuses.{begins_back, ends_back, reserves_back, first_back, absent_back}

@@ -1,29 +1,25 @@
-use Rattle.std.proofs.Common.{rules, List, sym, subst}
+use Rattle.std.proofs.Common.{rules, reverse}
+use Rattle.std.proofs.lemmas.List.{reverse-reverse}
 use Rattle.trace_text.specs.Traces.{contents as trace_contents}
-use Rattle.model_histories.specs.declared.answer.Entry.{Entry}
-use Rattle.model_histories.specs.Legal.{IsLegal}
 use Rattle.law_traces.proofs.CleanTraces.{clean_trace_law}
 use Rattle.other_commands.proofs.explain_traces.Traces.add.Goals as goal
 
 pub add_entries-requires : goal.add_entries-requires
-add_entries-requires c = record {
-  legal = (
-    c.args.gate.now.shape,
-    subst (λ (xs : List Entry). IsLegal c.args.gate.now.shape xs) (sym c.history-entries.ensures.entries) c.history-entries.ensures.judged.legal,
-  );
-}
+add_entries-requires c = (reverse c.requires.digested.gate.history, c.requires.digested.digest_is)
 
 pub returns : goal.returns
-returns c = record {
-  trace = trace_contents c.args.trace.now;
-  means = c.requires.means;
-  gate = c.args.gate.now;
-  answers = c.requires.answers;
-  entries = c.history-entries.result.now;
-  history = c.history-entries.ensures.entries;
-  speaks = clean_trace_law c.args.gate.now.shape c.args.gate.now.history c.requires.answers.judges.judged;
-  notes = c.in_ok-notes.notes;
-  are_notes = c.in_ok-notes.ensures;
-  adds = search rules;
-  runs_is = search rules;
-}
+returns c =
+    let digested = c.requires.digested in
+    let entries = reverse digested.gate.history in record {
+      trace = trace_contents c.args.trace.now;
+      means = c.requires.means;
+      gate = digested.gate;
+      answers = digested.answers;
+      entries = entries;
+      history = reverse-reverse digested.gate.history;
+      speaks = clean_trace_law digested.gate.shape digested.gate.history digested.answers.judges.judged;
+      notes = c.in_ok-notes.notes;
+      are_notes = c.in_ok-notes.ensures;
+      adds = search rules;
+      runs_is = search rules;
+    }

@@ -1,0 +1,20 @@
+use Rattle.std.proofs.Common.{reverse, sym, ap, ◌∙◌, subst, arith}
+use Rattle.std.proofs.lemmas.List.{length-reverse, reverse-reverse}
+use Rattle.std.proofs.lemmas.Result.{IfOk-weaker}
+use Rattle.trace_text.specs.Traces.{contents as trace_contents}
+use Rattle.race_pairs.specs.Digests.{IsDigest}
+use Rattle.model_races.specs.Judged.{IsJudged}
+use Rattle.other_commands.specs.Digested.{IsDigested}
+use Rattle.other_commands.proofs.explain_trace.digest_of_gate.Goals as goal
+
+pub of-requires-judged : goal.of-requires-judged
+of-requires-judged c = (c.args.gate.now.shape, subst (IsJudged c.args.gate.now.shape) (sym c.history.ensures.entries) c.history.ensures.judged)
+
+pub returns : goal.returns
+returns c =
+    IfOk-weaker c.of.result (IsDigest c.history.result.now) (IsDigested (trace_contents c.args.trace.now))
+    (λ digest is. record {
+      gate = c.args.gate.now;
+      answers = c.requires;
+      digest_is = subst (λ entries. IsDigest entries digest) (sym (reverse-reverse c.history.result.now) ∙ ap reverse c.history.ensures.entries) is;
+    }) c.of.ensures
