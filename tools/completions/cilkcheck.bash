@@ -26,7 +26,7 @@ _cilkcheck() {
     esac
     case $before in
         --color) COMPREPLY=($(compgen -W 'auto always never' -- "$current")); return ;;
-        --format) COMPREPLY=($(compgen -W 'text json' -- "$current")); return ;;
+        --format) COMPREPLY=($(compgen -W 'text json sarif' -- "$current")); return ;;
         --trace)
             compopt -o filenames 2> /dev/null
             mapfile -t COMPREPLY < <(compgen -f -- "$current")

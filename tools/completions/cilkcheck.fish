@@ -16,7 +16,7 @@ complete -c cilkcheck -n '__fish_seen_subcommand_from run explain' -l workers -x
 complete -c cilkcheck -n '__fish_seen_subcommand_from run' -l trace -r -F -d 'Write the trace of the run to a file'
 complete -c cilkcheck -n '__fish_seen_subcommand_from explain' -l serial -d 'Run each child before what follows its spawn'
 complete -c cilkcheck -n '__fish_seen_subcommand_from explain' -l color -x -a 'auto always never' -d 'When to color'
-complete -c cilkcheck -n '__fish_seen_subcommand_from explain' -l format -x -a 'text json' -d 'The form of the explanation'
+complete -c cilkcheck -n '__fish_seen_subcommand_from explain' -l format -x -a 'text json sarif' -d 'The form of the explanation'
 complete -c cilkcheck -n '__fish_seen_subcommand_from draw' -l svg -d 'Write a picture as SVG'
 complete -c cilkcheck -n '__fish_seen_subcommand_from help' -a 'judge elide run explain replay draw'
 complete -c cilkcheck -n '__fish_seen_subcommand_from elide run explain replay' -k -a '(__fish_complete_suffix .cilk)'

@@ -9,6 +9,7 @@ mod elisions;
 mod explanations;
 mod failures;
 mod hosts;
+mod logs;
 mod many;
 mod pieces;
 mod recorded;
@@ -27,7 +28,7 @@ use std::process::Abort;
 use std::sync::Wait;
 use std::thread::Threads;
 use tool_commands::{
-    CliFault, Form, Manner, OpenDoor, Rendering, Watched, draw_text, elide_text, explain_text,
+    CliFault, Form, Manner, OpenDoor, RecordForm, Rendering, Watched, draw_text, elide_text, explain_text,
     judge_stream, replay_text, run_text,
 };
 
@@ -48,6 +49,8 @@ enum Command<'a> {
     ExplainSerially(u32),
     /// The same, told to a program as JSON.
     ExplainAsJson(u32),
+    /// The same, as a log in SARIF.
+    ExplainAsSarif(u32),
     /// Replays this trace as a run of the program that is read.
     Replay(&'a str),
     /// Replays the trace that is read as a run of this program.
@@ -59,7 +62,7 @@ enum Command<'a> {
 }
 
 use Command::{
-    Draw, Elide, Explain, ExplainAsJson, ExplainSerially, Follow, Judge, Picture, Replay, Run,
+    Draw, Elide, Explain, ExplainAsJson, ExplainAsSarif, ExplainSerially, Follow, Judge, Picture, Replay, Run,
 };
 
 /// A limit that commands take.
@@ -178,7 +181,10 @@ fn answered<P: Read, R: Abort + Threads + Wait + Sync>(
             explained(rt, alloc, input, 1, true, Rendering::Text, output, limit)
         }
         ExplainAsJson(limit) => {
-            explained(rt, alloc, input, 1, true, Rendering::Json, output, limit)
+            explained(rt, alloc, input, 1, true, Rendering::Record(RecordForm::Json), output, limit)
+        }
+        ExplainAsSarif(limit) => {
+            explained(rt, alloc, input, 1, true, Rendering::Record(RecordForm::Sarif), output, limit)
         }
         Replay(trace) => replayed(rt, alloc, input, trace, output),
         Follow(program) => followed(rt, alloc, input, program, output),
@@ -265,6 +271,8 @@ enum Wanted<'a> {
     Status(u8),
     /// It ends with this status and writes this text.
     Text(u8, &'a str),
+    /// It ends with this status and writes a log that has this between what all logs have.
+    Log(u8, &'a str),
     /// It ends with this status and writes one of these texts.
     Among(u8, &'a [&'a str]),
     /// It writes nothing, and answers a fault with this status and text.
@@ -282,7 +290,7 @@ enum Wanted<'a> {
     Filled(Takes, u32, &'a str),
 }
 
-use Wanted::{Among, Fault, Filled, Interrupted, Lacking, Status, Text, TooLong, Unread};
+use Wanted::{Among, Fault, Filled, Interrupted, Lacking, Log, Status, Text, TooLong, Unread};
 
 impl Wanted<'_> {
     /// The writer for which this is wanted.
@@ -366,6 +374,7 @@ fn is_met(alloc: Global, outcome: &Outcome, wanted: Wanted<'_>) -> bool {
     match wanted {
         Status(status) => is_ended(outcome, status),
         Text(status, text) => is_ended(outcome, status) && written == text.as_bytes(),
+        Log(status, text) => is_ended(outcome, status) && logs::is_log(written, text),
         Among(status, texts) => is_ended(outcome, status) && is_one_of(written, texts),
         Fault(status, text) => has_fault(alloc, outcome, status, text),
         Lacking => {

@@ -17,7 +17,7 @@ use Rattle.command_words.specs.declared.words.Job.TheVariants.{Judge, Elide, Run
 use Rattle.command_words.specs.declared.words.Color.{Color}
 use Rattle.command_words.specs.declared.words.Color.TheVariants.{Auto, Always, Never}
 use Rattle.command_words.specs.declared.words.Format.{Format}
-use Rattle.command_words.specs.declared.words.Format.TheVariants.{Text as TextFormat, Json}
+use Rattle.command_words.specs.declared.words.Format.TheVariants.{Text as TextFormat, Json, Sarif}
 use Rattle.command_words.specs.declared.words.Language.{Language}
 use Rattle.command_words.specs.declared.words.Language.TheVariants.{Dot, Svg}
 
@@ -67,6 +67,7 @@ IsColor rows color = IsColorOf (first_of (codes "color") rows) color
 abbrev pub format_word : Format → Text
 format_word TextFormat = codes "text"
 format_word Json = codes "json"
+format_word Sarif = codes "sarif"
 
 -- `--format FORM`
 abbrev pub IsFormatOf : Option Text → Format → Type 0

@@ -152,7 +152,7 @@ fn explain<'a>(alloc: Global) -> Result<Command<'a>, AllocError>
         alloc,
         "format",
         "FORM",
-        "The form of the explanation: text or json [default: text]",
+        "The form of the explanation: text, json or sarif [default: text]",
     );
     command(alloc, "explain", help::EXPLAIN, help::LANGUAGE)
         .long_about(help::EXPLANATION)

@@ -196,8 +196,8 @@ A text whose first word behind the declarations is not `func` is a trace. Its pl
   #run TEXT                          what was recorded
 Several files are traces, the parts of one recording, which are told together: places that race in several parts are told
 once, with the counts of all. `-` is standard input.
-`--format json` tells this to a program, but for the warnings, as one JSON object in a line, whose `outcome` is clean,
-raced, unfinished, faulty or illegal. On a terminal there are no colors where NO_COLOR is not empty, or TERM is dumb.
+`--format json` tells this to a program, as one JSON object in a line, whose `outcome` is clean, raced, unfinished, faulty
+or illegal; `--format sarif` tells it as a log in SARIF 2.1.0, for code scanning and editors. On a terminal there are no colors where NO_COLOR is not empty, or TERM is dumb.
 
 Exit status: 0 where nothing was refused, 1 where an access was, 2 for a fault of the input, 3 for want of memory, 4 where
 the limit was passed and nothing was refused until then.";

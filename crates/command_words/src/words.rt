@@ -60,6 +60,8 @@ pub enum Format {
     Text,
     /// JSON, for a program.
     Json,
+    /// SARIF, for code scanning and editors.
+    Sarif,
 }
 
 /// The language of a drawing.
@@ -395,9 +397,10 @@ fn format_of(alloc: Global, matches: &ArgMatches<'_>) -> Result<Format, CliFault
     match text_of(matches, "format") {
         None | Some("text") => Ok(Format::Text),
         Some("json") => Ok(Format::Json),
+        Some("sarif") => Ok(Format::Sarif),
         Some(_) => Err(usage(
             alloc,
-            "invalid value for '--format <FORM>': text or json is wanted",
+            "invalid value for '--format <FORM>': text, json or sarif is wanted",
         )),
     }
 }

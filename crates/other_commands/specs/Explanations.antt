@@ -26,15 +26,18 @@ use Rattle.fault_lists.specs.declared.fault.Fault.{Fault}
 use Rattle.race_records.specs.Values.{IsTextOf}
 use Rattle.race_records.specs.declared.document.Outcome.{Outcome as Ending}
 use Rattle.race_records.specs.declared.document.Outcome.TheVariants.{Clean as CleanEnding, Raced as RacedEnding, Unfinished as UnfinishedEnding}
-use Rattle.race_records.specs.Documents.{RecordsEntries}
+use Rattle.race_records.specs.declared.form.RecordForm.{RecordForm}
+use Rattle.race_records.specs.Forms.{in_form}
+use Rattle.race_records.specs.Warned.{none_warned}
+use Rattle.race_records.specs.Documents.{RecordsEntries, RecordsRun}
 use Rattle.race_records.specs.Unjudged.{RecordsText, illegal_told}
 use Rattle.other_commands.specs.Memories.{memory_told}
 use Rattle.other_commands.specs.declared.explain.Rendering.{Rendering}
-use Rattle.other_commands.specs.declared.explain.Rendering.TheVariants.{Text, Json}
+use Rattle.other_commands.specs.declared.explain.Rendering.TheVariants.{Text, Record}
 use Rattle.fault_lists.specs.Messages.{TellsFaults}
 use Rattle.program_warnings.specs.Messages.{TellsWarnings}
 use Rattle.source_quotes.specs.Quotes.{counted}
-use Rattle.race_explanations.specs.Explained.{IsExplanation, IsTraceExplanation, program_setting, trace_setting}
+use Rattle.race_explanations.specs.Explained.{IsExplanation, IsTraceExplanation, trace_setting}
 use Rattle.race_explanations.specs.declared.illegal.Illegality.{Illegality}
 use Rattle.race_explanations.specs.Illegal.{HasReason, illegal_text}
 use Rattle.command_streams.specs.declared.fault.CliFault.{CliFault}
@@ -82,34 +85,32 @@ cut_text limit = (cut_words ++ decimal limit) ++ cut_behind
 -- where nothing was refused in a run that left this memory
 abbrev pub TellsClean : Rendering → Manner → (text : List ℕ) → Contents → List Entry → (memory told : List ℕ) → Type 0
 TellsClean Text manner text program entries memory told = told ≡ clean_text program memory
-TellsClean Json manner text program entries memory told =
-    RecordsEntries CleanEnding 0 (program_setting false manner.file (lines text) program entries) entries (memory_told program.known.mems memory) [] told
+TellsClean (Record form) manner text program entries memory told =
+    RecordsRun form CleanEnding manner.file (lines text) program entries (memory_told program.known.mems memory) told
 
 -- where something was refused
 abbrev pub TellsRaces : Rendering → Manner → (text : List ℕ) → Contents → List Entry → (told : List ℕ) → Type 0
 TellsRaces Text manner text program entries told = IsExplanation manner.is_painted manner.file (lines text) program entries told
-TellsRaces Json manner text program entries told =
-    RecordsEntries RacedEnding 0 (program_setting false manner.file (lines text) program entries) entries null [] told
+TellsRaces (Record form) manner text program entries told = RecordsRun form RacedEnding manner.file (lines text) program entries null told
 
 -- where the limit ended the run: the races until then, and that it is no whole run
 abbrev pub TellsCut : Rendering → Manner → (text : List ℕ) → Contents → List Entry → (told : List ℕ) → Type 0
 TellsCut Text manner text program entries told =
     (explanation : List ℕ) × (_ : IsExplanation manner.is_painted manner.file (lines text) program entries explanation) ×
     (told ≡ explanation ++ cut_text (length entries))
-TellsCut Json manner text program entries told =
-    RecordsEntries UnfinishedEnding 0 (program_setting false manner.file (lines text) program entries) entries null [] told
+TellsCut (Record form) manner text program entries told = RecordsRun form UnfinishedEnding manner.file (lines text) program entries null told
 
 -- the faults of the text that can be told apart, the first of which is this one
 abbrev pub TellsFaulty : Rendering → Manner → Meant → (text : List ℕ) → Fault → (told : List ℕ) → Type 0
 TellsFaulty Text manner meant text fault told = TellsFaults manner.is_painted manner.file meant text fault told
-TellsFaulty Json manner meant text fault told = RecordsText manner.file meant text fault told
+TellsFaulty (Record form) manner meant text fault told = RecordsText form manner.file meant text fault told
 
 -- why the request with this number of a trace is illegal
 abbrev pub TellsIllegal : Rendering → Manner → (text : List ℕ) → TraceContents → ℕ → Illegality → (told : List ℕ) → Type 0
 TellsIllegal Text manner text trace number why told =
     told ≡ illegal_text manner.is_painted manner.file (lines text) trace.lines number why
-TellsIllegal Json manner text trace number why told =
-    IsTextOf (illegal_told manner.file (lines text) trace.lines number why) told
+TellsIllegal (Record form) manner text trace number why told =
+    IsTextOf (in_form form (illegal_told manner.file (lines text) trace.lines number why)) told
 
 -- ---- a run
 
@@ -160,10 +161,10 @@ pub record WarnsBefore (manner : Manner) (text : List ℕ) (program : Contents) 
   pub warns : TellsWarnings manner.is_painted manner.file (lines text) program warnings
   pub told_is : told ≡ warnings ++ run
 
--- To a person the warnings are told before the run; as JSON the run alone is told.
+-- To a person the warnings are told before the run; a record of the run has them.
 abbrev pub IsBehindWarnings : Rendering → Manner → (text : List ℕ) → Contents → (run told : List ℕ) → Type 0
 IsBehindWarnings Text manner text program run told = WarnsBefore manner text program run told
-IsBehindWarnings Json manner text program run told = told ≡ run
+IsBehindWarnings (Record form) manner text program run told = told ≡ run
 
 -- The warnings of the program are told that the text means, and a run of it.
 pub record IsRunTold (manner : Manner) (text : List ℕ) (limit : ℕ) (told : List ℕ) (status : ℕ) : Type 0 where
@@ -210,16 +211,17 @@ TellsEntries manner notes trace entries told =
     (IsClean (reverse entries) × (told ≡ clean_trace_words ++ judged_text (length entries))) ⊎
     ((IsClean (reverse entries) → ⊥) × IsTraceExplanation manner.is_painted notes trace.known entries told)
 
--- The value tells of the trace, and what was recorded.
-abbrev pub RecordsTrace : Notes Global → TraceContents → List Entry → (told : List ℕ) → Type 0
-RecordsTrace notes trace entries told =
-    RecordsEntries (ending_of (refusal_status entries)) 1 (trace_setting false notes trace.known entries) entries null (kept_runs notes) told
+-- The text tells in the form of the trace, and what was recorded.
+abbrev pub RecordsTrace : RecordForm → Notes Global → TraceContents → List Entry → (told : List ℕ) → Type 0
+RecordsTrace form notes trace entries told =
+    RecordsEntries form (ending_of (refusal_status entries)) 1 (trace_setting false notes trace.known entries) entries null (kept_runs notes)
+    none_warned told
 
 -- The trace is told, and what was recorded.
 abbrev pub TellsTrace : Rendering → Manner → Notes Global → TraceContents → List Entry → (told : List ℕ) → Type 0
 TellsTrace Text manner notes trace entries told =
     (verdict : List ℕ) × (_ : TellsEntries manner notes trace entries verdict) × (told ≡ verdict ++ recorded_text notes)
-TellsTrace Json manner notes trace entries told = RecordsTrace notes trace entries told
+TellsTrace (Record form) manner notes trace entries told = RecordsTrace form notes trace entries told
 
 -- A gate answered each request of the trace that the text means, and its entries are told by the notes of that very text. Where nothing was
 -- refused, that speaks for each order in which the strands can come.

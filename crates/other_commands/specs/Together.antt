@@ -16,10 +16,11 @@ use Rattle.law_traces.specs.CleanTraces.{SpeaksForOrders}
 use Rattle.race_explanations.specs.Explained.{trace_setting}
 use Rattle.race_explanations.specs.Findings.{Found, found_of, nothing_found, AddsTrace, found_text}
 use Rattle.race_records.specs.Values.{IsTextOf}
+use Rattle.race_records.specs.Forms.{in_form}
 use Rattle.race_records.specs.Several.{Recorded, nothing_recorded, recorded_told, AddsTrace as RecordsMore}
 use Rattle.race_records.specs.SeveralViews.{recorded_of}
 use Rattle.other_commands.specs.declared.explain.Rendering.{Rendering}
-use Rattle.other_commands.specs.declared.explain.Rendering.TheVariants.{Text, Json}
+use Rattle.other_commands.specs.declared.explain.Rendering.TheVariants.{Text, Record}
 use Rattle.command_streams.specs.declared.fault.CliFault.{CliFault}
 use Rattle.command_streams.specs.declared.fault.CliFault.TheVariants.{Read, TooLong, Memory}
 use Rattle.command_streams.specs.Readings.{Reading, StopsReader}
@@ -30,7 +31,7 @@ use Rattle.other_commands.specs.Explanations.{Manner, recorded_line, IsUnjudgedT
 
 -- ---- what is kept of the traces
 
--- what is found in them, for a text and for JSON, and what was recorded
+-- what is found in them, for a text and for a record, and what was recorded
 pub record Together : Type 0 where
   pub found : Found
   pub records : Recorded
@@ -61,7 +62,7 @@ together_status together = if together.found.refusals == 0 && together.records.r
 -- what is told of them in each form
 abbrev pub TellsTogether : Rendering → Together → (told : List ℕ) → Type 0
 TellsTogether Text together told = told ≡ together_text together
-TellsTogether Json together told = IsTextOf (recorded_told together.records together.runs) told
+TellsTogether (Record form) together told = IsTextOf (in_form form (recorded_told together.records together.runs)) told
 
 -- ---- one more
 
@@ -69,7 +70,7 @@ TellsTogether Json together told = IsTextOf (recorded_told together.records toge
 abbrev pub AddsFound : Rendering → Manner → Notes Global → TraceContents → List Entry → (old new : Together) → Type 0
 AddsFound Text manner notes trace entries old new =
     AddsTrace manner.file (trace_setting manner.is_painted notes trace.known entries) entries old.found new.found × (new.records ≡ old.records)
-AddsFound Json manner notes trace entries old new =
+AddsFound (Record form) manner notes trace entries old new =
     RecordsMore manner.file (trace_setting false notes trace.known entries) entries old.records new.records × (new.found ≡ old.found)
 
 -- The text means a trace, a gate answered each request of it, and what is found in it is added, by the notes of that very text. Where

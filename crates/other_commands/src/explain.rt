@@ -36,7 +36,7 @@ use program_warnings::program_warnings;
 use race_explanations::explanation;
 use race_gate::{Entry, ShortGate};
 use race_pairs::Digest;
-use race_records::{Outcome as Ending, faults_record, run_record};
+use race_records::{Outcome as Ending, RecordForm, faults_record, run_record};
 use run_command::{
     Door, Outcome, PARTS, fault_of, outcome_of, refusal_status, serial_run, some_run,
 };
@@ -56,8 +56,8 @@ use text_words::TextFault;
 pub enum Rendering {
     /// Text, for a person.
     Text,
-    /// JSON, for a program.
-    Json,
+    /// A record, for a program.
+    Record(RecordForm),
 }
 
 /// How something is told.
@@ -143,6 +143,7 @@ fn clean_text_told(
 /// The record of a run in which nothing was refused.
 fn clean_record(
     alloc: Global,
+    form: RecordForm,
     manner: &Manner<'_>,
     text: &[u8],
     program: &Program<Global>,
@@ -150,12 +151,13 @@ fn clean_record(
 ) -> Result<Vec<u8>, AllocError>
     requires judged { (shape : Shape) × IsJudged shape (reverse whole.now.entries.items) }
     requires few { length whole.now.entries.items ≤ most_entries }
-    ensures { IfOk result (λ told. TellsClean Rendering.Json manner.now text.now (contents program.now) whole.now.entries.items whole.now.memory.items told.items) }
+    ensures { IfOk result (λ told. TellsClean (Rendering.Record form) manner.now text.now (contents program.now) whole.now.entries.items whole.now.memory.items told.items) }
 {
     let memory = memory_value(alloc, program.mems.as_slice(), whole.memory.as_slice())?;
     let digest = digest_of_run(alloc, &whole.entries)?;
     run_record(
         alloc,
+        form,
         Ending::Clean,
         memory,
         manner.file,
@@ -179,7 +181,7 @@ fn explain_clean(
 {
     match manner.rendering {
         Rendering::Text => clean_text_told(alloc, program, whole.memory.as_slice()),
-        Rendering::Json => clean_record(alloc, manner, text, program, whole),
+        Rendering::Record(form) => clean_record(alloc, form, manner, text, program, whole),
     }
 }
 
@@ -204,8 +206,9 @@ fn races_told(
             program,
             digest,
         ),
-        Rendering::Json => run_record(
+        Rendering::Record(form) => run_record(
             alloc,
+            form,
             Ending::Raced,
             Value::Null,
             manner.file,
@@ -280,8 +283,9 @@ fn limit_told(
 {
     match manner.rendering {
         Rendering::Text => cut_text_told(alloc, manner, text, program, digest),
-        Rendering::Json => run_record(
+        Rendering::Record(form) => run_record(
             alloc,
+            form,
             Ending::Unfinished,
             Value::Null,
             manner.file,
@@ -388,11 +392,13 @@ pub(crate) fn faults_told(
         Rendering::Text => {
             faults_message(alloc, manner.is_painted, manner.file, text, meant, fault)
         }
-        Rendering::Json => faults_record(alloc, manner.file, text, meant, fault),
+        Rendering::Record(form) => {
+            faults_record(alloc, form, manner.file, text, meant, fault)
+        },
     }
 }
 
-/// What is told of a run of a program to a person, behind the warnings of the program. As JSON it stands alone.
+/// What is told of a run of a program to a person, behind the warnings of the program. A record of the run has these.
 fn behind_warnings(
     alloc: Global,
     manner: &Manner<'_>,
@@ -408,7 +414,7 @@ fn behind_warnings(
             told.extend_from_slice(run.as_slice())?;
             Ok(told)
         }
-        Rendering::Json => Ok(run),
+        Rendering::Record(_) => Ok(run),
     }
 }
 

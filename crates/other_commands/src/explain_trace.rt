@@ -25,7 +25,7 @@ use memchr::memchr;
 use race_explanations::{Illegality, find_illegality, illegal_explanation, trace_explanation};
 use race_gate::Gate;
 use race_pairs::Digest;
-use race_records::{Outcome as Ending, illegal_record, trace_record};
+use race_records::{Outcome as Ending, RecordForm, illegal_record, trace_record};
 use source_quotes::{Meant, push_count};
 use std::alloc::{AllocError, Allocator, Global};
 use text_buffers::push_words;
@@ -99,15 +99,23 @@ fn ending_of(status: u8) -> Ending
 /// The record of a trace.
 fn entries_record(
     alloc: Global,
+    form: RecordForm,
     notes: &Notes<Global>,
     trace: &Trace<Global>,
     digest: &Digest,
 ) -> Result<Vec<u8>, AllocError>
     requires { (entries : List Entry) × IsDigest entries digest.now }
     ensures { IfOk result (λ told. (entries : List Entry) → IsDigest entries digest.now →
-        RecordsTrace notes.now (trace_contents trace.now) entries told.items) }
+        RecordsTrace form notes.now (trace_contents trace.now) entries told.items) }
 {
-    trace_record(alloc, ending_of(status_of(digest)), notes, trace, digest)
+    trace_record(
+        alloc,
+        form,
+        ending_of(status_of(digest)),
+        notes,
+        trace,
+        digest,
+    )
 }
 
 /// Adds what was recorded.
@@ -153,7 +161,9 @@ fn illegal_told(
             number,
             why,
         ),
-        Rendering::Json => illegal_record(alloc, manner.file, text, trace, number, why),
+        Rendering::Record(form) => {
+            illegal_record(alloc, form, manner.file, text, trace, number, why)
+        },
     }
 }
 
@@ -212,7 +222,7 @@ fn verdict_told(
 {
     match manner.rendering {
         Rendering::Text => verdict_text(alloc, manner, notes, trace, digest),
-        Rendering::Json => entries_record(alloc, notes, trace, digest),
+        Rendering::Record(form) => entries_record(alloc, form, notes, trace, digest),
     }
 }
 
@@ -340,7 +350,7 @@ fn explain_trace(
 {
     match manner.rendering {
         Rendering::Text => trace_text_by(alloc, manner, text, trace),
-        Rendering::Json => digest_told(alloc, manner, text, trace),
+        Rendering::Record(_) => digest_told(alloc, manner, text, trace),
     }
 }
 

@@ -36,7 +36,7 @@ use trace_text::Trace;
 pub struct Traces {
     /// What is found where text is told.
     findings: Findings,
-    /// What is found where JSON is told.
+    /// What is found where a record is told.
     records: Records,
     runs: Vec<String>,
 }
@@ -137,7 +137,7 @@ impl Traces {
                 trace,
                 digest,
             ),
-            Rendering::Json => self.records.add(alloc, manner.file, notes, trace, digest),
+            Rendering::Record(_) => self.records.add(alloc, manner.file, notes, trace, digest),
         }
     }
 
@@ -274,7 +274,7 @@ impl Traces {
     {
         match rendering {
             Rendering::Text => self.text_told(alloc),
-            Rendering::Json => self.records.record(alloc, self.runs.as_slice()),
+            Rendering::Record(form) => self.records.record(alloc, form, self.runs.as_slice()),
         }
     }
 }

@@ -8,7 +8,7 @@
 //! written tells of the gate's entries that they are a finished run, a run that is not finished, or which of them is the first strange
 //! one. [`explain_text`] carries that of `explain`: at status 0, 1 or 4 the bytes that were read mean a program, and what was written tells
 //! a person of a run of it, which is finished and clean, finished with races, or cut by the limit; at 2 they mean none, and the faults
-//! that can be told apart are told; all of it as text for a person, or as JSON for a program. [`draw_text`] carries that of `draw`: at a status the bytes that were read mean a trace, a gate
+//! that can be told apart are told; all of it as text for a person, or as JSON or SARIF for a program. [`draw_text`] carries that of `draw`: at a status the bytes that were read mean a trace, a gate
 //! answered each request of it, and what was written is the drawing of that gate's history: its nodes are the strands that have begun, its
 //! black edges those of the dag, its red ones the refusals with their witnesses.
 #![tactic(auto)]
@@ -31,6 +31,7 @@ pub use draw::draw_text;
 pub use elide::elide_text;
 pub use explain::{End, Manner, Rendering, explain_text};
 pub use explain_traces::Traces;
+pub use race_records::RecordForm;
 pub use replay::replay_text;
 pub use sort::is_program;
 pub use traced_run::{TracedRun, run_traced_text, trace_run, trace_run_of_text, write_traced_run};

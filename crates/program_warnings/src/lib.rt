@@ -1,6 +1,6 @@
 //! Warnings of a program: what its text allows, and is rarely meant.
 //!
-//! [`program_warnings`] tells them, each with its line quoted: a register that bears the name of a memory or of a reducer, a function that
+//! [`find_warnings`] finds them, and [`program_warnings`] tells them, each with its line quoted: a register that bears the name of a memory or of a reducer, a function that
 //! no spawn or call reaches from `main`, a `get` of a reducer that no reached function puts, and an index that is written as a number and
 //! is not below the length of its array. The contract of [`program_warnings`] carries that just these are told, in the order of the
 //! functions, the first twenty of them with their text: `specs/Reach` says which functions are reached, `specs/Warnings` which warnings
@@ -13,4 +13,6 @@ mod puts;
 mod reach;
 mod warning;
 
-pub use message::program_warnings;
+pub use declarations::{Declared, Sort};
+pub use message::{find_warnings, line_of_warning, program_warnings, title_of_warning};
+pub use warning::Warning;

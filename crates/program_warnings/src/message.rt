@@ -139,7 +139,21 @@ fn push_title(
     }
 }
 
-fn line_of(warning: Warning) -> u32
+/// What a warning is of, in a few words. Errors where there is no memory.
+pub fn title_of_warning(
+    alloc: Global,
+    program: &Program<Global>,
+    warning: Warning,
+) -> Result<Vec<u8>, AllocError>
+    ensures { IfOk result (λ told. told.items ≡ title (contents program.now) warning) }
+{
+    let mut told = Vec::new(alloc);
+    push_title(&mut told, program, warning)?;
+    Ok(told)
+}
+
+/// The line that a warning is of.
+pub fn line_of_warning(warning: Warning) -> u32
     ensures { result ≡ line_of_warning warning }
 {
     match warning {
@@ -188,7 +202,7 @@ fn push_warning(
 ) -> Result<(), AllocError>
     ensures { OnOk result ((one : List ℕ) × (text.new.items ≡ text.old.items ++ one) × TellsWarning look file.now source.now (contents program.now) warning one) }
 {
-    let number = line_of(warning);
+    let number = line_of_warning(warning);
     let line = source.line(number);
     let span = span_of(line, part_of(warning, line));
     push_painted(text, look, Paint::Yellow, "warning")?;
@@ -249,8 +263,8 @@ fn first_told(
     Ok(told)
 }
 
-/// The warnings of a program.
-fn found(alloc: Global, program: &Program<Global>) -> Result<Vec<Warning>, AllocError>
+/// The warnings of a program, in the order of its functions. Errors where there is no memory.
+pub fn find_warnings(alloc: Global, program: &Program<Global>) -> Result<Vec<Warning>, AllocError>
     ensures { IfOk result (λ warnings. AreWarnings (contents program.now) warnings.items) }
 {
     let functions = program.functions.as_slice();
@@ -277,6 +291,6 @@ pub fn program_warnings(
 {
     let source = Source::new(alloc, text)?;
     let look = Look::of(is_painted, &source);
-    let warnings = found(alloc, program)?;
+    let warnings = find_warnings(alloc, program)?;
     first_told(alloc, look, file, &source, program, warnings.as_slice())
 }

@@ -1,11 +1,15 @@
 -- What is told of pairs, one by one.
-use Rattle.std.proofs.Common.{◌≡◌, ℕ, ◌+◌, ◌<◌, List, [], ◌∷◌, ◌++◌, length, take, map, get_or, sym, subst, ap, ◌∙◌, arith}
+use Rattle.std.proofs.Common.{◌≡◌, ℕ, false, ◌+◌, ◌<◌, List, [], ◌∷◌, ◌++◌, length, take, map, get_or, sym, subst, ap, ◌∙◌, arith}
 use Rattle.std.proofs.lemmas.List.{take_more, length-map, get_or-map}
 use Rattle.serde_json.specs.Data.{Data}
 use Rattle.model_histories.specs.declared.answer.Entry.{Entry}
 use Rattle.race_pairs.specs.declared.race.Pair.{Pair}
 use Rattle.race_pairs.specs.declared.race.Race.{Race}
+use Rattle.program_text.specs.Drafts.{Contents}
+use Rattle.program_warnings.specs.declared.warning.Warning.{Warning}
+use Rattle.program_warnings.specs.Messages.{AreWarnings}
 use Rattle.race_explanations.specs.Settings.{Setting}
+use Rattle.race_explanations.specs.Explained.{program_setting}
 use Rattle.race_pairs.specs.Pairs.{ArePairs}
 use Rattle.race_pairs.specs.Places.{ArePlaces}
 use Rattle.race_pairs.specs.declared.encounter.Encounter.{Encounter}
@@ -13,8 +17,11 @@ use Rattle.race_pairs.specs.Encounters.{IsEncounter}
 use Rattle.race_explanations.specs.Titles.{told_names}
 use Rattle.race_records.specs.declared.document.Outcome.{Outcome}
 use Rattle.race_records.specs.Values.{IsTextOf}
+use Rattle.race_records.specs.declared.form.RecordForm.{RecordForm}
+use Rattle.race_records.specs.Forms.{in_form}
+use Rattle.race_records.specs.Warned.{Warned, warned_of}
 use Rattle.race_records.specs.Races.{RaceParts, parts_of, race_told, Records, AllRecorded, none, more}
-use Rattle.race_records.specs.Documents.{SummaryParts, document_told, summary_of, RecordsEntries}
+use Rattle.race_records.specs.Documents.{SummaryParts, document_told, summary_of, RecordsEntries, RecordsRun}
 
 -- no pair
 pub none_recorded : (setting : Setting) (entries : List Entry) (told : List Data) → told ≡ [] → AllRecorded setting entries [] told
@@ -55,15 +62,29 @@ is_recorded setting entries pair places encounter value parts names times are is
 }
 
 -- what is told of the entries
-pub entries_recorded : (outcome : Outcome) (traces : ℕ) (setting : Setting) (entries : List Entry) (memory : Data) (runs : List (List ℕ)) (pairs front : List Pair)
-    (races untold : List Data) (summary : SummaryParts) (value : Data) (text : List ℕ) → ArePairs entries pairs → front ≡ take 20 pairs →
+pub entries_recorded : (form : RecordForm) (outcome : Outcome) (traces : ℕ) (setting : Setting) (entries : List Entry) (memory : Data) (runs : List (List ℕ)) (pairs front : List Pair)
+    (races untold : List Data) (warned : Warned) (summary : SummaryParts) (value : Data) (text : List ℕ) → ArePairs entries pairs → front ≡ take 20 pairs →
     AllRecorded setting entries front races → untold ≡ [] → summary ≡ summary_of outcome traces entries (length pairs) →
-    value ≡ document_told summary memory races runs untold → IsTextOf value text → RecordsEntries outcome traces setting entries memory runs text
-entries_recorded outcome traces setting entries memory runs pairs front races untold summary value text are is all empty summary_is told is_text = record {
+    value ≡ document_told summary memory races runs untold warned → IsTextOf (in_form form value) text →
+    RecordsEntries form outcome traces setting entries memory runs warned text
+entries_recorded form outcome traces setting entries memory runs pairs front races untold warned summary value text are is all empty summary_is told is_text = record {
   pairs = pairs;
   are_pairs = are;
   races = races;
   are_races = subst (λ (some : List Pair). AllRecorded setting entries some races) is all;
-  is_text = subst (λ (v : Data). IsTextOf v text)
-      (told ∙ ap (λ (u : List Data). document_told summary memory races runs u) empty ∙ ap (λ (s : SummaryParts). document_told s memory races runs []) summary_is) is_text;
+  is_text = subst (λ (v : Data). IsTextOf (in_form form v) text)
+      (told ∙ ap (λ (u : List Data). document_told summary memory races runs u warned) empty ∙ ap (λ (s : SummaryParts). document_told s memory races runs [] warned) summary_is) is_text;
+}
+
+-- what is told of a run, with the warnings of its program
+pub run_recorded : (form : RecordForm) (outcome : Outcome) (file : List ℕ) (source : List (List ℕ)) (program : Contents) (entries : List Entry) (memory : Data)
+    (warnings : List Warning) (setting : Setting) (warned : Warned) (runs : List (List ℕ)) (text : List ℕ) → AreWarnings program warnings →
+    setting ≡ program_setting false file source program entries → warned ≡ warned_of file source program warnings → runs ≡ [] →
+    RecordsEntries form outcome 0 setting entries memory runs warned text → RecordsRun form outcome file source program entries memory text
+run_recorded form outcome file source program entries memory warnings setting warned runs text are setting_is warned_is none records = record {
+  warnings = warnings;
+  are_warnings = are;
+  records = subst (λ (w : Warned). RecordsEntries form outcome 0 (program_setting false file source program entries) entries memory [] w text) warned_is
+      (subst (λ (r : List (List ℕ)). RecordsEntries form outcome 0 (program_setting false file source program entries) entries memory r warned text) none
+      (subst (λ (s : Setting). RecordsEntries form outcome 0 s entries memory runs warned text) setting_is records));
 }

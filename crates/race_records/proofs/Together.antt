@@ -9,6 +9,7 @@ use Rattle.race_explanations.specs.declared.finding.Finding.{Finding}
 use Rattle.race_explanations.proofs.Telling.{first_of_all}
 use Rattle.race_records.specs.declared.race.Race.{Race}
 use Rattle.race_records.specs.RaceViews.{race_parts}
+use Rattle.race_records.specs.Warned.{Warned, none_warned}
 use Rattle.race_records.specs.Documents.{SummaryParts, document_told}
 use Rattle.race_records.specs.Several.{Recorded, races_told, summary_recorded, recorded_told}
 
@@ -34,12 +35,13 @@ races_first findings some races front begun told some_is front_is empty is =
     ap₂ races_told (some_is ∙ first_of_all findings 20) (first_races races front 20 front_is)
 
 -- all of it
-pub told_together : (recorded : Recorded) (runs : List (List ℕ)) (summary : SummaryParts) (memory value : Data) (races untold : List Data) →
+pub told_together : (recorded : Recorded) (runs : List (List ℕ)) (summary : SummaryParts) (memory value : Data) (races untold : List Data) (warned : Warned) →
     summary ≡ summary_recorded recorded → memory ≡ null → races ≡ races_told (take 20 recorded.kept.findings) (take 20 recorded.kept.races) →
-    untold ≡ recorded.untold → value ≡ document_told summary memory races runs untold → value ≡ recorded_told recorded runs
-told_together recorded runs summary memory value races untold summary_is memory_is races_are untold_is told =
+    untold ≡ recorded.untold → warned ≡ none_warned → value ≡ document_told summary memory races runs untold warned →
+    value ≡ recorded_told recorded runs
+told_together recorded runs summary memory value races untold warned summary_is memory_is races_are untold_is none told =
     let findings = races_told (take 20 recorded.kept.findings) (take 20 recorded.kept.races) in
-    told ∙ ap (λ (s : SummaryParts). document_told s memory races runs untold) summary_is ∙
-    ap (λ (m : Data). document_told (summary_recorded recorded) m races runs untold) memory_is ∙
-    ap (λ (r : List Data). document_told (summary_recorded recorded) null r runs untold) races_are ∙
-    ap (λ (u : List Data). document_told (summary_recorded recorded) null findings runs u) untold_is
+    told ∙ ap (document_told summary memory races runs untold) none ∙ ap (λ (s : SummaryParts). document_told s memory races runs untold none_warned) summary_is ∙
+    ap (λ (m : Data). document_told (summary_recorded recorded) m races runs untold none_warned) memory_is ∙
+    ap (λ (r : List Data). document_told (summary_recorded recorded) null r runs untold none_warned) races_are ∙
+    ap (λ (u : List Data). document_told (summary_recorded recorded) null findings runs u none_warned) untold_is

@@ -1,15 +1,22 @@
 -- What is told of a run or of traces, as one value.
-use Rattle.std.specs.Prelude.{ℕ, List, [], codes, length, take, Option, Some}
+use Rattle.std.specs.Prelude.{ℕ, false, List, [], codes, length, take, Option, Some}
 use Rattle.serde_json.specs.Data.{Data, string, object, member, no_members}
 use Rattle.model_histories.specs.declared.answer.Entry.{Entry}
 use Rattle.race_pairs.specs.Refusals.{refusals_among}
 use Rattle.race_pairs.specs.Pairs.{ArePairs}
 use Rattle.race_pairs.specs.declared.race.Pair.{Pair}
+use Rattle.program_text.specs.Drafts.{Contents}
+use Rattle.program_warnings.specs.declared.warning.Warning.{Warning}
+use Rattle.program_warnings.specs.Messages.{AreWarnings}
 use Rattle.race_explanations.specs.Settings.{Setting}
+use Rattle.race_explanations.specs.Explained.{program_setting}
 use Rattle.race_records.specs.declared.document.Outcome.{Outcome}
 use Rattle.race_records.specs.declared.document.Outcome.TheVariants.{Clean, Raced, Unfinished}
 use Rattle.race_records.specs.Values.{text_told, count_told, list_told, number_or_null, IsTextOf}
+use Rattle.race_records.specs.declared.form.RecordForm.{RecordForm}
+use Rattle.race_records.specs.Forms.{in_form}
 use Rattle.race_records.specs.Races.{AllRecorded}
+use Rattle.race_records.specs.Warned.{Warned, warned_of}
 
 abbrev pub outcome_word : Outcome → List ℕ
 outcome_word Clean = codes "clean"
@@ -24,9 +31,9 @@ pub record SummaryParts : Type 0 where
   pub requests : ℕ
   pub traces : ℕ
 
--- the races with the summary, the final memory, what was recorded, and the files of which not all pairs are told
-abbrev pub document_told : SummaryParts → (memory : Data) → (races : List Data) → (recorded : List (List ℕ)) → (untold : List Data) → Data
-document_told summary memory races recorded untold =
+-- the races with the summary, the final memory, what was recorded, the files of which not all pairs are told, and the warnings
+abbrev pub document_told : SummaryParts → (memory : Data) → (races : List Data) → (recorded : List (List ℕ)) → (untold : List Data) → Warned → Data
+document_told summary memory races recorded untold warned =
     object (member (codes "memory") memory
     (member (codes "outcome") (string (outcome_word summary.outcome))
     (member (codes "pairs") (number_or_null summary.pairs)
@@ -36,7 +43,9 @@ document_told summary memory races recorded untold =
     (member (codes "requests") (count_told summary.requests)
     (member (codes "traces") (count_told summary.traces)
     (member (codes "untold") (list_told (λ file. file) untold)
-    (member (codes "version") (count_told 1) no_members))))))))))
+    (member (codes "version") (count_told 1)
+    (member (codes "warned") (count_told warned.count)
+    (member (codes "warnings") warned.warnings no_members))))))))))))
 
 abbrev pub summary_of : (outcome : Outcome) → (traces : ℕ) → List Entry → (pairs : ℕ) → SummaryParts
 summary_of outcome traces entries pairs = record {
@@ -47,12 +56,20 @@ summary_of outcome traces entries pairs = record {
   traces = traces;
 }
 
--- The text tells of the entries, the oldest first, as the value says: of each of the first twenty pairs of places that raced, how many
+-- The text tells in the form of the entries, the oldest first, as the value says: of each of the first twenty pairs of places that raced, how many
 -- pairs there are, and how many refusals there were.
-pub record RecordsEntries (outcome : Outcome) (traces : ℕ) (setting : Setting) (entries : List Entry) (memory : Data)
-    (recorded : List (List ℕ)) (text : List ℕ) : Type 0 where
+pub record RecordsEntries (form : RecordForm) (outcome : Outcome) (traces : ℕ) (setting : Setting) (entries : List Entry) (memory : Data)
+    (recorded : List (List ℕ)) (warned : Warned) (text : List ℕ) : Type 0 where
   pub pairs : List Pair
   pub are_pairs : ArePairs entries pairs
   pub races : List Data
   pub are_races : AllRecorded setting entries (take 20 pairs) races
-  pub is_text : IsTextOf (document_told (summary_of outcome traces entries (length pairs)) memory races recorded []) text
+  pub is_text : IsTextOf (in_form form (document_told (summary_of outcome traces entries (length pairs)) memory races recorded [] warned)) text
+
+-- The text tells so of the entries of a run of a program, and the warnings of the program.
+pub record RecordsRun (form : RecordForm) (outcome : Outcome) (file : List ℕ) (source : List (List ℕ)) (program : Contents) (entries : List Entry)
+    (memory : Data) (text : List ℕ) : Type 0 where
+  pub warnings : List Warning
+  pub are_warnings : AreWarnings program warnings
+  pub records : RecordsEntries form outcome 0 (program_setting false file source program entries) entries memory []
+      (warned_of file source program warnings) text

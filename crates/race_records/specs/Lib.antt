@@ -1,10 +1,13 @@
 pub mod Values
+pub mod Forms
 pub mod Sites
 pub mod SiteViews
 pub mod Accesses
 pub mod Advice
 pub mod Races
 pub mod RaceViews
+pub mod Warned
+pub mod WarnedViews
 pub mod Documents
 pub mod SummaryViews
 pub mod Unjudged

@@ -15,6 +15,7 @@ use Rattle.race_records.specs.declared.document.Outcome.{Outcome}
 use Rattle.race_records.specs.declared.document.Outcome.TheVariants.{Clean, Raced}
 use Rattle.race_records.specs.Values.{text_told, count_told}
 use Rattle.race_records.specs.Races.{RaceParts, parts_of, race_told}
+use Rattle.race_records.specs.Warned.{none_warned}
 use Rattle.race_records.specs.Documents.{SummaryParts, document_told}
 
 -- ---- what is kept
@@ -116,4 +117,4 @@ summary_recorded recorded = record {
 -- The first twenty races, how many there are, and how many refusals there were.
 abbrev pub recorded_told : Recorded → (runs : List (List ℕ)) → Data
 recorded_told recorded runs =
-    document_told (summary_recorded recorded) null (races_told (take 20 recorded.kept.findings) (take 20 recorded.kept.races)) runs recorded.untold
+    document_told (summary_recorded recorded) null (races_told (take 20 recorded.kept.findings) (take 20 recorded.kept.races)) runs recorded.untold none_warned

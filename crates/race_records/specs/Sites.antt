@@ -78,6 +78,16 @@ site_in (in_program file source functions) line = record {
 }
 site_in (in_trace notes) line = marked_site (noted_place notes line) line
 
+-- a line of a file
+abbrev pub line_of_file : (file : List ℕ) → (source : List (List ℕ)) → (line : ℕ) → SiteParts
+line_of_file file source line = record {
+  file = Some file;
+  line = Some line;
+  column = None;
+  function = None;
+  code = Some (statement (line_in source line));
+}
+
 abbrev pub parts_told : SiteParts → Data
 parts_told site =
     object (member (codes "code") (text_or_null site.code)

@@ -13,6 +13,8 @@ use Rattle.fault_lists.specs.FaultLists.{ListsFaults}
 use Rattle.race_explanations.specs.declared.illegal.Illegality.{Illegality}
 use Rattle.race_explanations.specs.Illegal.{request_line, at_of, strand_of, title_words, help_words, illegal_text}
 use Rattle.race_records.specs.Values.{text_told, count_told, list_told, IsTextOf}
+use Rattle.race_records.specs.declared.form.RecordForm.{RecordForm}
+use Rattle.race_records.specs.Forms.{in_form}
 
 abbrev pub cause_word : Cause → List ℕ
 cause_word cause.NotText = codes "NotText"
@@ -52,14 +54,14 @@ faulty_told faults more =
     (member (codes "outcome") (string (codes "faulty"))
     (member (codes "version") (count_told 1) no_members))))
 
--- The text tells the faults that can be told apart, the first of which is this one.
-pub record RecordsText (file : List ℕ) (meant : Meant) (text : List ℕ) (first : Fault) (told : List ℕ) : Type 0 where
+-- The text tells in the form the faults that can be told apart, the first of which is this one.
+pub record RecordsText (form : RecordForm) (file : List ℕ) (meant : Meant) (text : List ℕ) (first : Fault) (told : List ℕ) : Type 0 where
   pub others : List Fault
   pub more : Bool
   pub lists : ListsFaults meant text first others more
   pub faults : List Data
   pub are_faults : RecordsFaults file (lines text) (first ∷ others) faults
-  pub is_text : IsTextOf (faulty_told faults more) told
+  pub is_text : IsTextOf (in_form form (faulty_told faults more)) told
 
 -- the request with this number, from 1 on, on this line: its strand, why it is illegal, and what a person is told of it
 abbrev pub request_told : (file : List ℕ) → (source : List (List ℕ)) → Option TraceLine → ℕ → Illegality → (rendered : List ℕ) → Data

@@ -12,13 +12,17 @@ ghost use Rattle.trace_notes.specs.Notes.{kept_runs};
 ghost use Rattle.serde_json.specs.Data.{null};
 ghost use Rattle.serde_json.specs.View.{view};
 ghost use Rattle.race_explanations.specs.Scenes.{setting_of};
-ghost use Rattle.race_explanations.specs.Explained.{program_setting, trace_setting};
+ghost use Rattle.race_explanations.specs.Explained.{trace_setting};
 ghost use Rattle.race_records.specs.Races.{AllRecorded};
-ghost use Rattle.race_records.specs.Documents.{document_told, summary_of, RecordsEntries, outcome_word};
+ghost use Rattle.race_records.specs.Documents.{document_told, summary_of, RecordsEntries, RecordsRun, outcome_word};
+ghost use Rattle.race_records.specs.Warned.{none_warned};
+ghost use Rattle.race_records.specs.WarnedViews.{warned_parts};
 ghost use Rattle.race_records.specs.SummaryViews.{summary_parts};
 
+use crate::form::{RecordForm, record_text};
 use crate::race::pair_value;
-use crate::value::{size_or_null, texts_value, value_text};
+use crate::value::{size_or_null, texts_value};
+use crate::warning::{Warned, none_warned, warned_in};
 use program_text::Program;
 use race_explanations::{Scene, program_scene, trace_scene};
 use race_pairs::Digest;
@@ -69,9 +73,10 @@ pub(crate) fn document_value(
     races: Vec<Value>,
     recorded: &[String],
     untold: Vec<Value>,
+    warned: &Warned,
 ) -> Result<Value, AllocError>
     ensures { IfOk result (λ value. view value ≡ document_told (summary_parts summary) (view memory) (map view races.items)
-        (map string_bytes recorded.now) (map view untold.items)) }
+        (map string_bytes recorded.now) (map view untold.items) (warned_parts warned.now)) }
 {
     let recorded = texts_value(alloc, recorded)?;
     json!(in alloc; {
@@ -84,7 +89,9 @@ pub(crate) fn document_value(
         "requests": summary.requests,
         "traces": summary.traces,
         "untold": untold,
-        "version": 1_u8
+        "version": 1_u8,
+        "warned": warned.count,
+        "warnings": &warned.warnings
     })
 }
 
@@ -122,27 +129,30 @@ fn summary_of(outcome: Outcome, traces: usize, digest: &Digest) -> Summary
 /// What is told of the entries of a scene.
 fn entries_record(
     alloc: Global,
+    form: RecordForm,
     scene: &Scene<'_, '_>,
     outcome: Outcome,
     traces: usize,
     memory: Value,
     recorded: &[String],
+    warned: &Warned,
 ) -> Result<Vec<u8>, AllocError>
     requires { (entries : List Entry) × IsDigest entries scene.now.digest.now }
     ensures { IfOk result (λ text. (entries : List Entry) → IsDigest entries scene.now.digest.now →
-        RecordsEntries outcome traces (setting_of scene.now) entries (view memory) (map string_bytes recorded.now) text.items) }
+        RecordsEntries form outcome traces (setting_of scene.now) entries (view memory) (map string_bytes recorded.now) (warned_parts warned.now) text.items) }
 {
     let races = pair_values(alloc, scene, scene.digest.races())?;
     let summary = summary_of(outcome, traces, scene.digest);
     let untold = Vec::new(alloc);
-    let document = document_value(alloc, summary, memory, races, recorded, untold)?;
-    value_text(alloc, &document)
+    let document = document_value(alloc, summary, memory, races, recorded, untold, warned)?;
+    record_text(alloc, form, &document)
 }
 
-/// Tells of the entries of a run of a program, of which this is the digest, as JSON: all that
-/// [`explanation`](race_explanations::explanation) tells, with the final memory where it is known. Errors where there is no memory.
+/// Tells in a form of the entries of a run of a program, of which this is the digest: all that
+/// [`explanation`](race_explanations::explanation) tells, with the final memory where it is known, and the warnings of the program. Errors where there is no memory.
 pub fn run_record<'s>(
     alloc: Global,
+    form: RecordForm,
     outcome: Outcome,
     memory: Value,
     file: &'s str,
@@ -152,17 +162,19 @@ pub fn run_record<'s>(
 ) -> Result<Vec<u8>, AllocError>
     requires { (entries : List Entry) × IsDigest entries digest.now }
     ensures { IfOk result (λ told. (entries : List Entry) → IsDigest entries digest.now →
-        RecordsEntries outcome 0 (program_setting false file.now (lines text.now) (contents program.now) entries) entries (view memory) [] told.items) }
+        RecordsRun form outcome file.now (lines text.now) (contents program.now) entries (view memory) told.items) }
 {
     let source = Source::new(alloc, text)?;
     let scene = program_scene(false, file, &source, program, digest);
-    entries_record(alloc, &scene, outcome, 0, memory, &[])
+    let warned = warned_in(alloc, file, &source, program)?;
+    entries_record(alloc, form, &scene, outcome, 0, memory, &[], &warned)
 }
 
-/// Tells of the entries of a trace with these notes, of which this is the digest, as JSON: all that
+/// Tells in a form of the entries of a trace with these notes, of which this is the digest: all that
 /// [`trace_explanation`](race_explanations::trace_explanation) tells, and what was recorded. Errors where there is no memory.
 pub fn trace_record<'s>(
     alloc: Global,
+    form: RecordForm,
     outcome: Outcome,
     notes: &'s Notes<Global>,
     trace: &'s Trace<Global>,
@@ -170,8 +182,17 @@ pub fn trace_record<'s>(
 ) -> Result<Vec<u8>, AllocError>
     requires { (entries : List Entry) × IsDigest entries digest.now }
     ensures { IfOk result (λ told. (entries : List Entry) → IsDigest entries digest.now →
-        RecordsEntries outcome 1 (trace_setting false notes.now (trace_contents trace.now).known entries) entries null (kept_runs notes.now) told.items) }
+        RecordsEntries form outcome 1 (trace_setting false notes.now (trace_contents trace.now).known entries) entries null (kept_runs notes.now) none_warned told.items) }
 {
     let scene = trace_scene(false, notes, trace, digest);
-    entries_record(alloc, &scene, outcome, 1, Value::Null, notes.runs())
+    entries_record(
+        alloc,
+        form,
+        &scene,
+        outcome,
+        1,
+        Value::Null,
+        notes.runs(),
+        &none_warned(alloc),
+    )
 }

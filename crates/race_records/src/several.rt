@@ -10,14 +10,17 @@ ghost use Rattle.race_explanations.specs.Scenes.{setting_of};
 ghost use Rattle.race_explanations.specs.Explained.{trace_setting};
 ghost use Rattle.race_explanations.specs.Findings.{IsOfTrace, with_finding};
 ghost use Rattle.race_records.specs.Values.{IsTextOf};
+ghost use Rattle.race_records.specs.Forms.{in_form};
 ghost use Rattle.race_records.specs.RaceViews.{race_parts};
 ghost use Rattle.race_records.specs.SummaryViews.{summary_parts};
 ghost use Rattle.race_records.specs.Several.{with_race, IsRace, AddsKept, nothing_recorded, untold_told, untold_in, AddsPairs, AddsTrace, races_told, all_of, outcome_of, summary_recorded, recorded_told};
 ghost use Rattle.race_records.specs.SeveralViews.{kept_of, recorded_of};
 
 use crate::document::{Outcome, Summary, document_value};
+use crate::form::{RecordForm, record_text};
 use crate::race::{Race, race_of, race_value};
-use crate::value::{text_value, value_text};
+use crate::value::text_value;
+use crate::warning::none_warned;
 use race_explanations::{Finding, Scene, finding_of, join_finding, trace_scene};
 use race_pairs::{Digest, Encounter, PAIRS};
 use serde_json::{Value, json};
@@ -259,15 +262,28 @@ impl Records {
         let mut races = Vec::new(alloc);
         push_races(alloc, &mut races, findings, first)?;
         let untold = copy_of(alloc, self.untold.as_slice())?;
-        document_value(alloc, self.summary(), Value::Null, races, runs, untold)
+        document_value(
+            alloc,
+            self.summary(),
+            Value::Null,
+            races,
+            runs,
+            untold,
+            &none_warned(alloc),
+        )
     }
 
-    /// What is told of all traces, as JSON: each of the first twenty pairs, with the counts of all that a person is told alike, and what
+    /// What is told of all traces in a form: each of the first twenty pairs, with the counts of all that a person is told alike, and what
     /// these runs recorded. Errors where there is no memory.
-    pub fn record(&self, alloc: Global, runs: &[String]) -> Result<Vec<u8>, AllocError>
-        ensures { IfOk result (λ text. IsTextOf (recorded_told (recorded_of self.now) (map string_bytes runs.now)) text.items) }
+    pub fn record(
+        &self,
+        alloc: Global,
+        form: RecordForm,
+        runs: &[String],
+    ) -> Result<Vec<u8>, AllocError>
+        ensures { IfOk result (λ text. IsTextOf (in_form form (recorded_told (recorded_of self.now) (map string_bytes runs.now))) text.items) }
     {
         let document = self.document(alloc, runs)?;
-        value_text(alloc, &document)
+        record_text(alloc, form, &document)
     }
 }

@@ -6,13 +6,13 @@ ghost use Rattle.text_words.specs.Text.{BeginsWithDigit};
 ghost use Rattle.serde_json.specs.View.{view};
 ghost use Rattle.trace_notes.specs.Places.{place_parts};
 ghost use Rattle.race_explanations.specs.Scenes.{setting_of};
-ghost use Rattle.race_records.specs.Sites.{number_of, number_behind, location_by, location_of, marked_site, site_in, parts_told, site_told};
+ghost use Rattle.race_records.specs.Sites.{number_of, number_behind, location_by, location_of, marked_site, site_in, line_of_file, parts_told, site_told};
 ghost use Rattle.race_records.specs.SiteViews.{location_parts, site_parts};
 
 use crate::value::{count_or_null, text_or_null};
 use race_explanations::{Origin, Scene, function_in};
 use serde_json::{Value, json};
-use source_quotes::statement_of;
+use source_quotes::{Source, statement_of};
 use std::alloc::{AllocError, Global};
 use trace_notes::Place;
 
@@ -162,6 +162,25 @@ fn site_value(alloc: Global, site: Site<'_>) -> Result<Value, AllocError>
         "function": function,
         "line": count_or_null(site.line)
     })
+}
+
+/// A line of a file, as a value.
+pub(crate) fn file_line_value(
+    alloc: Global,
+    file: &str,
+    source: &Source<'_, Global>,
+    line: u32,
+) -> Result<Value, AllocError>
+    ensures { IfOk result (λ value. view value ≡ parts_told (line_of_file file.now source.now line)) }
+{
+    let site = Site {
+        file: Some(file),
+        line: Some(line),
+        column: None,
+        function: None,
+        code: Some(statement_of(source.line(line))),
+    };
+    site_value(alloc, site)
 }
 
 /// Where a line stands, as a value.

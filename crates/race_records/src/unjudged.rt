@@ -7,9 +7,11 @@ ghost use Rattle.trace_text.specs.Traces.{contents as trace_contents};
 ghost use Rattle.serde_json.specs.View.{view};
 ghost use Rattle.fault_lists.specs.FaultLists.{HasFault};
 ghost use Rattle.race_records.specs.Values.{IsTextOf};
+ghost use Rattle.race_records.specs.Forms.{in_form};
 ghost use Rattle.race_records.specs.Unjudged.{cause_word, fault_told, RecordsFault, RecordsFaults, RecordsText, faulty_told, request_told, illegal_told};
 
-use crate::value::{text_value, value_text};
+use crate::form::{RecordForm, record_text};
+use crate::value::text_value;
 use fault_lists::{Fault, list_others};
 use race_explanations::{
     Illegality, at_of, help_words, illegal_explanation, request_line, strand_of, title_words,
@@ -107,17 +109,18 @@ fn faulty_value(alloc: Global, faults: Vec<Value>, is_more: bool) -> Result<Valu
     })
 }
 
-/// Tells as JSON of the text of a program or a trace that has this fault: of it and of each fault behind it that
+/// Tells in a form of the text of a program or a trace that has this fault: of it and of each fault behind it that
 /// [`faults_message`](fault_lists::faults_message) tells. Errors where there is no memory.
 pub fn faults_record(
     alloc: Global,
+    form: RecordForm,
     file: &str,
     text: &[u8],
     meant: Meant,
     first: Fault,
 ) -> Result<Vec<u8>, AllocError>
     requires { HasFault meant text.now first }
-    ensures { IfOk result (λ told. RecordsText file.now meant text.now first told.items) }
+    ensures { IfOk result (λ told. RecordsText form file.now meant text.now first told.items) }
 {
     let source = Source::new(alloc, text)?;
     let others = list_others(alloc, meant, text, first)?;
@@ -133,7 +136,7 @@ pub fn faults_record(
         others.faults.as_slice(),
     )?;
     let document = faulty_value(alloc, values, others.is_more)?;
-    value_text(alloc, &document)
+    record_text(alloc, form, &document)
 }
 
 /// An illegal request, with what a person is told of it.
@@ -183,18 +186,19 @@ fn illegal_value(
     request_value(alloc, file, &source, line, number, why, rendered.as_slice())
 }
 
-/// Tells as JSON why the request with this number, from 1 on, of the trace that a text means is illegal, as
+/// Tells in a form why the request with this number, from 1 on, of the trace that a text means is illegal, as
 /// [`illegal_explanation`](race_explanations::illegal_explanation) tells a person. Errors where there is no memory.
 pub fn illegal_record(
     alloc: Global,
+    form: RecordForm,
     file: &str,
     text: &[u8],
     trace: &Trace<Global>,
     number: usize,
     why: Illegality,
 ) -> Result<Vec<u8>, AllocError>
-    ensures { IfOk result (λ told. IsTextOf (illegal_told file.now (lines text.now) (trace_contents trace.now).lines number why) told.items) }
+    ensures { IfOk result (λ told. IsTextOf (in_form form (illegal_told file.now (lines text.now) (trace_contents trace.now).lines number why)) told.items) }
 {
     let document = illegal_value(alloc, file, text, trace, number, why)?;
-    value_text(alloc, &document)
+    record_text(alloc, form, &document)
 }

@@ -14,9 +14,10 @@ use Rattle.command_words.specs.declared.words.Color.TheVariants.{Auto, Always, N
 use Rattle.command_words.specs.declared.words.Language.{Language}
 use Rattle.command_words.specs.declared.words.Language.TheVariants.{Dot, Svg}
 use Rattle.command_words.specs.declared.words.Format.{Format}
-use Rattle.command_words.specs.declared.words.Format.TheVariants.{Text, Json}
+use Rattle.command_words.specs.declared.words.Format.TheVariants.{Text, Json, Sarif}
 use Rattle.other_commands.specs.declared.explain.Rendering.{Rendering}
-use Rattle.other_commands.specs.declared.explain.Rendering.TheVariants.{Text as TextTold, Json as JsonTold}
+use Rattle.other_commands.specs.declared.explain.Rendering.TheVariants.{Text as TextTold, Record as RecordTold}
+use Rattle.race_records.specs.declared.form.RecordForm.TheVariants.{Json as AsJson, Sarif as AsSarif}
 use Rattle.dag_drawing.specs.declared.form.Form.{Form}
 use Rattle.dag_drawing.specs.declared.form.Form.TheVariants.{Dot as InDot, Svg as InSvg}
 use Rattle.other_commands.specs.Explanations.{Manner, IsExplained, HasExplanationCause}
@@ -40,7 +41,8 @@ form_of Svg = InSvg
 -- the form of an explanation, as the words of the command line name it
 abbrev pub rendering_of : Format → Rendering
 rendering_of Text = TextTold
-rendering_of Json = JsonTold
+rendering_of Json = RecordTold AsJson
+rendering_of Sarif = RecordTold AsSarif
 
 -- whether words are painted, as these words ask for: on a terminal, of which nothing is said here, always, or never
 abbrev pub IsPaintedBy : Color → Bool → Type 0

@@ -18,7 +18,7 @@ pub use command_words::{
 pub use dag_drawing::Form;
 pub use judge_command::{judge_stream, status_of};
 pub use other_commands::{
-    End, Manner, Rendering, TracedRun, Traces, draw_text, elide_text, explain_text, replay_text,
+    End, Manner, RecordForm, Rendering, TracedRun, Traces, draw_text, elide_text, explain_text, replay_text,
     run_traced_text, trace_run, trace_run_of_text, write_traced_run,
 };
 pub use performing::{exit_of, perform, perform_alone};

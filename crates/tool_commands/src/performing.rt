@@ -17,7 +17,7 @@ use command_words::{Color, Format, INPUT, Job, Language};
 use dag_drawing::Form;
 use judge_command::judge_stream;
 use other_commands::{
-    Manner, Rendering, draw_text, elide_text, explain_text, replay_text, trace_run_of_text,
+    Manner, RecordForm, Rendering, draw_text, elide_text, explain_text, replay_text, trace_run_of_text,
     write_traced_run,
 };
 use run_command::{OpenDoor, run_text};
@@ -152,7 +152,8 @@ fn rendering_of(format: Format) -> Rendering
 {
     match format {
         Format::Text => Rendering::Text,
-        Format::Json => Rendering::Json,
+        Format::Json => Rendering::Record(RecordForm::Json),
+        Format::Sarif => Rendering::Record(RecordForm::Sarif),
     }
 }
 

@@ -11,7 +11,7 @@ const NO_WORKERS: &str = "invalid value for '--workers <N>': a number from 1 to 
 
 const NO_COLOR: &str = "invalid value for '--color <WHEN>': auto, always or never is wanted";
 
-const NO_FORMAT: &str = "invalid value for '--format <FORM>': text or json is wanted";
+const NO_FORMAT: &str = "invalid value for '--format <FORM>': text, json or sarif is wanted";
 
 const NO_FILE: &str = "no file is given; see 'cilkcheck --help'";
 
@@ -209,6 +209,12 @@ const LINES: &[(&str, Asks<'static>)] = &[
         "explain - --format=json",
         Does(
             "ExplainInput { workers: 2, is_serial: false, limit: 1000000, color: Auto, format: Json }",
+        ),
+    ),
+    (
+        "explain f --format sarif",
+        Does(
+            "Explain { file: \"f\", workers: 2, is_serial: false, limit: 1000000, color: Auto, format: Sarif }",
         ),
     ),
     (

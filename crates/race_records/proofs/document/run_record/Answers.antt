@@ -1,0 +1,20 @@
+use Rattle.std.proofs.Common.{rules, refl, List, sym, subst, map, string_bytes}
+use Rattle.std.proofs.lemmas.Result.{IfOk-weaker}
+use Rattle.serde_json.specs.View.{view}
+use Rattle.text_words.specs.Text.{lines}
+use Rattle.program_text.specs.Programs.{contents}
+use Rattle.model_histories.specs.declared.answer.Entry.{Entry}
+use Rattle.race_pairs.specs.Digests.{IsDigest}
+use Rattle.race_explanations.specs.Scenes.{setting_of}
+use Rattle.race_records.specs.WarnedViews.{warned_parts}
+use Rattle.race_records.proofs.Recording.{run_recorded}
+use Rattle.race_records.proofs.document.run_record.Goals as goal
+
+pub returns : goal.returns
+returns c =
+    IfOk-weaker c.entries_record.result _ _
+    (λ told records entries d. run_recorded c.args.form c.args.outcome c.args.file.now (lines c.args.text.now) (contents c.args.program.now) entries
+    (view c.args.memory) c.in_ok-warned.ensures.0 (setting_of c.program_scene-scene.result) (warned_parts c.in_ok-warned.warned) _ told.items
+    (search rules) (search rules) (search rules) (search rules)
+    (records entries (subst (IsDigest entries) (sym c.program_scene-scene.ensures.digest) d)))
+    c.entries_record.ensures

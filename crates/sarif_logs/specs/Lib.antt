@@ -1,0 +1,10 @@
+pub mod Reading
+pub mod Places
+pub mod PlaceViews
+pub mod Accesses
+pub mod AccessViews
+pub mod Messages
+pub mod Related
+pub mod Rules
+pub mod Results
+pub mod Logs

@@ -1,0 +1,190 @@
+//! The log of a record.
+
+ghost use Rattle.std.specs.Prelude.{◌≡◌, ◌++◌, [], IfOk, OnOk, codes, decimal, map, string_bytes};
+ghost use Rattle.serde_json.specs.View.{view};
+ghost use Rattle.sarif_logs.specs.Reading.{items_at};
+ghost use Rattle.sarif_logs.specs.Results.{race_result, warning_result, fault_result};
+ghost use Rattle.sarif_logs.specs.Logs.{illegal_results, results_of, is_whole, cut_words, notes_of, invocation_told, properties_told, tool_told, run_told, log_told};
+
+use crate::place::text_value;
+use crate::reading::{count_at, is_at, items_at, member_at};
+use crate::result::{fault_result, illegal_result, race_result, warning_result};
+use crate::rule::rules_value;
+use itoa::Buffer;
+use serde_json::{Value, json};
+use std::alloc::{AllocError, Global};
+
+/// Adds the results of warnings.
+fn push_warnings(
+    alloc: Global,
+    results: &mut Vec<Value>,
+    warnings: &[Value],
+) -> Result<(), AllocError>
+    ensures { OnOk result (map view results.new.items ≡ map view results.old.items ++ map warning_result (map view warnings.now)) }
+{
+    for warning in warnings {
+        results.push(warning_result(alloc, warning)?)?;
+    }
+    Ok(())
+}
+
+/// Adds the results of races.
+fn push_races(
+    alloc: Global,
+    results: &mut Vec<Value>,
+    races: &[Value],
+) -> Result<(), AllocError>
+    ensures { OnOk result (map view results.new.items ≡ map view results.old.items ++ map race_result (map view races.now)) }
+{
+    for race in races {
+        results.push(race_result(alloc, race)?)?;
+    }
+    Ok(())
+}
+
+/// Adds the results of faults.
+fn push_faults(
+    alloc: Global,
+    results: &mut Vec<Value>,
+    faults: &[Value],
+) -> Result<(), AllocError>
+    ensures { OnOk result (map view results.new.items ≡ map view results.old.items ++ map fault_result (map view faults.now)) }
+{
+    for fault in faults {
+        results.push(fault_result(alloc, fault)?)?;
+    }
+    Ok(())
+}
+
+/// Adds the result of an illegal request, where the record tells one.
+fn push_illegal(
+    alloc: Global,
+    results: &mut Vec<Value>,
+    record: &Value,
+) -> Result<(), AllocError>
+    ensures { OnOk result (map view results.new.items ≡ map view results.old.items ++ illegal_results (view record.now)) }
+{
+    if is_at(record, "outcome", "illegal") {
+        results.push(illegal_result(alloc, record)?)?;
+    }
+    Ok(())
+}
+
+/// The results of a record.
+fn result_values(alloc: Global, record: &Value) -> Result<Vec<Value>, AllocError>
+    ensures { IfOk result (λ results. map view results.items ≡ results_of (view record.now)) }
+{
+    let mut results = Vec::new(alloc);
+    push_warnings(alloc, &mut results, items_at(record, "warnings"))?;
+    push_races(alloc, &mut results, items_at(record, "races"))?;
+    push_faults(alloc, &mut results, items_at(record, "faults"))?;
+    push_illegal(alloc, &mut results, record)?;
+    Ok(results)
+}
+
+/// Whether a run came to its end, or each request of a trace was judged.
+fn is_whole(record: &Value) -> bool
+    ensures { result ≡ is_whole (view record.now) }
+{
+    is_at(record, "outcome", "clean") || is_at(record, "outcome", "raced")
+}
+
+/// What is said of a run that the limit ended.
+fn cut_words(alloc: Global, requests: u64) -> Result<String, AllocError>
+    ensures { IfOk result (λ words. string_bytes words ≡ cut_words requests) }
+{
+    let mut words = String::from_str(alloc, "The limit ended the run after ")?;
+    words.push_str(Buffer::new().format(requests))?;
+    words.push_str(" requests, and there may be more to tell.")?;
+    Ok(words)
+}
+
+/// What is noted of the run itself: that the limit ended it.
+fn notes_value(alloc: Global, record: &Value) -> Result<Value, AllocError>
+    ensures { IfOk result (λ value. view value ≡ notes_of (view record.now)) }
+{
+    if !is_at(record, "outcome", "unfinished") {
+        return json!(in alloc; []);
+    }
+    let words = cut_words(alloc, count_at(record, "requests"))?;
+    let message = text_value(alloc, words.as_str())?;
+    json!(in alloc; [{"level": "warning", "message": message}])
+}
+
+/// How the run came out.
+fn invocation_value(alloc: Global, record: &Value) -> Result<Value, AllocError>
+    ensures { IfOk result (λ value. view value ≡ invocation_told (view record.now)) }
+{
+    let notes = notes_value(alloc, record)?;
+    json!(in alloc; {
+        "executionSuccessful": is_whole(record),
+        "toolExecutionNotifications": notes
+    })
+}
+
+/// What the record has that is no result.
+fn properties_value(alloc: Global, record: &Value) -> Result<Value, AllocError>
+    ensures { IfOk result (λ value. view value ≡ properties_told (view record.now)) }
+{
+    let memory = member_at(alloc, record, "memory")?;
+    let more = member_at(alloc, record, "more")?;
+    let outcome = member_at(alloc, record, "outcome")?;
+    let pairs = member_at(alloc, record, "pairs")?;
+    let recorded = member_at(alloc, record, "recorded")?;
+    let refusals = member_at(alloc, record, "refusals")?;
+    let requests = member_at(alloc, record, "requests")?;
+    let traces = member_at(alloc, record, "traces")?;
+    let untold = member_at(alloc, record, "untold")?;
+    let version = member_at(alloc, record, "version")?;
+    let warned = member_at(alloc, record, "warned")?;
+    json!(in alloc; {
+        "memory": memory,
+        "more": more,
+        "outcome": outcome,
+        "pairs": pairs,
+        "recorded": recorded,
+        "refusals": refusals,
+        "requests": requests,
+        "traces": traces,
+        "untold": untold,
+        "version": version,
+        "warned": warned
+    })
+}
+
+/// The tool, with its rules.
+fn tool_value(alloc: Global) -> Result<Value, AllocError>
+    ensures { IfOk result (λ value. view value ≡ tool_told) }
+{
+    let rules = rules_value(alloc)?;
+    json!(in alloc; {"driver": {"name": "cilkcheck", "rules": rules}})
+}
+
+/// The one run of a log.
+fn run_value(alloc: Global, record: &Value) -> Result<Value, AllocError>
+    ensures { IfOk result (λ value. view value ≡ run_told (view record.now)) }
+{
+    let invocation = invocation_value(alloc, record)?;
+    let properties = properties_value(alloc, record)?;
+    let results = result_values(alloc, record)?;
+    let tool = tool_value(alloc)?;
+    json!(in alloc; {
+        "invocations": [invocation],
+        "properties": properties,
+        "results": results,
+        "tool": tool
+    })
+}
+
+/// The log in SARIF 2.1.0 of a record, which is a JSON object of the shape that `explain --format json` prints: a result for each of its
+/// warnings, races and faults and for its illegal request, and all else as properties of the run. Errors where there is no memory.
+pub fn log_value(alloc: Global, record: &Value) -> Result<Value, AllocError>
+    ensures { IfOk result (λ log. view log ≡ log_told (view record.now)) }
+{
+    let run = run_value(alloc, record)?;
+    json!(in alloc; {
+        "$schema": "https://json.schemastore.org/sarif-2.1.0.json",
+        "runs": [run],
+        "version": "2.1.0"
+    })
+}
