@@ -187,9 +187,11 @@ fn do_job<R: Threads + Wait + Sync, H: Host, W: Write>(
         (W.contents (held output.old)) (W.contents (held output.new))) }
 {
     match job {
-        Job::Run { .. } | Job::Record { .. } | Job::Explain { .. } | Job::ExplainInput { .. } => {
-            perform(threads, alloc, host, job, output)
-        }
+        Job::Run { .. }
+        | Job::Trace { .. }
+        | Job::Record { .. }
+        | Job::Explain { .. }
+        | Job::ExplainInput { .. } => perform(threads, alloc, host, job, output),
         job => perform_alone(alloc, host, job, output),
     }
 }
