@@ -27,7 +27,7 @@ use std::sync::Wait;
 use std::thread::Threads;
 use tool_commands::{
     CliFault, Form, Manner, OpenDoor, Rendering, Watched, draw_text, elide_text, explain_text,
-    judge_stream, replay_text, run_text,
+    judge_stream, replay_text, run_text, write_run_trace,
 };
 
 const MOST: u32 = 1_000_000;
@@ -41,6 +41,8 @@ enum Command<'a> {
     Elide(u32),
     /// Runs the program that is read by so many workers, with this limit.
     Run(usize, u32),
+    /// The same, with the trace of the run in place of its report.
+    Trace(usize, u32),
     /// The same, told to a person.
     Explain(usize, u32),
     /// The same of a run in the serial order, with this limit.
@@ -59,6 +61,7 @@ enum Command<'a> {
 
 use Command::{
     Draw, Elide, Explain, ExplainAsJson, ExplainSerially, Follow, Judge, Picture, Replay, Run,
+    Trace,
 };
 
 /// A limit that commands take.
@@ -160,6 +163,10 @@ fn answered<P: Read, R: Abort + Threads + Wait + Sync>(
         Run(workers, limit) => {
             let (workers, limit) = (manned(rt, workers), limited(rt, limit));
             run_text(rt, alloc, input, workers, &OpenDoor, output, limit)
+        }
+        Trace(workers, limit) => {
+            let (workers, limit) = (manned(rt, workers), limited(rt, limit));
+            write_run_trace(rt, alloc, input, workers, &OpenDoor, output, limit)
         }
         Explain(workers, limit) => {
             explained(
