@@ -212,8 +212,8 @@ fn run_and_trace<D: Door + Sync, R: Threads + Wait + Sync>(
         Err(fault) => return Err(fault_of(fault)),
     };
     let entries = whole.entries.to_vec(alloc)?;
-    let trace = trace_of(alloc, program, entries.as_slice())?;
-    Ok((trace, whole_status(&whole)))
+    let text = trace_of(alloc, program, entries.as_slice())?;
+    Ok((text, whole_status(&whole)))
 }
 
 /// Reads a program to its end, runs it as [`run_text`](run_command::run_text) does, and writes the text of the trace of that run in place of
