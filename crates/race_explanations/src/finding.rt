@@ -8,7 +8,7 @@ ghost use Rattle.race_explanations.specs.Scenes.{setting_of};
 ghost use Rattle.race_explanations.specs.Findings.{kind_text, name_text, body_text, IsOfTrace, IsFinding, AddsAll, AddsPairs};
 
 use crate::account::Account;
-use crate::explanation::PAIRS;
+use crate::explanations::PAIRS;
 use crate::merge::join_finding;
 use crate::message::{push_advice, push_earlier, push_refused};
 use crate::scene::Scene;

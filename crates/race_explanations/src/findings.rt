@@ -10,7 +10,7 @@ ghost use Rattle.race_explanations.specs.Findings.{found_of, nothing_found, unto
 ghost use Rattle.race_explanations.specs.Findings.{requests_text, at_pairs, found_summary, clean_found_text, races_found_text, found_text};
 
 use crate::account::Account;
-use crate::explanation::{PAIRS, refusal_count, trace_scene};
+use crate::explanations::{PAIRS, refusal_count, trace_scene};
 use crate::finding::{Finding, add_pairs};
 use crate::title::push_left_out;
 use race_gate::Entry;

@@ -9,7 +9,7 @@
 
 mod account;
 mod advice;
-mod explanation;
+mod explanations;
 mod finding;
 mod findings;
 mod illegal;
@@ -21,7 +21,7 @@ mod title;
 mod words;
 
 pub use advice::line_on;
-pub use explanation::{explanation, refusal_count, trace_explanation, trace_scene};
+pub use explanations::{explanation, refusal_count, trace_explanation, trace_scene};
 pub use finding::{Finding, finding_of};
 pub use findings::Findings;
 pub use illegal::{

@@ -1,5 +1,5 @@
 use Rattle.race_explanations.proofs.Accounts.{these, two_adds, five_adds}
-use Rattle.race_explanations.proofs.explanation.push_among.Goals as goal
+use Rattle.race_explanations.proofs.explanations.push_among.Goals as goal
 
 pub returns : goal.returns
 returns c =

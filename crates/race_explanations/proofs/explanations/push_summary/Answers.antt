@@ -1,7 +1,7 @@
 use Rattle.std.proofs.Common.{ap, codes}
 use Rattle.source_quotes.specs.Quotes.{counted}
 use Rattle.race_explanations.proofs.Accounts.{these, two_adds}
-use Rattle.race_explanations.proofs.explanation.push_summary.Goals as goal
+use Rattle.race_explanations.proofs.explanations.push_summary.Goals as goal
 
 pub returns : goal.returns
 returns c =

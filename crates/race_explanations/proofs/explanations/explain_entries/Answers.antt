@@ -5,7 +5,7 @@ use Rattle.race_explanations.specs.Scenes.{setting_of}
 use Rattle.race_explanations.specs.Explained.{pairs_left_out, summary, TellsEntries}
 use Rattle.race_explanations.proofs.Accounts.{these, two_adds}
 use Rattle.race_explanations.proofs.Telling.{first_told, told_text}
-use Rattle.race_explanations.proofs.explanation.explain_entries.Goals as goal
+use Rattle.race_explanations.proofs.explanations.explain_entries.Goals as goal
 
 pub new-requires : goal.new-requires
 new-requires c = legal-part c.requires.legal.0 (reverse c.args.scene.now.entries.now) c.requires.legal.1

@@ -1,7 +1,7 @@
 use Rattle.std.proofs.Common.{rules}
 use Rattle.race_explanations.specs.Scenes.{setting_of}
 use Rattle.race_explanations.proofs.Telling.{pair_told}
-use Rattle.race_explanations.proofs.explanation.push_pair.Goals as goal
+use Rattle.race_explanations.proofs.explanations.push_pair.Goals as goal
 
 pub returns : goal.returns
 returns c =
