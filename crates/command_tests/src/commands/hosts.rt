@@ -626,10 +626,7 @@ const TRACED: &[(Texts<'static>, &str, usize, Wanted<'static>)] = &[
         },
         "-",
         2,
-        Text(
-            0,
-            "cilk 2\nmem a\nbump 0 a 3 @4\nsync 0 @5\nreturn 0 @5\n",
-        ),
+        Text(0, "cilk 2\nmem a\nbump 0 a 3 @4\nsync 0 @5\nreturn 0 @5\n"),
     ),
     (THERE, "gone", 2, Lacking),
 ];

@@ -7,7 +7,9 @@ ghost use Rattle.command_streams.specs.Sources.{unknown_sources};
 use super::Command::{Follow, Judge, Trace};
 use super::Wanted::{Fault, Status, Text};
 use super::worked::{FIB, LASTS, MANY_TURNS, PAIR, SERIES, TURNS};
-use super::{Case, MOST, Takes, check, check_all, done, has_ended, is_ended, is_fault, limited, manned};
+use super::{
+    Case, MOST, Takes, check, check_all, done, has_ended, is_ended, is_fault, limited, manned,
+};
 use crate::devices::{Breaking, Filling};
 use std::alloc::{AllocError, Global};
 use std::io::{self, Error, ErrorKind};
@@ -313,7 +315,14 @@ fn check_alone<R: Abort + Threads + Wait + Sync>(
         Takes::All.writer(alloc),
     );
     assert!(rt; is_ended(&run, status));
-    check_replayed(rt, alloc, run.output.held.as_slice(), status, program, wanted);
+    check_replayed(
+        rt,
+        alloc,
+        run.output.held.as_slice(),
+        status,
+        program,
+        wanted,
+    );
 }
 
 /// Programs with several traces, the status of their runs, and what is told of a replay.
