@@ -7,7 +7,7 @@
 - A block ```sh-session has commands, each behind `$ `, and what they print on standard output and error. They find the wrappers and the judge
   on the PATH; `$?` is the status of the one before.
 - A block ```diff has the lines that the mended example FILE_mended.c takes out of FILE and puts into it, which is then done in the folder.
-- Each block ```sh-session of README.md stands on that page, too.
+- The blocks ```sh-session of README.md are run first, as soon as the example is in the folder.
 - .ci/pages runs and compares the other kinds of blocks (OTHERS).
 """
 import difflib
@@ -29,7 +29,7 @@ class Reader:
     """What a reader of the page has come to."""
 
     def __init__(self, given, room):
-        self.room, self.status, self.source, self.checks, self.failures = Path(room), 0, None, 0, []
+        self.room, self.page, self.status, self.source, self.checks, self.failures = Path(room), PAGE, 0, None, 0, []
         tools = self.room / "tools"
         tools.mkdir()
         (tools / "cilkcheck").symlink_to(given.cilkcheck.resolve())
@@ -40,7 +40,7 @@ class Reader:
     def check(self, line, holds, said):
         self.checks += 1
         if not holds:
-            self.failures += harness.shown([f"GUIDE.md:{line}: {said}"])
+            self.failures += harness.shown([f"{self.page.name}:{line}: {said}"])
 
     def take_file(self, line, name, text):
         self.source = name
@@ -53,6 +53,17 @@ class Reader:
         changed = [it for it in difflib.ndiff(before, after) if it[0] in "+-"]
         self.check(line, [it[0] + it[2:] for it in changed] == text.splitlines(), f"{mended.name} is changed by {changed}")
         shutil.copy(mended, self.folder / self.source)
+
+    def run_readme(self):
+        self.page = README
+        for line, words, text in blocks(README.read_text()):
+            if words[0] == "sh-session":
+                self.run_block(line, text)
+        self.page = PAGE
+
+    def run_block(self, line, text):
+        for it in commands(line, text):
+            self.run(*it)
 
     def run(self, line, command, wanted):
         ran = subprocess.run(["bash", "-c", f"(exit {self.status})\n{command}"], cwd=self.folder, env=self.env, stdin=subprocess.DEVNULL, capture_output=True, text=True, timeout=harness.SECONDS)
@@ -85,17 +96,13 @@ def main():
         for line, words, text in blocks(PAGE.read_text()):
             if words[0] == "c":
                 reader.take_file(line, words[1], text)
+                reader.run_readme()
             elif words[0] == "diff":
                 reader.mend(line, text)
             elif words[0] == "sh-session":
-                for it in commands(line, text):
-                    reader.run(*it)
+                reader.run_block(line, text)
             elif words[0] not in OTHERS:
                 reader.check(line, False, f"a block of another kind: {words}")
-        page = [text for _, _, text in blocks(PAGE.read_text())]
-        for line, words, text in blocks(README.read_text()):
-            if words[0] == "sh-session":
-                reader.check(line, text in page, "the block of README.md is none of this page")
         kept = sorted(os.listdir(reader.folder))
     harness.finish("page", reader.checks, reader.failures + [it for it in kept if it not in ("words", "words.c", "words.trace")], given.expect)
 

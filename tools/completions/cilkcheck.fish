@@ -13,7 +13,7 @@ complete -c cilkcheck -n __fish_use_subcommand -s V -l version -d 'Print the ver
 complete -c cilkcheck -n '__fish_seen_subcommand_from judge elide run explain replay draw' -s h -l help -d 'Print help'
 complete -c cilkcheck -n '__fish_seen_subcommand_from judge elide run explain' -l limit -x -d 'Stop after N requests'
 complete -c cilkcheck -n '__fish_seen_subcommand_from run explain' -l workers -x -d 'Run by N workers'
-complete -c cilkcheck -n '__fish_seen_subcommand_from run' -l trace -r -F -d 'Write the trace of the run to a file'
+complete -c cilkcheck -n '__fish_seen_subcommand_from run' -l trace -r -F -d 'Write the trace of the run to a file, or print it with -'
 complete -c cilkcheck -n '__fish_seen_subcommand_from explain' -l serial -d 'Run each child before what follows its spawn'
 complete -c cilkcheck -n '__fish_seen_subcommand_from explain' -l color -x -a 'auto always never' -d 'When to color'
 complete -c cilkcheck -n '__fish_seen_subcommand_from explain' -l format -x -a 'text json sarif' -d 'The form of the explanation'

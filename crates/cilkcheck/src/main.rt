@@ -187,9 +187,11 @@ fn do_job<R: Threads + Wait + Sync, H: Host, W: Write>(
         (W.contents (held output.old)) (W.contents (held output.new))) }
 {
     match job {
-        Job::Run { .. } | Job::Record { .. } | Job::Explain { .. } | Job::ExplainInput { .. } => {
-            perform(threads, alloc, host, job, output)
-        }
+        Job::Run { .. }
+        | Job::Trace { .. }
+        | Job::Record { .. }
+        | Job::Explain { .. }
+        | Job::ExplainInput { .. } => perform(threads, alloc, host, job, output),
         job => perform_alone(alloc, host, job, output),
     }
 }
@@ -218,6 +220,13 @@ fn answer_of<R: Threads + Wait + Sync>(threads: &R, rt: &HostRuntime) -> Result<
     answer
 }
 
+/// Takes the numbers of the standard streams that are closed, until the result is dropped: a file that is opened then would get such a
+/// number, and be read or written as that stream. A folder can be neither.
+fn hold_streams(rt: &HostRuntime) -> [io::Result<File>; 3] {
+    [fs::open(rt, "/"), fs::open(rt, "/"), fs::open(rt, "/")]
+}
+
 fn main(rt: HostRuntime) -> ExitCode {
+    let _streams = hold_streams(&rt);
     ExitCode::from(exit_of(&answer_of(&rt, &rt)))
 }

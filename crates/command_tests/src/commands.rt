@@ -28,8 +28,8 @@ use std::process::Abort;
 use std::sync::Wait;
 use std::thread::Threads;
 use tool_commands::{
-    CliFault, Form, Manner, OpenDoor, RecordForm, Rendering, Watched, draw_text, elide_text, explain_text,
-    judge_stream, replay_text, run_text,
+    CliFault, Form, Manner, OpenDoor, RecordForm, Rendering, Watched, draw_text, elide_text,
+    explain_text, judge_stream, replay_text, run_text, write_run_trace,
 };
 
 const MOST: u32 = 1_000_000;
@@ -43,6 +43,8 @@ enum Command<'a> {
     Elide(u32),
     /// Runs the program that is read by so many workers, with this limit.
     Run(usize, u32),
+    /// The same, with the trace of the run in place of its report.
+    Trace(usize, u32),
     /// The same, told to a person.
     Explain(usize, u32),
     /// The same of a run in the serial order, with this limit.
@@ -62,7 +64,8 @@ enum Command<'a> {
 }
 
 use Command::{
-    Draw, Elide, Explain, ExplainAsJson, ExplainAsSarif, ExplainSerially, Follow, Judge, Picture, Replay, Run,
+    Draw, Elide, Explain, ExplainAsJson, ExplainAsSarif, ExplainSerially, Follow, Judge, Picture,
+    Replay, Run, Trace,
 };
 
 /// A limit that commands take.
@@ -165,6 +168,10 @@ fn answered<P: Read, R: Abort + Threads + Wait + Sync>(
             let (workers, limit) = (manned(rt, workers), limited(rt, limit));
             run_text(rt, alloc, input, workers, &OpenDoor, output, limit)
         }
+        Trace(workers, limit) => {
+            let (workers, limit) = (manned(rt, workers), limited(rt, limit));
+            write_run_trace(rt, alloc, input, workers, &OpenDoor, output, limit)
+        }
         Explain(workers, limit) => {
             explained(
                 rt,
@@ -181,10 +188,28 @@ fn answered<P: Read, R: Abort + Threads + Wait + Sync>(
             explained(rt, alloc, input, 1, true, Rendering::Text, output, limit)
         }
         ExplainAsJson(limit) => {
-            explained(rt, alloc, input, 1, true, Rendering::Record(RecordForm::Json), output, limit)
+            explained(
+                rt,
+                alloc,
+                input,
+                1,
+                true,
+                Rendering::Record(RecordForm::Json),
+                output,
+                limit,
+            )
         }
         ExplainAsSarif(limit) => {
-            explained(rt, alloc, input, 1, true, Rendering::Record(RecordForm::Sarif), output, limit)
+            explained(
+                rt,
+                alloc,
+                input,
+                1,
+                true,
+                Rendering::Record(RecordForm::Sarif),
+                output,
+                limit,
+            )
         }
         Replay(trace) => replayed(rt, alloc, input, trace, output),
         Follow(program) => followed(rt, alloc, input, program, output),

@@ -4,7 +4,7 @@ use Rattle.clap.specs.Words.{Row, Text, first_of, subcommand_of}
 use Rattle.clap.specs.declared.error.kind.ErrorKind.{ErrorKind}
 use Rattle.clap.specs.declared.error.kind.ErrorKind.TheVariants.{DisplayHelp, DisplayVersion}
 use Rattle.command_words.specs.declared.words.Job.{Job}
-use Rattle.command_words.specs.declared.words.Job.TheVariants.{Judge, Elide, Run, Record, Explain, ExplainInput, ExplainTraces, Replay, Draw, Show}
+use Rattle.command_words.specs.declared.words.Job.TheVariants.{Judge, Elide, Run, Trace, Record, Explain, ExplainInput, ExplainTraces, Replay, Draw, Show}
 use Rattle.command_words.specs.Asked.{IsAsked, IsAskedBy, IsJobOf, IsNumber, IsShown, IsWorkers, IsLimit}
 use Rattle.command_words.specs.Commands.{cilkcheck}
 use Rattle.command_words.specs.Jobs.{IsInRange}
@@ -27,6 +27,8 @@ asked_in : (command : Text) (rows : List Row) (job : Job) → IsAsked command ro
 asked_in command rows (Judge file limit) is = limit_in rows limit is.2
 asked_in command rows (Elide file limit) is = limit_in rows limit is.2
 asked_in command rows (Run file workers limit) is =
+    let some = workers_in rows workers is.2 in (some.0, some.1, limit_in rows limit is.3)
+asked_in command rows (Trace file workers limit) is =
     let some = workers_in rows workers is.2 in (some.0, some.1, limit_in rows limit is.3)
 asked_in command rows (Record file workers limit trace) is =
     let some = workers_in rows workers is.2 in (some.0, some.1, limit_in rows limit is.3)

@@ -13,7 +13,7 @@ use Rattle.clap.specs.declared.error.kind.ErrorKind.TheVariants.{DisplayHelp, Di
 use Rattle.command_words.specs.Commands.{cilkcheck}
 use Rattle.model_histories.specs.Shapes.{most_entries}
 use Rattle.command_words.specs.declared.words.Job.{Job}
-use Rattle.command_words.specs.declared.words.Job.TheVariants.{Judge, Elide, Run, Record, Explain, ExplainInput, ExplainTraces, Replay, Draw, Show}
+use Rattle.command_words.specs.declared.words.Job.TheVariants.{Judge, Elide, Run, Trace, Record, Explain, ExplainInput, ExplainTraces, Replay, Draw, Show}
 use Rattle.command_words.specs.declared.words.Color.{Color}
 use Rattle.command_words.specs.declared.words.Color.TheVariants.{Auto, Always, Never}
 use Rattle.command_words.specs.declared.words.Format.{Format}
@@ -96,13 +96,17 @@ IsSerial rows is_serial = (is_serial ≡ has_flag (codes "serial") rows)
 abbrev pub input_word : Text
 input_word = codes "-"
 
+-- the word for standard output in place of a trace's file
+abbrev pub output_word : Text
+output_word = codes "-"
+
 -- The word of this name is the name of the file.
 abbrev pub IsName : (name : Text) → List Row → Text → Type 0
 IsName name rows file = first_of name rows ≡ Some file
 
--- A trace may be written into this file: it is not the program's and not standard output, which has the report; and the program is in a file.
+-- A trace may be written into this file: it is not the program's, and not standard output; and the program is in a file.
 abbrev pub IsOut : (file trace : Text) → Type 0
-IsOut file trace = (trace ≢ file) × (trace ≢ input_word) × (file ≢ input_word)
+IsOut file trace = (trace ≢ file) × (trace ≢ output_word) × (file ≢ input_word)
 
 -- ---- jobs
 
@@ -115,6 +119,9 @@ IsAsked command rows (Elide file limit) =
 IsAsked command rows (Run file workers limit) =
     (command ≡ codes "run") × IsName (codes "file") rows (string_bytes file) × IsWorkers rows workers × IsLimit rows limit
     × (first_of (codes "trace") rows ≡ None)
+IsAsked command rows (Trace file workers limit) =
+    (command ≡ codes "run") × IsName (codes "file") rows (string_bytes file) × IsWorkers rows workers × IsLimit rows limit
+    × IsName (codes "trace") rows output_word
 IsAsked command rows (Record file workers limit trace) =
     (command ≡ codes "run") × IsName (codes "file") rows (string_bytes file) × IsWorkers rows workers × IsLimit rows limit
     × IsName (codes "trace") rows (string_bytes trace) × IsOut (string_bytes file) (string_bytes trace)

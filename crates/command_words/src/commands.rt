@@ -118,7 +118,7 @@ fn run<'a>(alloc: Global) -> Result<Command<'a>, AllocError>
         alloc,
         "trace",
         "OUT",
-        "A file, made or emptied, that the trace of the run is written into",
+        "A file, made or emptied, that the trace of the run is written into; '-' is standard output, which then has no report",
     );
     command(alloc, "run", help::RUN, help::LANGUAGE)
         .long_about(help::REPORT)

@@ -31,8 +31,8 @@ The third request is refused: it races with the write of entry 2.
 Exit status:
   0  no access was refused
   1  an access was refused: a race, or a get of a reducer that nothing was put into
-  2  wrong words, an input that can't be read, is too long or has a fault, output that failed, a trace's file that
-     can't be written, an illegal request, or a program and a trace with different declarations
+  2  invalid arguments, unreadable or malformed input, failed output, a trace's file that can't be written, an illegal
+     request, or a program and a trace with different declarations
   3  no memory
   4  the limit was passed; more than 10000 strands are to be drawn; a replay is strange or unfinished; a run is strange,
      torn or stopped
@@ -113,7 +113,9 @@ request with its line in the program:
 
 Then `replay` tells `replayed 7`, and `judge` the answer to each of the 7 requests. OUT is made, or emptied where it is there,
 once the run is done; before the report is written it has the trace. Where there is no run to be told, it stays as it was.
-OUT is no `-`, since standard output has the report; nor is FILE then, so that the trace can be replayed.
+FILE is no `-` then, so that the trace can be replayed. `--trace -` writes the trace to standard output, in place of the report:
+
+    cilkcheck run seven --trace - | cilkcheck judge
 
 Output: one JSON object in a line, with the keys
   clean      whether nothing was refused

@@ -6,7 +6,7 @@ ghost use Rattle.std.specs.String.{string_bytes};
 ghost use Rattle.clap.specs.Words.{app_of, kind_of, first_of, all_of, subcommand_rows_of};
 ghost use Rattle.command_words.specs.Commands.{cilkcheck};
 ghost use Rattle.command_words.specs.Jobs.{IsInRange};
-ghost use Rattle.command_words.specs.Asked.{rows_in, IsWorkers, IsLimit, IsName, IsColor, IsFormat, IsSerial, has_flag, language_of, input_word, IsOut};
+ghost use Rattle.command_words.specs.Asked.{rows_in, IsWorkers, IsLimit, IsName, IsColor, IsFormat, IsSerial, has_flag, language_of, input_word, output_word, IsOut};
 ghost use Rattle.command_words.specs.Asked.{IsAsked, IsAskedBy, IsShown, IsJobOf};
 ghost use Rattle.command_streams.specs.Faults.{IsUsageFault, TellsUsage};
 
@@ -27,10 +27,10 @@ const WORKERS: usize = 2;
 /// The word for standard input in place of a file.
 pub const INPUT: &str = "-";
 
-/// A trace would be written to standard output, which has the report.
-const OVER_REPORT: &str = "standard output has the report: name a file with '--trace <OUT>'";
+/// The word for standard output in place of a trace's file.
+const OUTPUT: &str = "-";
 
-/// A trace is wanted of a program on standard input.
+/// The trace of a program on standard input is wanted in a file.
 const OF_INPUT: &str =
     "a trace belongs to a program that is in a file, which is not standard input: name it";
 
@@ -93,6 +93,12 @@ pub enum Job {
         workers: usize,
         limit: u32,
     },
+    /// To run it so, and to write the trace of the run in place of its report.
+    Trace {
+        file: String,
+        workers: usize,
+        limit: u32,
+    },
     /// To run it so, and to write the trace of the run into the file `trace`.
     Record {
         file: String,
@@ -146,6 +152,11 @@ impl Drop for Job {
             Job::Judge { file: _, limit: _ } => {}
             Job::Elide { file: _, limit: _ } => {}
             Job::Run {
+                file: _,
+                workers: _,
+                limit: _,
+            } => {}
+            Job::Trace {
                 file: _,
                 workers: _,
                 limit: _,
@@ -336,19 +347,21 @@ fn elide_job(alloc: Global, matches: &ArgMatches<'_>) -> Result<Job, CliFault>
     Ok(Job::Elide { file, limit })
 }
 
-/// The file that the trace of a run is written into, where one is named. It is none that holds the program, which would be lost, and not
-/// standard output, which has the report; and the program is in a file, so that the trace can be replayed.
-fn out_of(alloc: Global, matches: &ArgMatches<'_>, file: &str) -> Result<Option<String>, CliFault>
-    ensures name { IfOk result (λ trace. option_map string_bytes trace ≡ first_of (codes "trace") (rows_in matches.now)) }
-    ensures other { IfOk result (λ trace. IfSome trace (λ name. IsOut file.now (string_bytes name))) }
+/// The name of the file that the trace of a run is written into. It is none that holds the program, which would be lost; and the program
+/// is in a file, so that the trace can be replayed.
+fn out_of(alloc: Global, name: &str, file: &str) -> Result<String, CliFault>
+    requires { name.now ≢ output_word }
+    ensures name { IfOk result (λ trace. string_bytes trace ≡ name.now) }
+    ensures other { IfOk result (λ trace. IsOut file.now (string_bytes trace)) }
     ensures fault { IfErr result IsUsageFault }
 {
-    match text_of(matches, "trace") {
-        Some(name) if name == INPUT => Err(usage(alloc, OVER_REPORT)),
-        Some(_) if file == INPUT => Err(usage(alloc, OF_INPUT)),
-        Some(name) if name == file => Err(usage(alloc, OVER_PROGRAM)),
-        _ => given_file(alloc, matches, "trace"),
+    if file == INPUT {
+        return Err(usage(alloc, OF_INPUT));
     }
+    if name == file {
+        return Err(usage(alloc, OVER_PROGRAM));
+    }
+    Ok(String::from_str(alloc, name)?)
 }
 
 fn run_job(alloc: Global, matches: &ArgMatches<'_>) -> Result<Job, CliFault>
@@ -358,18 +371,26 @@ fn run_job(alloc: Global, matches: &ArgMatches<'_>) -> Result<Job, CliFault>
     let file = file_of(alloc, matches, "file")?;
     let workers = workers_of(alloc, matches)?;
     let limit = limit_of(alloc, matches)?;
-    match out_of(alloc, matches, file.as_str())? {
+    match text_of(matches, "trace") {
         None => Ok(Job::Run {
             file,
             workers,
             limit,
         }),
-        Some(trace) => Ok(Job::Record {
+        Some(name) if name == OUTPUT => Ok(Job::Trace {
             file,
             workers,
             limit,
-            trace,
         }),
+        Some(name) => {
+            let trace = out_of(alloc, name, file.as_str())?;
+            Ok(Job::Record {
+                file,
+                workers,
+                limit,
+                trace,
+            })
+        }
     }
 }
 

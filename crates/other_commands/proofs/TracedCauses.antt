@@ -2,10 +2,13 @@
 use Rattle.std.proofs.Common.{◌≡◌, ◌≢◌, ◌≤◌, ℕ, List, [], length, reverse, Option, None, Result, Ok, Err, IfOk, IfErr, OnOk, refl, sym, subst}
 use Rattle.std.specs.Io.KnownBytes.{Appends}
 use Rattle.command_streams.specs.declared.fault.CliFault.{CliFault}
-use Rattle.command_streams.specs.declared.fault.CliFault.TheVariants.{Write, Unwritten}
+use Rattle.command_streams.specs.declared.fault.CliFault.TheVariants.{Write, Unwritten, Limit, Stopped, Torn, Strange, Memory}
 use Rattle.command_streams.specs.Readings.{Reading, reading}
-use Rattle.run_command.specs.Runs.{run_line, IsRan}
+use Rattle.command_streams.specs.Streams.{StopsWriting}
+use Rattle.program_text.specs.Drafts.{Contents}
+use Rattle.run_command.specs.Runs.{run_line, IsRunFault, IsProgramRead, IsRan}
 use Rattle.other_commands.specs.Traced.{TellsTraced, IsReadTraced, IsTraced, IsReportCut, StopsRun, StopsTelling, HasTracedCause}
+use Rattle.other_commands.specs.Traced.{TellsTrace, IsTraceWritten, HasTraceCause}
 use Rattle.model_histories.specs.declared.answer.Entry.{Entry}
 use Rattle.model_histories.specs.Shapes.{most_entries}
 use Rattle.model_races.specs.Memory.{IsMemory}
@@ -19,6 +22,7 @@ use Rattle.run_traces.specs.Traces.{trace_contents}
 use Rattle.run_traces.specs.Laws.{IsRunOf}
 use Rattle.run_command.specs.Outcomes.{refusal_status}
 use Rattle.run_command.proofs.CleanReports.{tells_run}
+use Rattle.run_command.proofs.RunCauses.{ran_status}
 
 -- there is no run to be told
 pub no_run_cause : (reader : Reading) (traced traces wrote writes : Option (List ℕ)) (limit : ℕ) (fault : CliFault) → StopsRun reader limit fault →
@@ -161,3 +165,45 @@ traced_tells program limit entries memory line trace status run within few left 
   trace_is = trace_is;
   means = means (record { run = run.0; few = few });
 }
+
+-- ---- the trace in place of the report
+
+-- there is no run of the program that was read
+pub trace_stops : (reader : Reading) (wrote writes : Option (List ℕ)) (limit : ℕ) (program : Contents) (fault : CliFault) → IsProgramRead reader program → IsRunFault program limit fault →
+    HasTraceCause reader wrote writes limit fault
+trace_stops reader wrote writes limit program Limit read stops = record { program = program; read = read; stops = stops }
+trace_stops reader wrote writes limit program Stopped read stops = record { program = program; read = read; stops = stops }
+trace_stops reader wrote writes limit program Torn read stops = record { program = program; read = read; stops = stops }
+trace_stops reader wrote writes limit program Strange read stops = record { program = program; read = read; stops = stops }
+trace_stops reader wrote writes limit program Memory read stops = tt
+trace_stops reader wrote writes limit program fault read stops = absurd stops
+
+-- only a part of the trace could be written
+pub trace_cut : (reader : Reading) (wrote writes : Option (List ℕ)) (limit : ℕ) (program : Contents) (trace : List ℕ) (status : ℕ) (fault : CliFault) →
+    IsProgramRead reader program → TellsTrace program limit trace status → StopsWriting wrote writes trace fault → HasTraceCause reader wrote writes limit fault
+trace_cut reader wrote writes limit program trace status Write read tells stops = record {
+  line = tells.0;
+  trace = trace;
+  status = status;
+  part = stops.0;
+  rest = stops.1;
+  told = record { program = program; read = read; tells = tells.1 };
+  kept = stops.2;
+  prefix = stops.3;
+}
+trace_cut reader wrote writes limit program trace status fault read tells stops = absurd stops
+
+-- the trace was written
+pub trace_written : (reader : Reading) (wrote writes : Option (List ℕ)) (limit : ℕ) (program : Contents) (trace : List ℕ) (status : ℕ) →
+    IsProgramRead reader program → TellsTrace program limit trace status → Appends wrote writes trace → IsTraceWritten reader wrote writes limit status
+trace_written reader wrote writes limit program trace status read tells written = record {
+  line = tells.0;
+  trace = trace;
+  told = record { program = program; read = read; tells = tells.1 };
+  written = written;
+}
+
+pub trace_status : (reader : Reading) (wrote writes : Option (List ℕ)) (limit status : ℕ) → IsTraceWritten reader wrote writes limit status → status ≤ 4
+trace_status reader wrote writes limit status done =
+    ran_status reader None None limit status
+    (record { program = done.told.program; line = done.line; read = done.told.read; tells = done.told.tells.tells; written = tt })

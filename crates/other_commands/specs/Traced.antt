@@ -80,3 +80,21 @@ StopsTelling traced traces wrote writes trace line Unwritten = StopsWriting trac
 StopsTelling traced traces wrote writes trace line Write = Appends traced traces trace ×
     (part : List ℕ) × (rest : List ℕ) × Appends wrote writes part × (part ++ rest ≡ line)
 StopsTelling traced traces wrote writes trace line fault = ⊥
+
+-- ---- the trace in place of the report
+
+-- The trace is that of some finished run of the program within the limit, which has this status and some report.
+abbrev pub TellsTrace : Contents → (limit : ℕ) → (trace : List ℕ) → (status : ℕ) → Type 0
+TellsTrace program limit trace status = (line : List ℕ) × TellsTraced program limit line trace status
+
+-- Of a run the trace was written, and not its report.
+pub record IsTraceWritten (reader : Reading) (wrote writes : Option (List ℕ)) (limit status : ℕ) : Type 0 where
+  pub line : List ℕ
+  pub trace : List ℕ
+  pub told : IsReadTraced reader limit line trace status
+  pub written : Appends wrote writes trace
+
+-- Why the trace is not written, or not wholly: each fault has its cause.
+abbrev pub HasTraceCause : Reading → (wrote writes : Option (List ℕ)) → (limit : ℕ) → CliFault → Type 0
+HasTraceCause reader wrote writes limit Write = IsTraceCut reader wrote writes limit
+HasTraceCause reader wrote writes limit fault = StopsRun reader limit fault

@@ -3,7 +3,7 @@
 //! [`elide_text`] carries the theorem of `elide`: at status 0 the bytes that were read mean a program, and what was written are the lines
 //! of the memory and of the number of requests of its one evaluation, in which each spawn is a call, and which makes no more requests than
 //! the limit. At the fault Limit an evaluation, if there is one, makes more. [`run_traced_text`] carries that of `run --trace`: the report
-//! and the text of the trace that were written are those of one and the same run. [`replay_text`] carries that of `replay`: at a status
+//! and the text of the trace that were written are those of one and the same run; [`write_run_trace`] writes that text alone. [`replay_text`] carries that of `replay`: at a status
 //! the bytes that were read mean a program and a trace which declare the same, a gate answered each request of the trace, and what was
 //! written tells of the gate's entries that they are a finished run, a run that is not finished, or which of them is the first strange
 //! one. [`explain_text`] carries that of `explain`: at status 0, 1 or 4 the bytes that were read mean a program, and what was written tells
@@ -34,4 +34,6 @@ pub use explain_traces::Traces;
 pub use race_records::RecordForm;
 pub use replay::replay_text;
 pub use sort::is_program;
-pub use traced_run::{TracedRun, run_traced_text, trace_run, trace_run_of_text, write_traced_run};
+pub use traced_run::{
+    TracedRun, run_traced_text, trace_run, trace_run_of_text, write_run_trace, write_traced_run,
+};

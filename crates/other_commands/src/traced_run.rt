@@ -9,6 +9,7 @@ ghost use Rattle.command_streams.specs.Streams.{most_reads};
 ghost use Rattle.command_streams.specs.Readings.{reading};
 ghost use Rattle.run_command.specs.Runs.{IsRunFault};
 ghost use Rattle.other_commands.specs.Traced.{TellsTraced, IsReadTraced, IsTraced, StopsRun, StopsTrace, StopsTelling, HasTracedCause};
+ghost use Rattle.other_commands.specs.Traced.{TellsTrace, IsTraceWritten, HasTraceCause};
 
 use command_streams::{CliFault, Watched, read_text, write_text};
 use program_text::Program;
@@ -182,4 +183,67 @@ pub fn run_traced_text<D: Door + Sync, P: Read, T: Write, W: Write, R: Threads +
         Err(fault) => return Err(fault),
     };
     write_traced_run(&told, trace, output)
+}
+
+/// The text of the trace of a run of the program, and the exit status.
+fn run_and_trace<D: Door + Sync, R: Threads + Wait + Sync>(
+    rt: &R,
+    alloc: Global,
+    program: &Program<Global>,
+    workers: usize,
+    door: &D,
+    limit: u32,
+) -> Result<(Vec<u8>, u8), CliFault>
+    requires workers { (0 < workers) × (workers ≤ 64) }
+    requires limit { limit ≤ most_entries }
+    ensures ok { IfOk result (λ told. TellsTrace (contents program.now) limit told.0.items told.1) }
+    ensures fault { IfErr result (IsRunFault (contents program.now) limit) }
+{
+    let whole = match whole_run::<Brand, D, R>(
+        rt,
+        alloc,
+        program,
+        workers,
+        door,
+        limit,
+        Blank::new(PARTS),
+    ) {
+        Ok(whole) => whole,
+        Err(fault) => return Err(fault_of(fault)),
+    };
+    let entries = whole.entries.to_vec(alloc)?;
+    let text = trace_of(alloc, program, entries.as_slice())?;
+    Ok((text, whole_status(&whole)))
+}
+
+/// Reads a program to its end, runs it as [`run_text`](run_command::run_text) does, and writes the text of the trace of that run in place of
+/// its report. Exit status and faults are those of `run_text`. Nothing is written at a fault, but at [`CliFault::Write`] a part.
+pub fn write_run_trace<D: Door + Sync, P: Read, W: Write, R: Threads + Wait + Sync>(
+    rt: &R,
+    alloc: Global,
+    program: &mut Watched<P>,
+    workers: usize,
+    door: &D,
+    output: &mut Watched<W>,
+    limit: u32,
+) -> Result<u8, CliFault>
+    requires reader { has_failed program.old ≡ false }
+    requires writer { has_failed output.old ≡ false }
+    requires workers { (0 < workers) × (workers ≤ 64) }
+    requires limit { limit ≤ most_entries }
+    ensures answered { IfOk result (IsTraceWritten (reading (P.remaining (held program.old)) (P.remaining (held program.new)))
+        (W.contents (held output.old)) (W.contents (held output.new)) limit) }
+    ensures fault { IfErr result (HasTraceCause (reading (P.remaining (held program.old)) (P.remaining (held program.new)))
+        (W.contents (held output.old)) (W.contents (held output.new)) limit) }
+    ensures read_failed { IsErrOf result CliFault.Read ↔ IsTrue (has_failed program.new) }
+    ensures delivered { OnOk result (is_delivered output.new ≡ true) }
+    ensures write_failed { IsErrOf result CliFault.Write ↔ IsTrue (has_failed output.new) }
+    ensures reads { IsCalledAtMost most_reads (calls_of program.old) (calls_of program.new) }
+    ensures unwritten { IfErr result (λ fault. fault ≢ CliFault.Write → output.new ≡ output.old) }
+{
+    let text = read_text(alloc, program)?;
+    let program = parse_program(alloc, text)?;
+    let (trace, status) = run_and_trace(rt, alloc, &program, workers, door, limit)?;
+    write_text(output, trace.as_slice())?;
+    Ok(status)
 }

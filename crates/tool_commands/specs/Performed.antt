@@ -7,7 +7,7 @@ use Rattle.std.specs.Io.KnownBytes.{Appends}
 use Rattle.model_histories.specs.declared.reply.Reply.{Reply}
 use Rattle.command_streams.specs.declared.fault.CliFault.{CliFault}
 use Rattle.command_words.specs.declared.words.Job.{Job}
-use Rattle.command_words.specs.declared.words.Job.TheVariants.{Judge, Elide, Run, Record, Explain, ExplainInput, ExplainTraces, Replay, Draw, Show}
+use Rattle.command_words.specs.declared.words.Job.TheVariants.{Judge, Elide, Run, Trace, Record, Explain, ExplainInput, ExplainTraces, Replay, Draw, Show}
 use Rattle.command_words.specs.Asked.{input_word}
 use Rattle.command_words.specs.declared.words.Color.{Color}
 use Rattle.command_words.specs.declared.words.Color.TheVariants.{Auto, Always, Never}
@@ -30,7 +30,7 @@ use Rattle.run_command.specs.Runs.{IsRan, HasRunCause}
 use Rattle.command_streams.specs.Sources.{Sources}
 use Rattle.judge_command.specs.Statuses.{status_of_replies}
 use Rattle.command_streams.specs.Streams.{IsAnswered, HasCause, StopsWriting}
-use Rattle.other_commands.specs.Traced.{IsTraced, IsReportCut, HasTracedCause}
+use Rattle.other_commands.specs.Traced.{IsTraced, IsTraceWritten, IsReportCut, HasTraceCause, HasTracedCause}
 use Rattle.tool_commands.specs.Several.{AreExplained, HasSeveralCause}
 
 -- the language of a drawing, as the words of the command line name it
@@ -88,6 +88,8 @@ IsPerformed sources (Elide file limit) wrote writes status = (behind : Option (L
     IsElided (named sources (string_bytes file)) behind wrote writes limit
 IsPerformed sources (Run file workers limit) wrote writes status = (behind : Option (List ℕ)) ×
     IsRan (reading (named sources (string_bytes file)) behind) wrote writes limit status
+IsPerformed sources (Trace file workers limit) wrote writes status = (behind : Option (List ℕ)) ×
+    IsTraceWritten (reading (named sources (string_bytes file)) behind) wrote writes limit status
 IsPerformed sources (Record file workers limit trace) wrote writes status = (behind : Option (List ℕ)) ×
     IsRan (reading (sources.file (string_bytes file)) behind) wrote writes limit status
 IsPerformed sources (Explain file workers is_serial limit color format) wrote writes status = (behind : Option (List ℕ)) × (manner : Manner) ×
@@ -114,6 +116,8 @@ HasJobCause sources (Elide file limit) wrote writes fault = (behind : Option (Li
     HasElisionCause (named sources (string_bytes file)) behind wrote writes limit fault
 HasJobCause sources (Run file workers limit) wrote writes fault = (behind : Option (List ℕ)) ×
     HasRunCause (reading (named sources (string_bytes file)) behind) wrote writes limit fault
+HasJobCause sources (Trace file workers limit) wrote writes fault = (behind : Option (List ℕ)) ×
+    HasTraceCause (reading (named sources (string_bytes file)) behind) wrote writes limit fault
 HasJobCause sources (Record file workers limit trace) wrote writes fault =
     (behind : Option (List ℕ)) × (traced : Option (List ℕ)) × (traces : Option (List ℕ)) ×
     HasTracedCause (reading (sources.file (string_bytes file)) behind) traced traces wrote writes limit fault
@@ -161,6 +165,7 @@ abbrev pub LacksFile : (List ℕ → Type 0) → Job → Type 0
 LacksFile lacks (Judge (Some file) limit) = lacks_named lacks (string_bytes file)
 LacksFile lacks (Elide file limit) = lacks_named lacks (string_bytes file)
 LacksFile lacks (Run file workers limit) = lacks_named lacks (string_bytes file)
+LacksFile lacks (Trace file workers limit) = lacks_named lacks (string_bytes file)
 LacksFile lacks (Record file workers limit trace) = lacks (string_bytes file)
 LacksFile lacks (Explain file workers is_serial limit color format) = lacks (string_bytes file)
 LacksFile lacks (ExplainTraces files color format) = lacks_first lacks (map string_bytes files.items)
@@ -172,6 +177,7 @@ LacksFile lacks job = ⊥
 -- the job starts no thread and waits for none
 abbrev pub IsAlone : Job → Type 0
 IsAlone (Run file workers limit) = ⊥
+IsAlone (Trace file workers limit) = ⊥
 IsAlone (Record file workers limit trace) = ⊥
 IsAlone (Explain file workers is_serial limit color format) = ⊥
 IsAlone (ExplainInput workers is_serial limit color format) = ⊥

@@ -17,8 +17,8 @@ use command_words::{Color, Format, INPUT, Job, Language};
 use dag_drawing::Form;
 use judge_command::judge_stream;
 use other_commands::{
-    Manner, RecordForm, Rendering, draw_text, elide_text, explain_text, replay_text, trace_run_of_text,
-    write_traced_run,
+    Manner, RecordForm, Rendering, draw_text, elide_text, explain_text, replay_text,
+    trace_run_of_text, write_run_trace, write_traced_run,
 };
 use run_command::{OpenDoor, run_text};
 use std::alloc::Global;
@@ -134,6 +134,44 @@ fn run_file<H: Host, W: Write, R: Threads + Wait + Sync>(
 {
     let mut program = open_named(host, file.as_str())?;
     let answer = run_text(
+        threads,
+        alloc,
+        &mut program,
+        workers,
+        &OpenDoor,
+        output,
+        limit,
+    );
+    host.note(&program);
+    answer
+}
+
+/// Runs the program in a file by so many workers, and writes the trace of the run in place of its report.
+fn trace_file<H: Host, W: Write, R: Threads + Wait + Sync>(
+    threads: &R,
+    alloc: Global,
+    host: &mut Watched<H>,
+    file: &String,
+    workers: usize,
+    limit: u32,
+    output: &mut Watched<W>,
+) -> Result<u8, CliFault>
+    requires host { has_failed host.old ≡ false }
+    requires writer { has_failed output.old ≡ false }
+    requires workers { (0 < workers) × (workers ≤ 64) }
+    requires limit { limit ≤ most_entries }
+    ensures done { IfOk result (IsPerformed (H.sources (held host.old)) (Job.Trace file.now workers limit)
+        (W.contents (held output.old)) (W.contents (held output.new))) }
+    ensures fault { IfErr result (HasJobCause (H.sources (held host.old)) (Job.Trace file.now workers limit)
+        (W.contents (held output.old)) (W.contents (held output.new))) }
+    ensures delivered { OnOk result (is_delivered output.new ≡ true) }
+    ensures read_failed { IsErrOf result CliFault.Read ↔ IsTrue (has_failed host.new) }
+    ensures write_failed { IsErrOf result CliFault.Write ↔ IsTrue (has_failed output.new) }
+    ensures unwritten { IfErr result (λ fault. fault ≢ CliFault.Write → output.new ≡ output.old) }
+    ensures lacking { LacksFile (H.lacks (held host.old)) (Job.Trace file.now workers limit) → IsErrOf result CliFault.Read }
+{
+    let mut program = open_named(host, file.as_str())?;
+    let answer = write_run_trace(
         threads,
         alloc,
         &mut program,
@@ -423,7 +461,7 @@ fn show<W: Write>(text: &String, output: &mut Watched<W>) -> Result<u8, CliFault
     Ok(0)
 }
 
-/// Does a job that starts no thread, and waits for none: all but [`Job::Run`], [`Job::Record`], [`Job::Explain`] and
+/// Does a job that starts no thread, and waits for none: all but [`Job::Run`], [`Job::Trace`], [`Job::Record`], [`Job::Explain`] and
 /// [`Job::ExplainInput`]. It is [`perform`] for these.
 pub fn perform_alone<H: Host, W: Write>(
     alloc: Global,
@@ -461,13 +499,15 @@ pub fn perform_alone<H: Host, W: Write>(
             color,
             format,
         } => explain_traces(alloc, host, files, *color, *format, output),
-        Job::Run { .. } | Job::Record { .. } | Job::Explain { .. } | Job::ExplainInput { .. } => {
-            unreachable!()
-        }
+        Job::Run { .. }
+        | Job::Trace { .. }
+        | Job::Record { .. }
+        | Job::Explain { .. }
+        | Job::ExplainInput { .. } => unreachable!(),
     }
 }
 
-/// Does a job, and answers its exit status, which is 0 to 4: what [`judge_stream`], [`elide_text`], [`run_text`],
+/// Does a job, and answers its exit status, which is 0 to 4: what [`judge_stream`], [`elide_text`], [`run_text`], [`write_run_trace`],
 /// [`explain_text`], [`replay_text`] or [`draw_text`] does with standard input or the files of its names, or writes the text that is to be
 /// shown. What is written is delivered then. All files of a job that are read are opened before one is read, but for those of several traces,
 /// which are read one after another. A run that is recorded is done
@@ -509,6 +549,11 @@ pub fn perform<H: Host, W: Write, R: Threads + Wait + Sync>(
             workers,
             limit,
         } => run_file(threads, alloc, host, file, *workers, *limit, output),
+        Job::Trace {
+            file,
+            workers,
+            limit,
+        } => trace_file(threads, alloc, host, file, *workers, *limit, output),
         Job::Record {
             file,
             workers,

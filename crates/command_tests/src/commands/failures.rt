@@ -1,6 +1,6 @@
 //! Readers and writers that fail under each command.
 
-use super::Command::{Draw, Elide, Follow, Judge, Replay, Run};
+use super::Command::{Draw, Elide, Follow, Judge, Replay, Run, Trace};
 use super::Wanted::{Filled, Interrupted, Text, TooLong, Unread};
 use super::{Command, MOST, Takes, check};
 use crate::devices::{Breaking, Interrupted as InterruptedReader, Spaces};
@@ -42,6 +42,13 @@ const SHORT: &[Short] = &[
         bytes: 23,
         written: "{\"clean\":true,\"entries\":2,\"memory\":{},\"refusals\":[],\"schedules\":\"clean for every schedule\"}\n",
         calls: 93,
+    },
+    Short {
+        command: Trace(2, MOST),
+        read: "cilk 1\nfunc main z\nend\n",
+        bytes: 23,
+        written: "cilk 1\nsync 0 @3\nreturn 0 @3\n",
+        calls: 30,
     },
     Short {
         command: Replay("cilk 2\nsync 0 @3\nreturn 0 @3\n"),

@@ -587,6 +587,58 @@ fn a_run_of_a_program_that_is_there_or_not(rt: HostRuntime) -> Result<(), Fail> 
     Ok(())
 }
 
+/// The job that writes the trace of a run of the program in this file.
+fn trace_job(rt: &impl Abort, alloc: Global, file: &str, workers: usize) -> Result<Job, AllocError>
+    ensures { IfOk result IsInRange }
+{
+    let workers = manned(rt, workers);
+    let file = String::from_str(alloc, file)?;
+    Ok(Job::Trace {
+        file,
+        workers,
+        limit: MOST,
+    })
+}
+
+/// Of such a job comes what is wanted.
+fn check_trace<R: Abort + Threads + Wait + Sync>(
+    rt: &R,
+    alloc: Global,
+    case: &(Texts<'_>, &str, usize, Wanted<'_>),
+) -> Result<(), Fail> {
+    let job = trace_job(rt, alloc, case.1, case.2)?;
+    check_job(rt, alloc, case.0, &job, case.3);
+    Ok(())
+}
+
+/// Workers who run the program in this file, and the trace that is written.
+const TRACED: &[(Texts<'static>, &str, usize, Wanted<'static>)] = &[
+    (
+        THERE,
+        "there",
+        1,
+        Text(0, "cilk 1\nsync 0 @3\nreturn 0 @3\n"),
+    ),
+    (
+        Texts {
+            input: "cilk 2\nmem a\nfunc main z\nbump a 3\nend\n",
+            files: DASH,
+        },
+        "-",
+        2,
+        Text(0, "cilk 2\nmem a\nbump 0 a 3 @4\nsync 0 @5\nreturn 0 @5\n"),
+    ),
+    (THERE, "gone", 2, Lacking),
+];
+
+#[test]
+fn a_trace_of_a_program_that_is_there_or_not(rt: HostRuntime) -> Result<(), Fail> {
+    for case in TRACED {
+        check_trace(&rt, rt.alloc(), case)?;
+    }
+    Ok(())
+}
+
 /// A program that spawns a write and, behind 10,001 calls, reads what is written: there is the time to steal the child.
 const STOLEN: Texts<'static> = Texts {
     input: "",

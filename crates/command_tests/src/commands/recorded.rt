@@ -4,10 +4,12 @@ ghost use Rattle.std.specs.Prelude.{⊤, [], Some, IfOk};
 ghost use Rattle.command_words.specs.Jobs.{IsInRange};
 ghost use Rattle.command_streams.specs.Sources.{unknown_sources};
 
-use super::Command::{Follow, Judge};
-use super::Wanted::{Status, Text};
+use super::Command::{Follow, Judge, Trace};
+use super::Wanted::{Fault, Status, Text};
 use super::worked::{FIB, LASTS, MANY_TURNS, PAIR, SERIES, TURNS};
-use super::{MOST, Takes, check, has_ended, is_fault, limited, manned};
+use super::{
+    Case, MOST, Takes, check, check_all, done, has_ended, is_ended, is_fault, limited, manned,
+};
 use crate::devices::{Breaking, Filling};
 use std::alloc::{AllocError, Global};
 use std::io::{self, Error, ErrorKind};
@@ -267,6 +269,75 @@ fn a_report_that_cannot_be_written_behind_its_trace(rt: HostRuntime) {
     for left in 0..93u32 {
         let told = ReportTaken(Takes::CallsThenErrors(left));
         check_recorded(&rt, rt.alloc(), SHORT, 2, told);
+    }
+}
+
+/// The trace of the run of PAIR by one worker, which goes on with the spawner: the read comes first.
+const PAIR_TRACE: &str =
+    "cilk 1\nmem x\nmem y\nspawn 0 @5\nread 2 x @6\nsync 2 @7\nwrite 1 x 7 @9\nsync 1 @10\nreturn 1 @10\nreturn 3 @7\n";
+
+/// Runs whose trace is written in place of the report, where it is known, or why there is none.
+const ALONE: &[Case<'static>] = &[
+    (Trace(1, MOST), SHORT, Text(0, SHORT_TRACE)),
+    (Trace(2, MOST), SHORT, Text(0, SHORT_TRACE)),
+    (Trace(64, 2), SHORT, Text(0, SHORT_TRACE)),
+    (Trace(2, 1), SHORT, Fault(4, "limit")),
+    (Trace(1, MOST), SERIAL, Text(0, SERIAL_TRACE)),
+    (Trace(8, MOST), SERIAL, Text(0, SERIAL_TRACE)),
+    (Trace(1, MOST), PAIR, Text(1, PAIR_TRACE)),
+    (
+        Trace(2, MOST),
+        "cilk 1\nfoo\n",
+        Fault(2, "program line 2: BadWord"),
+    ),
+];
+
+#[test]
+fn a_trace_in_place_of_the_report(rt: HostRuntime) {
+    check_all(&rt, rt.alloc(), ALONE);
+}
+
+/// The trace that is written in place of the report of a run by so many workers is replayed with this status, which is told so.
+fn check_alone<R: Abort + Threads + Wait + Sync>(
+    rt: &R,
+    alloc: Global,
+    program: &str,
+    workers: usize,
+    status: u8,
+    wanted: &str,
+) {
+    let command = Trace(workers, MOST);
+    let run = done(
+        rt,
+        alloc,
+        command,
+        program.as_bytes(),
+        Takes::All.writer(alloc),
+    );
+    assert!(rt; is_ended(&run, status));
+    check_replayed(
+        rt,
+        alloc,
+        run.output.held.as_slice(),
+        status,
+        program,
+        wanted,
+    );
+}
+
+/// Programs with several traces, the status of their runs, and what is told of a replay.
+const SEVERAL: &[(&str, u8, &str)] = &[
+    (FIB, 0, "replayed 713\n"),
+    (LASTS, 0, "replayed 11\n"),
+    (TURNS, 0, "replayed 19\n"),
+    (PAIR, 1, "replayed 7\n"),
+];
+
+#[test]
+fn a_trace_in_place_of_the_report_replays(rt: HostRuntime) {
+    for (program, status, told) in SEVERAL {
+        check_alone(&rt, rt.alloc(), program, 1, *status, told);
+        check_alone(&rt, rt.alloc(), program, 8, *status, told);
     }
 }
 
@@ -570,5 +641,34 @@ fn a_trace_over_its_program(rt: HostRuntime) -> Result<(), Fail> {
     for (trace, is_replayed, wanted) in NAMES {
         check_name(&rt, rt.alloc(), trace, *is_replayed, *wanted)?;
     }
+    Ok(())
+}
+
+/// The job that writes the trace of a run in place of its report.
+fn job_alone(alloc: Global) -> Result<Job, AllocError>
+    ensures { IfOk result IsInRange }
+{
+    let file = String::from_str(alloc, "program")?;
+    Ok(Job::Trace {
+        file,
+        workers: 2,
+        limit: MOST,
+    })
+}
+
+/// Whether the trace of SHORT is written, and no file is created.
+fn is_alone(left: &Left<'_>) -> bool {
+    has_ended(&left.answer, 0)
+        && left.output.held.as_slice() == SHORT_TRACE.as_bytes()
+        && left.desk.created == 0
+}
+
+/// A trace on standard output is over no file, and no file is created.
+#[test]
+fn a_trace_on_standard_output(rt: HostRuntime) -> Result<(), Fail> {
+    let job = job_alone(rt.alloc())?;
+    assert!(rt; named(rt.alloc(), &job).is_ok());
+    let left = done_at(&rt, rt.alloc(), SHORT, &job);
+    assert!(rt; is_alone(&left));
     Ok(())
 }

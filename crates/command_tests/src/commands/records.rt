@@ -40,8 +40,7 @@ const OPEN_RECORD: &str =
     r#"{"code":"return 2","file":"p.cilk","help":"ask for a `sync` of this strand, and let the join return","line":3,"message":"this function has an open block","outcome":"illegal","rendered":"error: this function has an open block\n --> p.cilk:3\n  |\n3 | return 2\n  | ^^^^^^^^\n  = request 2: strand 2 returns from a function that has spawned and not synced\n  = help: ask for a `sync` of this strand, and let the join return\n","request":2,"strand":2,"version":1}"#;
 
 /// A register with the name of a memory, and a function that is never reached.
-pub(super) const WARNED: &str =
-    "cilk 1\nmem x\nfunc main z\n  let x = 1\nend\nfunc g v\nend\n";
+pub(super) const WARNED: &str = "cilk 1\nmem x\nfunc main z\n  let x = 1\nend\nfunc g v\nend\n";
 
 const WARNED_RECORD: &str =
     r#"{"memory":[{"cell":"x","value":0}],"outcome":"clean","pairs":0,"races":[],"recorded":[],"refusals":0,"requests":2,"traces":0,"untold":[],"version":1,"warned":2,"warnings":[{"message":"`x` is a register here, and a memory by the declaration at line 2","place":{"code":"let x = 1","column":null,"file":"p.cilk","function":null,"line":4},"rule":"declared-register"},{"message":"no spawn or call leads from `main` to `g`","place":{"code":"func g v","column":null,"file":"p.cilk","function":null,"line":6},"rule":"unreached-function"}]}"#;

@@ -18,8 +18,6 @@ const NO_FILE: &str = "no file is given; see 'cilkcheck --help'";
 const OVER_PROGRAM: &str =
     "the trace would be written over the program: name another file with '--trace <OUT>'";
 
-const OVER_REPORT: &str = "standard output has the report: name a file with '--trace <OUT>'";
-
 const OF_INPUT: &str =
     "a trace belongs to a program that is in a file, which is not standard input: name it";
 
@@ -244,10 +242,25 @@ const LINES: &[(&str, Asks<'static>)] = &[
     ("replay - g", Does("Replay { file: \"-\", trace: \"g\" }")),
     ("replay f -", Does("Replay { file: \"f\", trace: \"-\" }")),
     ("draw -", Does("Draw { file: \"-\", language: Dot }")),
+    // That of standard output.
+    (
+        "run f --trace -",
+        Does("Trace { file: \"f\", workers: 2, limit: 1000000 }"),
+    ),
+    (
+        "run --trace - f --workers 8",
+        Does("Trace { file: \"f\", workers: 8, limit: 1000000 }"),
+    ),
+    (
+        "run - --trace=- --limit 5",
+        Does("Trace { file: \"-\", workers: 2, limit: 5 }"),
+    ),
+    (
+        "run f --trace ./-",
+        Does("Record { file: \"f\", workers: 2, limit: 1000000, trace: \"./-\" }"),
+    ),
     // Words that ask for nothing, and why.
     ("replay - -", Refused(INPUT_TWICE)),
-    ("run f --trace -", Refused(OVER_REPORT)),
-    ("run - --trace -", Refused(OVER_REPORT)),
     ("run - --trace g", Refused(OF_INPUT)),
     ("judge --limit 1000001", Refused(NO_LIMIT)),
     ("judge --limit many", Refused(NO_LIMIT)),
