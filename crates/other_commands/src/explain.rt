@@ -392,9 +392,7 @@ pub(crate) fn faults_told(
         Rendering::Text => {
             faults_message(alloc, manner.is_painted, manner.file, text, meant, fault)
         }
-        Rendering::Record(form) => {
-            faults_record(alloc, form, manner.file, text, meant, fault)
-        },
+        Rendering::Record(form) => { faults_record(alloc, form, manner.file, text, meant, fault) },
     }
 }
 
