@@ -50,7 +50,7 @@ fn check_all(rt: &impl Abort, alloc: Global, texts: &[Lines]) -> Result<(), Allo
 }
 
 /// A trace of so many lines of one kind.
-macro_rules! trace {
+macro_rules! trace_of {
     ($line:literal, $count:literal, $wanted:expr) => {
         Lines {
             first: "cilk 1\n",
@@ -64,7 +64,7 @@ macro_rules! trace {
 }
 
 /// A program that calls `g` on its third line, and has so many blank lines before `g` begins.
-macro_rules! program {
+macro_rules! program_of {
     ($count:literal, $wanted:expr) => {
         Lines {
             first: "cilk 1\nfunc main z\ncall g 0\nend\n",
@@ -78,10 +78,10 @@ macro_rules! program {
 }
 
 const TRACES: &[Lines] = &[
-    trace!("sync 0\n", 2_000_000, Ok(2_000_000)),
-    trace!("sync 0\n", 2_000_001, Err((2_000_002, Cause::TooMany))),
-    trace!("\n", 3_999_999, Ok(0)),
-    trace!("\n", 4_000_000, Err((4_000_001, Cause::TooMany))),
+    trace_of!("sync 0\n", 2_000_000, Ok(2_000_000)),
+    trace_of!("sync 0\n", 2_000_001, Err((2_000_002, Cause::TooMany))),
+    trace_of!("\n", 3_999_999, Ok(0)),
+    trace_of!("\n", 4_000_000, Err((4_000_001, Cause::TooMany))),
 ];
 
 #[test]
@@ -91,8 +91,8 @@ fn requests_and_lines_of_a_trace(rt: HostRuntime) -> Result<(), Fail> {
 
 // A function is known also where it begins past the last line that a program may have, so the call of it is no fault.
 const PROGRAMS: &[Lines] = &[
-    program!(3_999_994, Ok(2)),
-    program!(3_999_996, Err((4_000_001, Cause::TooMany))),
+    program_of!(3_999_994, Ok(2)),
+    program_of!(3_999_996, Err((4_000_001, Cause::TooMany))),
 ];
 
 #[test]

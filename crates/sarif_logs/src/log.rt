@@ -29,11 +29,7 @@ fn push_warnings(
 }
 
 /// Adds the results of races.
-fn push_races(
-    alloc: Global,
-    results: &mut Vec<Value>,
-    races: &[Value],
-) -> Result<(), AllocError>
+fn push_races(alloc: Global, results: &mut Vec<Value>, races: &[Value]) -> Result<(), AllocError>
     ensures { OnOk result (map view results.new.items ≡ map view results.old.items ++ map race_result (map view races.now)) }
 {
     for race in races {
@@ -43,11 +39,7 @@ fn push_races(
 }
 
 /// Adds the results of faults.
-fn push_faults(
-    alloc: Global,
-    results: &mut Vec<Value>,
-    faults: &[Value],
-) -> Result<(), AllocError>
+fn push_faults(alloc: Global, results: &mut Vec<Value>, faults: &[Value]) -> Result<(), AllocError>
     ensures { OnOk result (map view results.new.items ≡ map view results.old.items ++ map fault_result (map view faults.now)) }
 {
     for fault in faults {
@@ -57,11 +49,7 @@ fn push_faults(
 }
 
 /// Adds the result of an illegal request, where the record tells one.
-fn push_illegal(
-    alloc: Global,
-    results: &mut Vec<Value>,
-    record: &Value,
-) -> Result<(), AllocError>
+fn push_illegal(alloc: Global, results: &mut Vec<Value>, record: &Value) -> Result<(), AllocError>
     ensures { OnOk result (map view results.new.items ≡ map view results.old.items ++ illegal_results (view record.now)) }
 {
     if is_at(record, "outcome", "illegal") {

@@ -108,7 +108,8 @@ fn spawn_words(parting: Option<&Value>, outstanding: Option<&Value>) -> &'static
 {
     match (parting, outstanding) {
         (Some(_), _) => " They part at [this spawn](2).",
-        (None, Some(_)) => " [This spawn](2) is outstanding at one of the two and not at the other.",
+        (None, Some(_)) =>
+            " [This spawn](2) is outstanding at one of the two and not at the other.",
         (None, None) => "",
     }
 }
@@ -132,12 +133,13 @@ pub(crate) fn race_message(alloc: Global, race: &Value) -> Result<String, AllocE
     ensures { IfOk result (λ message. string_bytes message ≡ race_words (view race.now)) }
 {
     let mut text = String::new(alloc);
-    push_refused(&mut text, &access_at(race, "refused"), items_at(race, "locations"))?;
+    push_refused(
+        &mut text,
+        &access_at(race, "refused"),
+        items_at(race, "locations"),
+    )?;
     push_conflict(&mut text, race)?;
-    text.push_str(spawn_words(
-        object_at(race, "parting"),
-        object_at(race, "outstanding"),
-    ))?;
+    text.push_str(spawn_words(object_at(race, "parting"), object_at(race, "outstanding")))?;
     push_help(&mut text, text_at(race, "help"))?;
     Ok(text)
 }

@@ -15,7 +15,14 @@ use std::alloc::{AllocError, Global};
 
 /// The ASCII bytes that the path of a URI does not hold as they are: all but letters, digits, `-`, `.`, `_`, `~` and `/`. A colon is one of
 /// them, since what stands before it could be read as a scheme.
-const ESCAPED: AsciiSet = ascii_set!(NON_ALPHANUMERIC.remove(b'-').remove(b'.').remove(b'_').remove(b'~').remove(b'/'));
+const ESCAPED: AsciiSet = ascii_set!(
+    NON_ALPHANUMERIC
+        .remove(b'-')
+        .remove(b'.')
+        .remove(b'_')
+        .remove(b'~')
+        .remove(b'/')
+);
 
 /// Where something is: each part that is known.
 #[derive(Clone, Copy)]

@@ -110,7 +110,12 @@ fn push_outstanding(
         return Ok(());
     };
     let words = outstanding_words(alloc, outstanding)?;
-    push_related(alloc, related, words.as_str(), &place_at(outstanding, "spawn"))
+    push_related(
+        alloc,
+        related,
+        words.as_str(),
+        &place_at(outstanding, "spawn"),
+    )
 }
 
 /// Adds the spawns and calls that led to an access.
