@@ -1,6 +1,6 @@
 -- The log of a record.
 use Rattle.std.specs.Prelude.{ℕ, Bool, ◌||◌, List, [], ◌∷◌, ◌++◌, codes, decimal, map, if◌then◌else◌}
-use Rattle.serde_json.specs.Data.{Data, boolean, string, array, object, item, no_items, member, no_members}
+use Rattle.serde_json.specs.Data.{Data, Members, boolean, string, array, object, item, no_items, member, no_members, put}
 use Rattle.serde_json.specs.View.{items_of}
 use Rattle.sarif_logs.specs.Reading.{count_at, is_at, items_at, member_at}
 use Rattle.sarif_logs.specs.Places.{text_told}
@@ -41,20 +41,20 @@ invocation_told told =
     object (member (codes "executionSuccessful") (boolean (is_whole told))
     (member (codes "toolExecutionNotifications") (notes_of told) no_members))
 
+-- the members of a record that are no results
+abbrev pub property_keys : List (List ℕ)
+property_keys =
+    codes "memory" ∷ codes "more" ∷ codes "outcome" ∷ codes "pairs" ∷ codes "recorded" ∷ codes "refusals" ∷ codes "requests" ∷
+    codes "traces" ∷ codes "untold" ∷ codes "version" ∷ codes "warned" ∷ []
+
+-- members, and those of a record that have these keys; null where the record has none
+abbrev pub picked : (keys : List (List ℕ)) → Data → Members → Members
+picked [] told members = members
+picked (key ∷ keys) told members = picked keys told (put key (member_at key told) members)
+
 -- what the record has that is no result
 abbrev pub properties_told : Data → Data
-properties_told told =
-    object (member (codes "memory") (member_at (codes "memory") told)
-    (member (codes "more") (member_at (codes "more") told)
-    (member (codes "outcome") (member_at (codes "outcome") told)
-    (member (codes "pairs") (member_at (codes "pairs") told)
-    (member (codes "recorded") (member_at (codes "recorded") told)
-    (member (codes "refusals") (member_at (codes "refusals") told)
-    (member (codes "requests") (member_at (codes "requests") told)
-    (member (codes "traces") (member_at (codes "traces") told)
-    (member (codes "untold") (member_at (codes "untold") told)
-    (member (codes "version") (member_at (codes "version") told)
-    (member (codes "warned") (member_at (codes "warned") told) no_members)))))))))))
+properties_told told = object (picked property_keys told no_members)
 
 abbrev pub tool_told : Data
 tool_told =

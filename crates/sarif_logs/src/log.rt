@@ -1,51 +1,64 @@
 //! The log of a record.
 
 ghost use Rattle.std.specs.Prelude.{◌≡◌, ◌++◌, [], IfOk, OnOk, codes, decimal, map, string_bytes};
-ghost use Rattle.serde_json.specs.View.{view};
+ghost use Rattle.serde_json.specs.View.{view, members_view};
 ghost use Rattle.sarif_logs.specs.Reading.{items_at};
 ghost use Rattle.sarif_logs.specs.Results.{race_result, warning_result, fault_result};
-ghost use Rattle.sarif_logs.specs.Logs.{illegal_results, results_of, is_whole, cut_words, notes_of, invocation_told, properties_told, tool_told, run_told, log_told};
+ghost use Rattle.sarif_logs.specs.Logs.{illegal_results, results_of, is_whole, cut_words, notes_of, invocation_told, picked, properties_told, tool_told, run_told, log_told};
 
 use crate::place::text_value;
 use crate::reading::{count_at, is_at, items_at, member_at};
 use crate::result::{fault_result, illegal_result, race_result, warning_result};
 use crate::rule::rules_value;
 use itoa::Buffer;
-use serde_json::{Value, json};
+use serde_json::{Map, Value, json, put};
 use std::alloc::{AllocError, Global};
 
-/// Adds the results of warnings.
-fn push_warnings(
-    alloc: Global,
-    results: &mut Vec<Value>,
-    warnings: &[Value],
-) -> Result<(), AllocError>
-    ensures { OnOk result (map view results.new.items ≡ map view results.old.items ++ map warning_result (map view warnings.now)) }
+/// The members of a record that are no results.
+const PROPERTIES: &[&str] = &[
+    "memory", "more", "outcome", "pairs", "recorded", "refusals", "requests", "traces", "untold",
+    "version", "warned",
+];
+
+/// The results of warnings.
+fn warning_results(alloc: Global, warnings: &[Value]) -> Result<Vec<Value>, AllocError>
+    ensures { IfOk result (λ results. map view results.items ≡ map warning_result (map view warnings.now)) }
 {
+    let mut results = Vec::new(alloc);
     for warning in warnings {
         results.push(warning_result(alloc, warning)?)?;
     }
-    Ok(())
+    Ok(results)
 }
 
-/// Adds the results of races.
-fn push_races(alloc: Global, results: &mut Vec<Value>, races: &[Value]) -> Result<(), AllocError>
-    ensures { OnOk result (map view results.new.items ≡ map view results.old.items ++ map race_result (map view races.now)) }
+/// The results of races.
+fn race_results(alloc: Global, races: &[Value]) -> Result<Vec<Value>, AllocError>
+    ensures { IfOk result (λ results. map view results.items ≡ map race_result (map view races.now)) }
 {
+    let mut results = Vec::new(alloc);
     for race in races {
         results.push(race_result(alloc, race)?)?;
     }
-    Ok(())
+    Ok(results)
 }
 
-/// Adds the results of faults.
-fn push_faults(alloc: Global, results: &mut Vec<Value>, faults: &[Value]) -> Result<(), AllocError>
-    ensures { OnOk result (map view results.new.items ≡ map view results.old.items ++ map fault_result (map view faults.now)) }
+/// The results of faults.
+fn fault_results(alloc: Global, faults: &[Value]) -> Result<Vec<Value>, AllocError>
+    ensures { IfOk result (λ results. map view results.items ≡ map fault_result (map view faults.now)) }
 {
+    let mut results = Vec::new(alloc);
     for fault in faults {
         results.push(fault_result(alloc, fault)?)?;
     }
-    Ok(())
+    Ok(results)
+}
+
+/// Adds results.
+fn push_all(results: &mut Vec<Value>, more: Vec<Value>) -> Result<(), AllocError>
+    ensures { OnOk result (map view results.new.items ≡ map view results.old.items ++ map view more.items) }
+{
+    let mut more = more;
+    results.append(&mut more)
 }
 
 /// Adds the result of an illegal request, where the record tells one.
@@ -62,10 +75,11 @@ fn push_illegal(alloc: Global, results: &mut Vec<Value>, record: &Value) -> Resu
 fn result_values(alloc: Global, record: &Value) -> Result<Vec<Value>, AllocError>
     ensures { IfOk result (λ results. map view results.items ≡ results_of (view record.now)) }
 {
-    let mut results = Vec::new(alloc);
-    push_warnings(alloc, &mut results, items_at(record, "warnings"))?;
-    push_races(alloc, &mut results, items_at(record, "races"))?;
-    push_faults(alloc, &mut results, items_at(record, "faults"))?;
+    let mut results = warning_results(alloc, items_at(record, "warnings"))?;
+    let races = race_results(alloc, items_at(record, "races"))?;
+    push_all(&mut results, races)?;
+    let faults = fault_results(alloc, items_at(record, "faults"))?;
+    push_all(&mut results, faults)?;
     push_illegal(alloc, &mut results, record)?;
     Ok(results)
 }
@@ -110,34 +124,30 @@ fn invocation_value(alloc: Global, record: &Value) -> Result<Value, AllocError>
     })
 }
 
+/// Adds the members of a record that have these keys.
+fn push_members(
+    alloc: Global,
+    members: &mut Map<String, Value>,
+    record: &Value,
+    keys: &[&str],
+) -> Result<(), AllocError>
+    ensures { OnOk result (members_view members.new.entries ≡ picked (map (λ key. key.now) keys.now) (view record.now) (members_view members.old.entries)) }
+{
+    let [key, rest @ ..] = keys else {
+        return Ok(());
+    };
+    let member = member_at(alloc, record, key)?;
+    put(members, alloc, key, member)?;
+    push_members(alloc, members, record, rest)
+}
+
 /// What the record has that is no result.
 fn properties_value(alloc: Global, record: &Value) -> Result<Value, AllocError>
     ensures { IfOk result (λ value. view value ≡ properties_told (view record.now)) }
 {
-    let memory = member_at(alloc, record, "memory")?;
-    let more = member_at(alloc, record, "more")?;
-    let outcome = member_at(alloc, record, "outcome")?;
-    let pairs = member_at(alloc, record, "pairs")?;
-    let recorded = member_at(alloc, record, "recorded")?;
-    let refusals = member_at(alloc, record, "refusals")?;
-    let requests = member_at(alloc, record, "requests")?;
-    let traces = member_at(alloc, record, "traces")?;
-    let untold = member_at(alloc, record, "untold")?;
-    let version = member_at(alloc, record, "version")?;
-    let warned = member_at(alloc, record, "warned")?;
-    json!(in alloc; {
-        "memory": memory,
-        "more": more,
-        "outcome": outcome,
-        "pairs": pairs,
-        "recorded": recorded,
-        "refusals": refusals,
-        "requests": requests,
-        "traces": traces,
-        "untold": untold,
-        "version": version,
-        "warned": warned
-    })
+    let mut members = Map::new(alloc);
+    push_members(alloc, &mut members, record, PROPERTIES)?;
+    Ok(Value::Object(members))
 }
 
 /// The tool, with its rules.

@@ -3,7 +3,7 @@
 ghost use Rattle.std.specs.Prelude.{◌≡◌, ◌++◌, [], false, IfOk, OnOk, map, string_bytes};
 ghost use Rattle.serde_json.specs.View.{view};
 ghost use Rattle.sarif_logs.specs.PlaceViews.{place_parts};
-ghost use Rattle.sarif_logs.specs.Results.{result_told, race_properties, race_result, warning_words, warning_result, title_of, quoted, told_twice, fault_result};
+ghost use Rattle.sarif_logs.specs.Results.{result_told, race_properties, race_result, warning_words, warning_result, title_of, quoted, told_twice, fault_words, fault_result};
 ghost use Rattle.sarif_logs.specs.Results.{illegal_words, illegal_result};
 
 use crate::access::access_at;

@@ -33,7 +33,7 @@ pub(crate) enum Rule {
 }
 
 /// All rules, in the order of the log.
-const RULES: [Rule; 9] = [
+const RULES: &[Rule] = &[
     Rule::DeterminacyRace,
     Rule::ViewReadRace,
     Rule::UnsetGet,
@@ -187,12 +187,7 @@ impl Rule {
     pub(crate) fn named(id: &str) -> Rule
         ensures { result ≡ rule_named id.now }
     {
-        for rule in RULES {
-            if is_named(rule, id) {
-                return rule;
-            }
-        }
-        Rule::DeterminacyRace
+        first_named(RULES, id).unwrap_or(Rule::DeterminacyRace)
     }
 }
 
@@ -201,6 +196,18 @@ fn is_named(rule: Rule, id: &str) -> bool
     ensures { result ≡ is_named id.now rule }
 {
     id == rule.id()
+}
+
+/// The first of these rules that has this id.
+fn first_named(rules: &[Rule], id: &str) -> Option<Rule>
+    ensures { result ≡ find (is_named id.now) rules.now }
+{
+    for rule in rules {
+        if is_named(*rule, id) {
+            return Some(*rule);
+        }
+    }
+    None
 }
 
 /// A rule as the log describes it.
@@ -220,13 +227,20 @@ fn rule_value(alloc: Global, rule: Rule) -> Result<Value, AllocError>
     })
 }
 
+/// Rules as the log describes them.
+fn rule_values(alloc: Global, rules: &[Rule]) -> Result<Vec<Value>, AllocError>
+    ensures { IfOk result (λ values. map view values.items ≡ map rule_told rules.now) }
+{
+    let mut values = Vec::new(alloc);
+    for rule in rules {
+        values.push(rule_value(alloc, *rule)?)?;
+    }
+    Ok(values)
+}
+
 /// All rules as the log describes them.
 pub(crate) fn rules_value(alloc: Global) -> Result<Value, AllocError>
     ensures { IfOk result (λ value. view value ≡ rules_told) }
 {
-    let mut values = Vec::new(alloc);
-    for rule in RULES {
-        values.push(rule_value(alloc, rule)?)?;
-    }
-    Ok(Value::from(values))
+    Ok(Value::from(rule_values(alloc, RULES)?))
 }

@@ -4,7 +4,7 @@ use Rattle.model_bodies.specs.Codes.{Code}
 use Rattle.model_bodies.specs.Sound.{IsSound}
 use Rattle.program_text.specs.Programs.{contents}
 use Rattle.program_warnings.proofs.Finding.{all_found}
-use Rattle.program_warnings.proofs.message.found.Goals as goal
+use Rattle.program_warnings.proofs.message.find_warnings.Goals as goal
 
 pub reached-requires-clause-sound : goal.reached-requires-clause-sound
 reached-requires-clause-sound c = (
