@@ -8,10 +8,10 @@ use Rattle.text_words.specs.declared.value.TraceLine.{TraceLine}
 use Rattle.text_words.specs.Values.{Contents}
 use Rattle.model_histories.specs.declared.reply.Receipt.{Receipt}
 use Rattle.model_histories.specs.declared.reply.Reply.{Reply}
-use Rattle.model_histories.specs.declared.reply.Reply.TheVariants.{Done}
+use Rattle.model_histories.specs.declared.reply.Reply.TheVariants.{Done, Illegal}
 use Rattle.model_histories.specs.Faults.{IsFirstFault}
 use Rattle.model_races.specs.Judged.{IsJudged}
-use Rattle.model_histories.specs.Replies.{Judges}
+use Rattle.model_histories.specs.Replies.{Judges, JudgesAll}
 use Rattle.model_histories.specs.Shapes.{Shape, most_entries}
 use Rattle.model_histories.specs.States.{State, opening}
 use Rattle.race_gate.proofs.Lists.{JudgesAll-more}
@@ -65,3 +65,15 @@ answers_all trace taken shape gate same declared before = record {
       (subst (λ (those : Shape). IsJudgedBy those most_entries (map (λ line. line.request) taken) before.0 gate) declared before.1);
   done = before.2;
 }
+
+-- the limit of a gate stays
+limit_stays : (old new : State) (request : Request) (reply : Reply) → Judges old request reply new → new.limit ≡ old.limit
+limit_stays old new request (Done receipt) judges = ap (λ (state : State). state.limit) judges.after
+limit_stays old new request (Illegal fault) judges = ap (λ (state : State). state.limit) judges.0
+
+pub limit_kept : (requests : List Request) (replies : List Reply) (old new : State) → JudgesAll old requests replies new → new.limit ≡ old.limit
+limit_kept [] [] old new judges = ap (λ (state : State). state.limit) judges
+limit_kept [] (reply ∷ replies) old new judges = absurd judges
+limit_kept (request ∷ requests) [] old new judges = absurd judges
+limit_kept (request ∷ requests) (reply ∷ replies) old new judges =
+    limit_kept requests replies judges.0 new judges.2 ∙ limit_stays old judges.0 request reply judges.1

@@ -22,8 +22,8 @@ use Rattle.verdict_lines.specs.VerdictText.{is_refused}
 use Rattle.run_command.specs.Outcomes.{refusal_status}
 use Rattle.run_command.proofs.RunStatuses.{clean_status}
 
-Answers : Entry → Type 0
-Answers entry = Belongs entry.request.act entry.answer
+abbrev IsAnswered : Entry → Type 0
+IsAnswered entry = Belongs entry.request.act entry.answer
 
 -- an answer that is no refusal tells none
 told_none : (line : ℕ) (answer : Answer) (found : Option Asked) → is_refused answer ≡ false → is_some (option_and_then (refusal_asked line answer) found) ≡ false
@@ -45,25 +45,25 @@ told_some line act (Refused rule witness) b e = absurd b
 told_some line act Unset b e = absurd b
 told_some line act answer b e = absurd (cc)
 
-same_refused : (entry : Entry) → Answers entry → is_refusal entry ≡ is_refused entry.answer
+same_refused : (entry : Entry) → IsAnswered entry → is_refusal entry ≡ is_refused entry.answer
 same_refused entry b = by (is_refused entry.answer) refl
   where
     by : (refused : Bool) → is_refused entry.answer ≡ refused → is_refusal entry ≡ is_refused entry.answer
     by true e = told_some entry.request.line entry.request.act entry.answer b e ∙ sym e
     by false e = told_none entry.request.line entry.answer (access_asked entry.request.act) e ∙ sym e
 
-all_answers : (shape : Shape) (entries : Entries) → IsLegal shape entries → All Answers entries
-all_answers shape [] l = All-nil Answers
-all_answers shape (entry ∷ entries) l = All-cons Answers entry entries l.1.belongs (all_answers shape entries l.0)
+all_answers : (shape : Shape) (entries : Entries) → IsLegal shape entries → All IsAnswered entries
+all_answers shape [] l = All-nil IsAnswered
+all_answers shape (entry ∷ entries) l = All-cons IsAnswered entry entries l.1.belongs (all_answers shape entries l.0)
 
 -- a count by the one test, and whether some passes the other
-counted : (told : List Entry) → All Answers told → (list_any (λ (entry : Entry). is_refused entry.answer) told ≡ true → 0 < refusals_among told) ×
+counted : (told : List Entry) → All IsAnswered told → (list_any (λ (entry : Entry). is_refused entry.answer) told ≡ true → 0 < refusals_among told) ×
     (list_any (λ (entry : Entry). is_refused entry.answer) told ≡ false → refusals_among told ≡ 0)
 counted [] all = (λ e. absurd (cc), λ e. refl)
-counted (entry ∷ told) all = by (is_refused entry.answer) refl (counted told (All-tail Answers entry told all))
+counted (entry ∷ told) all = by (is_refused entry.answer) refl (counted told (All-tail IsAnswered entry told all))
   where
     same : is_refusal entry ≡ is_refused entry.answer
-    same = same_refused entry (All-head Answers entry told all)
+    same = same_refused entry (All-head IsAnswered entry told all)
 
     by : (refused : Bool) → is_refused entry.answer ≡ refused →
         (list_any (λ (one : Entry). is_refused one.answer) told ≡ true → 0 < refusals_among told) ×
@@ -73,7 +73,7 @@ counted (entry ∷ told) all = by (is_refused entry.answer) refl (counted told (
     by true e rest = (λ some. rw (same ∙ e) (omega arith), λ none. absurd (cc))
     by false e rest = (λ some. rw (same ∙ e) (rest.0 (rw e at some)), λ none. rw (same ∙ e) (rest.1 (rw e at none)))
 
-status_by : (told : List Entry) → All Answers told → (some : Bool) → list_any (λ (entry : Entry). is_refused entry.answer) told ≡ some →
+status_by : (told : List Entry) → All IsAnswered told → (some : Bool) → list_any (λ (entry : Entry). is_refused entry.answer) told ≡ some →
     ((refusals_among told ≡ 0) → refusal_status told ≡ 0) × ((0 < refusals_among told) → refusal_status told ≡ 1)
 status_by told all true e = (λ zero. absurd (let more = (counted told all).0 e in omega (arith, zero, more)), λ more. rw e refl)
 status_by told all false e = (λ zero. rw e refl, λ more. absurd (let zero = (counted told all).1 e in omega (arith, zero, more)))
@@ -81,8 +81,8 @@ status_by told all false e = (λ zero. rw e refl, λ more. absurd (let zero = (c
 -- the status of the entries of a digest
 pub digest_clean : (told : List Entry) (digest : Digest) → IsDigest told digest → digest.refusals ≡ 0 → refusal_status told ≡ 0
 digest_clean told digest is zero =
-    (status_by told (all_reversed Answers told (all_answers is.legal.0 (reverse told) is.legal.1)) _ refl).0 (sym is.refusals ∙ zero)
+    (status_by told (all_reversed IsAnswered told (all_answers is.legal.0 (reverse told) is.legal.1)) _ refl).0 (sym is.refusals ∙ zero)
 
 pub digest_raced : (told : List Entry) (digest : Digest) → IsDigest told digest → 0 < digest.refusals → refusal_status told ≡ 1
 digest_raced told digest is more =
-    (status_by told (all_reversed Answers told (all_answers is.legal.0 (reverse told) is.legal.1)) _ refl).1 (subst (λ n. 0 < n) is.refusals more)
+    (status_by told (all_reversed IsAnswered told (all_answers is.legal.0 (reverse told) is.legal.1)) _ refl).1 (subst (λ n. 0 < n) is.refusals more)

@@ -1,11 +1,11 @@
 //! What is kept of the entries of a trace or a run, for what is told of its races.
 
-ghost use Rattle.std.specs.Prelude.{◌≡◌, ◌≤◌, [], reverse, length, IfOk, IfSome};
+ghost use Rattle.std.specs.Prelude.{◌≡◌, ◌<◌, ◌≤◌, [], true, reverse, length, IfOk, IfSome, IsTrue};
 ghost use Rattle.trace_text.specs.Traces.{contents as trace_contents};
 ghost use Rattle.model_histories.specs.Shapes.{Shape, most_entries};
 ghost use Rattle.model_races.specs.Judged.{IsJudged};
 ghost use Rattle.short_receipts.specs.Entries.{entry_of as entry_spec};
-ghost use Rattle.race_pairs.specs.Digests.{IsDigest};
+ghost use Rattle.race_pairs.specs.Digests.{IsDigest, is_of_own_lines};
 ghost use Rattle.other_commands.specs.Digested.{IsDigested};
 
 use command_streams::MOST_ENTRIES;
@@ -26,6 +26,14 @@ fn entry_of(receipt: Receipt) -> Entry
     }
 }
 
+/// Whether a digest may take an entry on this line behind those up to a last line.
+#[inline(always)]
+fn may_follow(digest: &Digest, last: u32, line: u32) -> bool
+    ensures { IsTrue result → is_of_own_lines digest.now ≡ true → last < line }
+{
+    !digest.has_own_lines() || last < line
+}
+
 /// Grows a digest by the entries of a trace, where a gate answers all its requests. None says nothing. No entry is kept. Errors where there
 /// is no memory.
 fn grow_digest(
@@ -33,7 +41,7 @@ fn grow_digest(
     trace: &Trace<Global>,
     mut digest: Digest,
 ) -> Result<Option<Digest>, AllocError>
-    requires { IsDigest [] digest.now }
+    requires { IsDigest [] digest }
     ensures { IfOk result (λ found. IfSome found (IsDigested (trace_contents trace.now))) }
 {
     let shape = trace.shape(alloc)?;
@@ -41,7 +49,7 @@ fn grow_digest(
     core.make_room(trace.lines.likely_strands());
     let mut last = 0;
     for line in trace.lines.iter() {
-        if digest.has_own_lines() && line.request.line <= last {
+        if !may_follow(&digest, last, line.request.line) {
             return Ok(None);
         }
         last = line.request.line;

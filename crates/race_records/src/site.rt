@@ -165,10 +165,10 @@ fn site_value(alloc: Global, site: Site<'_>) -> Result<Value, AllocError>
 }
 
 /// A line of a file, as a value.
-pub(crate) fn file_line_value(
+pub(crate) fn file_line_value<'b>(
     alloc: Global,
-    file: &str,
-    source: &Source<'_, Global>,
+    file: &'b str,
+    source: &'b Source<'_, Global>,
     line: u32,
 ) -> Result<Value, AllocError>
     ensures { IfOk result (λ value. view value ≡ parts_told (line_of_file file.now source.now line)) }

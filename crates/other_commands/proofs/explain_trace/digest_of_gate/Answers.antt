@@ -1,14 +1,22 @@
-use Rattle.std.proofs.Common.{reverse, sym, ap, ◌∙◌, subst, arith}
+use Rattle.std.proofs.Common.{◌≡◌, length, reverse, sym, ap, ◌∙◌, subst, arith}
 use Rattle.std.proofs.lemmas.List.{length-reverse, reverse-reverse}
 use Rattle.std.proofs.lemmas.Result.{IfOk-weaker}
 use Rattle.trace_text.specs.Traces.{contents as trace_contents}
 use Rattle.race_pairs.specs.Digests.{IsDigest}
+use Rattle.model_histories.specs.Shapes.{most_entries}
 use Rattle.model_races.specs.Judged.{IsJudged}
 use Rattle.other_commands.specs.Digested.{IsDigested}
+use Rattle.other_commands.proofs.Answering.{limit_kept}
 use Rattle.other_commands.proofs.explain_trace.digest_of_gate.Goals as goal
 
-pub of-requires-judged : goal.of-requires-judged
-of-requires-judged c = (c.args.gate.now.shape, subst (IsJudged c.args.gate.now.shape) (sym c.history.ensures.entries) c.history.ensures.judged)
+pub of-requires-clause-judged : goal.of-requires-clause-judged
+of-requires-clause-judged c = (c.args.gate.now.shape, subst (IsJudged c.args.gate.now.shape) (sym c.history.ensures.entries) c.history.ensures.judged)
+
+pub of-requires-clause-few : goal.of-requires-clause-few
+of-requires-clause-few c =
+    let kept : c.args.gate.now.limit ≡ most_entries = limit_kept _ _ _ _ c.requires.judges.judges in
+    let within = c.history.ensures.within in
+    let long = ap length (sym c.history.ensures.entries) ∙ length-reverse c.history.result.now in omega (arith, kept, within, long)
 
 pub returns : goal.returns
 returns c =

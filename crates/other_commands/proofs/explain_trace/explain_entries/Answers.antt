@@ -7,11 +7,11 @@ use Rattle.other_commands.specs.Explanations.{clean_trace_words, judged_text}
 use Rattle.other_commands.proofs.DigestStatuses.{digest_clean, digest_raced}
 use Rattle.other_commands.proofs.explain_trace.explain_entries.Goals as goal
 
-pub returns-then-refusals-eq0 : goal.returns-then-refusals-eq0
-returns-then-refusals-eq0 c =
+pub returns-then-digest-eq0 : goal.returns-then-digest-eq0
+returns-then-digest-eq0 c =
     IfOk-weaker c.explain_clean.result _ _
     (λ told is entries digest_is. inl (
-      clean_status entries (digest_clean entries c.args.digest.now digest_is c.if-refusals-eq0.true),
+      clean_status entries (digest_clean entries c.args.digest.now digest_is c.if-digest-eq0.true),
       is ∙ ap (λ n. clean_trace_words ++ judged_text n) (c.len.ensures ∙ (ap length digest_is.lines ∙ length-map entries (λ (entry : Entry). entry.request.line))),
     ))
     c.explain_clean.ensures
@@ -21,7 +21,7 @@ returns c =
     IfOk-weaker c.trace_explanation.result _ _
     (λ told is entries digest_is. inr (
       (λ clean. (
-          let one = digest_raced entries c.args.digest.now digest_is (let some = c.if-refusals-eq0.false in omega arith) in
+          let one = digest_raced entries c.args.digest.now digest_is (let some = c.if-digest-eq0.false in omega arith) in
           let zero = status_clean entries clean in omega (arith, one, zero))),
       is entries digest_is,
     ))
