@@ -81,10 +81,10 @@ pub run_recorded : (form : RecordForm) (outcome : Outcome) (file : List ℕ) (so
     (warnings : List Warning) (setting : Setting) (warned : Warned) (runs : List (List ℕ)) (text : List ℕ) → AreWarnings program warnings →
     setting ≡ program_setting false file source program entries → warned ≡ warned_of file source program warnings → runs ≡ [] →
     RecordsEntries form outcome 0 setting entries memory runs warned text → RecordsRun form outcome file source program entries memory text
-run_recorded form outcome file source program entries memory warnings setting warned runs text are setting_is warned_is none records = record {
+run_recorded form outcome file source program entries memory warnings setting warned runs text are setting_is warned_is empty records = record {
   warnings = warnings;
   are_warnings = are;
   records = subst (λ (w : Warned). RecordsEntries form outcome 0 (program_setting false file source program entries) entries memory [] w text) warned_is
-      (subst (λ (r : List (List ℕ)). RecordsEntries form outcome 0 (program_setting false file source program entries) entries memory r warned text) none
+      (subst (λ (r : List (List ℕ)). RecordsEntries form outcome 0 (program_setting false file source program entries) entries memory r warned text) empty
       (subst (λ (s : Setting). RecordsEntries form outcome 0 s entries memory runs warned text) setting_is records));
 }
