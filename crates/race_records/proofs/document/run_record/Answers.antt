@@ -1,9 +1,8 @@
-use Rattle.std.proofs.Common.{rules, refl, List, sym, subst, map, string_bytes}
+use Rattle.std.proofs.Common.{rules, sym, subst}
 use Rattle.std.proofs.lemmas.Result.{IfOk-weaker}
 use Rattle.serde_json.specs.View.{view}
 use Rattle.text_words.specs.Text.{lines}
 use Rattle.program_text.specs.Programs.{contents}
-use Rattle.model_histories.specs.declared.answer.Entry.{Entry}
 use Rattle.race_pairs.specs.Digests.{IsDigest}
 use Rattle.race_explanations.specs.Scenes.{setting_of}
 use Rattle.race_records.specs.WarnedViews.{warned_parts}
