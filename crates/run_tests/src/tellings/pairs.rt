@@ -335,7 +335,7 @@ fn has_first(digest: &Digest) -> bool {
             witness: 2,
             times: if place == 1 { 2 } else { 1 },
         };
-        if race.pair != wanted || race.places.as_slice() != [0] {
+        if race.pair != wanted || race.places.as_slice() != [0].as_slice() {
             return false;
         }
     }

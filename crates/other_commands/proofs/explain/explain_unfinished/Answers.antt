@@ -3,8 +3,8 @@ use Rattle.program_text.specs.Shapes.{shape_in}
 use Rattle.other_commands.proofs.ExplanationCauses.{some_refused}
 use Rattle.other_commands.proofs.explain.explain_unfinished.Goals as goal
 
-pub of-requires-judged : goal.of-requires-judged
-of-requires-judged c = (shape_in c.args.program.now, c.requires.run.0.run.judged)
+pub of-requires-clause-judged : goal.of-requires-clause-judged
+of-requires-clause-judged c = (shape_in c.args.program.now, c.requires.run.0.run.judged)
 
 pub limit_told-requires : goal.limit_told-requires
 limit_told-requires c = (c.args.entries.now, c.in_ok-digest.ensures)

@@ -29,6 +29,6 @@ returns c = record {
   entries = c.args.whole.now.entries.items;
   run = c.requires.run;
   within = c.requires.within;
-  raced = λ clean. c.if-whole.false (c.requires.clean.1 clean);
-  explains = c.in_ok-told.ensures c.args.whole.now.entries.items c.in_ok-digest.ensures;
+  raced = search rules;
+  explains = c.in_ok-told-2.ensures c.args.whole.now.entries.items c.in_ok-digest.ensures;
 }
