@@ -1,6 +1,6 @@
 -- The status by how many refusals were counted.
-use Rattle.std.proofs.Common.{◌≡◌, ◌<◌, ℕ, Bool, true, false, List, [], ◌∷◌, length, get_or, reverse, Option, Some, None, refl, sym, ap, ◌∙◌, subst, arith, if◌then◌else◌}
-use Rattle.std.specs.Prelude.{is_some, filter, option_and_then}
+use Rattle.std.proofs.Common.{◌≡◌, ◌<◌, ℕ, Bool, true, false, List, [], ◌∷◌, reverse, Option, Some, None, refl, sym, ◌∙◌, subst, arith}
+use Rattle.std.specs.Prelude.{is_some, option_and_then}
 use Rattle.std.specs.List.{All, list_any}
 use Rattle.std.proofs.lemmas.List.Elements.{All-nil, All-cons, All-head, All-tail}
 use Rattle.race_report.proofs.Reversed.{all_reversed}
@@ -14,13 +14,11 @@ use Rattle.model_histories.specs.declared.answer.Entry.{Entry}
 use Rattle.model_histories.specs.Entries.{Entries}
 use Rattle.model_histories.specs.Shapes.{Shape}
 use Rattle.model_histories.specs.Legal.{Belongs, IsLegal}
-use Rattle.model_histories.specs.Extensions.{IsClean}
 use Rattle.race_pairs.specs.declared.digest.Digest.{Digest}
 use Rattle.race_pairs.specs.Refusals.{refusal_asked, is_refusal, refusals_among}
 use Rattle.race_pairs.specs.Digests.{IsDigest}
 use Rattle.verdict_lines.specs.VerdictText.{is_refused}
 use Rattle.run_command.specs.Outcomes.{refusal_status}
-use Rattle.run_command.proofs.RunStatuses.{clean_status}
 
 abbrev IsAnswered : Entry → Type 0
 IsAnswered entry = Belongs entry.request.act entry.answer

@@ -1,5 +1,5 @@
 -- The requests of a trace judged without a history, and what is kept of their entries.
-use Rattle.std.proofs.Common.{◌≡◌, ◌<◌, ◌≤◌, ℕ, true, List, [], ◌∷◌, ◌++◌, length, map, reverse, refl, ap, sym, subst, ◌∙◌, arith}
+use Rattle.std.proofs.Common.{◌≡◌, ◌<◌, ◌≤◌, ℕ, true, List, [], ◌∷◌, ◌++◌, map, reverse, refl, ap, sym, subst, ◌∙◌, arith}
 use Rattle.std.specs.List.{All}
 use Rattle.std.proofs.lemmas.List.{length-reverse, reverse-append, reverse-reverse}
 use Rattle.std.proofs.lemmas.List.Elements.{All-nil, All-push}
@@ -21,7 +21,7 @@ use Rattle.race_pairs.specs.declared.digest.Digest.{Digest}
 use Rattle.race_pairs.specs.Digests.{IsDigest, IsNext, IsNextOf, is_of_own_lines, HasOwnLine}
 use Rattle.command_streams.specs.Streams.{declared_shape}
 use Rattle.command_streams.proofs.TakenLines.{requests_more}
-use Rattle.other_commands.specs.Replays.{IsDone, AnswersAll}
+use Rattle.other_commands.specs.Replays.{IsDone}
 use Rattle.other_commands.specs.Digested.{IsDigested}
 use Rattle.other_commands.proofs.Answering.{answers_all}
 

@@ -1,5 +1,5 @@
 -- What is told of a program's text: of a run of the program, or of the text's fault.
-use Rattle.std.specs.Prelude.{ℕ, zero, suc, ◌≡◌, ◌≤◌, ◌⊎◌, Bool, true, false, Option, List, [], ◌++◌, length, flat_map, reverse, codes, decimal}
+use Rattle.std.specs.Prelude.{ℕ, zero, suc, ◌≡◌, ◌≤◌, ◌⊎◌, Bool, true, false, Option, List, ◌++◌, length, flat_map, reverse, codes, decimal}
 use Rattle.std.specs.Global.{Global}
 use Rattle.std.specs.Io.KnownBytes.{Appends}
 use Rattle.text_words.specs.declared.fault.Cause.{Cause}
