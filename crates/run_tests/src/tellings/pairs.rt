@@ -1,5 +1,9 @@
 //! Worked histories: which lines raced, and how the strands came about.
 
+ghost use Rattle.std.specs.Prelude.{List, IfSome};
+ghost use Rattle.model_histories.specs.declared.answer.Entry.{Entry};
+ghost use Rattle.race_pairs.specs.Digests.{IsDigest};
+
 use super::asked::{Deed, asked};
 use Act::{Call, Get, Put, Read, Return, Spawn, Write};
 use model_accesses::Kind;
@@ -30,7 +34,9 @@ macro_rules! pair {
 }
 
 /// The digest of the gate's history.
-fn digest_of(alloc: Global, gate: &Gate<Global>) -> Option<Digest> {
+fn digest_of(alloc: Global, gate: &Gate<Global>) -> Option<Digest>
+    ensures { IfSome result (λ digest. (entries : List Entry) × IsDigest entries digest) }
+{
     let entries = gate.history();
     if entries.len() > 1_000_000 {
         return None;
@@ -108,7 +114,9 @@ enum Told<'a> {
 }
 
 /// Whether this is told of the last race of a digest.
-fn is_told(alloc: Global, digest: &Digest, told: &Told<'_>) -> bool {
+fn is_told(alloc: Global, digest: &Digest, told: &Told<'_>) -> bool
+    requires { (entries : List Entry) × IsDigest entries digest.now }
+{
     let Some(race) = digest.races().last() else {
         return false;
     };
@@ -322,13 +330,21 @@ const MANY: &[Deed] = &[
     (2, 12, Write(0, 1)),
 ];
 
+/// The lines of the first twenty of these.
+const FIRST: &[u32] = &[
+    11, 12, 13, 14, 15, 16, 17, 18, 19, 20, 21, 22, 23, 24, 25, 26, 27, 28, 29, 30,
+];
+
 /// Whether of 25 pairs the first twenty are kept, of which the second came twice, and 27 refusals were counted.
 fn has_first(digest: &Digest) -> bool {
     for (place, race) in digest.races().iter().enumerate() {
+        let Some(line) = FIRST.get(place) else {
+            return false;
+        };
         let wanted = Pair {
             lines: Lines {
                 reason: WRITES,
-                line: 11 + place as u32,
+                line: *line,
                 witness_line: 1,
             },
             first: place + 3,
