@@ -1,4 +1,4 @@
-use Rattle.std.proofs.Common.{ℕ, List, Some, ◌≡◌, ◌∙◌, length, sym, ap, subst, get_or, slice_get, unwrap_or}
+use Rattle.std.proofs.Common.{ℕ, List, Some, ◌≡◌, ◌∙◌, length, sym, ap, subst, slice_get, unwrap_or}
 use Rattle.std.specs.List.{All}
 use Rattle.std.specs.Option.{option_copied}
 use Rattle.std.proofs.lemmas.List.Elements.{All-get_or}
