@@ -19,13 +19,13 @@ use text_words::{Request, Shape};
 
 /// A gate as [`Gate`](crate::Gate) is, whose entries take a third of the room. They are not lent as a slice, but shown one by one, and can be
 /// held against receipts as both are kept. Contracts see of it what they see of a gate.
-pub struct ShortGate {
-    core: Core<Global>,
-    history: Entries,
+pub struct ShortGate<A: Allocator + Clone = Global> {
+    core: Core<A>,
+    history: Entries<A>,
 }
 
 /// Written out, so that what lets a gate go calls one function.
-impl Drop for ShortGate {
+impl<A: Allocator + Clone> Drop for ShortGate<A> {
     fn drop(self) {
         let ShortGate {
             core: _,
@@ -34,7 +34,7 @@ impl Drop for ShortGate {
     }
 }
 
-impl Model for ShortGate {
+impl<A: Allocator + Clone> Model for ShortGate<A> {
     ghost use Rattle.std.specs.Prelude.{reverse};
     ghost use Rattle.model_histories.specs.States.{State};
     ghost use Rattle.race_gate.specs.Cores.{IsCoreOf, with_history};
@@ -46,13 +46,13 @@ impl Model for ShortGate {
     ghost invariant = { λ gate. IsCoreOf gate.core (with_history gate.core (reverse gate.history.items)) };
 }
 
-impl ShortGate {
+impl<A: Allocator + Copy> ShortGate<A> {
     /// As [`Gate::new`](crate::Gate::new).
     pub fn new<B: Allocator>(
-        alloc: Global,
+        alloc: A,
         shape: &Shape<B>,
         limit: u32,
-    ) -> Result<ShortGate, AllocError>
+    ) -> Result<ShortGate<A>, AllocError>
         requires cells { shape.now.cells ≤ most_cells }
         requires entries { limit ≤ most_entries }
         requires reducers { length shape.now.monoids ≤ most_reducers }
@@ -63,16 +63,18 @@ impl ShortGate {
             history: Entries::new(alloc),
         })
     }
+}
 
+impl<A: Allocator + Clone> ShortGate<A> {
     /// How many cells there are, and the monoids of the reducers, as handed to `new`.
-    pub fn shape(&self) -> &Shape<Global>
+    pub fn shape(&self) -> &Shape<A>
         ensures { shape_of result.now ≡ self.now.shape }
     {
         self.core.shape()
     }
 
     /// The entries so far, the oldest first.
-    pub fn history(&self) -> &Entries
+    pub fn history(&self) -> &Entries<A>
         ensures entries { reverse result.now.items ≡ self.now.history }
         ensures judged { IsJudged self.now.shape self.now.history }
         ensures within { length self.now.history ≤ self.now.limit }
@@ -89,7 +91,7 @@ impl ShortGate {
     }
 
     /// The entries, the oldest first, and what the cells hold, taken out of the gate.
-    pub fn into_parts(self) -> (Entries, Vec<u64>)
+    pub fn into_parts(self) -> (Entries<A>, Vec<u64, A>)
         ensures entries { reverse result.0.items ≡ self.history }
         ensures cells { result.1.items ≡ self.memory }
         ensures judged { IsJudged self.shape self.history }

@@ -3,7 +3,7 @@ use Rattle.model_histories.specs.States.{State}
 use Rattle.race_gate.proofs.short_gate.ShortGate.history.Goals as goal
 
 pub returns-clause-entries : goal.returns-clause-entries
-returns-clause-entries c = cc
+returns-clause-entries g c = cc
 
 pub returns-clause-within : goal.returns-clause-within
-returns-clause-within c = subst (λ (state : State). length state.history ≤ state.limit) c.self.view_is c.self.invariant.kept.within
+returns-clause-within g c = subst (λ (state : State). length state.history ≤ state.limit) c.self.view_is c.self.invariant.kept.within
