@@ -31,12 +31,12 @@ module _ (c : clone.Ghosts (Heap.the_row).Denot) where
   reducers_send : IsSend (ReducerTracks.the_row Heap.the_row ghosts c)
   reducers_send = let a = views_send in search (sendable, crosses, branches.the_send, peers.the_send, send) depth 40 fits 20000
 
-gate_send : IsSend ShortGate.the_row
-gate_send = search (sendable, crosses, reducers_send, entries.the_send, strands.the_send, shadow.the_send, send) depth 40 fits 20000
+  gate_send : IsSend (ShortGate.the_row Heap.the_row ghosts c)
+  gate_send = search (sendable, crosses, reducers_send, entries.the_send, strands.the_send, shadow.the_send, send) depth 40 fits 20000
 
-module _ (L : RattleType) (g : ledger.Ghosts L.Denot) where
-  round_send : IsSend (Round.the_row L g)
-  round_send = search (sendable, crosses, gate_send, book.the_send) depth 40 fits 20000
+  module _ (L : RattleType) (g : ledger.Ghosts L.Denot) where
+    round_send : IsSend (Round.the_row L Heap.the_row c g ghosts)
+    round_send = search (sendable, crosses, gate_send, book.the_send) depth 40 fits 20000
 
-  pub locked_sync : IsSync (LockedGate.the_row L g)
-  locked_sync = let a = round_send in search (sendable, crosses) depth 40 fits 20000
+    pub locked_sync : IsSync (LockedGate.the_row L Heap.the_row c g ghosts)
+    locked_sync = let a = round_send in search (sendable, crosses) depth 40 fits 20000
