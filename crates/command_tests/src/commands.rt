@@ -159,7 +159,9 @@ fn answered<P: Read, R: Abort + Threads + Wait + Sync>(
         }
         Run(workers, limit) => {
             let (workers, limit) = (manned(rt, workers), limited(rt, limit));
-            run_text(rt, alloc, input, workers, &OpenDoor, output, limit)
+            run_text(
+                rt, alloc, alloc, input, workers, &OpenDoor, output, limit,
+            )
         }
         Explain(workers, limit) => {
             explained(

@@ -18,8 +18,6 @@ mod histories;
 #[cfg(test)]
 mod limits;
 #[cfg(test)]
-mod locked_growths;
-#[cfg(test)]
 mod pictures;
 #[cfg(test)]
 mod pranks;
@@ -28,6 +26,8 @@ mod receipts;
 pub mod refusing;
 #[cfg(test)]
 mod rounds;
+#[cfg(test)]
+mod run_growths;
 #[cfg(test)]
 mod schedules;
 #[cfg(test)]

@@ -47,7 +47,7 @@ pub fn trace_run<D: Door + Sync, R: Threads + Wait + Sync>(
     ensures ok { IfOk result (λ told. TellsTraced (contents program.now) limit told.line.items told.trace.items told.status) }
     ensures fault { IfErr result (IsRunFault (contents program.now) limit) }
 {
-    let whole = match whole_run::<Brand, D, R>(
+    let whole = match whole_run::<Brand, Global, D, R>(
         rt,
         alloc,
         program,

@@ -77,7 +77,7 @@ pub fn refusal_status(entries: &[Entry]) -> u8
 }
 
 /// As [`refusal_status`], of a run of which it is known whether something was refused, so that no entry is looked at.
-pub fn whole_status(whole: &Whole) -> u8
+pub fn whole_status<A: Allocator>(whole: &Whole<A>) -> u8
     requires { IsTrue whole.now.clean ↔ IsClean (reverse whole.now.entries.items) }
     ensures { result ≡ status_of_run whole.now.entries.items }
 {

@@ -1,12 +1,12 @@
--- A gate behind its lock may be shared among threads: what it holds may go to another thread. It is shown part by part, since a search through
--- all of them at once stops at a limit: no law stands made for a part in which a table of reducers lies, since its slots hold slots.
+-- A gate behind its lock may be shared among threads: what it holds may go to another thread, where its allocator may, and any thread may give
+-- a block back to it. It is shown part by part, since a search through all of them at once stops at a limit: no law stands made for a part in
+-- which a table of reducers lies, since its slots hold slots.
 use denote.RattleType.{RattleType}
-use denote.Param.Send.{IsSend, IsSync, sendable}
+use denote.Param.Send.{IsSend, IsSync, Frees, sendable}
+use Rattle.std.specs.declared.alloc.Allocator as alloc
 use Rattle.std.specs.declared.clone.Clone as clone
 use Rattle.std.specs.declared.sync.ledger.Ledger as ledger
-use Rattle.std.specs.contracts.alloc.Global as Heap
-use Rattle.std.specs.contracts.impls.GlobalAllocator.TheImpl.{ghosts}
-use Rattle.std.proofs.Crossing.{crosses, send}
+use Rattle.std.proofs.CrossingOver.{crosses}
 use Rattle.std.proofs.sync.ledger.Book.TheSendSync as book
 use Rattle.short_receipts.proofs.entries.Entries.TheSendSync as entries
 use Rattle.locked_replay.below.branch_names.proofs.branches.Branches.TheSendSync as branches
@@ -21,22 +21,23 @@ use Rattle.race_gate.specs.contracts.short_gate.ShortGate as ShortGate
 use Rattle.locked_replay.specs.contracts.locked.CountedGate as Round
 use Rattle.locked_replay.specs.contracts.locked.LockedGate as LockedGate
 
-piece_send : IsSend (Piece.the_row Heap.the_row ghosts)
-piece_send = search (sendable, crosses, slot.crosses) depth 40 fits 20000
+module _ (A : RattleType) (a : alloc.Ghosts A.Denot) (sent : IsSend A) (frees : Frees a a.dealloc_token) where
+  piece_send : IsSend (Piece.the_row A a)
+  piece_send = search (sendable, crosses, slot.crosses, sent, frees) depth 40 fits 20000
 
-module _ (c : clone.Ghosts (Heap.the_row).Denot) where
-  views_send : IsSend (Views.the_row Heap.the_row ghosts c)
-  views_send = search (sendable, crosses, piece_send, slot.crosses, send) depth 40 fits 20000
+  module _ (c : clone.Ghosts A.Denot) where
+    views_send : IsSend (Views.the_row A a c)
+    views_send = search (sendable, crosses, piece_send, slot.crosses, sent, frees) depth 40 fits 20000
 
-  reducers_send : IsSend (ReducerTracks.the_row Heap.the_row ghosts c)
-  reducers_send = let a = views_send in search (sendable, crosses, branches.the_send, peers.the_send, send) depth 40 fits 20000
+    reducers_send : IsSend (ReducerTracks.the_row A a c)
+    reducers_send = let it = views_send in search (sendable, crosses, branches.the_send, peers.the_send, sent, frees) depth 40 fits 20000
 
-  gate_send : IsSend (ShortGate.the_row Heap.the_row ghosts c)
-  gate_send = search (sendable, crosses, reducers_send, entries.the_send, strands.the_send, shadow.the_send, send) depth 40 fits 20000
+    gate_send : IsSend (ShortGate.the_row A a c)
+    gate_send = search (sendable, crosses, reducers_send, entries.the_send, strands.the_send, shadow.the_send, sent, frees) depth 40 fits 20000
 
-  module _ (L : RattleType) (g : ledger.Ghosts L.Denot) where
-    round_send : IsSend (Round.the_row L Heap.the_row c g ghosts)
-    round_send = search (sendable, crosses, gate_send, book.the_send) depth 40 fits 20000
+    module _ (L : RattleType) (g : ledger.Ghosts L.Denot) where
+      round_send : IsSend (Round.the_row L A c g a)
+      round_send = search (sendable, crosses, gate_send, book.the_send) depth 40 fits 20000
 
-    pub locked_sync : IsSync (LockedGate.the_row L Heap.the_row c g ghosts)
-    locked_sync = let a = round_send in search (sendable, crosses) depth 40 fits 20000
+      pub locked_sync : IsSync (LockedGate.the_row L A c g a)
+      locked_sync = let it = round_send in search (sendable, crosses) depth 40 fits 20000

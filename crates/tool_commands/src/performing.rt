@@ -136,6 +136,7 @@ fn run_file<H: Host, W: Write, R: Threads + Wait + Sync>(
     let answer = run_text(
         threads,
         alloc,
+        alloc,
         &mut program,
         workers,
         &OpenDoor,
