@@ -1,30 +1,26 @@
 //! The program `cilkcheck`: a race detector for spawn-sync programs.
 //!
-//! [`read_args`] reads what the words of the command line ask for; [`check_names`] refuses what would write over a program; [`perform`], or
-//! [`perform_alone`] for what starts no thread, does the job, and carries in its contract what is written for what standard input and the
-//! files hold; [`exit_of`] gives the exit status. The clauses of these calls are those of what calls them here. What is trusted here is that [`System`] gives the bytes of standard input, and of the
-//! file with the name that it is asked for, that a file which it creates is empty and then holds what is written, and that it tells two
-//! names of one file.
+//! [`read_args`] reads what the words of the command line ask for; [`check_names`] refuses what would write over a program; [`perform`]
+//! does the job, and carries in its contract what is written for what standard input and the files hold; [`exit_of`] gives the exit status.
+//! What is trusted here is that [`System`] gives the bytes of standard input, and of the file with the name that it is asked for, that a
+//! file which it creates is empty and then holds what is written, and that it tells two names of one file.
 #![tactic(auto)]
 
-ghost use Rattle.std.specs.Prelude.{⊤, None, IfOk, IfErr, OnOk, ◌≡◌, ◌≤◌, false, true};
+ghost use Rattle.std.specs.Prelude.{⊤, None, IfOk, ◌≤◌};
 ghost use Rattle.command_words.specs.Asked.{IsJobOf};
 ghost use Rattle.command_words.specs.Jobs.{IsInRange};
 ghost use Rattle.command_words.specs.Names.{SparesProgram};
 ghost use Rattle.command_streams.specs.Sources.{unknown_sources};
-ghost use Rattle.command_streams.specs.Watched.{held, has_failed, is_delivered};
-ghost use Rattle.tool_commands.specs.Performed.{IsPerformed, HasJobCause, IsRecorded};
 
-use std::alloc::Global;
 use std::env;
 use std::fs::{self, File};
-use std::io::{self, IsTerminal, Read, Write};
+use std::io::{self, IsTerminal, Read};
 use std::os::unix::fs::MetadataExt;
 use std::process::ExitCode;
 use std::sync::Wait;
 use std::thread::Threads;
 use tool_commands::{
-    CliFault, Host, INPUT, Job, Watched, check_names, exit_of, perform, perform_alone, read_args,
+    CliFault, Host, INPUT, Job, Watched, check_names, exit_of, perform, read_args,
 };
 
 /// The system's standard input and files. No contract knows what they hold, or whether one can be created.
@@ -166,36 +162,6 @@ fn job_of(rt: &HostRuntime, host: &Watched<System<'_>>) -> Result<Job, CliFault>
     Ok(job)
 }
 
-/// Does the job as [`perform`] does it. What starts no thread is done without the leave to start one.
-fn do_job<R: Threads + Wait + Sync, H: Host, W: Write>(
-    threads: &R,
-    alloc: Global,
-    host: &mut Watched<H>,
-    job: &Job,
-    output: &mut Watched<W>,
-) -> Result<u8, CliFault>
-    requires host { has_failed host.old ≡ false }
-    requires writer { has_failed output.old ≡ false }
-    requires ranges { IsInRange job.now }
-    ensures done { IfOk result (IsPerformed (H.sources (held host.old)) job.now
-        (W.contents (held output.old)) (W.contents (held output.new))) }
-    ensures fault { IfErr result (HasJobCause (H.sources (held host.old)) job.now
-        (W.contents (held output.old)) (W.contents (held output.new))) }
-    ensures status { IfOk result (λ status. status ≤ 4) }
-    ensures delivered { OnOk result (is_delivered output.new ≡ true) }
-    ensures recorded { IfOk result (IsRecorded (H.sources (held host.old)) job.now (H.blank (held host.old)) (H.made (held host.new))
-        (W.contents (held output.old)) (W.contents (held output.new))) }
-{
-    match job {
-        Job::Run { .. }
-        | Job::Trace { .. }
-        | Job::Record { .. }
-        | Job::Explain { .. }
-        | Job::ExplainInput { .. } => perform(threads, alloc, host, job, output),
-        job => perform_alone(alloc, host, job, output),
-    }
-}
-
 /// Does what the words of the command line ask for.
 fn answer_of<R: Threads + Wait + Sync>(threads: &R, rt: &HostRuntime) -> Result<u8, CliFault>
     ensures { IfOk result (λ status. status ≤ 4) }
@@ -213,7 +179,7 @@ fn answer_of<R: Threads + Wait + Sync>(threads: &R, rt: &HostRuntime) -> Result<
     };
     tell_input(rt, &job);
     let mut output = Watched::new(io::writer(rt));
-    let answer = do_job(threads, rt.alloc(), &mut host, &job, &mut output);
+    let answer = perform(threads, rt.alloc(), &mut host, &job, &mut output);
     if let Err(fault) = &answer {
         tell_failure(rt, &host.into_inner(), &job, fault);
     }

@@ -18,6 +18,8 @@ mod histories;
 #[cfg(test)]
 mod limits;
 #[cfg(test)]
+mod locked_growths;
+#[cfg(test)]
 mod pictures;
 #[cfg(test)]
 mod pranks;

@@ -29,7 +29,7 @@ macro_rules! request {
 }
 
 /// What PAIR's functions ask, where the child writes before the spawner reads.
-const PAIR_REQUESTS: &[Request] = &[
+pub const PAIR_REQUESTS: &[Request] = &[
     request!(0, Act::Spawn, 5),
     request!(1, Act::Write(0, 7), 9),
     request!(2, Act::Read(0), 6),

@@ -6,7 +6,7 @@ use crate::pranks::{Prank, Prankster};
 use locked_replay::{LockedGate, RunFault, Seat, Whole, WorkerLog, gather};
 use program_text::Program;
 use race_gate::ShortGate;
-use std::alloc::{AllocError, Global};
+use std::alloc::{AllocError, Allocator, Global};
 use std::marker::Brand;
 use std::sync::Wait;
 use std::sync::ledger::{Blank, Ledger};
@@ -17,7 +17,10 @@ use steal_workers::run;
 const PARTS: u64 = 64;
 
 /// A gate of the program, which was asked nothing.
-pub fn gate_for(alloc: Global, program: &Program<Global>) -> Result<ShortGate, AllocError>
+pub fn gate_for<A: Allocator + Copy>(
+    alloc: A,
+    program: &Program<A>,
+) -> Result<ShortGate<A>, AllocError>
     ensures { IfOk result (λ gate. gate.history ≡ []) }
 {
     let shape = program.shape(alloc)?;

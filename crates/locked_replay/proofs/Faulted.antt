@@ -14,7 +14,7 @@ not_stopped : (stopped : Bool) → (stopped ≡ true → ⊥) → stopped ≡ fa
 not_stopped true not = absurd (not refl)
 not_stopped false not = refl
 
-module _ {L T : Type 0} (functions : List Code) (shape : Shape) (gate : State) (logs : List (WorkerLog L)) where
+module _ {L A T : Type 0} (functions : List Code) (shape : Shape) (gate : State) (logs : List (WorkerLog L A)) where
   -- the logs are whole, and the gate is not that of a finished run
   pub run_faulted : (checked : Result T RunFault) (fault : RunFault) → (checked ≡ Err Stopped → ⊥) → (gate.stopped ≡ true → checked ≡ Err Stopped) →
       AreWhole (reverse gate.history) logs → (fault ≡ Strange → IsStrangeGate functions shape gate) → (fault ≡ Limit → ⊥) → (fault ≡ Stopped → ⊥) →

@@ -29,9 +29,9 @@ pub if_err : {A E : Type 0} {P Q : E → Type 0} (result : Result A E) → IfErr
 if_err (Ok a) p f = tt
 if_err (Err e) p f = f e p
 
-module _ {L B : Type 0} (program : Program B) (gate : State) (logs : List (WorkerLog L)) where
+module _ {L A B : Type 0} (program : Program B) (gate : State) (logs : List (WorkerLog L A)) where
   -- a whole run is that of the gate
-  pub record IsGathered (whole : Whole) : Type 0 where
+  pub record IsGathered (whole : Whole A) : Type 0 where
     pub shape : gate.shape ≡ shape_in program
     pub entries : whole.entries.items ≡ reverse gate.history
     pub memory : whole.memory.items ≡ gate.memory
@@ -39,14 +39,14 @@ module _ {L B : Type 0} (program : Program B) (gate : State) (logs : List (Worke
     pub whole_logs : AreWhole (reverse gate.history) logs
     pub run : IsFinishedRun program.functions (shape_in program) gate.history
 
-  pub gathered : (result : Result Whole RunFault) → OnOk result (gate.shape ≡ shape_in program) → IfOk result (λ whole. whole.entries.items ≡ reverse gate.history) →
+  pub gathered : (result : Result (Whole A) RunFault) → OnOk result (gate.shape ≡ shape_in program) → IfOk result (λ whole. whole.entries.items ≡ reverse gate.history) →
       IfOk result (λ whole. whole.memory.items ≡ gate.memory) → IfOk result (λ whole. IsTrue whole.clean ↔ IsClean gate.history) →
       OnOk result (AreWhole (reverse gate.history) logs) → OnOk result (IsFinishedRun program.functions (shape_in program) gate.history) → IfOk result IsGathered
   gathered (Ok whole) shape entries memory clean whole_logs run =
       record { shape = shape; entries = entries; memory = memory; clean = clean; whole_logs = whole_logs; run = run }
   gathered (Err fault) shape entries memory clean whole_logs run = tt
 
-  module _ (whole : Whole) (g : IsGathered whole) where
+  module _ (whole : Whole A) (g : IsGathered whole) where
     -- the history, from the entries of the whole run
     history_is : gate.history ≡ reverse whole.entries.items
     history_is = sym (ap reverse g.entries ∙ reverse-reverse gate.history)
@@ -81,7 +81,7 @@ module _ {L B : Type 0} (program : Program B) (gate : State) (logs : List (Worke
       (behind : State) × IsRight behind × HasFault program.functions (shape_in program) behind logs fault
   faulted judged memory fault has = (gate, record { judged = judged; memory = memory }, has)
 
-  pub never_limit : (result : Result Whole RunFault) → IfErr result (HasFault program.functions (shape_in program) gate logs) →
+  pub never_limit : (result : Result (Whole A) RunFault) → IfErr result (HasFault program.functions (shape_in program) gate logs) →
       result ≡ Err RunFault.Limit → ⊥
   never_limit (Ok whole) has e = cc
   never_limit (Err fault) has e =

@@ -19,21 +19,21 @@ use Rattle.locked_replay.proofs.Marks.{marked_none, marked_all}
 pub unmarked : (es : List Entry) → AreMarked (replicate (length es) false) es []
 unmarked es = (length-replicate (length es) false, subst (λ (l : List Receipt). IsPermutation [] l) (sym (marked_none (length es) (numbered 1 es))) (IsPermutation-refl []))
 
-module _ {L : Type 0} (logs : List (WorkerLog L)) where
-  abbrev receipts_in : WorkerLog L → List Receipt
+module _ {L A : Type 0} (logs : List (WorkerLog L A)) where
+  abbrev receipts_in : WorkerLog L A → List Receipt
   receipts_in log = log.receipts.items
 
-  abbrev rises_in : WorkerLog L → Type 0
+  abbrev rises_in : WorkerLog L A → Type 0
   rises_in log = Rises log.receipts.items
 
   -- one log further
-  module _ (i : ℕ) (log : WorkerLog L) (low : i < length logs) (is : log ≡ get_or logs i log) where
+  module _ (i : ℕ) (log : WorkerLog L A) (low : i < length logs) (is : log ≡ get_or logs i log) where
     pub rise_next : All rises_in (take i logs) → rises_in log → All rises_in (take (i + 1) logs)
     rise_next before here = All-more rises_in logs i log low before (subst rises_in is here)
 
     pub receipts_next : all_receipts (take i logs) ++ log.receipts.items ≡ all_receipts (take (i + 1) logs)
     receipts_next =
-        ap (λ (l : WorkerLog L). all_receipts (take i logs) ++ receipts_in l) is ∙
+        ap (λ (l : WorkerLog L A). all_receipts (take i logs) ++ receipts_in l) is ∙
         ap (λ (l : List Receipt). all_receipts (take i logs) ++ l) (sym (append-nil (receipts_in (get_or logs i log)))) ∙
         sym (flat_map-append receipts_in (take i logs) (get_or logs i log ∷ [])) ∙ ap all_receipts (sym (take_more logs i log low))
 
@@ -46,7 +46,7 @@ module _ {L : Type 0} (logs : List (WorkerLog L)) where
         astray rest (subst (λ (l : List Receipt). IsPermutation l (numbered 1 es)) (sym whole) theirs.1)
 
   abbrev count : ℕ
-  count = sum_by (λ (log : WorkerLog L). length log.receipts.items) logs
+  count = sum_by (λ (log : WorkerLog L A). length log.receipts.items) logs
 
   pub theirs_counted : (es : List Entry) → AreTheirs es logs → count ≡ length es
   theirs_counted es theirs = sym (length-flat_map receipts_in logs) ∙ sym (length_permutation (all_receipts logs) (numbered 1 es) theirs.1) ∙ length-numbered 1 es

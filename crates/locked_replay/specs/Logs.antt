@@ -7,21 +7,21 @@ use Rattle.model_histories.specs.declared.reply.Receipt.{Receipt}
 use Rattle.locked_replay.specs.declared.worker.WorkerLog.{WorkerLog}
 use Rattle.locked_replay.specs.Receipts.{numbered, Rises}
 
-module _ {L : Type 0} where
+module _ {L A : Type 0} where
   -- the receipts of all logs, one log after the other
-  abbrev pub all_receipts : List (WorkerLog L) → List Receipt
+  abbrev pub all_receipts : List (WorkerLog L A) → List Receipt
   all_receipts = flat_map (λ log. log.receipts.items)
 
   -- what was asked on all seats
-  abbrev pub all_asked : List (WorkerLog L) → ℕ
+  abbrev pub all_asked : List (WorkerLog L A) → ℕ
   all_asked = sum_by (λ log. log.seat.asked)
 
 -- in each log the receipts rise in number, and all receipts together are those of the entries, the oldest first, each once
-abbrev pub AreTheirs : {L : Type 0} → List Entry → List (WorkerLog L) → Type 0
+abbrev pub AreTheirs : {L A : Type 0} → List Entry → List (WorkerLog L A) → Type 0
 AreTheirs entries logs = All (λ log. Rises log.receipts.items) logs × IsPermutation (all_receipts logs) (numbered 1 entries)
 
 -- the logs are those of the entries, the oldest first
-pub record AreWhole {L : Type 0} (entries : List Entry) (logs : List (WorkerLog L)) : Type 0 where
+pub record AreWhole {L A : Type 0} (entries : List Entry) (logs : List (WorkerLog L A)) : Type 0 where
   -- in each log the receipts rise in number
   pub rise : All (λ log. Rises log.receipts.items) logs
   -- all receipts together are those of the entries, each once

@@ -7,6 +7,7 @@ ghost use Rattle.model_histories.specs.Replies.{Judges, reply_of};
 
 use crate::seat::Seat;
 use race_gate::{GateFault, Receipt, ShortGate};
+use std::alloc::{Allocator, Global};
 use std::sync::atomic::AtomicU64;
 use std::sync::ledger::{Blank, Book, Ledger};
 use std::sync::{Mutex, MutexGuard, Wait};
@@ -37,13 +38,13 @@ pub trait Ask<L: Ledger> {
 /// What lies under the lock: a gate, whose history is judged and whose memory is what that leaves, since it is a gate; and the total of
 /// what was asked on all seats, which is the length of the history.
 #[derive(Drop)]
-struct CountedGate<L: Ledger> {
-    gate: ShortGate,
+struct CountedGate<L: Ledger, A: Allocator + Clone> {
+    gate: ShortGate<A>,
     total: Book<L>,
     ghost counted: { total.total ≡ length gate.history },
 }
 
-impl<L: Ledger> CountedGate<L> {
+impl<L: Ledger, A: Allocator + Clone> CountedGate<L, A> {
     /// The gate judges the request, and the receipt is of the entry that is then its newest.
     fn judge(&mut self, seat: &mut Seat<L>, request: Request) -> Result<Receipt, GateFault>
         ensures replies { Judges self.old.gate request (reply_of result) self.new.gate }
@@ -74,15 +75,15 @@ impl<L: Ledger> CountedGate<L> {
 
 /// A gate that any thread may ask.
 #[derive(Drop)]
-pub struct LockedGate<L: Ledger> {
-    round: Mutex<CountedGate<L>>,
+pub struct LockedGate<L: Ledger, A: Allocator + Clone = Global> {
+    round: Mutex<CountedGate<L, A>>,
     /// What askers doze on. It is 0 for good.
     calm: AtomicU64,
 }
 
-impl<L: Ledger> LockedGate<L> {
+impl<L: Ledger, A: Allocator + Clone> LockedGate<L, A> {
     /// The gate behind its lock, and a seat on which nothing was asked, with all parts of the blank, which are so many.
-    pub fn new(gate: ShortGate, blank: Blank, parts: u64) -> (LockedGate<L>, Seat<L>)
+    pub fn new(gate: ShortGate<A>, blank: Blank, parts: u64) -> (LockedGate<L, A>, Seat<L>)
         requires empty { gate.history ≡ [] }
         requires name { blank.name ≡ L.name }
         requires all { blank.parts ≡ L.parts }
@@ -105,7 +106,7 @@ impl<L: Ledger> LockedGate<L> {
     /// that ask in turns would hand all that a gate keeps from one processor to another at each request.
     #[cold]
     #[inline(never)]
-    fn take_when_free<R: Wait>(&self, rt: &R) -> MutexGuard<'_, CountedGate<L>> {
+    fn take_when_free<R: Wait>(&self, rt: &R) -> MutexGuard<'_, CountedGate<L, A>> {
         let mut doze = DOZE;
         for _ in rt.forever() {
             self.calm.park_timeout(rt, 0, Duration::from_micros(doze));
@@ -118,7 +119,7 @@ impl<L: Ledger> LockedGate<L> {
     }
 
     /// Takes the lock.
-    fn take<R: Wait>(&self, rt: &R) -> MutexGuard<'_, CountedGate<L>> {
+    fn take<R: Wait>(&self, rt: &R) -> MutexGuard<'_, CountedGate<L, A>> {
         match self.round.try_lock() {
             Some(round) => round,
             None => self.take_when_free(rt),
@@ -145,20 +146,20 @@ impl<L: Ledger> LockedGate<L> {
     }
 
     /// The gate that lies under the lock, whose history is judged and whose memory is what that leaves.
-    pub fn into_gate(self) -> ShortGate
+    pub fn into_gate(self) -> ShortGate<A>
         ensures judged { IsJudged result.shape result.history }
         ensures values { IsMemory result.shape.cells result.history result.memory }
     {
         let LockedGate { round, calm: _ } = self;
         let CountedGate { gate, total: _ } = round.into_inner();
         // What is known of each gate is known of this one from here on.
-        let _entries = gate.history();
+        let _entries = gate.kept_history();
         let _cells = gate.memory();
         gate
     }
 }
 
-impl<L: Ledger> Ask<L> for LockedGate<L> {
+impl<L: Ledger, A: Allocator + Clone> Ask<L> for LockedGate<L, A> {
     fn ask<R: Wait>(
         &self,
         rt: &R,

@@ -11,11 +11,11 @@ use crate::receipts::mark_all;
 use crate::worker::WorkerLog;
 use race_gate::ShortGate;
 use short_receipts::Entries;
-use std::alloc::{AllocError, Global};
+use std::alloc::{AllocError, Allocator};
 use std::sync::ledger::Ledger;
 
 /// How many receipts there are in all logs, or None where no u64 holds it.
-fn count_of<L: Ledger>(logs: &[WorkerLog<L>]) -> Option<u64>
+fn count_of<L: Ledger, A: Allocator>(logs: &[WorkerLog<L, A>]) -> Option<u64>
     ensures { MatchOption result
         (2 ^ 64 ≤ sum_by (λ log. length log.receipts.items) logs.now)
         (λ count. count ≡ sum_by (λ log. length log.receipts.items) logs.now) }
@@ -28,7 +28,11 @@ fn count_of<L: Ledger>(logs: &[WorkerLog<L>]) -> Option<u64>
 }
 
 /// Marks the entries whose receipts are in the logs, where the receipts rise in number in each log, and no entry has two of them.
-fn mark_logs<L: Ledger>(marks: &mut [bool], entries: &Entries, logs: &[WorkerLog<L>]) -> bool
+fn mark_logs<L: Ledger, A: Allocator>(
+    marks: &mut [bool],
+    entries: &Entries<A>,
+    logs: &[WorkerLog<L, A>],
+) -> bool
     requires { length marks.old ≡ length entries.now.items }
     ensures { AreMarked marks.old entries.now.items [] →
         MatchBool result
@@ -44,10 +48,10 @@ fn mark_logs<L: Ledger>(marks: &mut [bool], entries: &Entries, logs: &[WorkerLog
 }
 
 /// Whether in each log the receipts rise in number, and all of them together are those of the entries, each once.
-fn are_theirs<L: Ledger>(
-    alloc: Global,
-    entries: &Entries,
-    logs: &[WorkerLog<L>],
+fn are_theirs<L: Ledger, A: Allocator>(
+    alloc: A,
+    entries: &Entries<A>,
+    logs: &[WorkerLog<L, A>],
 ) -> Result<bool, AllocError>
     ensures { IfOk result (λ theirs. IsTrue theirs ↔ AreTheirs entries.now.items logs.now) }
 {
@@ -63,7 +67,7 @@ fn are_theirs<L: Ledger>(
 }
 
 /// What was asked on all seats, or None where no u64 holds it.
-fn asked_of<L: Ledger>(logs: &[WorkerLog<L>]) -> Option<u64>
+fn asked_of<L: Ledger, A: Allocator>(logs: &[WorkerLog<L, A>]) -> Option<u64>
     ensures { MatchOption result (2 ^ 64 ≤ all_asked logs.now) (λ asked. asked ≡ all_asked logs.now) }
 {
     let mut asked = 0u64;
@@ -75,10 +79,10 @@ fn asked_of<L: Ledger>(logs: &[WorkerLog<L>]) -> Option<u64>
 
 /// Whether the logs are whole: in each the receipts rise in number, all of them together are those of the gate's history, each once, and
 /// as much was asked on all seats. Stopped where the gate is stopped, and else Torn only where they aren't whole.
-pub fn check_logs<L: Ledger>(
-    alloc: Global,
-    gate: &ShortGate,
-    logs: &[WorkerLog<L>],
+pub fn check_logs<L: Ledger, A: Allocator + Clone>(
+    alloc: A,
+    gate: &ShortGate<A>,
+    logs: &[WorkerLog<L, A>],
 ) -> Result<(), RunFault>
     ensures whole { OnOk result (AreWhole (reverse gate.now.history) logs.now) }
     ensures stopped { (result ≡ Err RunFault.Stopped) ↔ (gate.now.stopped ≡ true) }
@@ -88,7 +92,7 @@ pub fn check_logs<L: Ledger>(
     if gate.is_stopped() {
         return Err(RunFault::Stopped);
     }
-    let entries = gate.history();
+    let entries = gate.kept_history();
     let length = entries.len() as u64;
     let Ok(theirs) = are_theirs(alloc, entries, logs) else {
         return Err(RunFault::Memory);

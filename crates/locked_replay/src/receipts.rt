@@ -6,9 +6,15 @@ ghost use Rattle.model_histories.specs.declared.reply.Receipt.{Receipt as OneRec
 ghost use Rattle.locked_replay.specs.Receipts.{Rises, RisesAt, AreMarked, AreAstray};
 
 use short_receipts::{Entries, Receipts};
+use std::alloc::Allocator;
 
 /// Marks the entry whose receipt is at this place, where there is one that was not marked.
-fn mark(marks: &mut [bool], entries: &Entries, receipts: &Receipts, at: usize) -> bool
+fn mark<A: Allocator>(
+    marks: &mut [bool],
+    entries: &Entries<A>,
+    receipts: &Receipts<A>,
+    at: usize,
+) -> bool
     requires marks { length marks.old ≡ length entries.now.items }
     requires there { at < length receipts.now.items }
     ensures length { length marks.new ≡ length marks.old }
@@ -29,7 +35,7 @@ fn mark(marks: &mut [bool], entries: &Entries, receipts: &Receipts, at: usize) -
 }
 
 /// Whether the receipt at this place has a greater number than the one before, if there is one.
-fn rises_at(receipts: &Receipts, at: usize) -> bool
+fn rises_at<A: Allocator>(receipts: &Receipts<A>, at: usize) -> bool
     requires { at < length receipts.now.items }
     ensures { IsTrue result ↔ RisesAt receipts.now.items at }
 {
@@ -37,7 +43,11 @@ fn rises_at(receipts: &Receipts, at: usize) -> bool
 }
 
 /// Marks the entries whose receipts these are, where the receipts rise in number, and each is that of an entry that was not marked.
-pub fn mark_all(marks: &mut [bool], entries: &Entries, receipts: &Receipts) -> bool
+pub fn mark_all<A: Allocator>(
+    marks: &mut [bool],
+    entries: &Entries<A>,
+    receipts: &Receipts<A>,
+) -> bool
     requires { length marks.old ≡ length entries.now.items }
     ensures length { length marks.new ≡ length marks.old }
     ensures marks { (met : List OneReceipt) → AreMarked marks.old entries.now.items met →

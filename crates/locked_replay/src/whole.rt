@@ -26,11 +26,11 @@ use std::sync::ledger::Ledger;
 
 /// A finished run of a program.
 #[derive(Drop)]
-pub struct Whole {
+pub struct Whole<A: Allocator = Global> {
     /// The entries of its history, the oldest first.
-    pub entries: Entries,
+    pub entries: Entries<A>,
     /// What the cells hold at its end.
-    pub memory: Vec<u64>,
+    pub memory: Vec<u64, A>,
     /// Whether nothing was refused.
     pub clean: bool,
 }
@@ -43,7 +43,7 @@ fn is_clean_answer(answer: Answer) -> bool
 }
 
 /// Whether no answer is a refusal.
-fn is_clean(entries: &Entries) -> bool
+fn is_clean<A: Allocator>(entries: &Entries<A>) -> bool
     ensures { IsTrue result ↔ IsClean entries.now.items }
 {
     if entries.are_clean() {
@@ -70,10 +70,10 @@ fn fault_of(fault: ReplayFault) -> RunFault
 
 /// Whether the gate is of the program's shape, and its history a finished run of the program. Strange where not, and Memory at a refused
 /// growth.
-pub fn check_run<B: Allocator>(
-    alloc: Global,
+pub fn check_run<A: Allocator + Copy, B: Allocator>(
+    alloc: A,
     program: &Program<B>,
-    gate: &ShortGate,
+    gate: &ShortGate<A>,
 ) -> Result<(), RunFault>
     ensures shape { OnOk result (gate.now.shape ≡ shape_in program.now) }
     ensures run { OnOk result (IsFinishedRun program.now.functions (shape_in program.now) gate.now.history) }
@@ -84,7 +84,7 @@ pub fn check_run<B: Allocator>(
     if !is_same_shape(gate.shape(), &shape) {
         return Err(RunFault::Strange);
     }
-    match follow(alloc, program, gate.history()) {
+    match follow(alloc, program, gate.kept_history()) {
         Ok(()) => Ok(()),
         Err(fault) => Err(fault_of(fault)),
     }
@@ -92,11 +92,11 @@ pub fn check_run<B: Allocator>(
 
 /// What [`check_run`] answers of this gate, and where that is Ok its entries, the oldest first, and what its cells hold. What else the gate
 /// kept is let go before the replay, which may have its room.
-fn parts_of<B: Allocator>(
-    alloc: Global,
+fn parts_of<A: Allocator + Copy, B: Allocator>(
+    alloc: A,
     program: &Program<B>,
-    gate: ShortGate,
-) -> Result<(Entries, Vec<u64>), RunFault>
+    gate: ShortGate<A>,
+) -> Result<(Entries<A>, Vec<u64, A>), RunFault>
     ensures shape { OnOk result (gate.shape ≡ shape_in program.now) }
     ensures entries { IfOk result (λ parts. reverse parts.0.items ≡ gate.history) }
     ensures memory { IfOk result (λ parts. parts.1.items ≡ gate.memory) }
@@ -117,12 +117,12 @@ fn parts_of<B: Allocator>(
 
 /// What [`gather`] answers of the gate that it took out of its lock. Stopped where the gate is stopped, else Torn where the logs are not
 /// whole, else Strange where the gate is not that of a finished run of the program; Memory at a refused growth.
-fn whole_of<L: Ledger, B: Allocator>(
-    alloc: Global,
+fn whole_of<L: Ledger, A: Allocator + Copy, B: Allocator>(
+    alloc: A,
     program: &Program<B>,
-    gate: ShortGate,
-    logs: Vec<WorkerLog<L>>,
-) -> Result<Whole, RunFault>
+    gate: ShortGate<A>,
+    logs: Vec<WorkerLog<L, A>, A>,
+) -> Result<Whole<A>, RunFault>
     ensures shape { OnOk result (gate.shape ≡ shape_in program.now) }
     ensures entries { IfOk result (λ whole. whole.entries.items ≡ reverse gate.history) }
     ensures memory { IfOk result (λ whole. whole.memory.items ≡ gate.memory) }
@@ -147,12 +147,12 @@ fn whole_of<L: Ledger, B: Allocator>(
 /// Takes the gate out of its lock. Ok where the logs are whole and the history is a finished run of the program; where nothing was refused
 /// in it, it is the program's serial elision, and every run of the program agrees with it. Otherwise it answers what [`check_logs`] says of
 /// the gate and the logs, and then what [`check_run`] says of the gate, and drops both.
-pub fn gather<L: Ledger, B: Allocator>(
-    alloc: Global,
+pub fn gather<L: Ledger, A: Allocator + Copy, B: Allocator>(
+    alloc: A,
     program: &Program<B>,
-    locked: LockedGate<L>,
-    logs: Vec<WorkerLog<L>>,
-) -> Result<Whole, RunFault>
+    locked: LockedGate<L, A>,
+    logs: Vec<WorkerLog<L, A>, A>,
+) -> Result<Whole<A>, RunFault>
     ensures run { IfOk result (λ whole. IsFinishedRun program.now.functions (shape_in program.now) (reverse whole.entries.items)) }
     ensures logs { IfOk result (λ whole. AreWhole whole.entries.items logs.items) }
     ensures memory { IfOk result (λ whole. IsMemory (shape_in program.now).cells (reverse whole.entries.items) whole.memory.items) }

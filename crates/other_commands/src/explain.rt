@@ -332,7 +332,7 @@ fn explain_cut(
     ensures ok { IfOk result (λ told. TellsEnd manner.now text.now (contents program.now) limit told.0.items told.1) }
     ensures fault { IfErr result (IsRunFault (contents program.now) limit) }
 {
-    let entries = gate.history().to_vec(alloc)?;
+    let entries = gate.kept_history().to_vec(alloc)?;
     let entries = entries.as_slice();
     if entries.len() != limit as usize {
         return Err(CliFault::Limit);

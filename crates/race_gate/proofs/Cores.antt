@@ -9,6 +9,7 @@ use Rattle.model_histories.specs.declared.answer.Answer.{Answer}
 use Rattle.model_histories.specs.declared.answer.Entry.{Entry}
 use Rattle.model_histories.specs.declared.fault.GateFault.{GateFault}
 use Rattle.model_histories.specs.declared.fault.GateFault.TheVariants.{Memory}
+use Rattle.model_histories.specs.declared.reply.Reply.TheVariants.{Illegal}
 use Rattle.model_histories.specs.Extensions.{IsEnd}
 use Rattle.model_histories.specs.States.{State}
 use Rattle.race_gate.specs.Books.{Books}
@@ -169,3 +170,8 @@ is-entered core pushed now request answer number faultless fits turned numbered 
   number = numbered ∙ fits.counted ∙ sym (ap length turned);
   after = gate-shown core pushed (with_entry now request answer core.memory) fits turned;
 }
+
+-- there was no memory for it
+pub is-out_of_memory : (core : CoreState) (items : List Entry) (now : State) (request : Request) (fault : GateFault) → IsFaultless now request →
+    IsCoreOf core now → reverse items ≡ now.history → fault ≡ Memory → Judges now request (Illegal fault) (with_history core (reverse items))
+is-out_of_memory core items now request fault faultless fits turned is = rw is (gate-shown core items now fits turned, only-memory now request faultless)

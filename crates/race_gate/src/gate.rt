@@ -12,21 +12,27 @@ ghost use Rattle.model_histories.specs.States.{opening};
 ghost use Rattle.model_histories.specs.Replies.{Judges, reply_of};
 ghost use Rattle.model_histories.specs.Admission.{IsAdmitted, IsOfTheGate};
 
+use crate::history::{History, NewHistory};
 use crate::judging::Core;
 use model_histories::{Entry, GateFault, Receipt};
-use std::alloc::{AllocError, Allocator};
+use short_receipts::Entries;
+use std::alloc::{AllocError, Allocator, Global};
 use std::marker::Model;
 use text_words::{Request, Shape};
 
-/// A gate: it judges requests one after another and keeps the history of its answers. Contracts see its shape, its limit, whether it
-/// was stopped, its history, the newest entry first, and what its cells hold.
-pub struct Gate<A: Allocator + Clone> {
+/// A gate: it judges requests one after another and keeps the history of its answers, in a vector unless another list is named. Contracts
+/// see its shape, its limit, whether it was stopped, its history, the newest entry first, and what its cells hold.
+pub struct Gate<A: Allocator + Clone, H: History = Vec<Entry, A>> {
     core: Core<A>,
-    history: Vec<Entry, A>,
+    history: H,
 }
 
+/// A gate whose entries are packed, in a third of the room. They are not lent as a slice: [`Entries`] shows them one by one, and compares
+/// them with receipts as both are kept.
+pub type ShortGate<A = Global> = Gate<A, Entries<A>>;
+
 /// Written out, so that what lets a gate go calls one function.
-impl<A: Allocator + Clone> Drop for Gate<A> {
+impl<A: Allocator + Clone, H: History> Drop for Gate<A, H> {
     fn drop(self) {
         let Gate {
             core: _,
@@ -35,21 +41,25 @@ impl<A: Allocator + Clone> Drop for Gate<A> {
     }
 }
 
-impl<A: Allocator + Clone> Model for Gate<A> {
+impl<A: Allocator + Clone, H: History> Model for Gate<A, H> {
     ghost use Rattle.std.specs.Prelude.{reverse};
     ghost use Rattle.model_histories.specs.States.{State};
     ghost use Rattle.race_gate.specs.Cores.{IsCoreOf, with_history};
 
     ghost Value = { State };
 
-    ghost view = { λ gate. with_history gate.core (reverse gate.history.items) };
+    ghost view = { λ gate. with_history gate.core (reverse (H.entries gate.history)) };
 
-    ghost invariant = { λ gate. IsCoreOf gate.core (with_history gate.core (reverse gate.history.items)) };
+    ghost invariant = { λ gate. IsCoreOf gate.core (with_history gate.core (reverse (H.entries gate.history))) };
 }
 
-impl<A: Allocator + Clone> Gate<A> {
+impl<A: Allocator + Clone, H: NewHistory<A>> Gate<A, H> {
     /// A gate without entries, over these cells and reducers, whose history takes so many entries; 0 is a limit too. Each cell holds 0.
-    pub fn new<B: Allocator>(alloc: A, shape: &Shape<B>, limit: u32) -> Result<Gate<A>, AllocError>
+    pub fn new<B: Allocator>(
+        alloc: A,
+        shape: &Shape<B>,
+        limit: u32,
+    ) -> Result<Gate<A, H>, AllocError>
         requires cells { shape.now.cells ≤ most_cells }
         requires entries { limit ≤ most_entries }
         requires reducers { length shape.now.monoids ≤ most_reducers }
@@ -57,10 +67,12 @@ impl<A: Allocator + Clone> Gate<A> {
     {
         Ok(Gate {
             core: Core::new(alloc.clone()?, shape, limit)?,
-            history: Vec::new(alloc),
+            history: H::empty(alloc),
         })
     }
+}
 
+impl<A: Allocator + Clone, H: History> Gate<A, H> {
     /// How many cells there are, and the monoids of the reducers, as handed to `new`.
     pub fn shape(&self) -> &Shape<A>
         ensures { shape_of result.now ≡ self.now.shape }
@@ -68,13 +80,13 @@ impl<A: Allocator + Clone> Gate<A> {
         self.core.shape()
     }
 
-    /// The entries so far, the oldest first.
-    pub fn history(&self) -> &[Entry]
-        ensures entries { reverse result.now ≡ self.now.history }
+    /// The entries so far, the oldest first, as they are kept.
+    pub fn kept_history(&self) -> &H
+        ensures entries { reverse (H.entries result.now) ≡ self.now.history }
         ensures judged { IsJudged self.now.shape self.now.history }
         ensures within { length self.now.history ≤ self.now.limit }
     {
-        self.history.as_slice()
+        &self.history
     }
 
     /// What the cells hold.
@@ -85,9 +97,10 @@ impl<A: Allocator + Clone> Gate<A> {
         self.core.memory()
     }
 
-    /// The entries, the oldest first, and what the cells hold, as [`Gate::history`] and [`Gate::memory`] show them, taken out of the gate.
-    pub fn into_parts(self) -> (Vec<Entry, A>, Vec<u64, A>)
-        ensures entries { reverse result.0.items ≡ self.history }
+    /// The entries, the oldest first, and what the cells hold, as [`Gate::kept_history`] and [`Gate::memory`] show them, taken out of the
+    /// gate.
+    pub fn into_parts(self) -> (H, Vec<u64, A>)
+        ensures entries { reverse (H.entries result.0) ≡ self.history }
         ensures cells { result.1.items ≡ self.memory }
         ensures judged { IsJudged self.shape self.history }
         ensures values { IsMemory self.shape.cells self.history self.memory }
@@ -137,13 +150,25 @@ impl<A: Allocator + Clone> Gate<A> {
         ensures values { IsMemory self.new.shape.cells self.new.history self.new.memory }
     {
         self.core.check(request)?;
-        self.history.reserve(1)?;
+        self.history.reserve_entry()?;
         let answer = self.core.answer(request)?;
-        self.history.push_reserved(Entry { request, answer });
-        Ok(Receipt {
+        let receipt = Receipt {
             number: self.core.entries(),
             request,
             answer,
-        })
+        };
+        self.history.push_entry(receipt);
+        Ok(receipt)
+    }
+}
+
+impl<A: Allocator + Clone> Gate<A> {
+    /// The entries so far, the oldest first.
+    pub fn history(&self) -> &[Entry]
+        ensures entries { reverse result.now ≡ self.now.history }
+        ensures judged { IsJudged self.now.shape self.now.history }
+        ensures within { length self.now.history ≤ self.now.limit }
+    {
+        self.kept_history().as_slice()
     }
 }

@@ -9,22 +9,22 @@
 //! is that of the last granted write and the granted bumps since, and each value of a get that of the last granted put, combined in
 //! serial order with the granted updates that lie between the two. [`judge_all`] carries the theorem in its contract: whatever the
 //! requests are, the history that the gate keeps is judged, and there is one reply to each request.
-//! [`Gate::judge`] says the same of one request, [`ShortGate::judge`] where entries are kept in less room, and [`Core::judge`] where no
-//! history is kept. The laws of the definitions are in the module `laws`.
+//! [`Gate::judge`] says the same of one request, however the entries are kept ([`History`]), and [`Core::judge`] where no history is kept.
+//! The laws of the definitions are in the module `laws`.
 #![tactic(auto)]
 
 mod access;
 mod gate;
+mod history;
 mod judging;
 pub mod laws;
 mod reducers;
 mod replies;
-mod short_gate;
 mod step;
 mod tracks;
 
-pub use gate::Gate;
+pub use gate::{Gate, ShortGate};
+pub use history::{History, NewHistory};
 pub use judging::Core;
 pub use model_histories::{Answer, Entry, GateFault, Receipt, Reply};
 pub use replies::judge_all;
-pub use short_gate::ShortGate;

@@ -19,36 +19,24 @@ ghost use Rattle.model_races.specs.Verdicts.{IfValue};
 ghost use Rattle.race_gate.specs.Steps.{IsControl, FollowsWith, GoesOn, IsJudgedBy, TakesPlace};
 
 use crate::reducers::ReducerTracks;
-use access_table::{access_table, rule};
+use access_table::{is_memory, rule};
 use model_histories::{Answer, GateFault};
 use model_races::CellAccess;
 use shadow_history::Shadow;
 use sp_labels::{Returned, SpFault, Strands, Synced};
 use std::alloc::Allocator;
-use text_words::{Act, Shape};
+use text_words::{Act, Asked, Shape, asked_by};
 
 /// Whether the cell or reducer that an act names is there.
 #[inline(always)]
 pub fn is_in_range<A: Allocator>(shape: &Shape<A>, act: Act) -> bool
     ensures { IsTrue result ↔ IsInRange (shape_of shape.now) act }
 {
-    macro_rules! range {
-        (memory $place:ident) => {
-            $place < shape.cells
-        };
-        (reducer $place:ident) => {
-            ($place as usize) < shape.monoids.as_slice().len()
-        };
+    match asked_by(act) {
+        None => true,
+        Some(Asked { kind, place }) if is_memory(kind) => place < shape.cells,
+        Some(Asked { kind: _, place }) => (place as usize) < shape.monoids.as_slice().len(),
     }
-    macro_rules! ranges {
-        ([] $({ $kind:ident $word:literal $sort:ident $($conflict:tt)* })*) => {
-            match act {
-                $(Act::$kind(place, ..) => range!($sort place),)*
-                _ => true,
-            }
-        };
-    }
-    access_table!(ranges [])
 }
 
 /// Lets a running strand spawn, sync, call or return. Where memory is refused, nothing changes.

@@ -49,7 +49,7 @@ fn name_of<A: Allocator>(
 }
 
 /// The line of the entry with this number.
-fn line_of_entry(entries: &Entries, number: u32) -> u32
+fn line_of_entry<A: Allocator>(entries: &Entries<A>, number: u32) -> u32
     requires first { 0 < number }
     requires last { number ≤ length entries.now.items }
     ensures { result ≡ line_of_entry entries.now.items number }
@@ -58,7 +58,7 @@ fn line_of_entry(entries: &Entries, number: u32) -> u32
 }
 
 /// The witness of a refusal, with the line of its entry.
-fn with_line(entries: &Entries, witness: Witness) -> LinedWitness
+fn with_line<A: Allocator>(entries: &Entries<A>, witness: Witness) -> LinedWitness
     requires first { 0 < witness.entry }
     requires last { witness.entry ≤ length entries.now.items }
     ensures witness { result.witness ≡ witness }
@@ -99,11 +99,11 @@ fn push_refusal(
 
 /// Adds what is told of the entry with this number, where it is a refusal, behind others where there are some. It says whether there are
 /// some now.
-fn push_entry<A: Allocator>(
+fn push_entry<A: Allocator, B: Allocator>(
     alloc: Global,
     text: &mut Vec<u8>,
     program: &Program<A>,
-    entries: &Entries,
+    entries: &Entries<B>,
     number: usize,
     entry: Entry,
     later: bool,
@@ -134,11 +134,11 @@ fn push_entry<A: Allocator>(
 }
 
 /// Adds the refusals among these entries, in order, and the bracket behind them.
-fn push_refusals<A: Allocator>(
+fn push_refusals<A: Allocator, B: Allocator>(
     alloc: Global,
     text: &mut Vec<u8>,
     program: &Program<A>,
-    entries: &Entries,
+    entries: &Entries<B>,
 ) -> Result<(), AllocError>
     requires { AreTellable (shape_known (contents program.now).known) entries.now.items }
     ensures { OnOk result (text.new.items ≡ text.old.items ++
@@ -231,10 +231,10 @@ fn open_text(alloc: Global, entries: usize, memory: Value) -> Result<Vec<u8>, Al
 ///
 /// Each refusal must have a word for its rule, its witness must be an entry, only a get may be unset, and each location and reducer must
 /// be one of the program's, as in the history of a gate.
-pub fn report<A: Allocator>(
+pub fn report<A: Allocator, B: Allocator>(
     alloc: Global,
     program: &Program<A>,
-    whole: &Whole,
+    whole: &Whole<B>,
 ) -> Result<Vec<u8>, AllocError>
     requires entries { AreTellable (shape_known (contents program.now).known) whole.now.entries.items }
     requires memory { length whole.now.memory.items ≡ cells_of program.now.mems }

@@ -26,21 +26,21 @@ use Rattle.run_command.specs.Runs.{fault_of_run, WantsMore, AreReceiptsOf, IsTor
 
 -- ---- logs and their receipts
 
-module _ {L : Type 0} where
-  abbrev receipts_of : List (WorkerLog L) → List (List Receipt)
-  receipts_of logs = map (λ (log : WorkerLog L). log.receipts.items) logs
+module _ {L A : Type 0} where
+  abbrev receipts_of : List (WorkerLog L A) → List (List Receipt)
+  receipts_of logs = map (λ (log : WorkerLog L A). log.receipts.items) logs
 
-  all_flat : (logs : List (WorkerLog L)) → flat_map (λ (log : List Receipt). log) (receipts_of logs) ≡ all_receipts logs
+  all_flat : (logs : List (WorkerLog L A)) → flat_map (λ (log : List Receipt). log) (receipts_of logs) ≡ all_receipts logs
   all_flat [] = refl
   all_flat (log ∷ logs) = ap (λ rest. log.receipts.items ++ rest) (all_flat logs)
 
-  each_rises : (logs : List (WorkerLog L)) → All Rises (receipts_of logs) → All (λ (log : WorkerLog L). Rises log.receipts.items) logs
-  each_rises [] rise = All-nil (λ (log : WorkerLog L). Rises log.receipts.items)
+  each_rises : (logs : List (WorkerLog L A)) → All Rises (receipts_of logs) → All (λ (log : WorkerLog L A). Rises log.receipts.items) logs
+  each_rises [] rise = All-nil (λ (log : WorkerLog L A). Rises log.receipts.items)
   each_rises (log ∷ logs) rise =
-      All-cons (λ (one : WorkerLog L). Rises one.receipts.items) log logs
+      All-cons (λ (one : WorkerLog L A). Rises one.receipts.items) log logs
       (All-head Rises log.receipts.items (receipts_of logs) rise) (each_rises logs (All-tail Rises log.receipts.items (receipts_of logs) rise))
 
-  whole_logs : (entries : List Entry) (logs : List (WorkerLog L)) → AreReceiptsOf entries (receipts_of logs) (all_asked logs) → AreWhole entries logs
+  whole_logs : (entries : List Entry) (logs : List (WorkerLog L A)) → AreReceiptsOf entries (receipts_of logs) (all_asked logs) → AreWhole entries logs
   whole_logs entries logs are = record {
     rise = each_rises logs are.rise;
     receipts = subst (λ l. IsPermutation l (numbered 1 entries)) (all_flat logs) are.receipts;
@@ -50,7 +50,7 @@ module _ {L : Type 0} where
 -- ---- faults
 
 -- what `gather` says of the gate and the logs
-pub gathered_fault : {A L : Type 0} (program : Program A) (limit : ℕ) (logs : List (WorkerLog L)) (fault : RunFault) →
+pub gathered_fault : {L A B : Type 0} (program : Program B) (limit : ℕ) (logs : List (WorkerLog L A)) (fault : RunFault) →
     (gate : State) × IsRight gate × HasFault program.functions (shape_in program) gate logs fault → IsRunFault (contents program) limit (fault_of_run fault)
 gathered_fault program limit logs run.Limit has = absurd has.2
 gathered_fault program limit logs run.Stopped has = record { gate = has.0; right = has.1; left = inl has.2 }

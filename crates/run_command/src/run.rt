@@ -143,7 +143,7 @@ fn diagnose_limit(
     requires { IsRight gate.now }
     ensures { IsRunFault (contents program.now) limit (fault_of_run result) }
 {
-    let entries = gate.history();
+    let entries = gate.kept_history();
     if entries.len() < limit as usize {
         return diagnose_unfinished(alloc, program, gate, limit);
     }
@@ -321,7 +321,7 @@ pub fn serial_run(
     };
     let ran = run_serially(alloc, program, &mut gate);
     // What is known of each gate is known of this one from here on.
-    let _entries = gate.history();
+    let _entries = gate.kept_history();
     let _cells = gate.memory();
     if let Err(fault) = ran {
         let fault = diagnose_fault(alloc, program, &gate, limit, fault);

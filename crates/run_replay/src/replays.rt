@@ -123,7 +123,7 @@ fn play_all<A: Allocator + Copy, B: Allocator>(
 }
 
 /// Whether the last entry is the return of the root function.
-fn is_finished(entries: &Entries) -> bool
+fn is_finished<A: Allocator>(entries: &Entries<A>) -> bool
     ensures { IsTrue result ↔ IsFinished (reverse entries.now.items) }
 {
     let count = entries.len();
@@ -131,10 +131,10 @@ fn is_finished(entries: &Entries) -> bool
 }
 
 /// Plays entries that are judged, the oldest first, on what has been opened.
-fn follow_all<A: Allocator + Copy, B: Allocator>(
+fn follow_all<A: Allocator + Copy, B: Allocator, C: Allocator>(
     cast: &mut FrameTable<A>,
     program: &Program<B>,
-    entries: &Entries,
+    entries: &Entries<C>,
 ) -> Result<(), ReplayFault>
     requires judged { IsJudged (shape_in program.now) (reverse entries.now.items) }
     requires within { length entries.now.items ≤ most_entries }
@@ -202,10 +202,10 @@ pub fn replay<A: Allocator + Copy, B: Allocator>(
 
 /// What [`replay`] says of these entries, where it is known that they are judged, as those of a gate are: no core judges them again. Room
 /// for spawns is asked for by the number of entries, since what is not used of it costs less than to look at all entries once more.
-pub fn follow<A: Allocator + Copy, B: Allocator>(
+pub fn follow<A: Allocator + Copy, B: Allocator, C: Allocator>(
     alloc: A,
     program: &Program<B>,
-    entries: &Entries,
+    entries: &Entries<C>,
 ) -> Result<(), ReplayFault>
     requires { IsJudged (shape_in program.now) (reverse entries.now.items) }
     ensures finished { OnOk result (IsFinishedRun program.now.functions (shape_in program.now) (reverse entries.now.items)) }

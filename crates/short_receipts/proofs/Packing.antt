@@ -1,5 +1,5 @@
 -- What is packed is unpacked again.
-use Rattle.std.proofs.Common.{◌≡◌, ◌≢◌, ◌+◌, ◌*◌, ◌^◌, ℕ, true, refl, sym, ap, subst, ◌∙◌, arith}
+use Rattle.std.proofs.Common.{◌≡◌, ◌≢◌, ◌+◌, ◌*◌, ◌^◌, ℕ, true, sym, ap, subst, ◌∙◌, arith}
 use Rattle.model_histories.specs.declared.reply.Receipt.{Receipt}
 use Rattle.model_accesses.specs.declared.request.Act.{Act}
 use Rattle.model_histories.specs.declared.answer.Answer.{Answer}

@@ -26,11 +26,11 @@ fn entry_of(receipt: Receipt) -> Entry
 /// Entries of a history in their order, the oldest first. Each is kept as its receipt is in [`Receipts`], so that a receipt can be held
 /// against it as both are kept.
 #[derive(Drop)]
-pub struct Entries {
-    receipts: Receipts,
+pub struct Entries<A: Allocator = Global> {
+    receipts: Receipts<A>,
 }
 
-impl Model for Entries {
+impl<A: Allocator> Model for Entries<A> {
     ghost use Rattle.short_receipts.specs.Entries.{Kept, entries_of};
 
     ghost Value = { Kept };
@@ -38,16 +38,18 @@ impl Model for Entries {
     ghost view = { λ list. record { items = entries_of list.receipts.items; has_room = list.receipts.has_room } };
 }
 
-impl Entries {
+impl<A: Allocator + Copy> Entries<A> {
     /// No entries.
-    pub fn new(alloc: Global) -> Entries
+    pub fn new(alloc: A) -> Entries<A>
         ensures { result.items ≡ [] }
     {
         Entries {
             receipts: Receipts::new(alloc),
         }
     }
+}
 
+impl<A: Allocator> Entries<A> {
     /// Makes room for an entry. Where there is no memory for it, nothing changes.
     #[inline(always)]
     pub fn reserve(&mut self) -> Result<(), AllocError>
@@ -92,7 +94,7 @@ impl Entries {
     /// As [`Entries::is_of`], by the entry and the receipt.
     #[cold]
     #[inline(never)]
-    fn is_slowly(&self, at: usize, receipts: &Receipts, place: usize) -> bool
+    fn is_slowly<B: Allocator>(&self, at: usize, receipts: &Receipts<B>, place: usize) -> bool
         requires at { at < length self.now.items }
         requires place { place < length receipts.now.items }
         ensures { IsTrue result ↔
@@ -103,7 +105,7 @@ impl Entries {
 
     /// Whether the receipt at a place of a list is of the entry at this place, whatever its number.
     #[inline(always)]
-    pub fn is_of(&self, at: usize, receipts: &Receipts, place: usize) -> bool
+    pub fn is_of<B: Allocator>(&self, at: usize, receipts: &Receipts<B>, place: usize) -> bool
         requires at { at < length self.now.items }
         requires place { place < length receipts.now.items }
         ensures { IsTrue result ↔
@@ -113,7 +115,7 @@ impl Entries {
     }
 
     /// The entries as a list of whole ones.
-    pub fn to_vec<A: Allocator>(&self, alloc: A) -> Result<Vec<Entry, A>, AllocError>
+    pub fn to_vec<B: Allocator>(&self, alloc: B) -> Result<Vec<Entry, B>, AllocError>
         ensures { IfOk result (λ list. list.items ≡ self.now.items) }
     {
         let mut list = Vec::with_capacity(alloc, self.len())?;

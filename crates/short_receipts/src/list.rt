@@ -9,7 +9,7 @@ ghost use Rattle.short_receipts.specs.Shorts.{index_of as index_spec, is_long as
 
 use crate::packed::{Packed, long_at, packed_of};
 use model_histories::Receipt;
-use std::alloc::{AllocError, Global};
+use std::alloc::{AllocError, Allocator, Global};
 use std::marker::Model;
 
 /// The receipt that is kept beside.
@@ -24,15 +24,15 @@ fn long_of(longs: &[Receipt], short: Packed) -> Receipt
 }
 
 /// Receipts in their order.
-pub struct Receipts {
-    shorts: Vec<Packed>,
-    longs: Vec<Receipt>,
+pub struct Receipts<A: Allocator = Global> {
+    shorts: Vec<Packed, A>,
+    longs: Vec<Receipt, A>,
     has_room: bool,
 }
 
 /// The lists are made small before they are let go: a great block that is let go raises the size below which the C library's heap copies
 /// a list that grows, where it would move its pages.
-impl Drop for Receipts {
+impl<A: Allocator> Drop for Receipts<A> {
     fn drop(self) {
         let Receipts {
             mut shorts,
@@ -46,7 +46,7 @@ impl Drop for Receipts {
     }
 }
 
-impl Model for Receipts {
+impl<A: Allocator> Model for Receipts<A> {
     ghost use Rattle.std.specs.Prelude.{◌≡◌, ◌<◌, true, vec_len, vec_capacity};
     ghost use Rattle.short_receipts.specs.Lists.{Listed, receipts_of, AreKept};
 
@@ -58,9 +58,9 @@ impl Model for Receipts {
         × (list.has_room ≡ true → (vec_len list.shorts < vec_capacity list.shorts) × (vec_len list.longs < vec_capacity list.longs)) };
 }
 
-impl Receipts {
+impl<A: Allocator + Copy> Receipts<A> {
     /// No receipts.
-    pub fn new(alloc: Global) -> Receipts
+    pub fn new(alloc: A) -> Receipts<A>
         ensures { result.items ≡ [] }
     {
         Receipts {
@@ -69,7 +69,9 @@ impl Receipts {
             has_room: false,
         }
     }
+}
 
+impl<A: Allocator> Receipts<A> {
     /// Makes room for a receipt. Where there is no memory for it, nothing changes.
     #[inline(always)]
     pub fn reserve(&mut self) -> Result<(), AllocError>
@@ -173,7 +175,12 @@ impl Receipts {
 
     /// Whether it is seen at once that the receipt at a place is that of another list: both are kept short, and in the same bytes.
     #[inline(always)]
-    pub(crate) fn is_plainly(&self, at: usize, other: &Receipts, place: usize) -> bool
+    pub(crate) fn is_plainly<B: Allocator>(
+        &self,
+        at: usize,
+        other: &Receipts<B>,
+        place: usize,
+    ) -> bool
         requires at { at < length self.now.items }
         requires place { place < length other.now.items }
         ensures { IsTrue result → slice_get self.now.items at ≡ slice_get other.now.items place }

@@ -21,8 +21,8 @@ none_more rs at r low is not before =
 pub some_here : (rs : List Receipt) (at : ℕ) (r : Receipt) → at < length rs → slice_get rs at ≡ Some r → ends_run r ≡ true → list_any ends_run rs ≡ true
 some_here rs at r low is ends = list_any_at ends_run rs at r low (ap ends_run (get_or_from_slice_get rs at r r is) ∙ ends)
 
-pub some_log : {L : Type 0} (ls : List (WorkerLog L)) (at : ℕ) (l : WorkerLog L) → at < length ls → l ≡ get_or ls at l →
+pub some_log : {L A : Type 0} (ls : List (WorkerLog L A)) (at : ℕ) (l : WorkerLog L A) → at < length ls → l ≡ get_or ls at l →
     list_any ends_run l.receipts.items ≡ true → some_finished ls ≡ true
-some_log {L} ls at l low is ends =
-    let finished = λ (log : WorkerLog L). list_any ends_run log.receipts.items in
+some_log {L} {A} ls at l low is ends =
+    let finished = λ (log : WorkerLog L A). list_any ends_run log.receipts.items in
     list_any_at finished ls at l low (ap finished (sym is) ∙ ends)

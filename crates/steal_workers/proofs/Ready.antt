@@ -8,7 +8,7 @@ use Rattle.std.proofs.lemmas.List.{length-map, map-set, get_or-map}
 use Rattle.std.proofs.lemmas.List.Elements.{All-head, All-tail}
 use Rattle.std.proofs.lemmas.Simd.{map-map}
 use Rattle.locked_replay.specs.declared.worker.WorkerLog.{WorkerLog}
-use Rattle.std.specs.Global.{Vec}
+use Rattle.std.specs.Global.{Global, Vec}
 use Rattle.short_receipts.specs.Lists.{Listed}
 use Rattle.std.specs.List.{list_any}
 use Rattle.steal_workers.specs.declared.pass_log.PassLog.{PassLog}
@@ -52,7 +52,7 @@ module _ {L : Type 0} where
   pub same_many : (workers back : List (Worker L)) → stations_of back ≡ stations_of workers → length back ≡ length workers
   same_many workers back same = omega (arith, ap length same, length-map workers station_of, length-map back station_of)
 
-  pub as_many : (result : Result (Vec (WorkerLog L)) RunFault) (all : Bool) (back workers : ℕ) → OnOk result (all ≡ true) → (all ≡ true → back ≡ workers) → IfOk result (λ logs. vec_len logs ≡ back) → IfOk result (λ logs. vec_len logs ≡ workers)
+  pub as_many : (result : Result (Vec (WorkerLog L Global)) RunFault) (all : Bool) (back workers : ℕ) → OnOk result (all ≡ true) → (all ≡ true → back ≡ workers) → IfOk result (λ logs. vec_len logs ≡ back) → IfOk result (λ logs. vec_len logs ≡ workers)
   as_many (Ok logs) all back workers is same each = each ∙ same is
   as_many (Err fault) all back workers is same each = tt
 
@@ -60,14 +60,14 @@ module _ {L : Type 0} where
   same_before workers back same = sym (sum_by-map (λ s. s.before) station_of back) ∙ ap (sum_by (λ s. s.before)) same ∙ sum_by-map (λ s. s.before) station_of workers
 
   -- what was asked is counted from what the workers had asked before
-  pub counted_as : (result : Result (Vec (WorkerLog L)) RunFault) (all : Bool) (back workers : List (Worker L)) → OnOk result (all ≡ true) → (all ≡ true → stations_of back ≡ stations_of workers)
+  pub counted_as : (result : Result (Vec (WorkerLog L Global)) RunFault) (all : Bool) (back workers : List (Worker L)) → OnOk result (all ≡ true) → (all ≡ true → stations_of back ≡ stations_of workers)
       → IfOk result (λ logs. all_asked logs.items ≡ sum_by (λ w. w.before) back + length (all_receipts logs.items))
       → IfOk result (λ logs. all_asked logs.items ≡ sum_by (λ w. w.before) workers + length (all_receipts logs.items))
   counted_as (Ok logs) all back workers is same counted = counted ∙ ap (λ before. before + length (all_receipts logs.items)) (same_before workers back (same is))
   counted_as (Err fault) all back workers is same counted = tt
 
   -- the run's end is seen in the logs as in the workers
-  pub same_end : (workers : List (Worker L)) (logs : List (WorkerLog L)) → map (λ log. log.receipts) logs ≡ map (λ worker. worker.receipts) workers → some_finished logs ≡ saw_end workers
+  pub same_end : (workers : List (Worker L)) (logs : List (WorkerLog L Global)) → map (λ log. log.receipts) logs ≡ map (λ worker. worker.receipts) workers → some_finished logs ≡ saw_end workers
   same_end workers logs same =
       let ended : Listed → Bool = λ receipts. list_any (λ receipt. finishes receipt.answer) receipts.items in
       sym (list_any-map ended (λ log. log.receipts) logs) ∙ ap (list_any ended) same ∙ list_any-map ended (λ worker. worker.receipts) workers

@@ -8,6 +8,7 @@ use Rattle.std.specs.contracts.alloc.Global as Heap
 use Rattle.std.specs.contracts.impls.GlobalAllocator.TheImpl.{ghosts}
 use Rattle.std.proofs.Crossing.{crosses, send}
 use Rattle.std.proofs.sync.ledger.Book.TheSendSync as book
+use Rattle.short_receipts.specs.contracts.entries.Entries as Entries
 use Rattle.short_receipts.proofs.entries.Entries.TheSendSync as entries
 use Rattle.locked_replay.below.branch_names.proofs.branches.Branches.TheSendSync as branches
 use Rattle.locked_replay.below.view_read_rule.proofs.reads.ReadPeers.TheSendSync as peers
@@ -17,7 +18,8 @@ use Rattle.locked_replay.below.reducer_views.proofs.touched.Slot.TheLaws.TheKnot
 use Rattle.locked_replay.below.reducer_views.specs.contracts.pieces.Piece as Piece
 use Rattle.locked_replay.below.reducer_views.specs.contracts.views.Views as Views
 use Rattle.race_gate.specs.contracts.reducers.ReducerTracks as ReducerTracks
-use Rattle.race_gate.specs.contracts.short_gate.ShortGate as ShortGate
+use Rattle.race_gate.specs.contracts.gate.Gate as Gate
+use Rattle.race_gate.specs.declared.history.History as history
 use Rattle.locked_replay.specs.contracts.locked.CountedGate as Round
 use Rattle.locked_replay.specs.contracts.locked.LockedGate as LockedGate
 
@@ -31,12 +33,12 @@ module _ (c : clone.Ghosts (Heap.the_row).Denot) where
   reducers_send : IsSend (ReducerTracks.the_row Heap.the_row ghosts c)
   reducers_send = let a = views_send in search (sendable, crosses, branches.the_send, peers.the_send, send) depth 40 fits 20000
 
-gate_send : IsSend ShortGate.the_row
-gate_send = search (sendable, crosses, reducers_send, entries.the_send, strands.the_send, shadow.the_send, send) depth 40 fits 20000
+  gate_send : (h : history.Ghosts (Entries.the_row Heap.the_row ghosts).Denot) → IsSend (Gate.the_row Heap.the_row (Entries.the_row Heap.the_row ghosts) ghosts c h)
+  gate_send h = search (sendable, crosses, reducers_send, entries.the_send, strands.the_send, shadow.the_send, send) depth 40 fits 20000
 
-module _ (L : RattleType) (g : ledger.Ghosts L.Denot) where
-  round_send : IsSend (Round.the_row L g)
-  round_send = search (sendable, crosses, gate_send, book.the_send) depth 40 fits 20000
+  module _ (L : RattleType) (g : ledger.Ghosts L.Denot) where
+    round_send : IsSend (Round.the_row L Heap.the_row c g ghosts)
+    round_send = search (sendable, crosses, gate_send, book.the_send) depth 40 fits 20000
 
-  pub locked_sync : IsSync (LockedGate.the_row L g)
-  locked_sync = let a = round_send in search (sendable, crosses) depth 40 fits 20000
+    pub locked_sync : IsSync (LockedGate.the_row L Heap.the_row c g ghosts)
+    locked_sync = let a = round_send in search (sendable, crosses) depth 40 fits 20000

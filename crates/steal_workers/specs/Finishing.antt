@@ -9,7 +9,7 @@ abbrev pub finishes : Answer → Bool
 finishes Finished = true
 finishes _ = false
 
-module _ {L : Type 0} where
+module _ {L A : Type 0} where
   -- some receipt of some log is answered Finished
-  abbrev pub some_finished : List (WorkerLog L) → Bool
+  abbrev pub some_finished : List (WorkerLog L A) → Bool
   some_finished = list_any (λ log. list_any (λ receipt. finishes receipt.answer) log.receipts.items)

@@ -2,7 +2,7 @@ use Rattle.std.proofs.lemmas.List.{length-map}
 use Rattle.locked_replay.proofs.opening.open_gate.Goals as goal
 
 pub new-requires-clause-cells : goal.new-requires-clause-cells
-new-requires-clause-cells c = rw c.in_ok-shape.ensures.cells c.args.program.now.few_cells
+new-requires-clause-cells g c = rw c.in_ok-shape.ensures.cells c.args.program.now.few_cells
 
 pub new-requires-clause-reducers : goal.new-requires-clause-reducers
-new-requires-clause-reducers c = rw (c.in_ok-shape.ensures.monoids, length-map) c.args.program.now.few_reducers
+new-requires-clause-reducers g c = rw (c.in_ok-shape.ensures.monoids, length-map) c.args.program.now.few_reducers

@@ -8,7 +8,7 @@ use Rattle.locked_replay.proofs.receipts.mark.Goals.{then-number-eq0-via-then-nu
 use Rattle.locked_replay.proofs.receipts.mark.Goals as goal
 
 pub returns-then-number-eq0-clause-marks : goal.returns-then-number-eq0-clause-marks
-returns-then-number-eq0-clause-marks c met receipt is are =
+returns-then-number-eq0-clause-marks g c met receipt is are =
     let number : receipt.number ≡ c.number-number.result = ap (λ (r : Receipt). r.number) (sym (get_or_from_slice_get c.args.receipts.now.items c.args.at receipt receipt is)) ∙ c.number-number.ensures receipt in
     elim c.then-number-eq0.branch [
       | then-number-eq0-via-then-number-eq0 w ↦ astray_number c.args.entries.now.items met receipt (λ positive within. omega (arith, number, positive, w.if-number-eq0.true))
@@ -16,7 +16,7 @@ returns-then-number-eq0-clause-marks c met receipt is are =
     ]
 
 pub returns-then-marks-place-clause-marks : goal.returns-then-marks-place-clause-marks
-returns-then-marks-place-clause-marks c met receipt is are =
+returns-then-marks-place-clause-marks g c met receipt is are =
     let number : receipt.number ≡ c.number-number.result = ap (λ (r : Receipt). r.number) (sym (get_or_from_slice_get c.args.receipts.now.items c.args.at receipt receipt is)) ∙ c.number-number.ensures receipt in
     elim c.then-marks-place.branch [
       | then-marks-place-via-then-marks-place w ↦ astray_twice c.args.marks.now c.args.entries.now.items met receipt (c.number-number.result - 1) _ (omega (arith, number, c.if-number-eq0.false)) (omega (arith, c.if-number-eq0.false, c.if-number-len.false)) w.if-marks-place.true are
@@ -26,7 +26,7 @@ returns-then-marks-place-clause-marks c met receipt is are =
     ]
 
 pub returns-clause-marks : goal.returns-clause-marks
-returns-clause-marks c met receipt is are =
+returns-clause-marks g c met receipt is are =
     let number : receipt.number ≡ c.number-number.result = ap (λ (r : Receipt). r.number) (sym (get_or_from_slice_get c.args.receipts.now.items c.args.at receipt receipt is)) ∙ c.number-number.ensures receipt in
     marked_next c.args.marks.now c.args.entries.now.items met receipt (c.number-number.result - 1) _ (entry_of receipt) (omega (arith, number, c.if-number-eq0.false)) (omega (arith, c.if-number-eq0.false, c.if-number-len.false))
     c.if-marks-place.false

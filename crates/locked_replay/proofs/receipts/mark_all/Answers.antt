@@ -8,12 +8,12 @@ use Rattle.locked_replay.proofs.Rising.{rise_more, falls, taken, some_there}
 use Rattle.locked_replay.proofs.receipts.mark_all.Goals as goal
 
 pub returns-then-not-rises_at-clause-marks : goal.returns-then-not-rises_at-clause-marks
-returns-then-not-rises_at-clause-marks c met are =
+returns-then-not-rises_at-clause-marks g c met are =
     let list : Listed = c.args.receipts.now in
     inl (falls list.items c.loop-at.at (search rules) (λ here. let rises = c.rises_at.ensures.1 here in search rules))
 
 pub returns-then-not-mark-clause-marks : goal.returns-then-not-mark-clause-marks
-returns-then-not-mark-clause-marks c met are =
+returns-then-not-mark-clause-marks g c met are =
     let list : Listed = c.args.receipts.now in
     let there = some_there list.items c.loop-at.at (search rules) in
     let receipt : Receipt = there.0 in
@@ -23,7 +23,7 @@ returns-then-not-mark-clause-marks c met are =
     (sym (get_or_from_slice_get list.items c.loop-at.at receipt receipt there.1)) astray))
 
 pub loop-at-preserved : goal.loop-at-preserved
-loop-at-preserved c =
+loop-at-preserved g c =
     let list : Listed = c.args.receipts.now in
     let there = some_there list.items c.loop-at.at (search rules) in
     let receipt : Receipt = there.0 in (

@@ -3,4 +3,4 @@ use Rattle.model_histories.specs.Extensions.{IsCleanAnswer}
 use Rattle.locked_replay.proofs.whole.is_clean.Given as goal
 
 abbrev pub invariant-loop-at : goal.invariant-loop-at
-invariant-loop-at l = (k : ℕ) (d : _) → k < l.at → IsCleanAnswer (slice_index_or l.entries.items k d).answer
+invariant-loop-at g l = (k : ℕ) (d : _) → k < l.at → IsCleanAnswer (slice_index_or l.entries.items k d).answer

@@ -20,7 +20,7 @@ returns-in_err-entries-clause-faults g c =
     run_faulted functions (shape_in c.args.program.now) gate c.args.logs.items c.check_logs.result fault
     (λ e. let was = c.in_ok-check_logs.was in cc)
     c.check_logs.ensures.stopped.1
-    (subst (λ (l : List (WorkerLog _)). AreWhole (reverse gate.history) l) c.as_slice.ensures.value c.in_ok-check_logs.ensures.whole)
+    (subst (λ (l : List (WorkerLog _ _)). AreWhole (reverse gate.history) l) c.as_slice.ensures.value c.in_ok-check_logs.ensures.whole)
     (λ e. c.in_err-entries.ensures.strange (ap (λ (f : RunFault). Err f) e))
     (λ e. c.in_err-entries.ensures.faults.0 (ap (λ (f : RunFault). Err f) e))
     (λ e. c.in_err-entries.ensures.faults.1 (ap (λ (f : RunFault). Err f) e))

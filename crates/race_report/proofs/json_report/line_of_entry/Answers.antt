@@ -4,4 +4,4 @@ use Rattle.std.proofs.lemmas.Option.{gets}
 use Rattle.race_report.proofs.json_report.line_of_entry.Goals as goal
 
 pub returns : goal.returns
-returns c = grind (arith, common_steps, gets)
+returns g c = grind (arith, common_steps, gets)

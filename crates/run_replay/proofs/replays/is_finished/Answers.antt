@@ -29,14 +29,14 @@ end_is Finished is = refl
 end_is answer is = absurd is
 
 pub returns-in-Finished : goal.returns-in-Finished
-returns-in-Finished c =
+returns-in-Finished g c =
     let ends = last c.args.entries.now.items c.len-count.result c.get.result c.len-count.ensures c.if-count-gt0.true c.get.ensures in (
       (λ is. ends.0 (subst IsEnd (sym c.in-Finished.is) tt)),
       (λ is. refl),
     )
 
 pub returns-in_default : goal.returns-in_default
-returns-in_default c =
+returns-in_default g c =
     let ends = last c.args.entries.now.items c.len-count.result c.get.result c.len-count.ensures c.if-count-gt0.true c.get.ensures in (
       (λ is. absurd (cc)),
       (λ is. absurd (c.in_default.not-Finished (end_is c.get.result.answer (ends.1 is)))),

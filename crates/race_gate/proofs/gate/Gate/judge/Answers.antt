@@ -1,34 +1,49 @@
+use Rattle.std.proofs.Common.{◌∙◌}
 use Rattle.std.proofs.lemmas.Result.{err_from_is_err_and}
 use Rattle.race_gate.proofs.Admitted.{admitted-fault}
-use Rattle.race_gate.proofs.Cores.{now-fits, now-history, now-pushed, gate-fits, is-entered}
+use Rattle.race_gate.proofs.Cores.{now-fits, now-history, now-pushed, gate-fits, is-entered, is-out_of_memory}
 use Rattle.race_gate.proofs.gate.Gate.judge.Goals as goal
 
 pub returns-in_err-check-clause-admitted : goal.returns-in_err-check-clause-admitted
 returns-in_err-check-clause-admitted g c admitted =
-    let fits = now-fits _ c.self.inside.history.items _ c.self.view_is c.self.invariant in
+    let fits = now-fits _ (g.H.History.entries c.self.inside.history) _ c.self.view_is c.self.invariant in
     let p = err_from_is_err_and c.from_residual.result c.from_residual.ensures.1 in
     rw (p.1, p.2) (admitted-fault c.args.self.now c.args.request _ admitted (c.in_err-check.ensures.fault _ fits).0)
 
 pub invariant_of-self-in_err-answer : goal.invariant_of-self-in_err-answer
 invariant_of-self-in_err-answer g c =
-    let fits = now-fits _ c.self.inside.history.items _ c.self.view_is c.self.invariant in
+    let held = g.H.History.entries c.self.inside.history in
+    let fits = now-fits _ held _ c.self.view_is c.self.invariant in
     let stays = c.in_err-answer.ensures _ fits (c.in_ok-check.ensures.fault _ fits) in
-    gate-fits _ c.reserve.new.self.items _ stays.1 (now-history _ c.self.inside.history.items _ c.self.view_is c.self.invariant _ c.reserve.ensures.items)
+    gate-fits _ (g.H.History.entries c.reserve_entry.new.self) _ stays.1
+    (now-history _ held _ c.self.view_is c.self.invariant _ c.in_ok-reserve_entry.ensures.same)
+
+pub returns-in_err-answer-clause-replies : goal.returns-in_err-answer-clause-replies
+returns-in_err-answer-clause-replies g c =
+    let held = g.H.History.entries c.self.inside.history in
+    let fits = now-fits _ held _ c.self.view_is c.self.invariant in
+    let faultless = c.in_ok-check.ensures.fault _ fits in
+    let stays = c.in_err-answer.ensures _ fits faultless in
+    let told = err_from_is_err_and c.from_residual-in_err-answer.result c.from_residual-in_err-answer.ensures.1 in
+    let turned = now-history _ held _ c.self.view_is c.self.invariant _ c.in_ok-reserve_entry.ensures.same in
+    rw told.1 (is-out_of_memory _ (g.H.History.entries c.reserve_entry.new.self) _ c.args.request told.0 faultless stays.1 turned (told.2 ∙ stays.0))
 
 pub invariant_of-self-2 : goal.invariant_of-self-2
 invariant_of-self-2 g c =
-    let fits = now-fits _ c.self.inside.history.items _ c.self.view_is c.self.invariant in
+    let held = g.H.History.entries c.self.inside.history in
+    let fits = now-fits _ held _ c.self.view_is c.self.invariant in
     let done = c.in_ok-answer.ensures _ fits (c.in_ok-check.ensures.fault _ fits) in
-    let pushed = rw c.in_ok-reserve.ensures.items at c.push_reserved.ensures.items in
-    gate-fits _ c.push_reserved.new.self.items _ done (now-pushed _ c.self.inside.history.items _ c.self.view_is c.self.invariant _ _ pushed)
+    let pushed = rw c.in_ok-reserve_entry.ensures.same at c.push_entry.ensures in
+    gate-fits _ (g.H.History.entries c.push_entry.new.self) _ done (now-pushed _ held _ c.self.view_is c.self.invariant _ _ pushed)
 
 pub returns-clause-replies : goal.returns-clause-replies
 returns-clause-replies g c =
-    let fits = now-fits _ c.self.inside.history.items _ c.self.view_is c.self.invariant in
+    let held = g.H.History.entries c.self.inside.history in
+    let fits = now-fits _ held _ c.self.view_is c.self.invariant in
     let faultless = c.in_ok-check.ensures.fault _ fits in
-    let pushed = rw c.in_ok-reserve.ensures.items at c.push_reserved.ensures.items in
-    is-entered _ c.push_reserved.new.self.items _ c.args.request c.in_ok-answer.answer _ faultless (c.in_ok-answer.ensures _ fits faultless)
-    (now-pushed _ c.self.inside.history.items _ c.self.view_is c.self.invariant _ _ pushed) c.entries.ensures
+    let pushed = rw c.in_ok-reserve_entry.ensures.same at c.push_entry.ensures in
+    is-entered _ (g.H.History.entries c.push_entry.new.self) _ c.args.request c.in_ok-answer.answer _ faultless (c.in_ok-answer.ensures _ fits faultless)
+    (now-pushed _ held _ c.self.view_is c.self.invariant _ _ pushed) c.entries.ensures
 
 pub returns-clause-judged : goal.returns-clause-judged
 returns-clause-judged g c = (invariant_of-self-2 g c).kept.right.judged

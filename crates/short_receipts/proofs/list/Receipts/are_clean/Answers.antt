@@ -7,7 +7,7 @@ no_items [] none = refl
 no_items (x ∷ xs) none = absurd cc
 
 pub returns : goal.returns
-returns c empty =
+returns g c empty =
     let count : length c.self.inside.longs.items ≡ 0 = search (rules, empty, c.is_empty.ensures) in
     let none : c.self.inside.longs.items ≡ [] = no_items c.self.inside.longs.items count in
     rw (← c.self.view_is) (all_short c.self.inside.longs.items c.self.inside.shorts.items none)

@@ -1,4 +1,4 @@
-use Rattle.std.proofs.Common.{sym, arith}
+use Rattle.std.proofs.Common.{arith}
 use Rattle.short_receipts.specs.Packing.{unpacked, tag_in}
 use Rattle.short_receipts.proofs.Packing.{long-index}
 use Rattle.short_receipts.proofs.packed.Packed.index.Goals as goal

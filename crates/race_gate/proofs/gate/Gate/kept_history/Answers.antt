@@ -1,6 +1,6 @@
 use Rattle.std.proofs.Common.{◌≤◌, length, subst}
 use Rattle.model_histories.specs.States.{State}
-use Rattle.race_gate.proofs.gate.Gate.history.Goals as goal
+use Rattle.race_gate.proofs.gate.Gate.kept_history.Goals as goal
 
 pub returns-clause-entries : goal.returns-clause-entries
 returns-clause-entries g c = cc

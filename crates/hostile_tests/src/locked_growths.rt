@@ -1,0 +1,179 @@
+//! Growths refused of a gate behind its lock and of what is gathered of it, each in turn, over a heap of the test.
+
+ghost use Rattle.std.specs.Prelude.{◌≡◌};
+
+use crate::checks::equal;
+use crate::receipts::PAIR_REQUESTS;
+use crate::refusing::Refusing;
+use crate::rounds::gate_for;
+use crate::worked::PAIR;
+use locked_replay::{LockedGate, RunFault, Seat, Whole, WorkerLog, gather};
+use program_text::Program;
+use race_gate::GateFault;
+use short_receipts::Receipts;
+use std::alloc::Global;
+use std::marker::Brand;
+use std::process::Abort;
+use std::sync::Wait;
+use std::sync::ledger::{Blank, Ledger};
+use text_words::Request;
+
+/// A heap of which one growth is refused.
+type Heap = Refusing<Global>;
+
+/// A call of which a growth is refused.
+#[derive(Clone, Copy, Debug)]
+enum Call {
+    Ask,
+    Gather,
+}
+
+/// What is found of a call: whether a growth was refused, and whether the call answered Memory.
+#[derive(Clone, Copy)]
+struct Found {
+    was_refused: bool,
+    is_told: bool,
+}
+
+/// Asks on the seat, and keeps the receipt. Whether there was memory; where there was none, nothing was asked.
+fn ask_and_keep<L: Ledger, R: Wait>(
+    rt: &R,
+    locked: &LockedGate<L, &Heap>,
+    seat: &mut Seat<L>,
+    receipts: &mut Receipts<&Heap>,
+    request: Request,
+) -> Option<bool> {
+    let asked = seat.asked();
+    if receipts.reserve().is_err() {
+        return Some(false);
+    }
+    match locked.ask(rt, seat, request) {
+        Ok(receipt) => {
+            receipts.push_reserved(receipt);
+            Some(true)
+        }
+        Err(GateFault::Memory) => (seat.asked() == asked).then_some(false),
+        Err(_) => None,
+    }
+}
+
+/// Asks what PAIR asks, once more where there was no memory. Whether there was none for a request.
+fn ask_pair<L: Ledger, R: Wait>(
+    rt: &R,
+    locked: &LockedGate<L, &Heap>,
+    seat: &mut Seat<L>,
+    receipts: &mut Receipts<&Heap>,
+) -> Option<bool> {
+    let mut is_told = false;
+    for request in PAIR_REQUESTS {
+        if !ask_and_keep(rt, locked, seat, receipts, *request)? {
+            is_told = true;
+            if !ask_and_keep(rt, locked, seat, receipts, *request)? {
+                return None;
+            }
+        }
+    }
+    Some(is_told)
+}
+
+/// Whether there was no memory for what is gathered of PAIR's run, in which the child writes 7 and the spawner's read is refused.
+fn lacks_memory(found: &Result<Whole<&Heap>, RunFault>) -> Option<bool> {
+    match found {
+        Ok(whole) => {
+            let is_right = !whole.clean
+                && whole.entries.len() == 7
+                && whole.memory.as_slice() == [7, 0].as_slice();
+            is_right.then_some(false)
+        }
+        Err(RunFault::Memory) => Some(true),
+        Err(_) => None,
+    }
+}
+
+/// PAIR's run is asked and gathered. Its growth of this number is refused, while it is asked or while it is gathered.
+fn gathers<L: Ledger, R: Wait>(
+    rt: &R,
+    heap: &Heap,
+    call: Call,
+    number: u64,
+    blank: Blank,
+) -> Option<Found>
+    requires name { blank.name ≡ L.name }
+    requires all { blank.parts ≡ L.parts }
+    requires parts { blank.parts ≡ 1 }
+{
+    let (asking, gathering) = match call {
+        Call::Ask => (number, 0),
+        Call::Gather => (0, number),
+    };
+    heap.refuse(0);
+    let program = Program::parse(heap, PAIR).ok()?;
+    let gate = gate_for(heap, &program).ok()?;
+    let (locked, mut seat) = LockedGate::<L, &Heap>::new(gate, blank, 1);
+    let mut receipts = Receipts::new(heap);
+    heap.refuse(asking);
+    let lacks_asking = ask_pair(rt, &locked, &mut seat, &mut receipts)?;
+    let refused_asking = heap.has_refused();
+    heap.refuse(0);
+    let mut logs = Vec::with_capacity(heap, 1).ok()?;
+    logs.push_reserved(WorkerLog { seat, receipts });
+    heap.refuse(gathering);
+    let gathered = gather(heap, &program, locked, logs);
+    let refused_gathering = heap.has_refused();
+    heap.refuse(0);
+    let lacks_gathering = lacks_memory(&gathered)?;
+    match call {
+        Call::Ask => (!lacks_gathering).then_some(Found {
+            was_refused: refused_asking,
+            is_told: lacks_asking,
+        }),
+        Call::Gather => (!lacks_asking).then_some(Found {
+            was_refused: refused_gathering,
+            is_told: lacks_gathering,
+        }),
+    }
+}
+
+/// Does so, and once more with all memory.
+fn found_of<R: Wait>(rt: &R, alloc: Global, call: Call, number: u64) -> Option<Found> {
+    let heap = Refusing::new(alloc);
+    let found = gathers::<Brand, R>(rt, &heap, call, number, Blank::new(1))?;
+    let again = gathers::<Brand, R>(rt, &heap, call, 0, Blank::new(1))?;
+    (!again.is_told).then_some(found)
+}
+
+/// Where the growths of a call have no end.
+const ENDLESS: u64 = 10_000;
+
+/// Refuses the call's first growth, its second, and so on until none is refused. How many refusals it told, or behind how many growths
+/// something was not as it is to be. Each refusal is told while requests are asked. What is gathered releases memory on the way, for which
+/// a list may be moved, and does without what is refused then.
+fn told_in_turn<R: Wait>(rt: &R, alloc: Global, call: Call) -> Result<u64, u64> {
+    let mut told = 0u64;
+    for growths in 0..ENDLESS {
+        match found_of(rt, alloc, call, growths.saturating_add(1)) {
+            Some(found) if !found.was_refused && !found.is_told => return Ok(told),
+            Some(found) if found.was_refused && found.is_told => told = told.saturating_add(1),
+            Some(found) if found.was_refused && matches!(call, Call::Gather) => {}
+            _ => return Err(growths),
+        }
+    }
+    Err(ENDLESS)
+}
+
+/// Does so with this call. It tells some.
+fn check_in_turn<R: Abort + Wait>(rt: &R, alloc: Global, call: Call) {
+    let told = told_in_turn(rt, alloc, call);
+    let is_right = matches!(told, Ok(count) if 0 < count);
+    equal(rt, &(call, told), &is_right, &true);
+}
+
+#[test]
+fn a_gate_behind_its_lock(rt: HostRuntime) {
+    check_in_turn(&rt, rt.alloc(), Call::Ask);
+}
+
+#[test]
+fn what_is_gathered(rt: HostRuntime) {
+    check_in_turn(&rt, rt.alloc(), Call::Gather);
+}

@@ -1,9 +1,0 @@
-use Rattle.std.proofs.Common.{◌≤◌, length, subst}
-use Rattle.model_histories.specs.States.{State}
-use Rattle.race_gate.proofs.short_gate.ShortGate.history.Goals as goal
-
-pub returns-clause-entries : goal.returns-clause-entries
-returns-clause-entries c = cc
-
-pub returns-clause-within : goal.returns-clause-within
-returns-clause-within c = subst (λ (state : State). length state.history ≤ state.limit) c.self.view_is c.self.invariant.kept.within
