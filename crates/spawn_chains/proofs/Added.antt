@@ -21,7 +21,7 @@ use Rattle.spawn_chains.specs.Lineages.{Kept, IsAt, Encloses, outermost, IsNumbe
 use Rattle.spawn_chains.specs.Growths.{CanGrow}
 use Rattle.spawn_chains.proofs.Made.{split_made}
 use Rattle.spawn_chains.proofs.Places.{no_strand, index_within, item_here}
-use Rattle.spawn_chains.proofs.Grown.{ends, IsQuiet}
+use Rattle.spawn_chains.proofs.LineageGrown.{ends, IsQuiet}
 
 -- Before any entry.
 

@@ -26,7 +26,7 @@ use Rattle.spawn_chains.specs.Growths.{IsNext, IsFrameMore, IsTurnMore, made_by,
 use Rattle.spawn_chains.proofs.Made.{maker_new, maker_old}
 use Rattle.spawn_chains.proofs.Places.{index_within, at_end, at_old, at_new, at_set, at_unset, item_here, encloses_more, encloses_within, number_more}
 use Rattle.spawn_chains.proofs.Framed.{split_goes_on, split_child, split_old}
-use Rattle.spawn_chains.proofs.Grown.{legal_next, openers_next, openers_same, has_stood_on, has_turned, has_begun}
+use Rattle.spawn_chains.proofs.LineageGrown.{legal_next, openers_next, openers_same, has_stood_on, has_turned, has_begun}
 
 -- the facts of an entry by its event
 frames_by : (e : Entry) (es : Entries) (event : Event) (x : ℕ) → event_of e ≡ Some event →

@@ -9,8 +9,8 @@ pub mod OpenerLists
 pub mod Parted
 pub mod Known
 pub mod Outstanding
-pub mod Grown
+pub mod LineageGrown
 pub mod Events
 pub mod Added
-pub mod Counted
+pub mod StrandCount
 pub mod Statuses

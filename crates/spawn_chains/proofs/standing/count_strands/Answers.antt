@@ -1,6 +1,6 @@
 use Rattle.std.proofs.Common.{refl, ◌∙◌, arith}
 use Rattle.spawn_chains.proofs.Numbers.{no_entry}
-use Rattle.spawn_chains.proofs.Counted.{all_counted, none_counted, other_counted, spawn_counted}
+use Rattle.spawn_chains.proofs.StrandCount.{all_counted, none_counted, other_counted, spawn_counted}
 use Rattle.spawn_chains.proofs.standing.count_strands.Goals as goal
 
 pub back-init : goal.back-init

@@ -1,5 +1,5 @@
 use Rattle.std.proofs.Common.{◌≤◌, length}
-use Rattle.spawn_chains.proofs.Counted.{AreCounted}
+use Rattle.spawn_chains.proofs.StrandCount.{AreCounted}
 use Rattle.spawn_chains.proofs.standing.count_strands.Given as goal
 
 -- the entries that were passed made no strands

@@ -5,7 +5,7 @@ use Rattle.spawn_chains.specs.declared.kept.Turn.{Turn}
 use Rattle.spawn_chains.specs.Lineages.{Kept, IsLineage, AreKept}
 use Rattle.spawn_chains.specs.Growths.{CanGrow}
 use Rattle.spawn_chains.proofs.Added.{lineage_more, event_known, spawner_known, caller_known, returner_known, split_event, call_event, return_event, may_grow, quiet_entry}
-use Rattle.spawn_chains.proofs.Grown.{kept_still}
+use Rattle.spawn_chains.proofs.LineageGrown.{kept_still}
 use Rattle.spawn_chains.proofs.lineage.Lineage.add.Goals as goal
 use Rattle.spawn_chains.proofs.lineage.Lineage.add.Goals.{in-Spawns+in_ok-add_spawn-in-Spawns, in-Calls+in_ok-add_call-in-Calls, in-Returns+in_ok-add_return-in-Returns, in-Stays}
 
