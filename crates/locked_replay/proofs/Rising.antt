@@ -7,7 +7,7 @@ use Rattle.std.proofs.lemmas.List.{get_or_default}
 use Rattle.std.proofs.lemmas.List.Sorted.{all_adjacent_more}
 use Rattle.model_histories.specs.declared.answer.Entry.{Entry}
 use Rattle.model_histories.specs.declared.reply.Receipt.{Receipt}
-use Rattle.short_receipts.specs.Entries.{entry_of}
+use Rattle.packed_history.specs.Entries.{entry_of}
 use Rattle.locked_replay.specs.Receipts.{receipt_of, Rises, RisesAt}
 use Rattle.locked_replay.proofs.Marking.{one_more}
 

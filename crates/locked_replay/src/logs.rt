@@ -9,8 +9,8 @@ ghost use Rattle.locked_replay.specs.Logs.{all_receipts, all_asked, AreTheirs, A
 use crate::fault::RunFault;
 use crate::receipts::mark_all;
 use crate::worker::WorkerLog;
+use packed_history::Entries;
 use race_gate::ShortGate;
-use short_receipts::Entries;
 use std::alloc::{AllocError, Allocator};
 use std::sync::ledger::Ledger;
 

@@ -5,7 +5,7 @@ ghost use Rattle.std.specs.Bool.{MatchBool};
 ghost use Rattle.model_histories.specs.declared.reply.Receipt.{Receipt as OneReceipt};
 ghost use Rattle.locked_replay.specs.Receipts.{Rises, RisesAt, AreMarked, AreAstray};
 
-use short_receipts::{Entries, Receipts};
+use packed_history::{Entries, Receipts};
 use std::alloc::Allocator;
 
 /// Marks the entry whose receipt is at this place, where there is one that was not marked.

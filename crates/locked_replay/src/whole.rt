@@ -17,10 +17,10 @@ use crate::locked::LockedGate;
 use crate::logs::check_logs;
 use crate::same::is_same_shape;
 use crate::worker::WorkerLog;
+use packed_history::Entries;
 use program_text::Program;
 use race_gate::{Answer, ShortGate};
 use run_replay::{ReplayFault, follow};
-use short_receipts::Entries;
 use std::alloc::{Allocator, Global};
 use std::sync::ledger::Ledger;
 

@@ -1,7 +1,7 @@
 //! What one worker brings back.
 
 use crate::seat::Seat;
-use short_receipts::Receipts;
+use packed_history::Receipts;
 use std::alloc::{Allocator, Global};
 use std::sync::ledger::Ledger;
 

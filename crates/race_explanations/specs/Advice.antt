@@ -4,8 +4,8 @@ use Rattle.source_quotes.specs.declared.look.Look.{Look}
 use Rattle.source_quotes.specs.Quotes.{noted, gutter}
 use Rattle.trace_notes.specs.Places.{PlaceParts}
 use Rattle.trace_notes.specs.Notes.{noted_place}
-use Rattle.spawn_chains.specs.declared.lineage.Parting.{Parting}
-use Rattle.spawn_chains.specs.declared.lineage.OpenSpawn.{OpenSpawn}
+use Rattle.race_pairs.specs.declared.lineage.Parting.{Parting}
+use Rattle.race_pairs.specs.declared.lineage.OpenSpawn.{OpenSpawn}
 use Rattle.race_pairs.specs.Refusals.{line_in}
 use Rattle.race_pairs.specs.declared.race.Pair.{Pair}
 use Rattle.race_explanations.specs.Settings.{Origin, in_program, in_trace, Setting}

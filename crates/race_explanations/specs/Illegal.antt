@@ -8,7 +8,7 @@ use Rattle.model_strands.specs.Blocks.{stack, IsSynced}
 use Rattle.model_histories.specs.Entries.{control_part}
 use Rattle.model_histories.specs.Shapes.{IsInRange}
 use Rattle.model_histories.specs.States.{State}
-use Rattle.spawn_chains.specs.Standings.{IsEnd, IsKeptBack}
+use Rattle.race_pairs.specs.Standings.{IsEnd, IsKeptBack}
 use Rattle.source_quotes.specs.declared.look.Look.{Look}
 use Rattle.source_quotes.specs.declared.look.Paint.TheVariants.{Red}
 use Rattle.source_quotes.specs.Lines.{line_in}

@@ -13,8 +13,7 @@ use crate::account::Account;
 use crate::paths::{push_line, push_shown};
 use crate::scene::{Origin, Scene};
 use crate::words::{function_in, line_of};
-use race_pairs::Pair;
-use spawn_chains::{OpenSpawn, Parting};
+use race_pairs::{OpenSpawn, Pair, Parting};
 use std::alloc::Global;
 use trace_notes::Place;
 

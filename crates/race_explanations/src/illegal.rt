@@ -14,8 +14,8 @@ ghost use Rattle.race_explanations.specs.Illegal.{error_title, request_note, hel
 
 use crate::account::Account;
 use race_gate::{Entry, GateFault};
+use race_pairs::{Standing, count_strands, standing_of};
 use source_quotes::{Look, Paint, Source, statement_of};
-use spawn_chains::{Standing, count_strands, standing_of};
 use std::alloc::{AllocError, Global};
 use text_words::{Request, TraceLine};
 use trace_text::Trace;

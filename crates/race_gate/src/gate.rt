@@ -15,7 +15,7 @@ ghost use Rattle.model_histories.specs.Admission.{IsAdmitted, IsOfTheGate};
 use crate::history::{History, NewHistory};
 use crate::judging::Core;
 use model_histories::{Entry, GateFault, Receipt};
-use short_receipts::Entries;
+use packed_history::Entries;
 use std::alloc::{AllocError, Allocator, Global};
 use std::marker::Model;
 use text_words::{Request, Shape};

@@ -2,10 +2,10 @@
 
 ghost use Rattle.std.specs.Prelude.{◌≡◌, ◌<◌, ◌++◌, ◌∷◌, [], true, List, OnOk, vec_len, vec_capacity};
 ghost use Rattle.model_histories.specs.declared.answer.Entry.{Entry as OneEntry};
-ghost use Rattle.short_receipts.specs.Entries.{entry_of};
+ghost use Rattle.packed_history.specs.Entries.{entry_of};
 
 use model_histories::{Entry, Receipt};
-use short_receipts::Entries;
+use packed_history::Entries;
 use std::alloc::{AllocError, Allocator};
 
 /// A list of entries that grows at its end. Contracts see the entries, the oldest first, and whether there is room for one more.

@@ -15,7 +15,7 @@ use Rattle.model_histories.specs.Shapes.{Shape, most_entries}
 use Rattle.model_histories.specs.Legal.{IsLegal}
 use Rattle.model_races.specs.Judged.{IsJudged}
 use Rattle.race_gate.proofs.Races.{legal-part}
-use Rattle.spawn_chains.specs.Lineages.{IsLineage, CanAdd, MayGrow}
+use Rattle.race_pairs.specs.Lineages.{IsLineage, CanAdd, MayGrow}
 use Rattle.race_pairs.specs.declared.refusal.Lines.{Lines}
 use Rattle.race_pairs.specs.declared.refusal.Refusal.{Refusal}
 use Rattle.race_pairs.specs.declared.sighting.Sighting.{Sighting}

@@ -12,13 +12,13 @@ use Rattle.model_histories.specs.declared.answer.Entry.{Entry}
 use Rattle.model_histories.specs.Entries.{Entries, control_part}
 use Rattle.model_histories.specs.Shapes.{Shape}
 use Rattle.model_histories.specs.Legal.{IsLegal}
-use Rattle.spawn_chains.specs.declared.lineage.Parting.{Parting}
-use Rattle.spawn_chains.specs.declared.lineage.OpenSpawn.{OpenSpawn}
-use Rattle.spawn_chains.specs.Frames.{frames}
-use Rattle.spawn_chains.specs.Lineages.{IsLineage, AreBegun}
-use Rattle.spawn_chains.specs.Partings.{IsParting}
-use Rattle.spawn_chains.specs.OpenSpawns.{IsOutstanding}
-use Rattle.spawn_chains.proofs.Asked.{told_begun}
+use Rattle.race_pairs.specs.declared.lineage.Parting.{Parting}
+use Rattle.race_pairs.specs.declared.lineage.OpenSpawn.{OpenSpawn}
+use Rattle.race_pairs.specs.Frames.{frames}
+use Rattle.race_pairs.specs.Lineages.{IsLineage, AreBegun}
+use Rattle.race_pairs.specs.Partings.{IsParting}
+use Rattle.race_pairs.specs.OpenSpawns.{IsOutstanding}
+use Rattle.race_pairs.proofs.Asked.{told_begun}
 use Rattle.race_pairs.specs.declared.refusal.Reason.{Reason}
 use Rattle.race_pairs.specs.declared.refusal.Reason.TheVariants.{ViewRead}
 use Rattle.race_pairs.specs.declared.refusal.Side.{Side}

@@ -13,9 +13,9 @@ use Rattle.model_histories.specs.declared.answer.Entry.{Entry}
 use Rattle.model_histories.specs.Entries.{Entries, event_between}
 use Rattle.model_histories.specs.Shapes.{Shape}
 use Rattle.model_histories.specs.Legal.{Belongs, IsLegal}
-use Rattle.spawn_chains.specs.declared.kept.Opener.{Opener}
-use Rattle.spawn_chains.specs.Makers.{HasNumber}
-use Rattle.spawn_chains.specs.Openers.{opener_of, IsOpener, IsNoOpener}
+use Rattle.race_pairs.specs.declared.kept.Opener.{Opener}
+use Rattle.race_pairs.specs.Makers.{HasNumber}
+use Rattle.race_pairs.specs.Openers.{opener_of, IsOpener, IsNoOpener}
 use Rattle.race_pairs.specs.declared.encounter.Way.{Way}
 use Rattle.race_pairs.specs.declared.encounter.Way.TheVariants.{Spawned as BySpawn, Called}
 use Rattle.race_pairs.specs.declared.encounter.Link.{Link}

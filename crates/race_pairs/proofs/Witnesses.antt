@@ -29,7 +29,7 @@ use Rattle.model_races.specs.Verdicts.{IsRightVerdict}
 use Rattle.model_races.specs.ViewReads.{IsTrueReadWitness}
 use Rattle.model_races.specs.ReducerVerdicts.{IsRightFor}
 use Rattle.model_races.specs.Judged.{IsJudged}
-use Rattle.spawn_chains.specs.Makers.{HasNumber}
+use Rattle.race_pairs.specs.Makers.{HasNumber}
 use Rattle.race_pairs.specs.declared.refusal.Refusal.{Refusal}
 use Rattle.race_pairs.specs.declared.refusal.Side.{Side}
 use Rattle.race_pairs.specs.declared.sighting.Sighting.{Sighting}

@@ -5,7 +5,7 @@ use Rattle.model_histories.specs.declared.answer.Entry.{Entry}
 use Rattle.model_histories.specs.Shapes.{Shape, most_entries}
 use Rattle.model_histories.specs.Legal.{IsLegal}
 use Rattle.model_races.specs.Judged.{IsJudged}
-use Rattle.spawn_chains.specs.Lineages.{IsLineage}
+use Rattle.race_pairs.specs.Lineages.{IsLineage}
 use Rattle.race_pairs.specs.declared.digest.Digest.{Digest}
 use Rattle.race_pairs.specs.Refusals.{refusals_among}
 use Rattle.race_pairs.specs.Known.{has_own}

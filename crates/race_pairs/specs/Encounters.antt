@@ -8,14 +8,14 @@ use Rattle.model_accesses.specs.declared.request.Act.TheVariants.{Spawn}
 use Rattle.model_strands.specs.Dag.{IsParallel}
 use Rattle.model_histories.specs.declared.answer.Entry.{Entry}
 use Rattle.model_histories.specs.Entries.{control_part}
-use Rattle.spawn_chains.specs.declared.lineage.Parting.{Parting}
-use Rattle.spawn_chains.specs.declared.lineage.OpenSpawn.{OpenSpawn}
+use Rattle.race_pairs.specs.declared.lineage.Parting.{Parting}
+use Rattle.race_pairs.specs.declared.lineage.OpenSpawn.{OpenSpawn}
 use Rattle.model_histories.specs.Shapes.{Shape}
 use Rattle.model_histories.specs.Legal.{IsLegal}
-use Rattle.spawn_chains.specs.Frames.{frames}
-use Rattle.spawn_chains.specs.Lineages.{Kept, IsLineage}
-use Rattle.spawn_chains.specs.Partings.{IsParting}
-use Rattle.spawn_chains.specs.OpenSpawns.{IsOutstanding}
+use Rattle.race_pairs.specs.Frames.{frames}
+use Rattle.race_pairs.specs.Lineages.{Kept, IsLineage}
+use Rattle.race_pairs.specs.Partings.{IsParting}
+use Rattle.race_pairs.specs.OpenSpawns.{IsOutstanding}
 use Rattle.race_pairs.specs.declared.refusal.Reason.{Reason}
 use Rattle.race_pairs.specs.declared.refusal.Reason.TheVariants.{ViewRead}
 use Rattle.race_pairs.specs.declared.race.Pair.{Pair}

@@ -1,3 +1,13 @@
+pub mod Makers
+pub mod Partings
+pub mod Climbs
+pub mod Frames
+pub mod OpenSpawns
+pub mod Standings
+pub mod Openers
+pub mod Lineages
+pub mod Growths
+pub mod Steps
 pub mod Refusals
 pub mod Firsts
 pub mod Pairs

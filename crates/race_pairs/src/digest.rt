@@ -8,11 +8,11 @@ ghost use Rattle.race_pairs.specs.Known.{known_count};
 ghost use Rattle.race_pairs.specs.Digests.{IsDigest, IsNextOf, is_of_own_lines};
 
 use crate::known::Known;
+use crate::lineage::Lineage;
 use crate::race::Race;
 use crate::races::Races;
 use crate::sighting::sighting_of;
 use race_gate::Entry;
-use spawn_chains::Lineage;
 use std::alloc::{AllocError, Global};
 use std::collections::HashSet;
 

@@ -3,16 +3,17 @@
 ghost use Rattle.std.specs.Prelude.{◌≡◌, List, map, reverse, unwrap_or, Some, IfOk};
 ghost use Rattle.std.specs.Option.{option_map};
 ghost use Rattle.model_histories.specs.declared.answer.Entry.{Entry};
-ghost use Rattle.spawn_chains.specs.Lineages.{IsSomeLineage};
+ghost use Rattle.race_pairs.specs.Lineages.{IsSomeLineage};
 ghost use Rattle.race_pairs.specs.Refusals.{access_at, IsSideAt};
 ghost use Rattle.race_pairs.specs.Digests.{IsDigest};
 ghost use Rattle.race_pairs.specs.Encounters.{chain_at, PartAt, GoesOn, IsOpenAt, way_at, link_at, IsLineageOf, IsEncounter, IsRaceOf, IsMet};
 
 use crate::digest::Digest;
+use crate::kept::Opener;
+use crate::lineage::{Lineage, OpenSpawn, Parting};
 use crate::onward::toward;
 use crate::race::Race;
 use crate::refusal::{Reason, Side};
-use spawn_chains::{Lineage, OpenSpawn, Opener, Parting};
 use std::alloc::{AllocError, Global};
 
 /// How a spawn or a call came to a function.

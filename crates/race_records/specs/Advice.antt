@@ -1,8 +1,8 @@
 -- Where two strands part, and what would order them.
 use Rattle.std.specs.Prelude.{ℕ, ◌==◌, List, ◌++◌, codes, Option, Some, None, unwrap_or, if◌then◌else◌}
 use Rattle.serde_json.specs.Data.{Data, null, string, object, member, no_members}
-use Rattle.spawn_chains.specs.declared.lineage.Parting.{Parting}
-use Rattle.spawn_chains.specs.declared.lineage.OpenSpawn.{OpenSpawn}
+use Rattle.race_pairs.specs.declared.lineage.Parting.{Parting}
+use Rattle.race_pairs.specs.declared.lineage.OpenSpawn.{OpenSpawn}
 use Rattle.race_pairs.specs.Refusals.{line_in}
 use Rattle.race_pairs.specs.declared.refusal.Reason.{Reason}
 use Rattle.race_pairs.specs.declared.refusal.Reason.TheVariants.{Race, ViewRead, Unset}

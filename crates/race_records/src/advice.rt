@@ -15,9 +15,8 @@ use crate::access::place_value;
 use crate::site::line_value;
 use itoa::Buffer;
 use race_explanations::{Origin, Scene, function_in, line_of, line_on};
-use race_pairs::{Encounter, Pair, Reason};
+use race_pairs::{Encounter, OpenSpawn, Pair, Parting, Reason};
 use serde_json::{Value, json};
-use spawn_chains::{OpenSpawn, Parting};
 use std::alloc::{AllocError, Global};
 use trace_notes::Place;
 

@@ -16,9 +16,9 @@ ghost use Rattle.run_replay.specs.declared.turn.Misfit.{Misfit};
 
 use crate::frame_table::FrameTable;
 use crate::turn::{Misfit, confirm};
+use packed_history::Entries;
 use program_text::Program;
 use race_gate::{Answer, Core, Entry};
-use short_receipts::Entries;
 use std::alloc::{AllocError, Allocator};
 use thiserror::Error;
 

@@ -9,7 +9,7 @@ use Rattle.std.proofs.lemmas.List.Elements.{All-head, All-tail}
 use Rattle.std.proofs.lemmas.Simd.{map-map}
 use Rattle.locked_replay.specs.declared.worker.WorkerLog.{WorkerLog}
 use Rattle.std.specs.Global.{Global, Vec}
-use Rattle.short_receipts.specs.Lists.{Listed}
+use Rattle.packed_history.specs.Lists.{Listed}
 use Rattle.std.specs.List.{list_any}
 use Rattle.steal_workers.specs.declared.pass_log.PassLog.{PassLog}
 use Rattle.steal_workers.specs.declared.worker_deques.WorkerDeques.{WorkerDeques}

@@ -8,8 +8,8 @@ use Rattle.std.specs.contracts.alloc.Global as Heap
 use Rattle.std.specs.contracts.impls.GlobalAllocator.TheImpl.{ghosts}
 use Rattle.std.proofs.Crossing.{crosses, send}
 use Rattle.std.proofs.sync.ledger.Book.TheSendSync as book
-use Rattle.short_receipts.specs.contracts.entries.Entries as Entries
-use Rattle.short_receipts.proofs.entries.Entries.TheSendSync as entries
+use Rattle.packed_history.specs.contracts.entries.Entries as Entries
+use Rattle.packed_history.proofs.entries.Entries.TheSendSync as entries
 use Rattle.locked_replay.below.branch_names.proofs.branches.Branches.TheSendSync as branches
 use Rattle.locked_replay.below.view_read_rule.proofs.reads.ReadPeers.TheSendSync as peers
 use Rattle.locked_replay.below.sp_labels.proofs.roster.Strands.TheSendSync as strands

@@ -6,7 +6,7 @@ use Rattle.command_streams.specs.Readings.{reading}
 use Rattle.command_words.specs.declared.words.Format.{Format}
 use Rattle.command_words.specs.declared.words.Color.{Color}
 use Rattle.command_words.specs.declared.words.Color.TheVariants.{Auto, Always, Never}
-use Rattle.other_commands.specs.Explanations.{Manner, HasExplanationCause}
+use Rattle.tool_commands.specs.Explanations.{Manner, HasExplanationCause}
 use Rattle.tool_commands.specs.Performed.{rendering_of, IsMannerOf}
 
 manner_of : (file : List ℕ) (format : Format) (color : Color) → (manner : Manner) × IsMannerOf file color format manner

@@ -3,7 +3,7 @@ use Rattle.std.proofs.Common.{◌≡◌, ℕ, List, Option, Result, IfOk, IfErr,
 use Rattle.std.proofs.lemmas.Result.{IfOk-weaker, IfErr-weaker}
 use Rattle.command_streams.specs.declared.fault.CliFault.{CliFault}
 use Rattle.command_streams.specs.Readings.{reading}
-use Rattle.other_commands.specs.Replays.{IsReplayed, HasReplayCause}
+use Rattle.tool_commands.specs.Replays.{IsReplayed, HasReplayCause}
 
 -- What the readers hold is what is to be replayed.
 pub replayed_so : (program p trace t pb tb wrote writes : Option (List ℕ)) (answer : Result ℕ CliFault) → program ≡ p → trace ≡ t →

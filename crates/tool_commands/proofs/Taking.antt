@@ -6,8 +6,8 @@ use Rattle.command_streams.specs.declared.fault.CliFault.{CliFault}
 use Rattle.command_streams.specs.declared.fault.CliFault.TheVariants.{Read, Memory}
 use Rattle.command_streams.specs.Readings.{reading}
 use Rattle.command_streams.specs.Streams.{IsRead}
-use Rattle.other_commands.specs.declared.explain.Rendering.{Rendering}
-use Rattle.other_commands.specs.Together.{Together, TakesReading, StopsTaking}
+use Rattle.tool_commands.specs.declared.explain.Rendering.{Rendering}
+use Rattle.tool_commands.specs.Together.{Together, TakesReading, StopsTaking}
 use Rattle.tool_commands.specs.Several.{manner_in, AreTaken, more, TellsSeveral, StopsSeveral}
 use Rattle.tool_commands.specs.Performed.{lacks_first}
 

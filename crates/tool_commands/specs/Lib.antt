@@ -1,2 +1,17 @@
+pub mod Programs
+pub mod Outcomes
+pub mod Runs
+pub mod Laws
+pub mod Declarations
+pub mod Elided
+pub mod Replays
+pub mod Drawings
+pub mod Traced
+pub mod Memories
+pub mod Explanations
+pub mod Sorts
+pub mod Together
+pub mod Cleanness
+pub mod Digested
 pub mod Performed
 pub mod Several

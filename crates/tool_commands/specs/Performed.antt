@@ -15,22 +15,22 @@ use Rattle.command_words.specs.declared.words.Language.{Language}
 use Rattle.command_words.specs.declared.words.Language.TheVariants.{Dot, Svg}
 use Rattle.command_words.specs.declared.words.Format.{Format}
 use Rattle.command_words.specs.declared.words.Format.TheVariants.{Text, Json, Sarif}
-use Rattle.other_commands.specs.declared.explain.Rendering.{Rendering}
-use Rattle.other_commands.specs.declared.explain.Rendering.TheVariants.{Text as TextTold, Record as RecordTold}
+use Rattle.tool_commands.specs.declared.explain.Rendering.{Rendering}
+use Rattle.tool_commands.specs.declared.explain.Rendering.TheVariants.{Text as TextTold, Record as RecordTold}
 use Rattle.race_records.specs.declared.form.RecordForm.TheVariants.{Json as AsJson, Sarif as AsSarif}
 use Rattle.dag_drawing.specs.declared.form.Form.{Form}
 use Rattle.dag_drawing.specs.declared.form.Form.TheVariants.{Dot as InDot, Svg as InSvg}
-use Rattle.other_commands.specs.Explanations.{Manner, IsExplained, HasExplanationCause}
-use Rattle.other_commands.specs.Drawings.{IsDrawn, HasDrawingCause}
-use Rattle.other_commands.specs.Elided.{IsElided, HasElisionCause}
+use Rattle.tool_commands.specs.Explanations.{Manner, IsExplained, HasExplanationCause}
+use Rattle.tool_commands.specs.Drawings.{IsDrawn, HasDrawingCause}
+use Rattle.tool_commands.specs.Elided.{IsElided, HasElisionCause}
 use Rattle.command_streams.specs.Faults.{status_of_fault}
 use Rattle.command_streams.specs.Readings.{reading}
-use Rattle.other_commands.specs.Replays.{IsReplayed, HasReplayCause}
-use Rattle.run_command.specs.Runs.{IsRan, HasRunCause}
+use Rattle.tool_commands.specs.Replays.{IsReplayed, HasReplayCause}
+use Rattle.tool_commands.specs.Runs.{IsRan, HasRunCause}
 use Rattle.command_streams.specs.Sources.{Sources}
 use Rattle.judge_command.specs.Statuses.{status_of_replies}
 use Rattle.command_streams.specs.Streams.{IsAnswered, HasCause, StopsWriting}
-use Rattle.other_commands.specs.Traced.{IsTraced, IsTraceWritten, IsReportCut, HasTraceCause, HasTracedCause}
+use Rattle.tool_commands.specs.Traced.{IsTraced, IsTraceWritten, IsReportCut, HasTraceCause, HasTracedCause}
 use Rattle.tool_commands.specs.Several.{AreExplained, HasSeveralCause}
 
 -- the language of a drawing, as the words of the command line name it

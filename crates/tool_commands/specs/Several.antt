@@ -5,9 +5,9 @@ use Rattle.command_streams.specs.declared.fault.CliFault.{CliFault}
 use Rattle.command_streams.specs.declared.fault.CliFault.TheVariants.{Read, Write, Memory}
 use Rattle.command_streams.specs.Readings.{reading}
 use Rattle.command_streams.specs.Streams.{IsRead}
-use Rattle.other_commands.specs.declared.explain.Rendering.{Rendering}
-use Rattle.other_commands.specs.Explanations.{Manner, IsUnjudgedTold}
-use Rattle.other_commands.specs.Together.{Together, none_together, TellsTogether, together_status, AddsText, StopsTaking}
+use Rattle.tool_commands.specs.declared.explain.Rendering.{Rendering}
+use Rattle.tool_commands.specs.Explanations.{Manner, IsUnjudgedTold}
+use Rattle.tool_commands.specs.Together.{Together, none_together, TellsTogether, together_status, AddsText, StopsTaking}
 
 abbrev pub manner_in : (is_painted : Bool) → (rendering : Rendering) → (file : List ℕ) → Manner
 manner_in is_painted rendering file = record { is_painted = is_painted; rendering = rendering; file = file }

@@ -10,17 +10,19 @@ ghost use Rattle.command_streams.specs.Watched.{held, has_failed, is_delivered};
 ghost use Rattle.tool_commands.specs.Performed.{form_of, rendering_of, IsPerformed, IsPaintedBy, HasJobCause, IsRecorded};
 ghost use Rattle.tool_commands.specs.Performed.{IsRecordedFirst, BarsTrace, LacksFile, IsAlone, status_of_answer};
 
+use crate::draw::draw_text;
+use crate::elide::elide_text;
+use crate::explain::{Manner, Rendering, explain_text};
 use crate::named::open_named;
+use crate::replay::replay_text;
+use crate::run::{OpenDoor, run_text};
 use crate::several::explain_files;
+use crate::traced_run::{trace_run_of_text, write_run_trace, write_traced_run};
 use command_streams::{CliFault, Host, Watched, write_text};
 use command_words::{Color, Format, INPUT, Job, Language};
 use dag_drawing::Form;
 use judge_command::judge_stream;
-use other_commands::{
-    Manner, RecordForm, Rendering, draw_text, elide_text, explain_text, replay_text,
-    trace_run_of_text, write_run_trace, write_traced_run,
-};
-use run_command::{OpenDoor, run_text};
+use race_records::RecordForm;
 use std::alloc::Global;
 use std::io::Write;
 use std::sync::Wait;
@@ -511,7 +513,7 @@ pub fn perform_alone<H: Host, W: Write>(
 /// [`explain_text`], [`replay_text`] or [`draw_text`] does with standard input or the files of its names, or writes the text that is to be
 /// shown. What is written is delivered then. All files of a job that are read are opened before one is read, but for those of several traces,
 /// which are read one after another. A run that is recorded is done
-/// as [`run_traced_text`](other_commands::run_traced_text) does it; the file of its trace is created once the run is done, and has the trace before
+/// as [`run_traced_text`](crate::traced_run::run_traced_text) does it; the file of its trace is created once the run is done, and has the trace before
 /// the report is written.
 ///
 /// It answers [`CliFault::Read`] exactly where the host has failed, by a file that can't be opened or a reader that fails, and

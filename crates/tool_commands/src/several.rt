@@ -4,12 +4,13 @@ ghost use Rattle.std.specs.Prelude.{◌≡◌, ◌↔◌, ◌≢◌, ◌≤◌, 
 ghost use Rattle.std.specs.Option.{option_map};
 ghost use Rattle.command_streams.specs.Watched.{held, has_failed, is_delivered};
 ghost use Rattle.command_streams.specs.Readings.{reading};
-ghost use Rattle.other_commands.specs.Together.{together_of, TakesReading, StopsTaking};
+ghost use Rattle.tool_commands.specs.Together.{together_of, TakesReading, StopsTaking};
 ghost use Rattle.tool_commands.specs.Several.{TellsSeveral, StopsSeveral, AreExplained, HasSeveralCause};
 ghost use Rattle.tool_commands.specs.Performed.{lacks_first};
 
+use crate::explain::{Manner, Rendering};
+use crate::explain_traces::Traces;
 use command_streams::{CliFault, Host, Watched, write_text};
-use other_commands::{Manner, Rendering, Traces};
 use std::alloc::Global;
 use std::io::Write;
 

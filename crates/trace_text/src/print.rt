@@ -13,10 +13,10 @@ ghost use Rattle.trace_text.specs.Printing.{spaced, operand_text, known_of, text
 use crate::cell::{memory_at, put_name};
 use crate::keyword::{keyword_for, keyword_word};
 use crate::trace::Trace;
+use packed_trace::TraceLines;
 use std::alloc::{AllocError, Allocator};
 use std::fmt::Write;
 use text_words::{Act, Mem, Reducer, TraceLine, Version, monoid_word, version_word};
-use trace_lines::TraceLines;
 
 /// Appends a space and a number.
 pub fn put_number<A: Allocator>(out: &mut String<A>, number: u64) -> Result<(), AllocError>

@@ -25,12 +25,12 @@ use crate::line::{Item, act_of, read_line, request_on};
 use crate::place::CELLS;
 use crate::plain::{behind_word, mark, place, strand, value_for};
 use access_table::{Kind, word};
+use packed_trace::TraceLines;
 use std::alloc::{AllocError, Allocator};
 use text_words::{
     Act, Cause, Mem, Mems, Monoid, Monoids, Names, Reducer, Reducers, Shape, TextFault, TraceLine,
     Version, Words, as_text, split_line, without_return,
 };
-use trace_lines::TraceLines;
 
 /// The most lines of a text.
 pub const LINES: u32 = 4_000_000;

@@ -1,8 +1,8 @@
 //! Lines of traces that are kept: each comes back as it was pushed, on both sides of each bound of the short form.
 
+use packed_trace::TraceLines;
 use std::alloc::Global;
 use text_words::{Act, Request, TraceLine};
-use trace_lines::TraceLines;
 
 /// Whether these are the lines, and no others.
 pub fn are_lines(lines: &TraceLines<Global>, wanted: &[TraceLine]) -> bool {

@@ -10,10 +10,10 @@ ghost use Rattle.verdict_lines.specs.VerdictText.{HasWords};
 
 use super::openings::gate_for;
 use locked_replay::Whole;
+use packed_history::Entries;
 use program_text::Program;
 use race_gate::{Answer, GateFault, Receipt, Reply, ShortGate};
 use race_report::report;
-use short_receipts::Entries;
 use std::alloc::{AllocError, Global};
 use text_words::{Act, Request};
 use verdict_lines::verdict_lines;

@@ -1,12 +1,12 @@
 //! Worked histories: where the strands of two entries part, and what encloses an entry.
 
 ghost use Rattle.std.specs.Prelude.{◌≤◌, IfSome};
-ghost use Rattle.spawn_chains.specs.Lineages.{IsLineage};
+ghost use Rattle.race_pairs.specs.Lineages.{IsLineage};
 
 use super::asked::{Deed, asked};
 use Act::{Bump, Call, Return, Spawn, Sync};
 use race_gate::Gate;
-use spawn_chains::Lineage;
+use race_pairs::Lineage;
 use std::alloc::{AllocError, Global};
 use text_words::Act;
 

@@ -1,5 +1,5 @@
 use Rattle.std.proofs.Common.{◌≡◌, ◌++◌, List, map}
-use Rattle.trace_lines.specs.Lines.{lines_left}
+use Rattle.packed_trace.specs.Lines.{lines_left}
 use Rattle.model_histories.specs.declared.reply.Reply.{Reply}
 use Rattle.race_gate.specs.Shapes.{shape_of}
 use Rattle.model_histories.specs.States.{opening}

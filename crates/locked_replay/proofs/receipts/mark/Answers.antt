@@ -1,7 +1,7 @@
 use Rattle.std.proofs.Common.{rules, ◌≡◌, ◌-◌, ap, sym, arith, ◌∙◌}
 use Rattle.std.proofs.lemmas.Option.{get_or_from_slice_get}
 use Rattle.model_histories.specs.declared.reply.Receipt.{Receipt}
-use Rattle.short_receipts.specs.Entries.{entry_of}
+use Rattle.packed_history.specs.Entries.{entry_of}
 use Rattle.locked_replay.proofs.Marking.{astray_number, astray_other, astray_twice, marked_next}
 use Rattle.locked_replay.proofs.Rising.{not_told, is_told}
 use Rattle.locked_replay.proofs.receipts.mark.Goals.{then-number-eq0-via-then-number-eq0, then-number-eq0-via-else-number-eq0+then-number-len, then-marks-place-via-then-marks-place, then-marks-place-via-else-marks-place+then-not-is_of}

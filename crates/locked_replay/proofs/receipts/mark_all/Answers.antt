@@ -1,6 +1,6 @@
 use Rattle.std.proofs.Common.{rules, inl, inr, ◌++◌, ◌∷◌, [], take, sym, subst, ◌∙◌}
 use Rattle.std.proofs.lemmas.Option.{get_or_from_slice_get}
-use Rattle.short_receipts.specs.Lists.{Listed}
+use Rattle.packed_history.specs.Lists.{Listed}
 use Rattle.model_histories.specs.declared.reply.Receipt.{Receipt}
 use Rattle.locked_replay.specs.Receipts.{AreMarked, AreAstray}
 use Rattle.locked_replay.proofs.Marking.{astray_at}

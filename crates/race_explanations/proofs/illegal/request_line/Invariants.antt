@@ -1,5 +1,5 @@
 use Rattle.std.proofs.Common.{◌≡◌}
-use Rattle.trace_lines.specs.Lines.{lines_left}
+use Rattle.packed_trace.specs.Lines.{lines_left}
 use Rattle.trace_text.specs.Traces.{contents}
 use Rattle.race_explanations.specs.Illegal.{request_line}
 use Rattle.race_explanations.proofs.illegal.request_line.Given as goal

@@ -1,5 +1,5 @@
 use Rattle.std.proofs.Common.{rules, sym, ◌∙◌}
-use Rattle.short_receipts.specs.Lists.{Listed}
+use Rattle.packed_history.specs.Lists.{Listed}
 use Rattle.model_histories.specs.declared.reply.Receipt.{Receipt}
 use Rattle.steal_workers.proofs.Finished.{none_more, some_here}
 use Rattle.steal_workers.proofs.pool.has_finished.Goals as goal

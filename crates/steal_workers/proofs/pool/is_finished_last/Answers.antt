@@ -1,6 +1,6 @@
 use Rattle.std.proofs.Common.{sym, ◌∙◌}
 use Rattle.std.proofs.lemmas.Option.{slice_get_within}
-use Rattle.short_receipts.specs.Lists.{Listed}
+use Rattle.packed_history.specs.Lists.{Listed}
 use Rattle.model_histories.specs.declared.reply.Receipt.{Receipt}
 use Rattle.steal_workers.proofs.Finished.{some_here}
 use Rattle.steal_workers.proofs.pool.is_finished_last.Goals as goal

@@ -1,8 +1,8 @@
 use Rattle.std.proofs.Common.{◌≤◌}
 use Rattle.std.proofs.lemmas.Result.{IfOk-weaker}
-use Rattle.run_command.proofs.RunCauses.{ran_status}
-use Rattle.other_commands.proofs.ExplanationCauses.{explained_status}
-use Rattle.other_commands.proofs.TracedCauses.{trace_status}
+use Rattle.tool_commands.proofs.RunCauses.{ran_status}
+use Rattle.tool_commands.proofs.ExplanationCauses.{explained_status}
+use Rattle.tool_commands.proofs.TracedCauses.{trace_status}
 use Rattle.tool_commands.proofs.performing.perform.Goals as goal
 
 pub returns-in-Run-clause-status : goal.returns-in-Run-clause-status

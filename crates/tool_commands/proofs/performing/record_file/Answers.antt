@@ -1,6 +1,6 @@
 use Rattle.std.proofs.Common.{rules}
 use Rattle.std.proofs.lemmas.Result.{IfErr-weaker}
-use Rattle.other_commands.proofs.TracedCauses.{not_run, not_created, not_written, recorded_ran, recorded_kept, recorded_first}
+use Rattle.tool_commands.proofs.TracedCauses.{not_run, not_created, not_written, recorded_ran, recorded_kept, recorded_first}
 use Rattle.tool_commands.proofs.performing.record_file.Goals as goal
 
 pub returns-in-Err-told-clause-fault : goal.returns-in-Err-told-clause-fault

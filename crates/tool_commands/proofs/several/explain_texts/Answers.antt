@@ -5,7 +5,7 @@ use Rattle.std.proofs.lemmas.Result.{err_from_is_err_and}
 use Rattle.std.proofs.lemmas.Grind.{common_steps}
 use Rattle.command_streams.specs.Watched.{held}
 use Rattle.command_streams.specs.Readings.{reading}
-use Rattle.other_commands.specs.Together.{Together, together_of, TakesReading}
+use Rattle.tool_commands.specs.Together.{Together, together_of, TakesReading}
 use Rattle.tool_commands.specs.Several.{manner_in, AreTaken, none}
 use Rattle.tool_commands.proofs.Taking.{taken_more, faulty_at, stops_at, lacks_at, lacks_more}
 use Rattle.tool_commands.proofs.several.explain_texts.Goals as goal

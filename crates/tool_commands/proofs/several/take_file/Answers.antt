@@ -2,7 +2,7 @@ use Rattle.std.proofs.Common.{rules, ◌≡◌, ℕ, List, Option, subst}
 use Rattle.std.proofs.lemmas.Result.{IfErr-weaker}
 use Rattle.command_streams.specs.Watched.{held}
 use Rattle.command_streams.specs.Readings.{reading}
-use Rattle.other_commands.specs.Together.{StopsTaking}
+use Rattle.tool_commands.specs.Together.{StopsTaking}
 use Rattle.tool_commands.proofs.several.take_file.Goals as goal
 
 pub returns-clause-fault : goal.returns-clause-fault

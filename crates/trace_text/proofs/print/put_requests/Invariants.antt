@@ -1,7 +1,7 @@
 use Rattle.std.proofs.Common.{◌≡◌, ◌++◌, map}
 use Rattle.std.specs.Prelude.{string_bytes}
 use Rattle.text_words.specs.declared.value.Version.{Version}
-use Rattle.trace_lines.specs.Lines.{lines_left}
+use Rattle.packed_trace.specs.Lines.{lines_left}
 use Rattle.trace_text.specs.Printing.{OfRequest, text_from, known_of}
 use Rattle.trace_text.proofs.print.put_requests.Given as goal
 

@@ -2,7 +2,7 @@ use Rattle.std.proofs.Common.{List, reverse, sym, subst}
 use Rattle.model_histories.specs.declared.answer.Entry.{Entry}
 use Rattle.model_histories.specs.Legal.{IsLegal}
 use Rattle.race_gate.proofs.Races.{legal-part}
-use Rattle.spawn_chains.specs.Lineages.{IsLineage}
+use Rattle.race_pairs.specs.Lineages.{IsLineage}
 use Rattle.run_tests.proofs.tellings.chains.lineage_of.Goals as goal
 
 pub of-requires-clause-legal : goal.of-requires-clause-legal

@@ -3,8 +3,8 @@ use Rattle.model_strands.specs.Strands.{Begun}
 use Rattle.model_histories.specs.declared.answer.Entry.{Entry}
 use Rattle.model_histories.specs.Entries.{control_part}
 use Rattle.model_histories.specs.Legal.{IsLegal}
-use Rattle.spawn_chains.proofs.Numbers.{no_entry}
-use Rattle.spawn_chains.proofs.Asked.{told_begun}
+use Rattle.race_pairs.proofs.Numbers.{no_entry}
+use Rattle.race_pairs.proofs.Asked.{told_begun}
 use Rattle.run_tests.proofs.tellings.chains.part_at.Goals as goal
 
 pub parting-parting-requires : goal.parting-parting-requires

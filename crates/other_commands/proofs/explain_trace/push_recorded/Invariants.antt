@@ -1,9 +1,0 @@
-use Rattle.std.proofs.Common.{◌≡◌, ◌++◌, take, map, flat_map}
-use Rattle.std.specs.String.{string_bytes}
-use Rattle.other_commands.specs.Explanations.{recorded_line}
-use Rattle.other_commands.proofs.explain_trace.push_recorded.Given as goal
-
--- what the notes so far say is told
-abbrev pub invariant-loop-run : goal.invariant-loop-run
-invariant-loop-run l =
-    l.told.items ≡ l.initial.told.items ++ flat_map recorded_line (map string_bytes (take l.run-index l.run-items))

@@ -1,6 +1,0 @@
-use Rattle.std.proofs.Common.{arith}
-use Rattle.std.proofs.lemmas.Grind.{common_steps}
-use Rattle.other_commands.proofs.memory.memory_value.Goals as goal
-
-pub loop-mem-preserved : goal.loop-mem-preserved
-loop-mem-preserved c = grind (arith, common_steps)

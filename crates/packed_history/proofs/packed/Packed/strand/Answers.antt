@@ -1,0 +1,7 @@
+use Rattle.std.proofs.Common.{refl}
+use Rattle.packed_history.specs.Packing.{unpacked}
+use Rattle.packed_history.proofs.packed.Packed.strand.Goals as goal
+
+pub returns : goal.returns
+unfolding unpacked
+returns c = refl

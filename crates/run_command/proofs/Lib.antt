@@ -1,4 +1,0 @@
-pub mod RunStatuses
-pub mod CleanReports
-pub mod RunCauses
-mod RunFaults

@@ -1,9 +1,0 @@
-use Rattle.std.proofs.lemmas.List.Elements.{All-map}
-use Rattle.model_histories.specs.declared.answer.Entry.{Entry}
-use Rattle.model_histories.specs.Extensions.{IsCleanAnswer}
-use Rattle.short_receipts.specs.Entries.{entry_of}
-use Rattle.short_receipts.proofs.entries.Entries.are_clean.Goals as goal
-
-pub returns : goal.returns
-returns g c told =
-    rw (← c.self.view_is) (All-map (λ (entry : Entry). IsCleanAnswer entry.answer) entry_of c.self.inside.receipts.items (c.are_clean.ensures told))

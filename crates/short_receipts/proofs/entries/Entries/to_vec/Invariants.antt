@@ -1,5 +1,0 @@
-use Rattle.std.specs.Prelude.{◌≡◌, take}
-use Rattle.short_receipts.proofs.entries.Entries.to_vec.Given as goal
-
-abbrev pub invariant-loop-at : goal.invariant-loop-at
-invariant-loop-at g l = l.list.items ≡ take l.at l.self.items

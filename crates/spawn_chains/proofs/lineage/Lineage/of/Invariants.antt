@@ -1,7 +1,0 @@
-use Rattle.std.proofs.Common.{take, reverse}
-use Rattle.spawn_chains.specs.Lineages.{IsLineage}
-use Rattle.spawn_chains.proofs.lineage.Lineage.of.Given as goal
-
--- the lineage is that of the entries so far
-abbrev pub invariant-loop-entry : goal.invariant-loop-entry
-invariant-loop-entry g l = IsLineage l.lineage (reverse (take l.entry-index l.entries))

@@ -1,0 +1,35 @@
+use Rattle.std.proofs.Common.{ℕ, List, subst}
+use Rattle.std.proofs.lemmas.Result.{err_from_is_err_and}
+use Rattle.program_text.specs.Programs.{contents}
+use Rattle.text_words.specs.declared.value.Mem.{Mem}
+use Rattle.command_streams.specs.Watched.{held}
+use Rattle.command_streams.specs.Streams.{StopsWriting}
+use Rattle.command_streams.specs.ElisionText.{elision_text}
+use Rattle.tool_commands.proofs.ElisionCauses.{stopping_cause, cutting_cause}
+use Rattle.tool_commands.proofs.ShortNames.{short_names}
+use Rattle.tool_commands.proofs.elide.elide_text.Goals as goal
+
+pub write_elision-requires-clause-short : goal.write_elision-requires-clause-short
+write_elision-requires-clause-short g c = rw c.as_slice.ensures (short_names c.in_ok-text.text.items (contents c.in_ok-program.program) c.in_ok-program.ensures.ok)
+
+pub returns-in_err-elided-clause-fault : goal.returns-in_err-elided-clause-fault
+returns-in_err-elided-clause-fault g c =
+    let gone = err_from_is_err_and c.from_residual-in_err-elided.result c.from_residual-in_err-elided.ensures.1 in
+    rw (gone.1, gone.2) (stopping_cause (g.R.Read.remaining (held c.args.program.now)) (g.R.Read.remaining (held c.read_text.new.input))
+    (g.W.Write.contents (held c.args.output.now)) (g.W.Write.contents (held c.args.output.now))
+    c.args.limit c.in_ok-text.text.items (contents c.in_ok-program.program)
+    _ c.in_ok-text.ensures.ok c.in_ok-program.ensures.ok c.in_err-elided.ensures.fault)
+
+pub returns-in_err-write_elision-clause-fault : goal.returns-in_err-write_elision-clause-fault
+returns-in_err-write_elision-clause-fault g c =
+    let gone = err_from_is_err_and c.from_residual-in_err-write_elision.result c.from_residual-in_err-write_elision.ensures.1 in
+    let wrote = g.W.Write.contents (held c.args.output.now) in
+    let writes = g.W.Write.contents (held c.write_elision.new.output) in
+    let requests = c.in_ok-elided.elided.requests in
+    let fault = c.in_err-write_elision.field-0.0 in
+    rw (gone.1, gone.2) (cutting_cause (g.R.Read.remaining (held c.args.program.now)) (g.R.Read.remaining (held c.read_text.new.input)) wrote writes
+    c.args.limit c.in_ok-text.text.items _ fault c.in_ok-text.ensures.ok
+    (record { contents = contents c.in_ok-program.program; means = c.in_ok-program.ensures.ok; elided = c.in_ok-elided.ensures.ok })
+    (subst (λ (values : List ℕ). StopsWriting wrote writes (elision_text c.in_ok-program.program.mems values requests) fault) c.as_slice-2.ensures.value
+    (subst (λ (mems : List Mem). StopsWriting wrote writes (elision_text mems c.as_slice-2.result.now requests) fault) c.as_slice.ensures
+    c.in_err-write_elision.ensures.fault)))

@@ -1,0 +1,25 @@
+use Rattle.std.proofs.Common.{subst, ap₂, ◌∙◌}
+use Rattle.std.proofs.lemmas.Result.{IfOk-weaker}
+use Rattle.text_words.specs.Text.{lines}
+use Rattle.serde_json.specs.Data.{Data}
+use Rattle.serde_json.specs.View.{view}
+use Rattle.program_text.specs.Programs.{contents}
+use Rattle.race_records.specs.declared.document.Outcome.TheVariants.{Clean}
+use Rattle.race_records.specs.Documents.{RecordsRun}
+use Rattle.tool_commands.specs.Memories.{memory_told}
+use Rattle.tool_commands.specs.Explanations.{Manner}
+use Rattle.tool_commands.proofs.explain.clean_record.Goals as goal
+
+pub run_record-requires : goal.run_record-requires
+run_record-requires c = (c.args.whole.now.entries.items, c.in_ok-digest.ensures)
+
+pub returns : goal.returns
+returns c =
+    let entries = c.args.whole.now.entries.items in
+    let program = contents c.args.program.now in
+    IfOk-weaker c.run_record.result _ _
+    (λ told records. subst (λ (memory : Data). RecordsRun c.args.form Clean c.args.manner.now.file (lines c.args.text.now) program entries memory told.items)
+    (c.in_ok-memory.ensures ∙ ap₂ memory_told c.as_slice.ensures c.as_slice-2.ensures.value)
+    (subst (λ (manner : Manner). RecordsRun c.args.form Clean manner.file (lines c.args.text.now) program entries
+    (view c.in_ok-memory.memory) told.items) c.manner.view_is (records entries c.in_ok-digest.ensures)))
+    c.run_record.ensures

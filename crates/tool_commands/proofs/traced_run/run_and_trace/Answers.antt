@@ -1,0 +1,10 @@
+use Rattle.std.proofs.Common.{rules, arith, refl}
+use Rattle.tool_commands.proofs.TracedCauses.{traced_tells}
+use Rattle.tool_commands.proofs.traced_run.run_and_trace.Goals as goal
+
+pub returns-clause-ok : goal.returns-clause-ok
+returns-clause-ok g c = (
+  _,
+  traced_tells c.args.program.now c.args.limit _ _ _ _ _ c.in-Ok.ensures.run c.in-Ok.ensures.within (omega (arith, c.in-Ok.ensures.within, c.requires.limit)) c.in-Ok.ensures.memory
+      refl (search rules) (search rules) (search rules),
+)

@@ -1,0 +1,98 @@
+//! Drawing the dag of the trace that a reader gives.
+
+ghost use Rattle.std.specs.Prelude.{◌≡◌, ◌↔◌, ◌≢◌, ◌⊎◌, true, false, reverse, IfOk, IfErr, OnOk, IsErrOf, IsTrue};
+ghost use Rattle.trace_text.specs.Traces.{contents};
+ghost use Rattle.text_words.specs.Text.{lines};
+ghost use Rattle.trace_notes.specs.Notes.{AreNotes};
+ghost use Rattle.dag_drawing.specs.Walks.{IsLegalHistory};
+ghost use Rattle.dag_drawing.specs.Drawn.{IsDrawing};
+ghost use Rattle.command_streams.specs.Watched.{held, has_failed, is_delivered, calls_of, IsCalledAtMost};
+ghost use Rattle.command_streams.specs.Streams.{most_reads};
+ghost use Rattle.command_streams.specs.Readings.{reading};
+ghost use Rattle.tool_commands.specs.Replays.{AnswersAll, StopsGate};
+ghost use Rattle.tool_commands.specs.Drawings.{StopsEntries, DrawsContents, StopsDrawing, IsDrawn, HasDrawingCause};
+
+use crate::explain_trace::notes_of;
+use crate::outcome::refusal_status;
+use crate::replay::answer_all;
+use command_streams::{CliFault, Watched, parse_trace, read_text, write_text};
+use dag_drawing::{Drawing, Form, Names, draw, write_drawing};
+use race_gate::Entry;
+use std::alloc::Allocator;
+use std::io::{Read, Write};
+use trace_notes::Notes;
+use trace_text::Trace;
+
+/// The drawing of entries, given from the oldest on.
+fn drawing_of<A: Allocator + Copy>(alloc: A, entries: &[Entry]) -> Result<Drawing<A>, CliFault>
+    requires { IsLegalHistory (reverse entries.now) }
+    ensures ok { IfOk result (IsDrawing entries.now) }
+    ensures fault { IfErr result (StopsEntries entries.now) }
+{
+    match draw(alloc, entries) {
+        Ok(Some(drawing)) => Ok(drawing),
+        Ok(None) => Err(CliFault::TooManyStrands),
+        Err(_) => Err(CliFault::Memory),
+    }
+}
+
+/// The text of a trace's drawing, and the exit status.
+fn draw_trace<A: Allocator + Copy>(
+    alloc: A,
+    form: Form,
+    notes: &Notes<A>,
+    trace: &Trace<A>,
+) -> Result<(Vec<u8, A>, u8), CliFault>
+    ensures ok { IfOk result (λ told. DrawsContents form notes.now (contents trace.now) told.0.items told.1) }
+    ensures fault { IfErr result (StopsDrawing (contents trace.now)) }
+{
+    let gate = answer_all(alloc, trace)?;
+    let entries = gate.history();
+    let drawing = drawing_of(alloc, entries)?;
+    let mems = trace.mems.as_slice();
+    let reducers = trace.reducers.as_slice();
+    let names = Names {
+        mems,
+        reducers,
+        notes,
+    };
+    let text = write_drawing(alloc, form, &names, &drawing)?;
+    Ok((text, refusal_status(entries)))
+}
+
+/// Reads a trace to its end, has a gate judge its requests in their order, and writes the drawing of the gate's history in Graphviz's
+/// language or as SVG: a node for each strand that has begun, with its accesses, an edge for each edge of the dag, and a red edge for each
+/// refusal that has a witness. What the notes of the trace say of marks and names is told in their place. It answers the exit status: 1
+/// where an entry is refused or unset, else 0.
+///
+/// It answers [`CliFault::Read`] or [`CliFault::Write`] exactly where the reader or the writer has failed, [`CliFault::TooLong`] for
+/// more than 67,108,864 bytes, [`CliFault::Trace`] with the first fault of a text that means no trace, by the first request that the gate
+/// does not answer [`CliFault::Limit`] or [`CliFault::Illegal`] with the number of that request, [`CliFault::TooManyStrands`] where more
+/// than 10,000 strands have begun, which no drawing has, and [`CliFault::Memory`] where a growth was refused. Nothing is written then, but
+/// for the part that a failed write has taken. The reader is asked at most 67,108,865 times, as its `calls` tells where it began with room
+/// for more than these.
+pub fn draw_text<A: Allocator + Copy, R: Read, W: Write>(
+    alloc: A,
+    form: Form,
+    input: &mut Watched<R>,
+    output: &mut Watched<W>,
+) -> Result<u8, CliFault>
+    requires reader { has_failed input.old ≡ false }
+    requires writer { has_failed output.old ≡ false }
+    ensures answered { IfOk result (IsDrawn A form (reading (R.remaining (held input.old)) (R.remaining (held input.new)))
+        (W.contents (held output.old)) (W.contents (held output.new))) }
+    ensures fault { IfErr result (HasDrawingCause A form (reading (R.remaining (held input.old)) (R.remaining (held input.new)))
+        (W.contents (held output.old)) (W.contents (held output.new))) }
+    ensures read_failed { IsErrOf result CliFault.Read ↔ IsTrue (has_failed input.new) }
+    ensures delivered { OnOk result (is_delivered output.new ≡ true) }
+    ensures write_failed { IsErrOf result CliFault.Write ↔ IsTrue (has_failed output.new) }
+    ensures reads { IsCalledAtMost most_reads (calls_of input.old) (calls_of input.new) }
+    ensures unwritten { IfErr result (λ fault. fault ≢ CliFault.Write → output.new ≡ output.old) }
+{
+    let bytes = read_text(alloc, input)?;
+    let notes = notes_of(alloc, bytes.as_slice())?;
+    let trace = parse_trace(alloc, bytes)?;
+    let (text, status) = draw_trace(alloc, form, &notes, &trace)?;
+    write_text(output, text.as_slice())?;
+    Ok(status)
+}

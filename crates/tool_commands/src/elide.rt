@@ -1,0 +1,225 @@
+//! Writing the elision of the program that a reader gives.
+
+ghost use Rattle.std.specs.Prelude.{◌≡◌, ◌↔◌, ◌≤◌, ◌≢◌, ◌++◌, ◌+◌, ℕ, List, [], true, false, IfOk, IfErr, OnOk, IsErrOf, IsTrue};
+ghost use Rattle.std.specs.List.{All};
+ghost use Rattle.std.specs.Io.KnownBytes.{Appends};
+ghost use Rattle.text_words.specs.declared.fault.TextFault.{TextFault as SpecFault};
+ghost use Rattle.trace_text.specs.Shapes.{name_in};
+ghost use Rattle.program_text.specs.Grammar.{TextMeans};
+ghost use Rattle.program_text.specs.Programs.{contents};
+ghost use Rattle.model_histories.specs.Shapes.{most_entries};
+ghost use Rattle.command_streams.specs.Watched.{held, has_failed, is_delivered, calls_of, IsCalledAtMost};
+ghost use Rattle.tool_commands.specs.Programs.{fault_of_program};
+ghost use Rattle.command_streams.specs.Streams.{most_reads, StopsWriting};
+ghost use Rattle.command_streams.specs.ElisionText.{cell_line, cell_lines, memory_text, elision_text, HasShortName};
+ghost use Rattle.command_streams.specs.Tellings.{TellsMore};
+ghost use Rattle.tool_commands.specs.Elided.{ElidesContents, StopsElision, IsElided, HasElisionCause};
+ghost use Rattle.tool_commands.specs.Programs.{IsProgramFault};
+
+use crate::program::parse_program;
+use command_streams::{CliFault, LineBuffer, Watched, deliver, read_text};
+use program_text::Program;
+use serial_elision::{ElideFault, Elided, elide};
+use std::alloc::{AllocError, Allocator};
+use std::io::{Read, Write};
+use text_buffers::{push_number, push_words};
+use text_words::{Mem, TextFault};
+
+/// Adds the name of a memory's cell with this index.
+pub(crate) fn push_name<A: Allocator>(
+    text: &mut Vec<u8, A>,
+    mem: &Mem,
+    index: usize,
+) -> Result<(), AllocError>
+    ensures { OnOk result (text.new.items ≡ text.old.items ++ name_in mem.now index) }
+{
+    push_words(text, mem.name.as_str())?;
+    if mem.array {
+        push_number(text, "[", index as u64)?;
+        push_words(text, "]")?;
+    }
+    Ok(())
+}
+
+/// Adds the line of a memory's cell with this index.
+fn push_cell<A: Allocator>(
+    text: &mut Vec<u8, A>,
+    mem: &Mem,
+    index: usize,
+    value: u64,
+) -> Result<(), AllocError>
+    ensures { OnOk result (text.new.items ≡ text.old.items ++ cell_line mem.now index value) }
+{
+    push_name(text, mem, index)?;
+    push_number(text, " ", value)?;
+    push_words(text, "\n")
+}
+
+/// Adds the lines of a memory's cells.
+fn push_cells<A: Allocator>(
+    text: &mut Vec<u8, A>,
+    mem: &Mem,
+    values: &[u64],
+) -> Result<(), AllocError>
+    ensures { OnOk result (text.new.items ≡ text.old.items ++ cell_lines mem.now 0 values.now) }
+{
+    for (index, value) in values.iter().enumerate() {
+        push_cell(text, mem, index, *value)?;
+    }
+    Ok(())
+}
+
+/// Adds the lines of all cells.
+pub fn push_memory<A: Allocator>(
+    text: &mut Vec<u8, A>,
+    mems: &[Mem],
+    values: &[u64],
+) -> Result<(), AllocError>
+    ensures { OnOk result (text.new.items ≡ text.old.items ++ memory_text mems.now values.now) }
+{
+    let mut rest = values;
+    for mem in mems {
+        let (own, others) = rest.split_at(rest.len().min(mem.cells as usize));
+        push_cells(text, mem, own)?;
+        rest = others;
+    }
+    Ok(())
+}
+
+/// The elision of a program.
+fn elide_program<A: Allocator + Copy>(
+    alloc: A,
+    program: &Program<A>,
+    limit: u32,
+) -> Result<Elided<A>, CliFault>
+    ensures ok { IfOk result (λ elided.
+        ElidesContents (contents program.now) limit (elision_text program.now.mems elided.memory.items elided.requests)) }
+    ensures fault { IfErr result (StopsElision (contents program.now) limit) }
+{
+    match elide(alloc, program, limit) {
+        Ok(elided) => Ok(elided),
+        Err(ElideFault::Limit) => Err(CliFault::Limit),
+        Err(ElideFault::Memory) => Err(CliFault::Memory),
+    }
+}
+
+/// Tells the lines of a memory's cells.
+fn tell_cells<A: Allocator, W: Write>(
+    output: &mut Watched<W>,
+    lines: &mut LineBuffer<A>,
+    mem: &Mem,
+    values: &[u64],
+)
+    requires { HasShortName mem.now }
+    ensures { TellsMore (W.contents (held output.old)) (has_failed output.old) lines.old.text
+        (W.contents (held output.new)) (has_failed output.new) lines.new.text (cell_lines mem.now 0 values.now) }
+{
+    for (index, value) in values.iter().enumerate() {
+        lines.tell_cell(output, mem, index, *value);
+    }
+}
+
+/// Tells the lines of all cells.
+fn tell_memory<A: Allocator, W: Write>(
+    output: &mut Watched<W>,
+    lines: &mut LineBuffer<A>,
+    mems: &[Mem],
+    values: &[u64],
+)
+    requires { All HasShortName mems.now }
+    ensures { TellsMore (W.contents (held output.old)) (has_failed output.old) lines.old.text
+        (W.contents (held output.new)) (has_failed output.new) lines.new.text (memory_text mems.now values.now) }
+{
+    let mut rest = values;
+    for mem in mems {
+        let (own, others) = rest.split_at(rest.len().min(mem.cells as usize));
+        tell_cells(output, lines, mem, own);
+        rest = others;
+    }
+}
+
+/// Tells a line for each cell and one for the number of requests, and writes those that wait.
+fn tell_elision<A: Allocator, W: Write>(
+    output: &mut Watched<W>,
+    lines: &mut LineBuffer<A>,
+    mems: &[Mem],
+    values: &[u64],
+    requests: u32,
+)
+    requires { All HasShortName mems.now }
+    ensures told { TellsMore (W.contents (held output.old)) (has_failed output.old) lines.old.text
+        (W.contents (held output.new)) (has_failed output.new) lines.new.text (elision_text mems.now values.now requests) }
+    ensures none { lines.new.text ≡ [] }
+{
+    tell_memory(output, lines, mems, values);
+    lines.tell_requests(output, requests);
+    lines.write_out(output);
+}
+
+/// Writes a line for each cell and one for the number of requests, through the room for lines that wait, and sees to it that all are
+/// delivered.
+fn write_elision<A: Allocator, W: Write>(
+    output: &mut Watched<W>,
+    mut lines: LineBuffer<A>,
+    mems: &[Mem],
+    values: &[u64],
+    requests: u32,
+) -> Result<(), CliFault>
+    requires fresh { has_failed output.old ≡ false }
+    requires none { lines.text ≡ [] }
+    requires short { All HasShortName mems.now }
+    ensures ok { OnOk result (Appends (W.contents (held output.old)) (W.contents (held output.new))
+        (elision_text mems.now values.now requests)) }
+    ensures fault { IfErr result (StopsWriting (W.contents (held output.old)) (W.contents (held output.new))
+        (elision_text mems.now values.now requests)) }
+    ensures delivered { OnOk result (is_delivered output.new ≡ true) }
+    ensures failed { IsErrOf result CliFault.Write ↔ IsTrue (has_failed output.new) }
+{
+    tell_elision(output, &mut lines, mems, values, requests);
+    if output.failed() {
+        return Err(CliFault::Write);
+    }
+    deliver(output)
+}
+
+/// Reads a program to its end and writes what its serial elision leaves: a line with the name and the value of each cell, in order, and
+/// then the number of requests. The status is 0.
+///
+/// It answers [`CliFault::Read`] or [`CliFault::Write`] exactly where the reader or the writer has failed, [`CliFault::TooLong`] for
+/// more than 67,108,864 bytes, [`CliFault::Program`] with the first fault of a text
+/// that means no program, [`CliFault::Limit`] only where the elision makes more requests than the limit, and [`CliFault::Memory`] where a
+/// growth was refused. Nothing is written then, but for the part that a failed write has taken. The reader is asked at most 67,108,865
+/// times, as its `calls` tells where it began with room for more than these.
+pub fn elide_text<A: Allocator + Copy, R: Read, W: Write>(
+    alloc: A,
+    program: &mut Watched<R>,
+    output: &mut Watched<W>,
+    limit: u32,
+) -> Result<u8, CliFault>
+    requires reader { has_failed program.old ≡ false }
+    requires writer { has_failed output.old ≡ false }
+    requires limit { limit ≤ most_entries }
+    ensures answered { IfOk result (λ status. (status ≡ 0)
+        × IsElided (R.remaining (held program.old)) (R.remaining (held program.new))
+        (W.contents (held output.old)) (W.contents (held output.new)) limit) }
+    ensures fault { IfErr result (HasElisionCause (R.remaining (held program.old)) (R.remaining (held program.new))
+        (W.contents (held output.old)) (W.contents (held output.new)) limit) }
+    ensures read_failed { IsErrOf result CliFault.Read ↔ IsTrue (has_failed program.new) }
+    ensures delivered { OnOk result (is_delivered output.new ≡ true) }
+    ensures write_failed { IsErrOf result CliFault.Write ↔ IsTrue (has_failed output.new) }
+    ensures reads { IsCalledAtMost most_reads (calls_of program.old) (calls_of program.new) }
+    ensures unwritten { IfErr result (λ fault. fault ≢ CliFault.Write → output.new ≡ output.old) }
+{
+    let text = read_text(alloc, program)?;
+    let program = parse_program(alloc, text)?;
+    let elided = elide_program(alloc, &program, limit)?;
+    let lines = LineBuffer::new(alloc)?;
+    write_elision(
+        output,
+        lines,
+        program.mems.as_slice(),
+        elided.memory.as_slice(),
+        elided.requests,
+    )?;
+    Ok(0)
+}

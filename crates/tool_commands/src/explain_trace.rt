@@ -1,0 +1,375 @@
+//! Explaining a trace.
+
+ghost use Rattle.std.specs.Prelude.{◌≡◌, ◌++◌, ◌⊎◌, [], ℕ, List, IfOk, IfErr, OnOk, length, reverse, codes, flat_map, map, string_bytes};
+ghost use Rattle.text_words.specs.Text.{lines};
+ghost use Rattle.trace_text.specs.Traces.{contents as trace_contents};
+ghost use Rattle.trace_text.specs.Grammar.{TextMeans as TraceMeans};
+ghost use Rattle.trace_notes.specs.Notes.{AreNotes, kept_runs};
+ghost use Rattle.model_histories.specs.declared.answer.Entry.{Entry};
+ghost use Rattle.race_pairs.specs.Digests.{IsDigest};
+ghost use Rattle.tool_commands.specs.Outcomes.{refusal_status};
+ghost use Rattle.tool_commands.specs.Cleanness.{IsAllClean};
+ghost use Rattle.tool_commands.specs.Digested.{IsDigested};
+ghost use Rattle.tool_commands.specs.Replays.{AnswersAll, StopsAt, StopsGate};
+ghost use Rattle.tool_commands.specs.Explanations.{clean_trace_words, recorded_line, recorded_text, judged_text, TellsEntries, IsTraceTold, IsIllegalTold, IsUnjudgedTold};
+ghost use Rattle.tool_commands.specs.Explanations.{Manner as SpecManner, IsUntoldTrace, ending_of, RecordsTrace, TellsTrace, TellsIllegal};
+
+use crate::ask::{Stop, ask_all};
+use crate::clean::clean_count;
+use crate::explain::{Manner, Rendering, faults_told};
+use crate::judged::digest_of_trace;
+use crate::replay::fault_of_request;
+use command_streams::CliFault;
+use fault_lists::Fault;
+use memchr::memchr;
+use race_explanations::{Illegality, find_illegality, illegal_explanation, trace_explanation};
+use race_gate::Gate;
+use race_pairs::Digest;
+use race_records::{Outcome as Ending, RecordForm, illegal_record, trace_record};
+use source_quotes::{Meant, push_count};
+use std::alloc::{AllocError, Allocator, Global};
+use text_buffers::push_words;
+use text_words::TextFault;
+use trace_notes::Notes;
+use trace_text::Trace;
+
+/// What is told where nothing was refused.
+fn clean_words() -> &'static str
+    ensures { result.now ≡ clean_trace_words }
+{
+    "clean: no two of the accesses of this trace race, in whatever order its strands run\n"
+}
+
+/// What is told where nothing was refused among so many requests.
+fn explain_clean(alloc: Global, count: usize) -> Result<Vec<u8>, AllocError>
+    ensures { IfOk result (λ told. told.items ≡ clean_trace_words ++ judged_text count) }
+{
+    let mut told = Vec::new(alloc);
+    push_words(&mut told, clean_words())?;
+    push_words(&mut told, "judged: ")?;
+    push_count(&mut told, count, "request")?;
+    push_words(&mut told, "\n")?;
+    Ok(told)
+}
+
+/// What a person is told of the entries of a trace.
+fn explain_entries(
+    alloc: Global,
+    manner: &Manner<'_>,
+    notes: &Notes<Global>,
+    trace: &Trace<Global>,
+    digest: &Digest,
+) -> Result<Vec<u8>, AllocError>
+    requires { (entries : List Entry) × IsDigest entries digest.now }
+    ensures { IfOk result (λ told. (entries : List Entry) → IsDigest entries digest.now →
+        TellsEntries manner.now notes.now (trace_contents trace.now) entries told.items) }
+{
+    if digest.refusals == 0 {
+        return explain_clean(alloc, digest.lines.len());
+    }
+    trace_explanation(alloc, manner.is_painted, notes, trace, digest)
+}
+
+/// Adds what was recorded by one note.
+pub(crate) fn push_run(told: &mut Vec<u8>, run: &str) -> Result<(), AllocError>
+    ensures { OnOk result (told.new.items ≡ told.old.items ++ recorded_line run.now) }
+{
+    push_words(told, "recorded: ")?;
+    push_words(told, run)?;
+    push_words(told, "\n")
+}
+
+/// The exit status of a trace: 1 where something was refused, else 0.
+fn status_of(digest: &Digest) -> u8
+    ensures { (entries : List Entry) → IsDigest entries digest.now → result ≡ refusal_status entries }
+{
+    if digest.refusals > 0 { 1 } else { 0 }
+}
+
+/// How a trace came out that was judged with this status.
+fn ending_of(status: u8) -> Ending
+    ensures { result ≡ ending_of status }
+{
+    match status {
+        0 => Ending::Clean,
+        _ => Ending::Raced,
+    }
+}
+
+/// The record of a trace.
+fn entries_record(
+    alloc: Global,
+    form: RecordForm,
+    notes: &Notes<Global>,
+    trace: &Trace<Global>,
+    digest: &Digest,
+) -> Result<Vec<u8>, AllocError>
+    requires { (entries : List Entry) × IsDigest entries digest.now }
+    ensures { IfOk result (λ told. (entries : List Entry) → IsDigest entries digest.now →
+        RecordsTrace form notes.now (trace_contents trace.now) entries told.items) }
+{
+    trace_record(
+        alloc,
+        form,
+        ending_of(status_of(digest)),
+        notes,
+        trace,
+        digest,
+    )
+}
+
+/// Adds what was recorded.
+fn push_recorded(told: &mut Vec<u8>, notes: &Notes<Global>) -> Result<(), AllocError>
+    ensures { OnOk result (told.new.items ≡ told.old.items ++ recorded_text notes.now) }
+{
+    for run in notes.runs() {
+        push_run(told, run.as_str())?;
+    }
+    Ok(())
+}
+
+/// The notes of a text. A text without `#` has none, and its lines are not looked at one by one.
+pub(crate) fn notes_of<A: Allocator + Copy>(alloc: A, text: &[u8]) -> Result<Notes<A>, AllocError>
+    ensures { IfOk result (AreNotes (lines text.now)) }
+{
+    let mut notes = Notes::new(alloc);
+    if memchr(b'#', text).is_none() {
+        return Ok(notes);
+    }
+    notes.read(text)?;
+    Ok(notes)
+}
+
+/// What is told of an illegal request.
+fn illegal_told(
+    alloc: Global,
+    manner: &Manner<'_>,
+    text: &[u8],
+    trace: &Trace<Global>,
+    number: usize,
+    why: Illegality,
+) -> Result<Vec<u8>, AllocError>
+    ensures { IfOk result (λ told. TellsIllegal manner.now.rendering manner.now text.now (trace_contents trace.now) number why told.items) }
+{
+    match manner.rendering {
+        Rendering::Text => illegal_explanation(
+            alloc,
+            manner.is_painted,
+            manner.file,
+            text,
+            trace,
+            number,
+            why,
+        ),
+        Rendering::Record(form) => {
+            illegal_record(alloc, form, manner.file, text, trace, number, why)
+        },
+    }
+}
+
+/// What is told of the first request that a gate does not answer: why it is illegal. The fault of a command for one that is not illegal.
+pub(crate) fn explain_stop(
+    alloc: Global,
+    manner: &Manner<'_>,
+    text: &[u8],
+    trace: &Trace<Global>,
+    gate: &Gate<Global>,
+    stop: Stop,
+) -> Result<Vec<u8>, CliFault>
+    requires means { TraceMeans text.now (trace_contents trace.now) }
+    requires stops { StopsAt (trace_contents trace.now) gate.now stop }
+    ensures ok { IfOk result (λ told. IsIllegalTold manner.now text.now told.items 2) }
+    ensures fault { IfErr result (λ fault. (fault ≡ CliFault.Memory) ⊎ StopsGate (trace_contents trace.now) fault) }
+{
+    let entries = gate.history();
+    match find_illegality(entries, stop.request, stop.fault) {
+        Some(why) => {
+            let told = illegal_told(alloc, manner, text, trace, stop.number as usize, why)?;
+            Ok(told)
+        }
+        None => Err(fault_of_request(stop.number, stop.fault)),
+    }
+}
+
+/// What a person is told of the entries of a trace, and what was recorded.
+fn verdict_text(
+    alloc: Global,
+    manner: &Manner<'_>,
+    notes: &Notes<Global>,
+    trace: &Trace<Global>,
+    digest: &Digest,
+) -> Result<Vec<u8>, AllocError>
+    requires { (entries : List Entry) × IsDigest entries digest.now }
+    ensures { IfOk result (λ told. (entries : List Entry) → IsDigest entries digest.now →
+        TellsTrace Rendering.Text manner.now notes.now (trace_contents trace.now) entries told.items) }
+{
+    let mut told = explain_entries(alloc, manner, notes, trace, digest)?;
+    push_recorded(&mut told, notes)?;
+    Ok(told)
+}
+
+/// What is told of the entries of a trace, and what was recorded.
+fn verdict_told(
+    alloc: Global,
+    manner: &Manner<'_>,
+    notes: &Notes<Global>,
+    trace: &Trace<Global>,
+    digest: &Digest,
+) -> Result<Vec<u8>, AllocError>
+    requires { (entries : List Entry) × IsDigest entries digest.now }
+    ensures { IfOk result (λ told. (entries : List Entry) → IsDigest entries digest.now →
+        TellsTrace manner.now.rendering manner.now notes.now (trace_contents trace.now) entries told.items) }
+{
+    match manner.rendering {
+        Rendering::Text => verdict_text(alloc, manner, notes, trace, digest),
+        Rendering::Record(form) => entries_record(alloc, form, notes, trace, digest),
+    }
+}
+
+/// What is told of a trace that a text means and whose requests a gate answered, and the exit status.
+fn explain_judged(
+    alloc: Global,
+    manner: &Manner<'_>,
+    text: &[u8],
+    trace: &Trace<Global>,
+    digest: &Digest,
+) -> Result<(Vec<u8>, u8), AllocError>
+    requires means { TraceMeans text.now (trace_contents trace.now) }
+    requires digested { IsDigested (trace_contents trace.now) digest.now }
+    ensures { IfOk result (λ told. IsTraceTold manner.now text.now told.0.items told.1) }
+{
+    let notes = notes_of(alloc, text)?;
+    let told = verdict_told(alloc, manner, &notes, trace, digest)?;
+    Ok((told, status_of(digest)))
+}
+
+/// The digest of the entries of a gate that answered all requests of a trace.
+pub(crate) fn digest_of_gate(
+    alloc: Global,
+    trace: &Trace<Global>,
+    gate: &Gate<Global>,
+) -> Result<Digest, AllocError>
+    requires { AnswersAll (trace_contents trace.now) gate.now }
+    ensures { IfOk result (IsDigested (trace_contents trace.now)) }
+{
+    let _trace = trace;
+    Digest::of(alloc, gate.history())
+}
+
+/// What a person is told of a trace that a text means, in which nothing is refused among so many requests.
+fn explain_clean_trace(
+    alloc: Global,
+    text: &[u8],
+    trace: &Trace<Global>,
+    count: usize,
+) -> Result<Vec<u8>, AllocError>
+    requires means { TraceMeans text.now (trace_contents trace.now) }
+    requires clean { IsAllClean (trace_contents trace.now) count }
+    ensures { IfOk result (λ told. (manner : SpecManner) → manner.rendering ≡ Rendering.Text → IsTraceTold manner text.now told.items 0) }
+{
+    let _trace = trace;
+    let notes = notes_of(alloc, text)?;
+    let mut told = explain_clean(alloc, count)?;
+    push_recorded(&mut told, &notes)?;
+    Ok(told)
+}
+
+/// What is told of a trace that a text means, and the exit status, by a gate that keeps the history.
+fn explain_history(
+    alloc: Global,
+    manner: &Manner<'_>,
+    text: &[u8],
+    trace: &Trace<Global>,
+) -> Result<(Vec<u8>, u8), CliFault>
+    requires { TraceMeans text.now (trace_contents trace.now) }
+    ensures ok { IfOk result (λ told. IsTraceTold manner.now text.now told.0.items told.1 ⊎ IsUnjudgedTold manner.now text.now told.0.items told.1) }
+    ensures fault { IfErr result (λ fault. (fault ≡ CliFault.Memory) ⊎ StopsGate (trace_contents trace.now) fault) }
+{
+    let (gate, stop) = ask_all(alloc, trace)?;
+    match stop {
+        None => {
+            let digest = digest_of_gate(alloc, trace, &gate)?;
+            Ok(explain_judged(alloc, manner, text, trace, &digest)?)
+        }
+        Some(stop) => {
+            let told = explain_stop(alloc, manner, text, trace, &gate, stop)?;
+            Ok((told, 2))
+        }
+    }
+}
+
+/// What is told of a trace that a text means, and the exit status. A history is kept only where a request is illegal.
+fn digest_told(
+    alloc: Global,
+    manner: &Manner<'_>,
+    text: &[u8],
+    trace: &Trace<Global>,
+) -> Result<(Vec<u8>, u8), CliFault>
+    requires { TraceMeans text.now (trace_contents trace.now) }
+    ensures ok { IfOk result (λ told. IsTraceTold manner.now text.now told.0.items told.1 ⊎ IsUnjudgedTold manner.now text.now told.0.items told.1) }
+    ensures fault { IfErr result (λ fault. (fault ≡ CliFault.Memory) ⊎ StopsGate (trace_contents trace.now) fault) }
+{
+    match digest_of_trace(alloc, trace)? {
+        Some(digest) => Ok(explain_judged(alloc, manner, text, trace, &digest)?),
+        None => explain_history(alloc, manner, text, trace),
+    }
+}
+
+/// What a person is told of a trace that a text means, and the exit status. More than a count is kept only where something is refused or
+/// illegal.
+fn trace_text_by(
+    alloc: Global,
+    manner: &Manner<'_>,
+    text: &[u8],
+    trace: &Trace<Global>,
+) -> Result<(Vec<u8>, u8), CliFault>
+    requires means { TraceMeans text.now (trace_contents trace.now) }
+    requires rendering { manner.now.rendering ≡ Rendering.Text }
+    ensures ok { IfOk result (λ told. IsTraceTold manner.now text.now told.0.items told.1 ⊎ IsUnjudgedTold manner.now text.now told.0.items told.1) }
+    ensures fault { IfErr result (λ fault. (fault ≡ CliFault.Memory) ⊎ StopsGate (trace_contents trace.now) fault) }
+{
+    match clean_count(alloc, trace)? {
+        Some(count) => {
+            let told = explain_clean_trace(alloc, text, trace, count)?;
+            Ok((told, 0))
+        }
+        None => digest_told(alloc, manner, text, trace),
+    }
+}
+
+/// What is told of a trace that a text means, and the exit status.
+fn explain_trace(
+    alloc: Global,
+    manner: &Manner<'_>,
+    text: &[u8],
+    trace: &Trace<Global>,
+) -> Result<(Vec<u8>, u8), CliFault>
+    requires { TraceMeans text.now (trace_contents trace.now) }
+    ensures ok { IfOk result (λ told. IsTraceTold manner.now text.now told.0.items told.1 ⊎ IsUnjudgedTold manner.now text.now told.0.items told.1) }
+    ensures fault { IfErr result (λ fault. (fault ≡ CliFault.Memory) ⊎ StopsGate (trace_contents trace.now) fault) }
+{
+    match manner.rendering {
+        Rendering::Text => trace_text_by(alloc, manner, text, trace),
+        Rendering::Record(_) => digest_told(alloc, manner, text, trace),
+    }
+}
+
+/// What is told of a text that is to mean a trace, and the exit status: the races of the trace, its first illegal request, or its
+/// faults.
+pub(crate) fn explain_trace_text(
+    alloc: Global,
+    manner: &Manner<'_>,
+    text: &[u8],
+) -> Result<(Vec<u8>, u8), CliFault>
+    ensures ok { IfOk result (λ told. IsTraceTold manner.now text.now told.0.items told.1 ⊎ IsUnjudgedTold manner.now text.now told.0.items told.1) }
+    ensures fault { IfErr result (λ fault. (fault ≡ CliFault.Memory) ⊎ IsUntoldTrace text.now fault) }
+{
+    match Trace::parse(alloc, text) {
+        Ok(trace) => explain_trace(alloc, manner, text, &trace),
+        Err(TextFault::Memory) => Err(CliFault::Memory),
+        Err(TextFault::At { line, why }) => {
+            let told = faults_told(alloc, manner, text, Meant::Trace, Fault { line, why })?;
+            Ok((told, 2))
+        }
+    }
+}

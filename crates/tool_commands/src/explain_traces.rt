@@ -1,0 +1,280 @@
+//! Explaining several traces together.
+
+ghost use Rattle.std.specs.Prelude.{◌≡◌, ◌↔◌, ◌⊎◌, ◌==◌, ◌++◌, [], true, false, IfOk, IfErr, OnOk, IsErrOf, IsTrue, List, ℕ, map, flat_map, string_bytes};
+ghost use Rattle.std.specs.List.{list_any};
+ghost use Rattle.std.specs.Str.{bytes_eq};
+ghost use Rattle.trace_text.specs.Traces.{contents as trace_contents};
+ghost use Rattle.trace_text.specs.Grammar.{TextMeans as TraceMeans};
+ghost use Rattle.trace_notes.specs.Notes.{kept_runs};
+ghost use Rattle.command_streams.specs.Watched.{held, has_failed};
+ghost use Rattle.command_streams.specs.Readings.{reading};
+ghost use Rattle.tool_commands.specs.Digested.{IsDigested};
+ghost use Rattle.tool_commands.specs.Replays.{StopsGate};
+ghost use Rattle.tool_commands.specs.Explanations.{IsUntoldTrace, recorded_line};
+ghost use Rattle.tool_commands.specs.Together.{together_of, none_together, with_run, with_runs, together_text, together_status, AddsFound, TellsTogether};
+ghost use Rattle.model_histories.specs.declared.answer.Entry.{Entry};
+ghost use Rattle.race_pairs.specs.Digests.{IsDigest};
+ghost use Rattle.tool_commands.specs.Together.{AddsText, TakesText, TakesReading, StopsTaking};
+
+use crate::ask::ask_all;
+use crate::explain::{Manner, Rendering, faults_told};
+use crate::explain_trace::{digest_of_gate, explain_stop, notes_of, push_run};
+use crate::judged::digest_of_trace;
+use command_streams::{CliFault, Watched, read_text};
+use fault_lists::Fault;
+use race_explanations::Findings;
+use race_pairs::Digest;
+use race_records::Records;
+use source_quotes::Meant;
+use std::alloc::{AllocError, Global};
+use std::io::Read;
+use text_words::TextFault;
+use trace_notes::Notes;
+use trace_text::Trace;
+
+/// What is found in several traces, and what was recorded. The traces are not kept.
+pub struct Traces {
+    /// What is found where text is told.
+    findings: Findings,
+    /// What is found where a record is told.
+    records: Records,
+    runs: Vec<String>,
+}
+
+/// Written out, so that what lets it go calls one function.
+impl Drop for Traces {
+    fn drop(self) {
+        let Traces {
+            findings: _,
+            records: _,
+            runs: _,
+        } = self;
+    }
+}
+
+/// Whether a kept run is this one.
+fn is_run(one: &String, run: &str) -> bool
+    ensures { result ≡ bytes_eq run.now (string_bytes one.now) }
+{
+    run == one.as_str()
+}
+
+/// Whether a run is among others.
+fn is_among(runs: &[String], run: &str) -> bool
+    ensures { result ≡ list_any (bytes_eq run.now) (map string_bytes runs.now) }
+{
+    for one in runs {
+        if is_run(one, run) {
+            return true;
+        }
+    }
+    false
+}
+
+/// Keeps a note of a run, unless it is kept.
+fn keep_run(alloc: Global, runs: &mut Vec<String>, run: &str) -> Result<(), AllocError>
+    ensures { OnOk result (map string_bytes runs.new.items ≡ with_run (map string_bytes runs.old.items) run.now) }
+{
+    if is_among(runs.as_slice(), run) {
+        return Ok(());
+    }
+    runs.push(String::from_str(alloc, run)?)?;
+    Ok(())
+}
+
+/// Keeps what was recorded by some notes.
+fn keep_runs(alloc: Global, runs: &mut Vec<String>, notes: &Notes<Global>) -> Result<(), AllocError>
+    ensures { OnOk result (map string_bytes runs.new.items ≡ with_runs (map string_bytes runs.old.items) (kept_runs notes.now)) }
+{
+    for run in notes.runs() {
+        keep_run(alloc, runs, run.as_str())?;
+    }
+    Ok(())
+}
+
+/// Adds what was recorded.
+fn push_kept(told: &mut Vec<u8>, runs: &[String]) -> Result<(), AllocError>
+    ensures { OnOk result (told.new.items ≡ told.old.items ++ flat_map recorded_line (map string_bytes runs.now)) }
+{
+    for run in runs {
+        push_run(told, run.as_str())?;
+    }
+    Ok(())
+}
+
+impl Traces {
+    /// No trace yet.
+    pub fn new(alloc: Global) -> Traces
+        ensures { together_of result ≡ none_together }
+    {
+        Traces {
+            findings: Findings::new(alloc),
+            records: Records::new(alloc),
+            runs: Vec::new(alloc),
+        }
+    }
+
+    /// Adds what is found in a trace with these notes, of whose entries this is the digest.
+    fn add_entries(
+        &mut self,
+        alloc: Global,
+        manner: &Manner<'_>,
+        notes: &Notes<Global>,
+        trace: &Trace<Global>,
+        digest: &Digest,
+    ) -> Result<(), AllocError>
+        requires { (entries : List Entry) × IsDigest entries digest.now }
+        ensures found { OnOk result ((entries : List Entry) → IsDigest entries digest.now →
+            AddsFound manner.now.rendering manner.now notes.now (trace_contents trace.now) entries (together_of self.old) (together_of self.new)) }
+        ensures runs { (together_of self.new).runs ≡ (together_of self.old).runs }
+    {
+        match manner.rendering {
+            Rendering::Text => self.findings.add(
+                alloc,
+                manner.is_painted,
+                manner.file,
+                notes,
+                trace,
+                digest,
+            ),
+            Rendering::Record(_) => self.records.add(alloc, manner.file, notes, trace, digest),
+        }
+    }
+
+    /// Adds a trace that a text means and whose requests a gate answered.
+    fn add(
+        &mut self,
+        alloc: Global,
+        manner: &Manner<'_>,
+        text: &[u8],
+        trace: &Trace<Global>,
+        digest: &Digest,
+    ) -> Result<(), AllocError>
+        requires means { TraceMeans text.now (trace_contents trace.now) }
+        requires digested { IsDigested (trace_contents trace.now) digest.now }
+        ensures { OnOk result (AddsText manner.now text.now (together_of self.old) (together_of self.new)) }
+    {
+        let notes = notes_of(alloc, text)?;
+        self.add_entries(alloc, manner, &notes, trace, digest)?;
+        keep_runs(alloc, &mut self.runs, &notes)?;
+        Ok(())
+    }
+
+    /// Adds a trace that a text means, or tells its first illegal request, by a gate that keeps the history.
+    fn take_history(
+        &mut self,
+        alloc: Global,
+        manner: &Manner<'_>,
+        text: &[u8],
+        trace: &Trace<Global>,
+    ) -> Result<Option<Vec<u8>>, CliFault>
+        requires { TraceMeans text.now (trace_contents trace.now) }
+        ensures ok { IfOk result (TakesText manner.now text.now (together_of self.old) (together_of self.new)) }
+        ensures fault { IfErr result (λ fault. (fault ≡ CliFault.Memory) ⊎ StopsGate (trace_contents trace.now) fault) }
+    {
+        let (gate, stop) = ask_all(alloc, trace)?;
+        match stop {
+            None => {
+                let digest = digest_of_gate(alloc, trace, &gate)?;
+                self.add(alloc, manner, text, trace, &digest)?;
+                Ok(None)
+            }
+            Some(stop) => Ok(Some(explain_stop(alloc, manner, text, trace, &gate, stop)?)),
+        }
+    }
+
+    /// Adds a trace that a text means, or tells its first illegal request. A history is kept only where a request is illegal.
+    fn take_trace(
+        &mut self,
+        alloc: Global,
+        manner: &Manner<'_>,
+        text: &[u8],
+        trace: &Trace<Global>,
+    ) -> Result<Option<Vec<u8>>, CliFault>
+        requires { TraceMeans text.now (trace_contents trace.now) }
+        ensures ok { IfOk result (TakesText manner.now text.now (together_of self.old) (together_of self.new)) }
+        ensures fault { IfErr result (λ fault. (fault ≡ CliFault.Memory) ⊎ StopsGate (trace_contents trace.now) fault) }
+    {
+        match digest_of_trace(alloc, trace)? {
+            Some(digest) => {
+                self.add(alloc, manner, text, trace, &digest)?;
+                Ok(None)
+            }
+            None => self.take_history(alloc, manner, text, trace),
+        }
+    }
+
+    /// Adds the trace that a text means, or tells its first illegal request, or the faults of a text that means none.
+    fn take_text(
+        &mut self,
+        alloc: Global,
+        manner: &Manner<'_>,
+        text: &[u8],
+    ) -> Result<Option<Vec<u8>>, CliFault>
+        ensures ok { IfOk result (TakesText manner.now text.now (together_of self.old) (together_of self.new)) }
+        ensures fault { IfErr result (λ fault. (fault ≡ CliFault.Memory) ⊎ IsUntoldTrace text.now fault) }
+    {
+        match Trace::parse(alloc, text) {
+            Ok(trace) => self.take_trace(alloc, manner, text, &trace),
+            Err(TextFault::Memory) => Err(CliFault::Memory),
+            Err(TextFault::At { line, why }) => Ok(Some(faults_told(
+                alloc,
+                manner,
+                text,
+                Meant::Trace,
+                Fault { line, why },
+            )?)),
+        }
+    }
+
+    /// Reads a text to its end, and adds the trace that it means, by the name of its file. What is told of an illegal request, or of the
+    /// faults of a text that means no trace, is the answer then.
+    ///
+    /// It answers [`CliFault::Read`] exactly where the reader has failed, [`CliFault::TooLong`] for more than 67,108,864 bytes,
+    /// [`CliFault::Limit`] for more than 1,000,000 requests, and [`CliFault::Memory`] where a growth was refused.
+    pub fn read<T: Read>(
+        &mut self,
+        alloc: Global,
+        manner: &Manner<'_>,
+        trace: &mut Watched<T>,
+    ) -> Result<Option<Vec<u8>>, CliFault>
+        requires { has_failed trace.old ≡ false }
+        ensures ok { IfOk result (TakesReading manner.now (reading (T.remaining (held trace.old)) (T.remaining (held trace.new))) (together_of self.old) (together_of self.new)) }
+        ensures fault { IfErr result (StopsTaking (reading (T.remaining (held trace.old)) (T.remaining (held trace.new)))) }
+        ensures read_failed { IsErrOf result CliFault.Read ↔ IsTrue (has_failed trace.new) }
+        ensures not_write { IsErrOf result CliFault.Write → ⊥ }
+    {
+        let text = read_text(alloc, trace)?;
+        self.take_text(alloc, manner, text.as_slice())
+    }
+
+    /// The exit status: 0 where nothing was refused, else 1.
+    pub fn status(&self) -> u8
+        ensures { result ≡ together_status (together_of self.now) }
+    {
+        if self.findings.is_clean() && self.records.is_clean() {
+            0
+        } else {
+            1
+        }
+    }
+
+    /// What a person is told of the traces together.
+    fn text_told(&self, alloc: Global) -> Result<Vec<u8>, AllocError>
+        ensures { IfOk result (λ told. told.items ≡ together_text (together_of self.now)) }
+    {
+        let mut told = self.findings.to_message(alloc)?;
+        push_kept(&mut told, self.runs.as_slice())?;
+        Ok(told)
+    }
+
+    /// What is told of the traces together: each pair of places that raced, or that nothing was refused, and what was recorded.
+    pub fn to_message(&self, alloc: Global, rendering: Rendering) -> Result<Vec<u8>, AllocError>
+        ensures { IfOk result (λ told. TellsTogether rendering (together_of self.now) told.items) }
+    {
+        match rendering {
+            Rendering::Text => self.text_told(alloc),
+            Rendering::Record(form) => self.records.record(alloc, form, self.runs.as_slice()),
+        }
+    }
+}

@@ -1,0 +1,91 @@
+//! What is kept of the entries of a trace or a run, for what is told of its races.
+
+ghost use Rattle.std.specs.Prelude.{◌≡◌, ◌<◌, ◌≤◌, [], true, reverse, length, IfOk, IfSome, IsTrue};
+ghost use Rattle.trace_text.specs.Traces.{contents as trace_contents};
+ghost use Rattle.model_histories.specs.Shapes.{Shape, most_entries};
+ghost use Rattle.model_races.specs.Judged.{IsJudged};
+ghost use Rattle.packed_history.specs.Entries.{entry_of as entry_spec};
+ghost use Rattle.race_pairs.specs.Digests.{IsDigest, is_of_own_lines};
+ghost use Rattle.tool_commands.specs.Digested.{IsDigested};
+
+use command_streams::MOST_ENTRIES;
+use packed_history::Entries;
+use race_gate::{Core, Entry, GateFault, Receipt, Reply};
+use race_pairs::Digest;
+use std::alloc::{AllocError, Global};
+use trace_text::Trace;
+
+/// The entry that a receipt is of.
+#[inline(always)]
+fn entry_of(receipt: Receipt) -> Entry
+    ensures { result ≡ entry_spec receipt }
+{
+    Entry {
+        request: receipt.request,
+        answer: receipt.answer,
+    }
+}
+
+/// Whether a digest may take an entry on this line behind those up to a last line.
+#[inline(always)]
+fn may_follow(digest: &Digest, last: u32, line: u32) -> bool
+    ensures { IsTrue result → is_of_own_lines digest.now ≡ true → last < line }
+{
+    !digest.has_own_lines() || last < line
+}
+
+/// Grows a digest by the entries of a trace, where a gate answers all its requests. None says nothing. No entry is kept. Errors where there
+/// is no memory.
+fn grow_digest(
+    alloc: Global,
+    trace: &Trace<Global>,
+    mut digest: Digest,
+) -> Result<Option<Digest>, AllocError>
+    requires { IsDigest [] digest }
+    ensures { IfOk result (λ found. IfSome found (IsDigested (trace_contents trace.now))) }
+{
+    let shape = trace.shape(alloc)?;
+    let mut core = Core::new(alloc, &shape, MOST_ENTRIES)?;
+    core.make_room(trace.lines.likely_strands());
+    let mut last = 0;
+    for line in trace.lines.iter() {
+        if !may_follow(&digest, last, line.request.line) {
+            return Ok(None);
+        }
+        last = line.request.line;
+        match core.reply(line.request) {
+            Reply::Done(receipt) => digest.add(entry_of(receipt))?,
+            Reply::Illegal(GateFault::Memory) => return Err(AllocError),
+            Reply::Illegal(_) => return Ok(None),
+        }
+    }
+    Ok(Some(digest))
+}
+
+/// The digest of the entries of a trace, where a gate answers all its requests. None says nothing. Errors where there is no memory.
+pub(crate) fn digest_of_trace(
+    alloc: Global,
+    trace: &Trace<Global>,
+) -> Result<Option<Digest>, AllocError>
+    ensures { IfOk result (λ found. IfSome found (IsDigested (trace_contents trace.now))) }
+{
+    let count = trace.lines.len();
+    let own = grow_digest(alloc, trace, Digest::with_own_lines(alloc, count)?)?;
+    if own.is_some() {
+        return Ok(own);
+    }
+    grow_digest(alloc, trace, Digest::new(alloc, count)?)
+}
+
+/// The digest of entries of a run. Errors where there is no memory.
+pub(crate) fn digest_of_run(alloc: Global, entries: &Entries) -> Result<Digest, AllocError>
+    requires judged { (shape : Shape) × IsJudged shape (reverse entries.now.items) }
+    requires few { length entries.now.items ≤ most_entries }
+    ensures { IfOk result (IsDigest entries.now.items) }
+{
+    let mut digest = Digest::new(alloc, entries.len())?;
+    for at in 0..entries.len() {
+        digest.add(entries.get(at))?;
+    }
+    Ok(digest)
+}

@@ -1,0 +1,64 @@
+//! Whether a text is to mean a program or a trace.
+
+ghost use Rattle.std.specs.Prelude.{◌≡◌, Bool, Some, unwrap_or};
+ghost use Rattle.std.specs.Option.{option_map};
+ghost use Rattle.tool_commands.specs.Sorts.{first_word, is_declaring, decided, is_program_text};
+
+use text_words::{Words, as_text, split_line, without_return};
+
+/// The first word of a line, where it has one.
+fn first_word(line: &[u8]) -> Option<&str>
+    ensures { option_map (λ word. word.now) result ≡ first_word line.now }
+{
+    let Some(text) = as_text(line) else {
+        return None;
+    };
+    let mut words = Words::of_line(text);
+    words.take()
+}
+
+/// Whether a line that begins with this word declares a name.
+fn is_declaring(word: &str) -> bool
+    ensures { result ≡ is_declaring word.now }
+{
+    word == "mem" || word == "reducer"
+}
+
+/// What a first word decides: that the text is to mean a program, or that it is not; nothing where it declares a name.
+fn sort_by(word: &str) -> Option<bool>
+    ensures { (behind : Bool) → unwrap_or result behind ≡ decided (Some word.now) behind }
+{
+    if is_declaring(word) {
+        None
+    } else {
+        Some(word == "func")
+    }
+}
+
+/// What a line decides.
+fn sort_of(line: &[u8]) -> Option<bool>
+    ensures { (behind : Bool) → unwrap_or result behind ≡ decided (first_word line.now) behind }
+{
+    match first_word(line) {
+        Some(word) => sort_by(word),
+        None => None,
+    }
+}
+
+/// Whether a text is to mean a program: the first word behind its header and its declarations is `func`. Else it is to mean a trace.
+pub(crate) fn is_program(text: &[u8]) -> bool
+    ensures { result ≡ is_program_text text.now }
+{
+    if text.is_empty() {
+        return false;
+    }
+    let (_, mut rest) = split_line(text);
+    while !rest.is_empty() {
+        let (line, behind) = split_line(rest);
+        match sort_of(without_return(line)) {
+            Some(is_program) => return is_program,
+            None => rest = behind,
+        }
+    }
+    false
+}

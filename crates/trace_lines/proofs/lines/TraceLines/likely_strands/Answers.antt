@@ -1,8 +1,0 @@
-use Rattle.std.proofs.Common.{◌≡◌, ◌≤◌, length, arith, ap, ◌∙◌, sym}
-use Rattle.trace_lines.proofs.Whole.{counted}
-use Rattle.trace_lines.proofs.lines.TraceLines.likely_strands.Goals as goal
-
-pub returns : goal.returns
-returns g c =
-    let heads : length c.args.self.now ≡ length c.self.inside.heads.items = ap length (sym c.self.view_is) ∙ counted 0 c.self.inside.heads.items c.self.inside.numbers.items in
-    omega (arith, heads, c.len.ensures, c.min-2.ensures)
