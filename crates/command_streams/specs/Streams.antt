@@ -9,7 +9,7 @@ use Rattle.trace_text.specs.Grammar.{TextMeans}
 use Rattle.trace_text.specs.Faults.{TextFaults}
 use Rattle.model_histories.specs.declared.reply.Reply.{Reply}
 use Rattle.model_histories.specs.Shapes.{Shape}
-use Rattle.model_histories.specs.States.{State, opening}
+use Rattle.model_histories.specs.States.{GateState, opening}
 use Rattle.model_races.specs.Judged.{IsJudged}
 use Rattle.model_histories.specs.Replies.{JudgesAll}
 use Rattle.command_streams.specs.declared.fault.CliFault.{CliFault}
@@ -33,17 +33,17 @@ abbrev pub requests_of : Contents → List Request
 requests_of contents = map (λ line. line.request) contents.lines
 
 -- A fresh gate judged the requests, in their order, with these replies, and the history that it then has is judged rightly.
-pub record IsJudgedBy (shape : Shape) (limit : ℕ) (requests : List Request) (replies : List Reply) (gate : State) : Type 0 where
+pub record IsJudgedBy (shape : Shape) (limit : ℕ) (requests : List Request) (replies : List Reply) (gate : GateState) : Type 0 where
   pub judges : JudgesAll (opening shape limit) requests replies gate
   pub judged : IsJudged gate.shape gate.history
 
 -- of a trace's requests
-abbrev pub JudgesTrace : Contents → (limit : ℕ) → List Reply → State → Type 0
+abbrev pub JudgesTrace : Contents → (limit : ℕ) → List Reply → GateState → Type 0
 JudgesTrace contents limit replies gate = IsJudgedBy (declared_shape contents) limit (requests_of contents) replies gate
 
 -- These are the replies of such a gate.
 pub record AreReplies (contents : Contents) (limit : ℕ) (replies : List Reply) : Type 0 where
-  pub last : State
+  pub last : GateState
   pub judges : JudgesTrace contents limit replies last
 
 -- The text means a trace, and these are the replies to it.

@@ -18,7 +18,7 @@ use Rattle.function_steps.specs.Activations.{left, statement_of, is_plain, IsInP
 use Rattle.frame_steps.specs.declared.frame.FrameFault.{FrameFault}
 use Rattle.frame_steps.specs.declared.phase.Phase.TheVariants.{Running, Wanting}
 use Rattle.frame_steps.specs.Joins.{join_after}
-use Rattle.frame_steps.specs.States.{State}
+use Rattle.frame_steps.specs.States.{FrameState}
 use Rattle.model_accesses.specs.declared.request.Act.{Act}
 use Rattle.model_programs.specs.Exchanges.{Exchange}
 use Rattle.frame_steps.specs.Frames.{Stands, Wants, MayAnswer, IsAnswered, IsCalled, IsLeft, began_by}
@@ -27,11 +27,11 @@ use Rattle.frame_steps.proofs.Histories.{leave_stands, leave_belongs, leave_afte
 
 module _ {T : Type 0} (functions : List Code) where
   -- an answer that does not belong
-  pub refused : (before : State) (answer : Answer) → Stands functions before → (MayAnswer functions before answer → ⊥) → IsAnswered {T = T} functions before answer (Err FrameFault.Strange) before
+  pub refused : (before : FrameState) (answer : Answer) → Stands functions before → (MayAnswer functions before answer → ⊥) → IsAnswered {T = T} functions before answer (Err FrameFault.Strange) before
   refused before answer s strange = record { stands = s; belongs = tt; goes_on = tt; unasked = tt; room = tt; err = refl; strange = λ e. strange; memory = λ e. cc }
 
   -- the return of the topmost function
-  pub left_answered : (before after : State) (answer : Answer) (r : Result T FrameFault) → Stands functions before → before.phase ≡ Wanting → statement_of functions before.top ≡ None → OnOk r (IsLeft answer before after) → OnOk r (IsReturned (began_by before.callers) answer) → OnOk r (after.phase ≢ Wanting) → OnOk r (after.has_room ≡ before.has_room) → OnErr r (after ≡ before) → IfErr r (λ fault. (fault ≡ FrameFault.Strange) × (IsReturned (began_by before.callers) answer → ⊥)) → IsAnswered functions before answer r after
+  pub left_answered : (before after : FrameState) (answer : Answer) (r : Result T FrameFault) → Stands functions before → before.phase ≡ Wanting → statement_of functions before.top ≡ None → OnOk r (IsLeft answer before after) → OnOk r (IsReturned (began_by before.callers) answer) → OnOk r (after.phase ≢ Wanting) → OnOk r (after.has_room ≡ before.has_room) → OnErr r (after ≡ before) → IfErr r (λ fault. (fault ≡ FrameFault.Strange) × (IsReturned (began_by before.callers) answer → ⊥)) → IsAnswered functions before answer r after
   left_answered before after answer (Ok v) s wanting none l r on kept e f =
       record {
         stands = leave_stands functions before after answer s l;
@@ -56,7 +56,7 @@ module _ {T : Type 0} (functions : List Code) where
       }
 
   -- a call
-  pub call_answered : (cells reducers : ℕ) (before after : State) (line function : ℕ) (argument : Operand) (value : ℕ) (answer : Answer) (r : Result T FrameFault) → IsSound cells reducers functions → Stands functions before → before.phase ≡ Wanting → statement_of functions before.top ≡ Some (Call line function argument) → value ≡ value_of argument before.top.registers → answer ≡ Same → OnOk r (IsCalled functions function value before after) → OnErr r (after ≡ before) → IfErr r (λ fault. (fault ≡ FrameFault.Memory) × (before.has_room ≡ false)) → IsAnswered functions before answer r after
+  pub call_answered : (cells reducers : ℕ) (before after : FrameState) (line function : ℕ) (argument : Operand) (value : ℕ) (answer : Answer) (r : Result T FrameFault) → IsSound cells reducers functions → Stands functions before → before.phase ≡ Wanting → statement_of functions before.top ≡ Some (Call line function argument) → value ≡ value_of argument before.top.registers → answer ≡ Same → OnOk r (IsCalled functions function value before after) → OnErr r (after ≡ before) → IfErr r (λ fault. (fault ≡ FrameFault.Memory) × (before.has_room ≡ false)) → IsAnswered functions before answer r after
   call_answered cells reducers before after line function argument value answer (Ok u) sound s wanting e v same k f m =
       let known = called_there functions cells reducers before.top line function argument sound s.top e in
       record {
@@ -82,7 +82,7 @@ module _ {T : Type 0} (functions : List Code) where
       }
 
   -- any other answer that belongs
-  pub statement_answered : (before after : State) (statement : Statement) (answer : Answer) (registers : Registers) (v : T) → Stands functions before → before.phase ≡ Wanting → statement_of functions before.top ≡ Some statement → answered statement answer before.top.registers ≡ Some registers → IsInPlace functions after.top → after.top.function ≡ before.top.function → after.top.registers ≡ registers → after.top.join ≡ join_after answer before.top.join → ((t : Statement) → statement_of functions before.top ≡ Some t → IsTrue (is_plain t) → left functions before.top ≡ Step t (left functions after.top)) → after.callers ≡ before.callers → after.phase ≡ Running → after.has_room ≡ before.has_room → IsAnswered {T = T} functions before answer (Ok v) after
+  pub statement_answered : (before after : FrameState) (statement : Statement) (answer : Answer) (registers : Registers) (v : T) → Stands functions before → before.phase ≡ Wanting → statement_of functions before.top ≡ Some statement → answered statement answer before.top.registers ≡ Some registers → IsInPlace functions after.top → after.top.function ≡ before.top.function → after.top.registers ≡ registers → after.top.join ≡ join_after answer before.top.join → ((t : Statement) → statement_of functions before.top ≡ Some t → IsTrue (is_plain t) → left functions before.top ≡ Step t (left functions after.top)) → after.callers ≡ before.callers → after.phase ≡ Running → after.has_room ≡ before.has_room → IsAnswered {T = T} functions before answer (Ok v) after
   statement_answered before after statement answer registers v s wanting e r place function_is registers_is join behind callers running kept =
       record {
         stands = answer_stands functions before after s place callers running;

@@ -29,7 +29,7 @@ use Rattle.frame_steps.specs.declared.phase.Phase.TheVariants.{Running, Wanting,
 use Rattle.frame_steps.specs.Requests.{Belongs, Follows, asked_line, asked_target}
 use Rattle.frame_steps.specs.Stacks.{StackDialogue, SameStack, NextStack, origin_of}
 use Rattle.frame_steps.specs.Joins.{join_after, joins_step, joins_after}
-use Rattle.frame_steps.specs.States.{State}
+use Rattle.frame_steps.specs.States.{FrameState}
 use Rattle.frame_steps.specs.Frames.{standing, callers_of, stack_in, stack_of, joins_in, joins_of, Stands, Wants, IsAfter, CanFollow, MayAnswer, IsCalled, IsLeft, began_by}
 use Rattle.frame_steps.proofs.Replies.{act_is, is_same, answered_belongs, belongs_answered}
 use Rattle.frame_steps.proofs.Dialogues.{stack_only, stack_may, stack_stopped}
@@ -60,17 +60,17 @@ module _ (functions : List Code) where
   open_stack Wanting top callers h = refl
   open_stack Over top callers h = absurd (h refl)
 
-  wanting_stack : (frame : State) → frame.phase ≡ Wanting → stack_of functions frame ≡ standing functions frame.top ∷ callers_of functions frame.callers
+  wanting_stack : (frame : FrameState) → frame.phase ≡ Wanting → stack_of functions frame ≡ standing functions frame.top ∷ callers_of functions frame.callers
   wanting_stack frame e = ap (λ p. stack_in functions p frame.top frame.callers) e
 
-  running_stack : (frame : State) → frame.phase ≡ Running → stack_of functions frame ≡ standing functions frame.top ∷ callers_of functions frame.callers
+  running_stack : (frame : FrameState) → frame.phase ≡ Running → stack_of functions frame ≡ standing functions frame.top ∷ callers_of functions frame.callers
   running_stack frame e = ap (λ p. stack_in functions p frame.top frame.callers) e
 
-  over_stack : (frame : State) → frame.phase ≡ Over → stack_of functions frame ≡ []
+  over_stack : (frame : FrameState) → frame.phase ≡ Over → stack_of functions frame ≡ []
   over_stack frame e = ap (λ p. stack_in functions p frame.top frame.callers) e
 
   -- a frame at its function's begin
-  pub begun_stands : (frame : State) (function : ℕ) → function < length functions → frame.phase ≡ Running → frame.callers ≡ [] → frame.top.function ≡ function → frame.top.place ≡ 0 → frame.top.turn ≡ Plainly → Stands functions frame
+  pub begun_stands : (frame : FrameState) (function : ℕ) → function < length functions → frame.phase ≡ Running → frame.callers ≡ [] → frame.top.function ≡ function → frame.top.place ≡ 0 → frame.top.turn ≡ Plainly → Stands functions frame
   begun_stands frame function h running callers f p t =
       record {
         top = begun_place functions frame.top function h f p t;
@@ -78,7 +78,7 @@ module _ (functions : List Code) where
         asking = λ w. absurd (let e : Running ≡ Wanting = sym running ∙ w in cc);
       }
 
-  pub begun_after : (frame : State) (function argument : ℕ) → function < length functions → frame.phase ≡ Running → frame.callers ≡ [] → frame.top.function ≡ function → frame.top.place ≡ 0 → frame.top.registers ≡ first_registers argument → frame.top.join ≡ None → frame.top.turn ≡ Plainly → IsAfter functions function argument [] frame
+  pub begun_after : (frame : FrameState) (function argument : ℕ) → function < length functions → frame.phase ≡ Running → frame.callers ≡ [] → frame.top.function ≡ function → frame.top.place ≡ 0 → frame.top.registers ≡ first_registers argument → frame.top.join ≡ None → frame.top.turn ≡ Plainly → IsAfter functions function argument [] frame
   begun_after frame function argument h running callers f p r j t =
       let o = found functions function h in
       let s = begun_standing functions frame.top function argument o.0 o.1 f p r t in
@@ -92,12 +92,12 @@ module _ (functions : List Code) where
       }
 
   -- statements that ask nothing leave what was said
-  same_after : (before after : State) → SameStack functions (stack_of functions before) (stack_of functions after) → joins_of after ≡ joins_of before → (function argument : ℕ) (history : List Exchange) → IsAfter functions function argument history before → IsAfter functions function argument history after
+  same_after : (before after : FrameState) → SameStack functions (stack_of functions before) (stack_of functions after) → joins_of after ≡ joins_of before → (function argument : ℕ) (history : List Exchange) → IsAfter functions function argument history before → IsAfter functions function argument history after
   same_after before after s j function argument history a =
       record { goes_on = λ extent said. ((λ d. (a.goes_on extent said).0 (s.back extent said d)), (λ d. s.on extent said ((a.goes_on extent said).1 d))); joins = j ∙ a.joins }
 
   -- an exchange adds to what was said
-  next_after : (before after : State) (x : Exchange) → NextStack functions x (stack_of functions before) (stack_of functions after) → joins_of after ≡ joins_step x.act x.answer (joins_of before) → (function argument : ℕ) (history : List Exchange) → IsAfter functions function argument history before → IsAfter functions function argument (history ++ x ∷ []) after
+  next_after : (before after : FrameState) (x : Exchange) → NextStack functions x (stack_of functions before) (stack_of functions after) → joins_of after ≡ joins_step x.act x.answer (joins_of before) → (function argument : ℕ) (history : List Exchange) → IsAfter functions function argument history before → IsAfter functions function argument (history ++ x ∷ []) after
   next_after before after x n j function argument history a =
       let shape : Extent → List Exchange → Type 0 = λ extent said. DialogueOf functions function argument extent said in
       record {
@@ -109,17 +109,17 @@ module _ (functions : List Code) where
       }
 
   -- what was said to a frame that is over is a whole dialogue
-  pub over_whole : (frame : State) → frame.phase ≡ Over → (function argument : ℕ) (history : List Exchange) → IsAfter functions function argument history frame → DialogueOf functions function argument Whole history
+  pub over_whole : (frame : FrameState) → frame.phase ≡ Over → (function argument : ℕ) (history : List Exchange) → IsAfter functions function argument history frame → DialogueOf functions function argument Whole history
   over_whole frame over function argument history a =
       subst (λ l. DialogueOf functions function argument Whole l) (append-nil history) ((a.goes_on Whole []).0 (subst (λ s. StackDialogue functions Whole s []) (sym (over_stack frame over)) refl))
 
   -- what was said is a dialogue, which may go on
-  pub after_part : (frame : State) (function argument : ℕ) (history : List Exchange) → IsAfter functions function argument history frame → DialogueOf functions function argument Part history
+  pub after_part : (frame : FrameState) (function argument : ℕ) (history : List Exchange) → IsAfter functions function argument history frame → DialogueOf functions function argument Part history
   after_part frame function argument history a =
       subst (λ l. DialogueOf functions function argument Part l) (append-nil history) ((a.goes_on Part []).0 (stack_stopped functions (stack_of functions frame)))
 
   -- a frame whose topmost function went on to what it asks
-  pub sought_after : (before after : State) → before.phase ≢ Over → after.phase ≡ Wanting → after.callers ≡ before.callers → after.top.function ≡ before.top.function → after.top.join ≡ before.top.join → PassesAll (left functions before.top) before.top.registers (left functions after.top) after.top.registers → (function argument : ℕ) (history : List Exchange) → IsAfter functions function argument history before → IsAfter functions function argument history after
+  pub sought_after : (before after : FrameState) → before.phase ≢ Over → after.phase ≡ Wanting → after.callers ≡ before.callers → after.top.function ≡ before.top.function → after.top.join ≡ before.top.join → PassesAll (left functions before.top) before.top.registers (left functions after.top) after.top.registers → (function argument : ℕ) (history : List Exchange) → IsAfter functions function argument history before → IsAfter functions function argument history after
   sought_after before after going wanting callers function_is join passes =
       let below = callers_of functions before.callers in
       let first = open_stack before.phase before.top before.callers going in
@@ -129,14 +129,14 @@ module _ (functions : List Code) where
       same_after before after s j
 
   -- what a frame wants is what its topmost function asks
-  pub wants_asked : (frame : State) (want : Want) (x : Exchange) → IsInPlace functions frame.top → asked_act (statement_of functions frame.top) frame.top.registers ≡ Some want.act → Asks (left functions frame.top) (end_line_of functions frame.top.function) frame.top.registers want → Wants functions frame x → (x.act ≡ want.act) × (x.line ≡ want.line)
+  pub wants_asked : (frame : FrameState) (want : Want) (x : Exchange) → IsInPlace functions frame.top → asked_act (statement_of functions frame.top) frame.top.registers ≡ Some want.act → Asks (left functions frame.top) (end_line_of functions frame.top.function) frame.top.registers want → Wants functions frame x → (x.act ≡ want.act) × (x.line ≡ want.line)
   wants_asked frame want x p act asks w =
       let t = asking_tree functions frame.top (statement_of functions frame.top) want.act p refl act in
       let l = ap (λ u. next_line u (end_line_of functions frame.top.function)) t.1 ∙ line_at (statement_of functions frame.top) t.0 (end_line_of functions frame.top.function) in
       (act_is x.act want.act (sym w.follows.act ∙ act), sym w.follows.line ∙ sym l ∙ asks.line)
 
   -- what a frame wants is all that can follow
-  pub wanted_follows : (cells reducers : ℕ) (frame : State) (act : Act) → IsSound cells reducers functions → IsInPlace functions frame.top → frame.phase ≡ Wanting → asked_act (statement_of functions frame.top) frame.top.registers ≡ Some act → (function argument : ℕ) (history : List Exchange) → IsAfter functions function argument history frame → (x : Exchange) → CanFollow functions function argument history x ↔ Wants functions frame x
+  pub wanted_follows : (cells reducers : ℕ) (frame : FrameState) (act : Act) → IsSound cells reducers functions → IsInPlace functions frame.top → frame.phase ≡ Wanting → asked_act (statement_of functions frame.top) frame.top.registers ≡ Some act → (function argument : ℕ) (history : List Exchange) → IsAfter functions function argument history frame → (x : Exchange) → CanFollow functions function argument history x ↔ Wants functions frame x
   wanted_follows cells reducers frame act sound p wanting asks function argument history a x =
       let callers = callers_of functions frame.callers in
       let end_line = end_line_of functions frame.top.function in
@@ -151,17 +151,17 @@ module _ (functions : List Code) where
       )
 
   -- what is wanted, before a known statement
-  wants_follow : (frame : State) (statement : Option Statement) (x : Exchange) → statement_of functions frame.top ≡ statement → Wants functions frame x → Follows (origin_of (callers_of functions frame.callers)) statement (end_line_of functions frame.top.function) frame.top.registers x
+  wants_follow : (frame : FrameState) (statement : Option Statement) (x : Exchange) → statement_of functions frame.top ≡ statement → Wants functions frame x → Follows (origin_of (callers_of functions frame.callers)) statement (end_line_of functions frame.top.function) frame.top.registers x
   wants_follow frame statement x e w = subst (λ s. Follows (origin_of (callers_of functions frame.callers)) s (end_line_of functions frame.top.function) frame.top.registers x) e w.follows
 
   -- an answer that belongs to a known statement
-  may_answer : (frame : State) (statement : Option Statement) (act : Act) (answer : Answer) → frame.phase ≡ Wanting → statement_of functions frame.top ≡ statement → asked_act statement frame.top.registers ≡ Some act → Belongs (origin_of (callers_of functions frame.callers)) act answer → MayAnswer functions frame answer
+  may_answer : (frame : FrameState) (statement : Option Statement) (act : Act) (answer : Answer) → frame.phase ≡ Wanting → statement_of functions frame.top ≡ statement → asked_act statement frame.top.registers ≡ Some act → Belongs (origin_of (callers_of functions frame.callers)) act answer → MayAnswer functions frame answer
   may_answer frame statement act answer wanting e a b =
       let x : Exchange = record { act = act; line = asked_line statement (end_line_of functions frame.top.function); target = asked_target statement frame.top.registers; answer = answer } in
       let f : Follows (origin_of (callers_of functions frame.callers)) statement (end_line_of functions frame.top.function) frame.top.registers x = record { act = a; line = refl; target = refl; answer = b } in
       record { exchange = x; wants = record { wanting = wanting; follows = subst (λ s. Follows (origin_of (callers_of functions frame.callers)) s (end_line_of functions frame.top.function) frame.top.registers x) (sym e) f }; is = refl }
 
-  ended_stands : (before after : State) → Stands functions before → after.phase ≡ Over → after.top ≡ before.top → after.callers ≡ [] → Stands functions after
+  ended_stands : (before after : FrameState) → Stands functions before → after.phase ≡ Over → after.top ≡ before.top → after.callers ≡ [] → Stands functions after
   ended_stands before after s o t e =
       record {
         top = subst (λ a. IsInPlace functions a) (sym t) s.top;
@@ -170,7 +170,7 @@ module _ (functions : List Code) where
       }
 
   -- after a return
-  pub leave_stands : (before after : State) (answer : Answer) → Stands functions before → IsLeft answer before after → Stands functions after
+  pub leave_stands : (before after : FrameState) (answer : Answer) → Stands functions before → IsLeft answer before after → Stands functions after
   leave_stands before after Resumed s l =
       record {
         top = s.callers (length after.callers) after.top (ap (λ xs. slice_get xs (length after.callers)) l.0 ∙ item_pushed after.callers after.top);
@@ -182,16 +182,16 @@ module _ (functions : List Code) where
   leave_stands before after Finished s l = ended_stands before after s l.3 l.1 l.2
   leave_stands before after _ s l = absurd l
 
-  pub leave_belongs : (before : State) (answer : Answer) → before.phase ≡ Wanting → statement_of functions before.top ≡ None → IsReturned (began_by before.callers) answer → MayAnswer functions before answer
+  pub leave_belongs : (before : FrameState) (answer : Answer) → before.phase ≡ Wanting → statement_of functions before.top ≡ None → IsReturned (began_by before.callers) answer → MayAnswer functions before answer
   leave_belongs before answer wanting none r = may_answer before None Act.Return answer wanting none refl (subst (λ o. IsReturned o answer) (sym (origins functions before.callers)) r)
 
   -- an answer to the return of the topmost function is one to a return
-  pub leave_returned : (before : State) (answer : Answer) → statement_of functions before.top ≡ None → MayAnswer functions before answer → IsReturned (began_by before.callers) answer
+  pub leave_returned : (before : FrameState) (answer : Answer) → statement_of functions before.top ≡ None → MayAnswer functions before answer → IsReturned (began_by before.callers) answer
   leave_returned before answer none m =
       let r = (returned_by functions _ _ before.top.registers m.exchange (wants_follow before None m.exchange none m.wants)).1 in
       subst (λ o. IsReturned o answer) (origins functions before.callers) (subst (λ a. IsReturned (origin_of (callers_of functions before.callers)) a) m.is r)
 
-  leave_next : (before after : State) (x : Exchange) → Stands functions before → before.phase ≡ Wanting → statement_of functions before.top ≡ None → IsLeft x.answer before after → Wants functions before x → NextStack functions x (stack_of functions before) (stack_of functions after)
+  leave_next : (before after : FrameState) (x : Exchange) → Stands functions before → before.phase ≡ Wanting → statement_of functions before.top ≡ None → IsLeft x.answer before after → Wants functions before x → NextStack functions x (stack_of functions before) (stack_of functions after)
   leave_next before after x s wanting none l w =
       subst (λ b. NextStack functions x b (stack_of functions after)) (sym (wanting_stack before wanting)) (by x.answer l (wants_follow before None x none w))
     where
@@ -217,7 +217,7 @@ module _ (functions : List Code) where
       by Finished l f = ended l.0 l.3 f
       by _ l f = absurd l
 
-  leave_joins : (before after : State) (x : Exchange) → before.phase ≡ Wanting → statement_of functions before.top ≡ None → IsLeft x.answer before after → Wants functions before x → joins_of after ≡ joins_step x.act x.answer (joins_of before)
+  leave_joins : (before after : FrameState) (x : Exchange) → before.phase ≡ Wanting → statement_of functions before.top ≡ None → IsLeft x.answer before after → Wants functions before x → joins_of after ≡ joins_step x.act x.answer (joins_of before)
   leave_joins before after x wanting none l w =
       let act = sym (returned_by functions _ _ before.top.registers x (wants_follow before None x none w)).0 in
       let second : joins_step x.act x.answer (joins_of before) ≡ map (λ b. b.join) (reverse before.callers) = ap (λ b. joins_step b x.answer (joins_of before)) act ∙ ap (λ p. joins_step Act.Return x.answer (joins_in p before.top before.callers)) wanting in
@@ -233,13 +233,13 @@ module _ (functions : List Code) where
       by Finished l = ended l.0 l.3
       by _ l = absurd l
 
-  pub leave_after : (before after : State) (answer : Answer) → Stands functions before → before.phase ≡ Wanting → statement_of functions before.top ≡ None → IsLeft answer before after → (function argument : ℕ) (history : List Exchange) (x : Exchange) → IsAfter functions function argument history before → Wants functions before x → x.answer ≡ answer → IsAfter functions function argument (history ++ x ∷ []) after
+  pub leave_after : (before after : FrameState) (answer : Answer) → Stands functions before → before.phase ≡ Wanting → statement_of functions before.top ≡ None → IsLeft answer before after → (function argument : ℕ) (history : List Exchange) (x : Exchange) → IsAfter functions function argument history before → Wants functions before x → x.answer ≡ answer → IsAfter functions function argument (history ++ x ∷ []) after
   leave_after before after answer s wanting none l function argument history x a w e =
       let l' = subst (λ b. IsLeft b before after) (sym e) l in
       next_after before after x (leave_next before after x s wanting none l' w) (leave_joins before after x wanting none l' w) function argument history a
 
   -- after a call
-  pub call_stands : (before after : State) (function argument : ℕ) → Stands functions before → function < length functions → IsCalled functions function argument before after → Stands functions after
+  pub call_stands : (before after : FrameState) (function argument : ℕ) → Stands functions before → function < length functions → IsCalled functions function argument before after → Stands functions after
   call_stands before after function argument s known c =
       record {
         top = begun_place functions after.top function known c.begun.0 c.begun.1 c.begun.4;
@@ -251,20 +251,20 @@ module _ (functions : List Code) where
         asking = λ w. absurd (let e : Running ≡ Wanting = sym c.running ∙ w in cc);
       }
 
-  pub call_belongs : (before : State) (line function : ℕ) (argument : Operand) → before.phase ≡ Wanting → statement_of functions before.top ≡ Some (Call line function argument) → MayAnswer functions before Same
+  pub call_belongs : (before : FrameState) (line function : ℕ) (argument : Operand) → before.phase ≡ Wanting → statement_of functions before.top ≡ Some (Call line function argument) → MayAnswer functions before Same
   call_belongs before line function argument wanting e = may_answer before (Some (Call line function argument)) Act.Call Same wanting e refl tt
 
-  pub wants_call : (before : State) (line function : ℕ) (argument : Operand) (x : Exchange) → statement_of functions before.top ≡ Some (Call line function argument) → Wants functions before x → x.act ≡ Act.Call
+  pub wants_call : (before : FrameState) (line function : ℕ) (argument : Operand) (x : Exchange) → statement_of functions before.top ≡ Some (Call line function argument) → Wants functions before x → x.act ≡ Act.Call
   wants_call before line function argument x e w = sym (act_is Act.Call x.act (wants_follow before (Some (Call line function argument)) x e w).act)
 
   -- an answer to a call is Same
-  pub call_same : (before : State) (line function : ℕ) (argument : Operand) (answer : Answer) → statement_of functions before.top ≡ Some (Call line function argument) → MayAnswer functions before answer → answer ≡ Same
+  pub call_same : (before : FrameState) (line function : ℕ) (argument : Operand) (answer : Answer) → statement_of functions before.top ≡ Some (Call line function argument) → MayAnswer functions before answer → answer ≡ Same
   call_same before line function argument answer e m =
       let f = wants_follow before (Some (Call line function argument)) m.exchange e m.wants in
       let b = subst (λ a. Belongs (origin_of (callers_of functions before.callers)) a m.exchange.answer) (sym (act_is Act.Call m.exchange.act f.act)) f.answer in
       sym m.is ∙ is_same m.exchange.answer b
 
-  pub call_after : (cells reducers : ℕ) (before after : State) (line function : ℕ) (argument : Operand) (value : ℕ) → IsSound cells reducers functions → Stands functions before → before.phase ≡ Wanting → statement_of functions before.top ≡ Some (Call line function argument) → value ≡ value_of argument before.top.registers → IsCalled functions function value before after → (root given : ℕ) (history : List Exchange) (x : Exchange) → IsAfter functions root given history before → Wants functions before x → IsAfter functions root given (history ++ x ∷ []) after
+  pub call_after : (cells reducers : ℕ) (before after : FrameState) (line function : ℕ) (argument : Operand) (value : ℕ) → IsSound cells reducers functions → Stands functions before → before.phase ≡ Wanting → statement_of functions before.top ≡ Some (Call line function argument) → value ≡ value_of argument before.top.registers → IsCalled functions function value before after → (root given : ℕ) (history : List Exchange) (x : Exchange) → IsAfter functions root given history before → Wants functions before x → IsAfter functions root given (history ++ x ∷ []) after
   call_after cells reducers before after line function argument value sound s wanting e v c root given history x a w =
       let callers = callers_of functions before.callers in
       let f = wants_follow before (Some (Call line function argument)) x e w in
@@ -279,7 +279,7 @@ module _ (functions : List Code) where
       next_after before after x next (first ∙ sym second) root given history a
 
   -- after any other answer
-  pub answer_stands : (before after : State) → Stands functions before → IsInPlace functions after.top → after.callers ≡ before.callers → after.phase ≡ Running → Stands functions after
+  pub answer_stands : (before after : FrameState) → Stands functions before → IsInPlace functions after.top → after.callers ≡ before.callers → after.phase ≡ Running → Stands functions after
   answer_stands before after s p callers running =
       record {
         top = p;
@@ -288,15 +288,15 @@ module _ (functions : List Code) where
       }
 
   -- what the statement of a frame that wants asks
-  wanted_act : (before : State) (statement : Statement) → Stands functions before → before.phase ≡ Wanting → statement_of functions before.top ≡ Some statement → (act : Act) × (act_of statement before.top.registers ≡ Some act)
+  wanted_act : (before : FrameState) (statement : Statement) → Stands functions before → before.phase ≡ Wanting → statement_of functions before.top ≡ Some statement → (act : Act) × (act_of statement before.top.registers ≡ Some act)
   wanted_act before statement s wanting e = let a = s.asking wanting in (a.0, ap (λ o. asked_act o before.top.registers) (sym e) ∙ a.1)
 
-  pub answer_belongs : (before : State) (statement : Statement) (answer : Answer) (after : Registers) → Stands functions before → before.phase ≡ Wanting → statement_of functions before.top ≡ Some statement → answered statement answer before.top.registers ≡ Some after → MayAnswer functions before answer
+  pub answer_belongs : (before : FrameState) (statement : Statement) (answer : Answer) (after : Registers) → Stands functions before → before.phase ≡ Wanting → statement_of functions before.top ≡ Some statement → answered statement answer before.top.registers ≡ Some after → MayAnswer functions before answer
   answer_belongs before statement answer after s wanting e r =
       let a = wanted_act before statement s wanting e in
       may_answer before (Some statement) a.0 answer wanting e a.1 (answered_belongs (origin_of (callers_of functions before.callers)) statement answer before.top.registers after a.0 a.1 r)
 
-  pub answer_after : (before after : State) (statement : Statement) (answer : Answer) (registers : Registers) → Stands functions before → before.phase ≡ Wanting → statement_of functions before.top ≡ Some statement → answered statement answer before.top.registers ≡ Some registers → after.top.function ≡ before.top.function → after.top.registers ≡ registers → after.top.join ≡ join_after answer before.top.join → ((s : Statement) → statement_of functions before.top ≡ Some s → IsTrue (is_plain s) → left functions before.top ≡ Step s (left functions after.top)) → after.callers ≡ before.callers → after.phase ≡ Running → (function argument : ℕ) (history : List Exchange) (x : Exchange) → IsAfter functions function argument history before → Wants functions before x → x.answer ≡ answer → IsAfter functions function argument (history ++ x ∷ []) after
+  pub answer_after : (before after : FrameState) (statement : Statement) (answer : Answer) (registers : Registers) → Stands functions before → before.phase ≡ Wanting → statement_of functions before.top ≡ Some statement → answered statement answer before.top.registers ≡ Some registers → after.top.function ≡ before.top.function → after.top.registers ≡ registers → after.top.join ≡ join_after answer before.top.join → ((s : Statement) → statement_of functions before.top ≡ Some s → IsTrue (is_plain s) → left functions before.top ≡ Step s (left functions after.top)) → after.callers ≡ before.callers → after.phase ≡ Running → (function argument : ℕ) (history : List Exchange) (x : Exchange) → IsAfter functions function argument history before → Wants functions before x → x.answer ≡ answer → IsAfter functions function argument (history ++ x ∷ []) after
   answer_after before after statement answer registers s wanting e r function_is registers_is join behind callers running function argument history x a w is =
       let below = callers_of functions before.callers in
       let act = wanted_act before statement s wanting e in
@@ -324,7 +324,7 @@ module _ (functions : List Code) where
       by _ Act.Return join joins a e = cc
 
   -- an answer that a statement is not given does not belong to what is wanted
-  pub answer_strange : (before : State) (statement : Statement) (answer : Answer) → ((line function : ℕ) (argument : Operand) → statement ≡ Call line function argument → ⊥) → statement_of functions before.top ≡ Some statement → answered statement answer before.top.registers ≡ None → MayAnswer functions before answer → ⊥
+  pub answer_strange : (before : FrameState) (statement : Statement) (answer : Answer) → ((line function : ℕ) (argument : Operand) → statement ≡ Call line function argument → ⊥) → statement_of functions before.top ≡ Some statement → answered statement answer before.top.registers ≡ None → MayAnswer functions before answer → ⊥
   answer_strange before statement answer not_call e r m =
       let f = wants_follow before (Some statement) m.exchange e m.wants in
       elim (belongs_answered (origin_of (callers_of functions before.callers)) statement answer before.top.registers m.exchange.act f.act (subst (λ b. Belongs (origin_of (callers_of functions before.callers)) m.exchange.act b) m.is f.answer)) [

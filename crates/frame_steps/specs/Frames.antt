@@ -20,7 +20,7 @@ use Rattle.frame_steps.specs.declared.phase.Phase.TheVariants.{Running, Wanting,
 use Rattle.frame_steps.specs.Requests.{Follows}
 use Rattle.frame_steps.specs.Stacks.{Standing, StackDialogue, origin_of}
 use Rattle.frame_steps.specs.Joins.{joins_after}
-use Rattle.frame_steps.specs.States.{State}
+use Rattle.frame_steps.specs.States.{FrameState}
 
 -- Where an activation stands.
 abbrev pub standing : List Code → Activation → Standing
@@ -36,7 +36,7 @@ stack_in functions Wanting top callers = standing functions top ∷ callers_of f
 stack_in functions Over top callers = []
 
 -- The functions that a frame is in, the topmost first; none once it is over.
-abbrev pub stack_of : List Code → State → List Standing
+abbrev pub stack_of : List Code → FrameState → List Standing
 stack_of functions frame = stack_in functions frame.phase frame.top frame.callers
 
 abbrev pub joins_in : Phase → Activation → List Activation → List (Option ℕ)
@@ -45,7 +45,7 @@ joins_in Wanting top callers = top.join ∷ map (λ activation. activation.join)
 joins_in Over top callers = []
 
 -- The joins of the open blocks, the topmost function's first.
-abbrev pub joins_of : State → List (Option ℕ)
+abbrev pub joins_of : FrameState → List (Option ℕ)
 joins_of frame = joins_in frame.phase frame.top frame.callers
 
 -- An activation stands where something is asked.
@@ -53,19 +53,19 @@ abbrev pub IsAsking : List Code → Activation → Type 0
 IsAsking functions activation = (act : Act) × (asked_act (statement_of functions activation) activation.registers ≡ Some act)
 
 -- The frame is one of this program.
-pub record Stands (functions : List Code) (frame : State) : Type 0 where
+pub record Stands (functions : List Code) (frame : FrameState) : Type 0 where
   pub top : IsInPlace functions frame.top
   pub callers : (index : ℕ) (caller : Activation) → slice_get frame.callers index ≡ Some caller → IsInPlace functions caller
   pub asking : frame.phase ≡ Wanting → IsAsking functions frame.top
 
 -- The frame wants the act of this exchange, and the answer belongs to it.
-pub record Wants (functions : List Code) (frame : State) (x : Exchange) : Type 0 where
+pub record Wants (functions : List Code) (frame : FrameState) (x : Exchange) : Type 0 where
   pub wanting : frame.phase ≡ Wanting
   pub follows : Follows (origin_of (callers_of functions frame.callers))
       (statement_of functions frame.top) (end_line_of functions frame.top.function) frame.top.registers x
 
 -- What was said so far is a dialogue of the function with this argument, and it goes on as the frame does.
-pub record IsAfter (functions : List Code) (function argument : ℕ) (history : List Exchange) (frame : State) : Type 0 where
+pub record IsAfter (functions : List Code) (function argument : ℕ) (history : List Exchange) (frame : FrameState) : Type 0 where
   pub goes_on : (extent : Extent) (said : List Exchange) →
       StackDialogue functions extent (stack_of functions frame) said ↔ DialogueOf functions function argument extent (history ++ said)
   pub joins : joins_of frame ≡ joins_after (None ∷ []) history
@@ -75,7 +75,7 @@ abbrev pub CanFollow : List Code → (function argument : ℕ) → List Exchange
 CanFollow functions function argument history x = DialogueOf functions function argument Part (history ++ x ∷ [])
 
 -- Some exchange with this answer is what the frame wants.
-pub record MayAnswer (functions : List Code) (frame : State) (answer : Answer) : Type 0 where
+pub record MayAnswer (functions : List Code) (frame : FrameState) (answer : Answer) : Type 0 where
   pub exchange : Exchange
   pub wants : Wants functions frame exchange
   pub is : exchange.answer ≡ answer
@@ -86,7 +86,7 @@ began_by [] = FromSpawn
 began_by (caller ∷ callers) = FromCall
 
 -- A frame before and after its topmost function returned.
-abbrev pub IsLeft : Answer → State → State → Type 0
+abbrev pub IsLeft : Answer → FrameState → FrameState → Type 0
 IsLeft Resumed before after = (before.callers ≡ after.callers ++ after.top ∷ []) × (after.phase ≡ Running)
 IsLeft Ended before after = (before.callers ≡ []) × (after.top ≡ before.top) × (after.callers ≡ []) × (after.phase ≡ Over)
 IsLeft (EndedJoined join) before after = (before.callers ≡ []) × (after.top ≡ before.top) × (after.callers ≡ []) × (after.phase ≡ Over)
@@ -94,7 +94,7 @@ IsLeft Finished before after = (before.callers ≡ []) × (after.top ≡ before.
 IsLeft _ before after = ⊥
 
 -- A frame before and after its topmost function called another, behind whose return it goes on after the call.
-pub record IsCalled (functions : List Code) (function argument : ℕ) (before after : State) : Type 0 where
+pub record IsCalled (functions : List Code) (function argument : ℕ) (before after : FrameState) : Type 0 where
   pub caller : Activation
   pub same : (caller.function ≡ before.top.function) × (caller.registers ≡ before.top.registers) × (caller.join ≡ before.top.join)
   pub place : IsInPlace functions caller
@@ -106,8 +106,8 @@ pub record IsCalled (functions : List Code) (function argument : ℕ) (before af
   pub running : after.phase ≡ Running
 
 -- What becomes of a frame whose wanted act is answered, by what it says to the answer.
-pub record IsAnswered {T : Type 0} (functions : List Code) (before : State)
-    (answer : Answer) (result : Result T FrameFault) (after : State) : Type 0 where
+pub record IsAnswered {T : Type 0} (functions : List Code) (before : FrameState)
+    (answer : Answer) (result : Result T FrameFault) (after : FrameState) : Type 0 where
   pub stands : Stands functions after
   pub belongs : OnOk result (MayAnswer functions before answer)
   pub goes_on : OnOk result ((function argument : ℕ) (history : List Exchange) (x : Exchange) →

@@ -12,7 +12,7 @@ ghost use Rattle.model_programs.specs.Exchanges.{Exchange};
 ghost use Rattle.model_programs.specs.Dialogue.{Whole, Part, DialogueOf};
 ghost use Rattle.function_steps.specs.Activations.{left, statement_of, is_plain, IsInPlace};
 ghost use Rattle.frame_steps.specs.Joins.{join_after, open_join};
-ghost use Rattle.frame_steps.specs.States.{State};
+ghost use Rattle.frame_steps.specs.States.{FrameState};
 ghost use Rattle.frame_steps.specs.Frames.{Stands, Wants, IsAfter, CanFollow, MayAnswer, IsAnswered, IsCalled, IsLeft, began_by};
 
 use crate::phase::Phase;
@@ -45,9 +45,9 @@ pub enum FrameFault {
 
 impl<A: Allocator> Model for Frame<A> {
     ghost use Rattle.std.specs.Prelude.{◌≡◌, ◌<◌, true, vec_len, vec_capacity};
-    ghost use Rattle.frame_steps.specs.States.{State};
+    ghost use Rattle.frame_steps.specs.States.{FrameState};
 
-    ghost Value = { State };
+    ghost Value = { FrameState };
 
     ghost view = { λ frame. record { phase = frame.phase; top = frame.top; callers = frame.callers.items; has_room = frame.has_room } };
 

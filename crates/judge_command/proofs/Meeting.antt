@@ -8,7 +8,7 @@ use Rattle.text_words.specs.declared.value.TraceLine.{TraceLine}
 use Rattle.text_words.specs.Values.{Contents}
 use Rattle.model_histories.specs.declared.reply.Reply.{Reply}
 use Rattle.model_histories.specs.Shapes.{Shape}
-use Rattle.model_histories.specs.States.{State, opening}
+use Rattle.model_histories.specs.States.{GateState, opening}
 use Rattle.model_histories.specs.Replies.{Judges, JudgesAll}
 use Rattle.model_races.specs.Judged.{IsJudged}
 use Rattle.race_gate.specs.Cores.{CoreState, IsCoreOf}
@@ -44,7 +44,7 @@ pub lines_more : (replies : List Reply) (reply : Reply) → verdict_text replies
 lines_more replies reply =
     ap (λ l. verdict_text replies ++ l) (sym (append-nil (line_of_reply reply))) ∙ sym (flat_map-append line_of_reply replies (reply ∷ []))
 
-module _ {A : Type 0} (start : State) (core : CoreState) (verdicts : Verdicts A) (wrote writes : Option (List ℕ)) (failed : Bool) where
+module _ {A : Type 0} (start : GateState) (core : CoreState) (verdicts : Verdicts A) (wrote writes : Option (List ℕ)) (failed : Bool) where
   -- the request of one more line was judged
   pub judged_more : (taken : List TraceLine) (line : TraceLine) (replies : List Reply) →
       HasJudged start (map (λ line. line.request) taken ++ line.request ∷ []) replies core verdicts wrote writes failed →
@@ -62,7 +62,7 @@ module _ {A : Type 0} (start : State) (core : CoreState) (verdicts : Verdicts A)
       last = judged.last;
       judges = record {
         judges = subst (λ (those : List Request). JudgesAll (opening (declared_shape contents) limit) those replies judged.last) asked
-            (subst (λ (first : State). JudgesAll first requests replies judged.last) (opened ∙ ap (λ (s : Shape). opening s limit) declared) judged.judges);
+            (subst (λ (first : GateState). JudgesAll first requests replies judged.last) (opened ∙ ap (λ (s : Shape). opening s limit) declared) judged.judges);
         judged = judged.fits.kept.right.judged;
       };
     },
@@ -70,15 +70,15 @@ module _ {A : Type 0} (start : State) (core : CoreState) (verdicts : Verdicts A)
   )
 
 -- the reply to a request has its words
-pub has_words : (state next : State) (request : Request) (reply : Reply) → Judges state request reply next → IsJudged next.shape next.history → HasWords reply
+pub has_words : (state next : GateState) (request : Request) (reply : Reply) → Judges state request reply next → IsJudged next.shape next.history → HasWords reply
 has_words state next request reply judges judged =
     let words = replies_have_words (request ∷ []) (reply ∷ []) state next (next, judges, refl) judged in
     words.1 zero reply (omega arith)
 
 -- one request more was judged, and its reply told
-pub judged_and_told : (A : Type 0) (start : State) (requests : List Request) (replies : List Reply) (core after : CoreState) (verdicts new : Verdicts A)
+pub judged_and_told : (A : Type 0) (start : GateState) (requests : List Request) (replies : List Reply) (core after : CoreState) (verdicts new : Verdicts A)
     (wrote writes later : Option (List ℕ)) (failed fails : Bool) (request : Request) (reply : Reply) →
-    (judged : HasJudged start requests replies core verdicts wrote writes failed) → (next : State) × Judges judged.last request reply next × IsCoreOf after next →
+    (judged : HasJudged start requests replies core verdicts wrote writes failed) → (next : GateState) × Judges judged.last request reply next × IsCoreOf after next →
     (Tells replies verdicts wrote writes failed → Tells (replies ++ reply ∷ []) new wrote later fails) →
     HasJudged start (requests ++ request ∷ []) (replies ++ reply ∷ []) after new wrote later fails
 judged_and_told A start requests replies core after verdicts new wrote writes later failed fails request reply judged next tells = record {

@@ -4,7 +4,7 @@ use Rattle.std.specs.List.{list_any}
 use Rattle.model_accesses.specs.declared.request.Request.{Request}
 use Rattle.text_words.specs.Values.{Contents}
 use Rattle.model_histories.specs.declared.reply.Reply.{Reply}
-use Rattle.model_histories.specs.States.{State}
+use Rattle.model_histories.specs.States.{GateState}
 use Rattle.race_gate.specs.Cores.{CoreState, IsCoreOf}
 use Rattle.model_histories.specs.Replies.{JudgesAll}
 use Rattle.verdict_lines.specs.VerdictText.{verdict_text}
@@ -28,9 +28,9 @@ module _ {A : Type 0} where
     pub met : HasMet replies verdicts.met
 
   -- from this state on a core has judged the requests with these replies, which are told
-  pub record HasJudged (start : State) (requests : List Request) (replies : List Reply) (core : CoreState)
+  pub record HasJudged (start : GateState) (requests : List Request) (replies : List Reply) (core : CoreState)
       (verdicts : Verdicts A) (wrote writes : Option (List ℕ)) (failed : Bool) : Type 0 where
-    pub last : State
+    pub last : GateState
     pub judges : JudgesAll start requests replies last
     pub fits : IsCoreOf core last
     pub tells : Tells replies verdicts wrote writes failed

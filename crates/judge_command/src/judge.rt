@@ -11,7 +11,7 @@ ghost use Rattle.model_reducers.specs.Limits.{most_reducers};
 ghost use Rattle.model_histories.specs.Shapes.{most_entries};
 ghost use Rattle.race_gate.specs.Shapes.{shape_of};
 ghost use Rattle.race_gate.specs.Cores.{IsCore};
-ghost use Rattle.model_histories.specs.States.{State};
+ghost use Rattle.model_histories.specs.States.{GateState};
 ghost use Rattle.model_histories.specs.declared.reply.Reply.{Reply as SpecReply};
 ghost use Rattle.model_histories.specs.declared.reply.Reply.TheVariants.{Illegal};
 ghost use Rattle.model_accesses.specs.declared.request.Request.{Request as SpecRequest};
@@ -100,7 +100,7 @@ fn tell_cell<A: Allocator + Clone, W: Write>(
 )
     requires is { (access : CellAccess) × sort_of request.act ≡ Sort.Cell access }
     requires core { IsCore core.old }
-    ensures { (start : State) (wrote : Option (List ℕ)) (requests : List SpecRequest) (replies : List SpecReply) →
+    ensures { (start : GateState) (wrote : Option (List ℕ)) (requests : List SpecRequest) (replies : List SpecReply) →
         HasJudged start requests replies core.old verdicts.old wrote (W.contents (held output.old)) (has_failed output.old) →
         (reply : SpecReply) × HasJudged start (requests ++ request ∷ []) (replies ++ reply ∷ []) core.new verdicts.new
         wrote (W.contents (held output.new)) (has_failed output.new) }
@@ -124,7 +124,7 @@ fn tell_reducer<A: Allocator + Clone, W: Write>(
 )
     requires is { sort_of request.act ≡ Sort.Reducer }
     requires core { IsCore core.old }
-    ensures { (start : State) (wrote : Option (List ℕ)) (requests : List SpecRequest) (replies : List SpecReply) →
+    ensures { (start : GateState) (wrote : Option (List ℕ)) (requests : List SpecRequest) (replies : List SpecReply) →
         HasJudged start requests replies core.old verdicts.old wrote (W.contents (held output.old)) (has_failed output.old) →
         (reply : SpecReply) × HasJudged start (requests ++ request ∷ []) (replies ++ reply ∷ []) core.new verdicts.new
         wrote (W.contents (held output.new)) (has_failed output.new) }

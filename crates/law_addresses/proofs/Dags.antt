@@ -2,14 +2,14 @@
 use Rattle.std.proofs.Common.{ℕ, ◌≡◌, ◌≢◌, ◌⊎◌, ◌↔◌, ◌<◌, inl, inr, Bool, true, false, [], refl, sym, ap, ◌∙◌, subst, ◌||◌, zero, suc, arith, IsTrue}
 use Rattle.model_strands.specs.Address.{Word, child, next, join, Address, extended}
 use Rattle.law_addresses.specs.Address.{is_fork, same, reaches}
-use Rattle.law_addresses.specs.Dags.{Path, here, along, IsStrandDag}
+use Rattle.law_addresses.specs.Dags.{AddressPath, here, along, IsStrandDag}
 use Rattle.law_addresses.specs.Laws.{PathsAreReach}
 use Rattle.law_addresses.proofs.Relations.{cases_same, same-decides, reaches-self, reaches-transitive, reaches-antisymmetric}
 use Rattle.law_addresses.proofs.Branches.{cases_last}
 use Rattle.law_addresses.proofs.Extensions.{reaches-nil, reaches-fork}
 
 module _ (Begun : Address → Type 0) (Edge : Address → Address → Type 0) (dag : IsStrandDag Begun Edge) where
-  path-reaches : (a b : Address) → Path Edge a b → reaches a b ≡ true
+  path-reaches : (a b : Address) → AddressPath Edge a b → reaches a b ≡ true
   path-reaches a b (here) = reaches-self a
   path-reaches a b (along {b = c} path edge) = reaches-transitive a c b (path-reaches a c path) (dag.sound c b edge)
 
@@ -44,12 +44,12 @@ module _ (Begun : Address → Type 0) (Edge : Address → Address → Type 0) (d
       go (inl e) = absurd (ne (reaches-antisymmetric a b h (rw e (reaches-nil a))))
       go (inr (front, word, e)) = by_word front word e
 
-  reach-path_below : (n : ℕ) (a b : Address) → dag.time b < n → Begun a → Begun b → reaches a b ≡ true → Path Edge a b
+  reach-path_below : (n : ℕ) (a b : Address) → dag.time b < n → Begun a → Begun b → reaches a b ≡ true → AddressPath Edge a b
   reach-path_below zero a b below at_a at_b h = absurd (omega arith)
   reach-path_below (suc n) a b below at_a at_b h = go (λ c. reach-path_below n a c) (cases_same a b)
     where
-      go : ((c : Address) → dag.time c < n → Begun a → Begun c → reaches a c ≡ true → Path Edge a c) → (a ≡ b) ⊎ (a ≢ b) → Path Edge a b
-      go ih (inl e) = let P : Address → Type 0 = λ c. Path Edge a c in subst P e here
+      go : ((c : Address) → dag.time c < n → Begun a → Begun c → reaches a c ≡ true → AddressPath Edge a c) → (a ≡ b) ⊎ (a ≢ b) → AddressPath Edge a b
+      go ih (inl e) = let P : Address → Type 0 = λ c. AddressPath Edge a c in subst P e here
       go ih (inr ne) =
           let step = reach-step a b at_a at_b ne h in
           let sooner = dag.later step.0 b step.1 in
@@ -57,7 +57,7 @@ module _ (Begun : Address → Type 0) (Edge : Address → Address → Type 0) (d
           along (ih step.0 lower at_a (dag.ends step.0 b step.1).0 step.2) step.1
 
   -- there is a path exactly where one address reaches the other
-  pub reach-path : (a b : Address) → Begun a → Begun b → Path Edge a b ↔ (reaches a b ≡ true)
+  pub reach-path : (a b : Address) → Begun a → Begun b → AddressPath Edge a b ↔ (reaches a b ≡ true)
   reach-path a b at_a at_b = (path-reaches a b, λ h. reach-path_below (suc (dag.time b)) a b (omega arith) at_a at_b h)
 
 pub paths-reach : PathsAreReach

@@ -4,9 +4,9 @@ use Rattle.model_strands.specs.Address.{Word, Address, join, extended}
 use Rattle.law_addresses.specs.Address.{is_fork, reaches}
 
 -- paths along edges
-pub data Path (Edge : Address → Address → Type 0) (a : Address) : Address → Type 0 where
-  here : Path Edge a a
-  along : {b c : Address} → Path Edge a b → Edge b c → Path Edge a c
+pub data AddressPath (Edge : Address → Address → Type 0) (a : Address) : Address → Type 0 where
+  here : AddressPath Edge a a
+  along : {b c : Address} → AddressPath Edge a b → Edge b c → AddressPath Edge a c
 
 -- some begun strands and the edges between them
 pub record IsStrandDag (Begun : Address → Type 0) (Edge : Address → Address → Type 0) : Type 0 where

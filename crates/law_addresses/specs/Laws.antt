@@ -5,7 +5,7 @@ use Rattle.model_strands.specs.Address.{Word, Address, child, next, join, extend
 use Rattle.law_addresses.specs.Address.{english, hebrew, before, english_before}
 use Rattle.law_addresses.specs.Address.{hebrew_before, reaches, parallel, is_prefix, branch, PartBy, IsSplit}
 use Rattle.law_addresses.specs.Blocks.{Block, all_spawners, IsBlock, IsOlder}
-use Rattle.law_addresses.specs.Dags.{Path, IsStrandDag}
+use Rattle.law_addresses.specs.Dags.{AddressPath, IsStrandDag}
 use Rattle.law_addresses.specs.Extremes.{last_of}
 use Rattle.law_addresses.specs.Intervals.{view_root, is_within, in_view}
 use Rattle.law_addresses.specs.Sorted.{IsSortedBy}
@@ -127,4 +127,4 @@ JoinsFollowEnds =
 abbrev pub PathsAreReach : Type 0
 PathsAreReach =
     (begun : Address → Bool) (edge : Address → Address → Bool) → IsStrandDag (λ a. IsTrue (begun a)) (λ a b. IsTrue (edge a b)) →
-    (a b : Address) → IsTrue (begun a) → IsTrue (begun b) → (Path (λ c d. IsTrue (edge c d)) a b ↔ IsTrue (reaches a b))
+    (a b : Address) → IsTrue (begun a) → IsTrue (begun b) → (AddressPath (λ c d. IsTrue (edge c d)) a b ↔ IsTrue (reaches a b))

@@ -23,7 +23,7 @@ use Rattle.model_histories.specs.Entries.{Entries, control_part}
 use Rattle.model_histories.specs.Shapes.{Shape}
 use Rattle.model_histories.specs.Legal.{IsLegal, Belongs}
 use Rattle.model_races.specs.Accesses.{cell_access, is_granted, access_at, granted}
-use Rattle.model_races.specs.Memory.{effect, last_written, bumped_since, cell_value, effects as effects_on_memory}
+use Rattle.model_races.specs.Memory.{effect_on_cell, last_written, bumped_since, cell_value, effects as effects_on_memory}
 use Rattle.model_races.specs.Verdicts.{IsRefused, IfValue, IsRightVerdict, MemoryIsJudged}
 use Rattle.model_histories.specs.Extensions.{IsCleanAnswer, IsClean}
 use Rattle.model_programs.specs.Evaluation.{Effect}
@@ -288,7 +288,7 @@ value_bumped true value written since =
 value_bumped false value written since = refl
 
 value_next : (entries : Entries) (act : Act) (answer : Answer) (cell : ℕ) → Belongs act answer → IsCleanAnswer answer → IsNumbered act →
-    (last_written (effect act answer ∷ effects_on_memory entries) cell + bumped_since (effect act answer ∷ effects_on_memory entries) cell) % 2 ^ 64 ≡
+    (last_written (effect_on_cell act answer ∷ effects_on_memory entries) cell + bumped_since (effect_on_cell act answer ∷ effects_on_memory entries) cell) % 2 ^ 64 ≡
     cell_after act cell (cell_value entries cell)
 value_next entries (Act.Write x v) Granted cell b c n =
     value_written (x == cell) v (last_written (effects_on_memory entries) cell) (bumped_since (effects_on_memory entries) cell) n

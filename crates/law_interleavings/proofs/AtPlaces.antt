@@ -15,7 +15,7 @@ use Rattle.law_interleavings.proofs.Control.{legal_part}
 use Rattle.model_runs.specs.Frames.{frame_in, next_frame}
 use Rattle.law_interleavings.specs.Fronts.{IsBegun}
 use Rattle.law_interleavings.specs.Asked.{told_at, Begins}
-use Rattle.law_interleavings.specs.Traces.{Notes, Spoken, spoken_of, spoken_by, beginning, walk, place, item_of, IsLaterOf}
+use Rattle.law_interleavings.specs.Traces.{Notes, Spoken, spoken_of, spoken_by, beginning, walk, occurrence_address, occurrence_of, IsLaterOf}
 use Rattle.law_interleavings.proofs.Fronts.{begun_frame_below, frame_below, active_begun}
 use Rattle.law_interleavings.proofs.Beginnings.{beginning_alone}
 use Rattle.law_interleavings.proofs.Walks.{home, walk_home}
@@ -25,17 +25,17 @@ use Rattle.law_interleavings.proofs.Parts.{IsPart}
 use Rattle.law_interleavings.proofs.Comparisons.{home_begin}
 
 abbrev if_there : {X : Type 0} → Address → Address → X → List X
-if_there here place done = if same_at (first_difference here place) then done ∷ [] else []
+if_there here occurrence_address done = if same_at (first_difference here occurrence_address) then done ∷ [] else []
 
--- what is told of what a frame that began there did at a place, the oldest first
+-- what is told of what a frame that began there did at a occurrence_address, the oldest first
 abbrev pub picked : {Note X : Type 0} → (Spoken Note → X) → Address → Address → List (Spoken Note) → List X
-picked tell place begin [] = []
-picked tell place begin (one ∷ before) = picked tell place begin before ++ if_there (walk begin before).here place (tell one)
+picked tell occurrence_address begin [] = []
+picked tell occurrence_address begin (one ∷ before) = picked tell occurrence_address begin before ++ if_there (walk begin before).here occurrence_address (tell one)
 
-pub done_there : {X : Type 0} (here place : Address) (done : X) → here ≡ place → if_there here place done ≡ done ∷ []
+pub done_there : {X : Type 0} (here occurrence_address : Address) (done : X) → here ≡ occurrence_address → if_there here occurrence_address done ≡ done ∷ []
 done_there a p d q = let e = (same-decides a p).1 q in rw e refl
 
-not_there : {X : Type 0} (here place : Address) (done : X) → here ≢ place → if_there here place done ≡ []
+not_there : {X : Type 0} (here occurrence_address : Address) (done : X) → here ≢ occurrence_address → if_there here occurrence_address done ≡ []
 not_there a p d ne = elim (cases_Bool (same a p)) [
   | inl e ↦ absurd (ne ((same-decides a p).0 e))
   | inr e ↦ rw e refl
@@ -44,8 +44,8 @@ not_there a p d ne = elim (cases_Bool (same a p)) [
 begins_more : {X : Type 0} (xs ys zs : List X) → Begins xs ys → Begins xs (ys ++ zs)
 begins_more xs ys zs (r, q) = (r ++ zs, sym (append_assoc xs r zs) ∙ ap (λ l. l ++ zs) q)
 
-pub picked_begins : {Note X : Type 0} (tell : Spoken Note → X) (place begin : Address) (zs ws : List (Spoken Note)) → IsLaterOf zs ws →
-    Begins (picked tell place begin zs) (picked tell place begin ws)
+pub picked_begins : {Note X : Type 0} (tell : Spoken Note → X) (occurrence_address begin : Address) (zs ws : List (Spoken Note)) → IsLaterOf zs ws →
+    Begins (picked tell occurrence_address begin zs) (picked tell occurrence_address begin ws)
 picked_begins tell p b zs [] m = subst (λ l. Begins (picked tell p b l) []) (sym m) ([], refl)
 picked_begins tell p b zs (w ∷ ws) (inl e) =
     subst (λ l. Begins (picked tell p b l) (picked tell p b (w ∷ ws))) (sym e) ([], append-nil (picked tell p b (w ∷ ws)))
@@ -61,13 +61,13 @@ module _ {Note : Type 0} (shape : Shape) (T : Notes Note) where
   pub entry_home : (H : Entries) (e : Entry) → IsLegal shape (e ∷ H) →
       home (address (control_part H) e.request.strand) ≡ beginning (control_part H) (frame_in H e.request.strand)
   entry_home H e l =
-      let x = item_of T H e in
+      let x = occurrence_of T H e in
       ap home (sym (placed shape T H e l)) ∙ walk_home x.begin x.earlier ∙ home_begin shape T (e ∷ H) l x (inl refl)
 
   module _ {X : Type 0} (tell : Spoken Note → X) (told : Entry → X) (tells : TellsOf T tell told) where
-    -- nothing was done at a place that no frame has
-    none_at : (H : Entries) → IsLegal shape H → (place : Address) →
-        ((frame : ℕ) → IsBegun (control_part H) frame → home place ≡ beginning (control_part H) frame → ⊥) → told_at told H place ≡ []
+    -- nothing was done at a occurrence_address that no frame has
+    none_at : (H : Entries) → IsLegal shape H → (occurrence_address : Address) →
+        ((frame : ℕ) → IsBegun (control_part H) frame → home occurrence_address ≡ beginning (control_part H) frame → ⊥) → told_at told H occurrence_address ≡ []
     none_at [] l p without = refl
     none_at (e ∷ H) l p without =
         let s = e.request.strand in
@@ -77,9 +77,9 @@ module _ {Note : Type 0} (shape : Shape) (T : Notes Note) where
         let before = none_at H l.0 p (λ f b q. let t = frame_on shape T H e l f b in without f t.0 (q ∙ sym t.1)) in
         ap₂ (λ a b. a ++ b) before (not_there (address (control_part H) s) p (told e) apart)
 
-    -- what was done at a place is what its frame did there
-    pub frame_told : (H : Entries) → IsLegal shape H → (frame : ℕ) → IsBegun (control_part H) frame → (place : Address) →
-        home place ≡ beginning (control_part H) frame → told_at told H place ≡ picked tell place (beginning (control_part H) frame) (spoken_by T H frame)
+    -- what was done at a occurrence_address is what its frame did there
+    pub frame_told : (H : Entries) → IsLegal shape H → (frame : ℕ) → IsBegun (control_part H) frame → (occurrence_address : Address) →
+        home occurrence_address ≡ beginning (control_part H) frame → told_at told H occurrence_address ≡ picked tell occurrence_address (beginning (control_part H) frame) (spoken_by T H frame)
     frame_told [] l f b p q = refl
     frame_told (e ∷ H) l f b p q = go (λ b'. frame_told H l.0 f b' p) (frame_cases shape T H e l f b) (same_or_not (frame_in H e.request.strand) f)
       where
@@ -130,9 +130,9 @@ module _ {Note : Type 0} (shape : Shape) (T : Notes Note) where
             ∙ ap (λ x. picked tell p begin (spoken_by T H f) ++ if_there (walk begin (spoken_by T H f)).here p x) (sym (tells (next_frame H) e))
             ∙ sym (ap (picked tell p begin) (spoken_here T e H f r))
 
-    -- a place has its frame, or nothing was done there
-    frame_of_place : (H : Entries) → IsLegal shape H → (place : Address) →
-        (told_at told H place ≡ []) ⊎ ((frame : ℕ) × IsBegun (control_part H) frame × (home place ≡ beginning (control_part H) frame))
+    -- a occurrence_address has its frame, or nothing was done there
+    frame_of_place : (H : Entries) → IsLegal shape H → (occurrence_address : Address) →
+        (told_at told H occurrence_address ≡ []) ⊎ ((frame : ℕ) × IsBegun (control_part H) frame × (home occurrence_address ≡ beginning (control_part H) frame))
     frame_of_place [] l p = inl refl
     frame_of_place (e ∷ H) l p = go (frame_of_place H l.0 p) (cases_same (address (control_part H) e.request.strand) p)
       where
@@ -151,10 +151,10 @@ module _ {Note : Type 0} (shape : Shape) (T : Notes Note) where
         go (inr t) (inr q) = let on = frame_on shape T H e l t.0 t.1 in inr (t.0, on.0, t.2 ∙ sym on.1)
         go (inl n) (inr q) = inl (ap₂ (λ a b. a ++ b) n (not_there (address (control_part H) s) p (told e) q))
 
--- a part did at each place what the whole began with there
+-- a part did at each occurrence_address what the whole began with there
 pub part_begins : {Note X : Type 0} (shape : Shape) (mine T : Notes Note) (tell : Spoken Note → X) (told : Entry → X) → TellsOf mine tell told →
-    TellsOf T tell told → (H R : Entries) → IsLegal shape H → IsLegal shape R → IsPart shape mine T R H → (place : Address) →
-    Begins (told_at told H place) (told_at told R place)
+    TellsOf T tell told → (H R : Entries) → IsLegal shape H → IsLegal shape R → IsPart shape mine T R H → (occurrence_address : Address) →
+    Begins (told_at told H occurrence_address) (told_at told R occurrence_address)
 part_begins shape mine T tell told my_tells tells H R l r part p = go (frame_of_place shape mine tell told my_tells H l p)
   where
     go : (told_at told H p ≡ []) ⊎ ((frame : ℕ) × IsBegun (control_part H) frame × (home p ≡ beginning (control_part H) frame)) →

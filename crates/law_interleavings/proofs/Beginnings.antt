@@ -10,7 +10,7 @@ use Rattle.law_strands.proofs.Range.{ranges, child_seen}
 use Rattle.law_strands.proofs.Holders.{holders, Splitting, splitting}
 use Rattle.law_strands.proofs.Addresses.{addresses}
 use Rattle.law_strands.proofs.Kept.{address_stays}
-use Rattle.law_interleavings.specs.Fronts.{opening, moved_by, front, IsBegun}
+use Rattle.law_interleavings.specs.Fronts.{first_front, moved_by, front, IsBegun}
 use Rattle.law_interleavings.specs.Traces.{beginning}
 use Rattle.law_interleavings.proofs.Fronts.{begun_frame_below}
 
@@ -27,13 +27,13 @@ beginning_stays h (finished s) f le = refl
 
 -- a frame after an event: it opens, or is as it was but for the move
 pub data Later (h : History) (e : Event) (frame : ℕ) : Type 0 where
-  opens : frame ≡ suc (length h) → front (e ∷ h) frame ≡ opening (beginning (e ∷ h) frame) → Later h e frame
+  opens : frame ≡ suc (length h) → front (e ∷ h) frame ≡ first_front (beginning (e ∷ h) frame) → Later h e frame
   moves_on : front (e ∷ h) frame ≡ moved_by h e (front h) frame → beginning (e ∷ h) frame ≡ beginning h frame → Later h e frame
 
 pub later : (h : History) (e : Event) (frame : ℕ) → Later h e frame
 later h (split s c n j first) f = elim (same_or_not f (suc (length h))) [
   | inl q ↦ opens q (updated_at (moved_by h (split s c n j first) (front h)) (suc (length h)) _ f q
-      ∙ ap opening (sym (updated_at (beginning h) (suc (length h)) (extended (address h s) child) f q)))
+      ∙ ap first_front (sym (updated_at (beginning h) (suc (length h)) (extended (address h s) child) f q)))
   | inr q ↦ moves_on (updated_off (moved_by h (split s c n j first) (front h)) (suc (length h)) _ f q) (updated_off (beginning h) (suc (length h)) _ f q)
 ]
 later h (same s) f = moves_on refl refl

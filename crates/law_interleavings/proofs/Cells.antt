@@ -11,10 +11,10 @@ use Rattle.model_histories.specs.declared.answer.Answer.TheVariants.{Granted, Re
 use Rattle.model_histories.specs.Entries.{Entries}
 use Rattle.model_histories.specs.Shapes.{Shape}
 use Rattle.model_histories.specs.Legal.{Belongs, IsLegal}
-use Rattle.model_races.specs.Memory.{CellEffect, sets, adds, leaves, effect, effects, last_written, bumped_since, cell_value}
+use Rattle.model_races.specs.Memory.{CellEffect, sets, adds, leaves, effect_on_cell, effects, last_written, bumped_since, cell_value}
 use Rattle.model_races.specs.Verdicts.{MemoryIsJudged}
 use Rattle.model_histories.specs.Extensions.{IsCleanAnswer}
-use Rattle.law_interleavings.specs.Traces.{Notes, Item, trace, Precedes}
+use Rattle.law_interleavings.specs.Traces.{Notes, Occurrence, trace, Precedes}
 use Rattle.law_interleavings.proofs.Swaps.{Member, Paired, after_all, IsOrdered, IsSwappable, same_state}
 use Rattle.law_interleavings.proofs.Traces.{ordered, distinct}
 use Rattle.law_interleavings.proofs.Spoken.{NoneRefused}
@@ -23,11 +23,11 @@ use Rattle.law_interleavings.proofs.Races.{Conflict, compared}
 
 -- ---- the items of a list that pass a test
 
-abbrev pub kept : {Note : Type 0} → (Item Note → Bool) → List (Item Note) → List (Item Note)
+abbrev pub kept : {Note : Type 0} → (Occurrence Note → Bool) → List (Occurrence Note) → List (Occurrence Note)
 kept test [] = []
 kept test (x ∷ xs) = cond (test x) (x ∷ kept test xs) (kept test xs)
 
-pub kept_in : {Note : Type 0} → (test : Item Note → Bool) (xs : List (Item Note)) (y : Item Note) → Member (kept test xs) y → Member xs y × (test y ≡ true)
+pub kept_in : {Note : Type 0} → (test : Occurrence Note → Bool) (xs : List (Occurrence Note)) (y : Occurrence Note) → Member (kept test xs) y → Member xs y × (test y ≡ true)
 kept_in test [] y m = absurd m
 kept_in test (x ∷ xs) y m = go (kept_in test xs y) (test x) refl m
   where
@@ -37,7 +37,7 @@ kept_in test (x ∷ xs) y m = go (kept_in test xs y) (test x) refl m
     go again true e (inr n) = let t = again n in (inr t.0, t.1)
     go again false e n = let t = again n in (inr t.0, t.1)
 
-pub in_kept : {Note : Type 0} → (test : Item Note → Bool) (xs : List (Item Note)) (y : Item Note) → Member xs y → test y ≡ true → Member (kept test xs) y
+pub in_kept : {Note : Type 0} → (test : Occurrence Note → Bool) (xs : List (Occurrence Note)) (y : Occurrence Note) → Member xs y → test y ≡ true → Member (kept test xs) y
 in_kept test [] y m t = absurd m
 in_kept test (x ∷ xs) y m t = go (λ n. in_kept test xs y n t) (test x) refl m
   where
@@ -47,7 +47,7 @@ in_kept test (x ∷ xs) y m t = go (λ n. in_kept test xs y n t) (test x) refl m
     go again false e (inl q) = let u : test x ≡ true = ap test (sym q) ∙ t in absurd (cc)
     go again false e (inr n) = again n
 
-kept_paired : {Note : Type 0} → (test : Item Note → Bool) (R : Item Note → Item Note → Type 0) (xs : List (Item Note)) → Paired R xs → Paired R (kept test xs)
+kept_paired : {Note : Type 0} → (test : Occurrence Note → Bool) (R : Occurrence Note → Occurrence Note → Type 0) (xs : List (Occurrence Note)) → Paired R xs → Paired R (kept test xs)
 kept_paired test R [] p = p
 kept_paired test R (x ∷ xs) p = go (kept_paired test R xs p.1) (test x)
   where
@@ -57,7 +57,7 @@ kept_paired test R (x ∷ xs) p = go (kept_paired test R xs p.1) (test x)
 
 -- ---- effects on a cell
 
--- what a cell holds after an effect, by what it held before
+-- what a cell holds after an effect_on_cell, by what it held before
 abbrev after : CellEffect → ℕ → ℕ → ℕ
 after (sets location value) cell held = if location == cell then value % 2 ^ 64 else held
 after (adds location value) cell held = if location == cell then (held + value) % 2 ^ 64 else held
@@ -69,7 +69,7 @@ cell_effect (Write location value) = sets location value
 cell_effect (Bump location value) = adds location value
 cell_effect act = leaves
 
-abbrev acts_on : {Note : Type 0} → ℕ → Item Note → ℕ → ℕ
+abbrev acts_on : {Note : Type 0} → ℕ → Occurrence Note → ℕ → ℕ
 acts_on cell x held = after (cell_effect x.newest.act) cell held
 
 -- the act is a write or a bump of the cell
@@ -78,10 +78,10 @@ touches cell (Write location value) = location == cell
 touches cell (Bump location value) = location == cell
 touches cell act = false
 
-abbrev pub touching : {Note : Type 0} → ℕ → Item Note → Bool
+abbrev pub touching : {Note : Type 0} → ℕ → Occurrence Note → Bool
 touching cell x = touches cell x.newest.act
 
-clean_effect : (act : Act) (answer : Answer) → Belongs act answer → IsCleanAnswer answer → effect act answer ≡ cell_effect act
+clean_effect : (act : Act) (answer : Answer) → Belongs act answer → IsCleanAnswer answer → effect_on_cell act answer ≡ cell_effect act
 clean_effect (Write l v) Granted b c = refl
 clean_effect (Write l v) (Refused rule w) b c = absurd c
 clean_effect (Write l v) _ b c = absurd b
@@ -119,7 +119,7 @@ idle c (Write l v) s e = rw e refl
 idle c (Bump l v) s e = rw e refl
 idle c _ s e = refl
 
-kept_state : {Note : Type 0} → (cell : ℕ) (xs : List (Item Note)) → after_all (acts_on cell) 0 (kept (touching cell) xs) ≡ after_all (acts_on cell) 0 xs
+kept_state : {Note : Type 0} → (cell : ℕ) (xs : List (Occurrence Note)) → after_all (acts_on cell) 0 (kept (touching cell) xs) ≡ after_all (acts_on cell) 0 xs
 kept_state c [] = refl
 kept_state c (x ∷ xs) = go (kept_state c xs) (touching c x) refl
   where
@@ -218,12 +218,12 @@ module _ {Note : Type 0} (shape : Shape) where
   cell_state : (T : Notes Note) (H : Entries) → IsLegal shape H → NoneRefused H → (cell : ℕ) → cell_value H cell ≡ after_all (acts_on cell) 0 (trace T H)
   cell_state T [] l c cell = refl
   cell_state T (e ∷ H) l c cell =
-      held_after (effect e.request.act e.answer) (effects H) cell
+      held_after (effect_on_cell e.request.act e.answer) (effects H) cell
       ∙ ap (λ one. after one cell (cell_value H cell)) (clean_effect e.request.act e.answer l.1.belongs c.0)
       ∙ ap (after (cell_effect e.request.act) cell) (cell_state T H l.0 c.1 cell)
 
   -- the deeds that touch a cell may be swapped, or one precedes the other
-  swaps : (T : Notes Note) (R : Entries) → IsLegal shape R → MemoryIsJudged R → NoneRefused R → (cell : ℕ) (x y : Item Note) → Member (trace T R) x →
+  swaps : (T : Notes Note) (R : Entries) → IsLegal shape R → MemoryIsJudged R → NoneRefused R → (cell : ℕ) (x y : Occurrence Note) → Member (trace T R) x →
       Member (trace T R) y → touching cell x ≡ true → touching cell y ≡ true → x ≢ y → IsSwappable (acts_on cell) Precedes x y
   swaps T R l j c cell x y m n t u ne = elim (conflict_or_swap cell x.newest.act y.newest.act t u) [
     | inr k ↦ inr (inr k)
@@ -243,8 +243,8 @@ module _ {Note : Type 0} (shape : Shape) where
   -- Two histories in which the same deeds touch a cell leave it with the same value, where these deeds are of one clean history.
   pub same_cell : (T : Notes Note) (R : Entries) → IsLegal shape R → MemoryIsJudged R → NoneRefused R → (mine theirs : Notes Note) (H K : Entries) →
       IsLegal shape H → NoneRefused H → IsLegal shape K → NoneRefused K → (cell : ℕ) →
-      ((x : Item Note) → Member (trace mine H) x → touching cell x ≡ true → Member (trace T R) x × Member (trace theirs K) x) →
-      ((x : Item Note) → Member (trace theirs K) x → touching cell x ≡ true → Member (trace mine H) x) →
+      ((x : Occurrence Note) → Member (trace mine H) x → touching cell x ≡ true → Member (trace T R) x × Member (trace theirs K) x) →
+      ((x : Occurrence Note) → Member (trace theirs K) x → touching cell x ≡ true → Member (trace mine H) x) →
       cell_value H cell ≡ cell_value K cell
   same_cell T R r j rc mine theirs H K l c k d cell to back =
       let mine_kept = kept (touching cell) (trace mine H) in

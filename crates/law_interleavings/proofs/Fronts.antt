@@ -16,7 +16,7 @@ use Rattle.law_strands.proofs.Range.{ranges, child_seen, next_seen}
 use Rattle.law_strands.proofs.Holders.{holders, Splitting, splitting, running_open, join_reserved, reserved_before_end, reserved_before_join}
 use Rattle.law_strands.proofs.Kept.{address_stays, Rests, rests, join_law}
 use Rattle.model_runs.specs.Frames.{frame_of}
-use Rattle.law_interleavings.specs.Fronts.{Nest, inside, opened, gone, Front, opening, after_spawn, after_sync, after_return, moved, act_in, frame_at, moved_by, front, nest_of, stands_at, IsActive, IsBegun, AreFronts}
+use Rattle.law_interleavings.specs.Fronts.{Nest, inside, opened, gone, Front, first_front, after_spawn, after_sync, after_return, moved, act_in, frame_at, moved_by, front, nest_of, stands_at, IsActive, IsBegun, AreFronts}
 
 -- who goes on after an event of a strand
 abbrev join_here : Stack → ℕ
@@ -40,7 +40,7 @@ data After (history : History) (event : Event) (number : ℕ) : Type 0 where
   goes_on : number ≡ heir history event → frame_at (event ∷ history) number ≡ frame_at history (strand_of event) →
       stands_at (event ∷ history) number ≡ moved (stands_at history (strand_of event)) (act_in event) → After history event number
   begins : IsChild event number → frame_at (event ∷ history) number ≡ suc (length history) →
-      stands_at (event ∷ history) number ≡ opening (extended (address history (strand_of event)) child) → After history event number
+      stands_at (event ∷ history) number ≡ first_front (extended (address history (strand_of event)) child) → After history event number
 
 -- the nest of a known stack stays
 nest_stays : (h : History) (e : Event) → Legal (e ∷ h) → (st : Stack) → Rests h st → nest_of (e ∷ h) st ≡ nest_of h st
@@ -359,7 +359,7 @@ front_moves h (ended s) f q le = updated_at (front h) (frame_at h s) _ f q
 front_moves h (ended_joined s j) f q le = updated_at (front h) (frame_at h s) _ f q
 front_moves h (finished s) f q le = updated_at (front h) (frame_at h s) _ f q
 
-pub front_opens : (h : History) (e : Event) (n frame : ℕ) → IsChild e n → frame ≡ suc (length h) → front (e ∷ h) frame ≡ opening (extended (address h (strand_of e)) child)
+pub front_opens : (h : History) (e : Event) (n frame : ℕ) → IsChild e n → frame ≡ suc (length h) → front (e ∷ h) frame ≡ first_front (extended (address h (strand_of e)) child)
 front_opens h (split s c n j first) k f w q = updated_at (moved_by h (split s c n j first) (front h)) (suc (length h)) _ f q
 front_opens h (same s) k f w q = absurd w
 front_opens h (joined s j) k f w q = absurd w
@@ -541,7 +541,7 @@ found_after h e l a w f b = elim (begun_cases h e l a f b) [ inl t ↦ inr t | i
 -- at first the root function's strand stands at its begin
 fronts_first : AreFronts []
 fronts_first = record {
-  at = λ n act. ap (λ z. opening []) (only n act);
+  at = λ n act. ap (λ z. first_front []) (only n act);
   alone = λ n m p q f. only n p ∙ sym (only m q);
   found = λ f b. inr (0, inl (updated_at (λ y. absent) 0 running 0 refl), sym b);
 }

@@ -27,7 +27,7 @@ use Rattle.model_histories.specs.Shapes.{Shape}
 use Rattle.model_histories.specs.Legal.{IsLegal}
 use Rattle.model_races.specs.Reducers.{steps_of}
 use Rattle.law_interleavings.proofs.Control.{legal_part, steps_control}
-use Rattle.law_interleavings.specs.Traces.{Notes, Item, place, item_of, trace, Precedes}
+use Rattle.law_interleavings.specs.Traces.{Notes, Occurrence, occurrence_address, occurrence_of, trace, Precedes}
 use Rattle.law_interleavings.proofs.Swaps.{Member}
 use Rattle.law_interleavings.proofs.Traces.{ordered, distinct}
 use Rattle.law_interleavings.proofs.Spoken.{NoneRefused}
@@ -35,16 +35,16 @@ use Rattle.law_interleavings.proofs.Comparisons.{less_more, begins_same, same_it
 use Rattle.law_interleavings.proofs.ReducerDeeds.{HasNumber, number_member, one_item, by_number, precedes_number, updating, putting, Deed, deed_of_change, change_of_deed}
 
 -- the serial order of deeds
-abbrev pub Serially : {Note : Type 0} → Item Note → Item Note → Type 0
-Serially one other = (english_before (place one) (place other) ≡ true) ⊎ ((place one ≡ place other) × (length one.earlier < length other.earlier))
+abbrev pub Serially : {Note : Type 0} → Occurrence Note → Occurrence Note → Type 0
+Serially one other = (english_before (occurrence_address one) (occurrence_address other) ≡ true) ⊎ ((occurrence_address one ≡ occurrence_address other) × (length one.earlier < length other.earlier))
 
 not_itself : (a : Address) → english_before a a ≡ true → ⊥
 not_itself a e = let f = before-irreflexive english a in cc
 
-pub serially_strict : {Note : Type 0} → (x y : Item Note) → Serially x y → Serially y x → ⊥
-serially_strict x y (inl a) (inl b) = not_itself (place x) (before-transitive english (place x) (place y) (place x) a b)
-serially_strict x y (inl a) (inr b) = not_itself (place x) (subst (λ z. english_before (place x) z ≡ true) b.0 a)
-serially_strict x y (inr a) (inl b) = not_itself (place y) (subst (λ z. english_before (place y) z ≡ true) a.0 b)
+pub serially_strict : {Note : Type 0} → (x y : Occurrence Note) → Serially x y → Serially y x → ⊥
+serially_strict x y (inl a) (inl b) = not_itself (occurrence_address x) (before-transitive english (occurrence_address x) (occurrence_address y) (occurrence_address x) a b)
+serially_strict x y (inl a) (inr b) = not_itself (occurrence_address x) (subst (λ z. english_before (occurrence_address x) z ≡ true) b.0 a)
+serially_strict x y (inr a) (inl b) = not_itself (occurrence_address y) (subst (λ z. english_before (occurrence_address y) z ≡ true) a.0 b)
 serially_strict x y (inr a) (inr b) = let t = a.1 in let u = b.1 in omega arith
 
 -- the value that an update or a put has
@@ -64,35 +64,35 @@ map_alike {Z = Z} f g h (x ∷ xs) e =
     cc
 
 module _ {Note : Type 0} (shape : Shape) (T : Notes Note) where
-  abbrev item_no : Entries → ℕ → Item Note
-  item_no [] number = item_of T [] no_entry
-  item_no (e ∷ H) number = cond (eqb number (suc (length H))) (item_of T H e) (item_no H number)
+  abbrev item_no : Entries → ℕ → Occurrence Note
+  item_no [] number = occurrence_of T [] no_entry
+  item_no (e ∷ H) number = cond (eqb number (suc (length H))) (occurrence_of T H e) (item_no H number)
 
-  item_no_is : (H : Entries) (n : ℕ) (y : Item Note) → HasNumber shape T H n y → item_no H n ≡ y
+  item_no_is : (H : Entries) (n : ℕ) (y : Occurrence Note) → HasNumber shape T H n y → item_no H n ≡ y
   item_no_is [] n y h = absurd h
   item_no_is (e ∷ H) n y h = elim (eqb_tells n (suc (length H))) [
-    | inl t ↦ rw t.0 (one_item shape T (e ∷ H) n (item_of T H e) y (inl (t.1, refl)) h)
+    | inl t ↦ rw t.0 (one_item shape T (e ∷ H) n (occurrence_of T H e) y (inl (t.1, refl)) h)
     | inr t ↦ rw t.0 (elim h [ inl k ↦ absurd (t.1 k.0) | inr k ↦ item_no_is H n y k ])
   ]
 
   -- an update that counts at a get behind the put
-  abbrev pub IsCounted : ℕ → Entries → Item Note → Address → Item Note → Type 0
+  abbrev pub IsCounted : ℕ → Entries → Occurrence Note → Address → Occurrence Note → Type 0
   IsCounted reducer H put own y =
-      Member (trace T H) y × ((value : ℕ) × (y.newest.act ≡ Update reducer value)) × Precedes put y × (reaches (place y) own ≡ true)
+      Member (trace T H) y × ((value : ℕ) × (y.newest.act ≡ Update reducer value)) × Precedes put y × (reaches (occurrence_address y) own ≡ true)
 
   pub record GetDeeds {View : Type 0} (reducer : Reducer View) (number : ℕ) (H : Entries) (own : Address) (view : View) : Type 0 where
-    pub put : Item Note
+    pub put : Occurrence Note
     pub put_done : Member (trace T H) put
     pub put_value : ℕ
     pub put_act : put.newest.act ≡ Put number put_value
-    pub last : (z : Item Note) → Member (trace T H) z → (w : ℕ) → z.newest.act ≡ Put number w → (z ≡ put) ⊎ ((z ≢ put) × (Precedes put z → ⊥))
-    pub counted : List (Item Note)
+    pub last : (z : Occurrence Note) → Member (trace T H) z → (w : ℕ) → z.newest.act ≡ Put number w → (z ≡ put) ⊎ ((z ≢ put) × (Precedes put z → ⊥))
+    pub counted : List (Occurrence Note)
     pub sorted : AllPairs Serially counted
-    pub members : (y : Item Note) → Present y counted ↔ IsCounted number H put own y
+    pub members : (y : Occurrence Note) → Present y counted ↔ IsCounted number H put own y
     pub view_is : view ≡ reducer.combine (reducer.of_put put_value) (product reducer (map (λ y. reducer.of_update (amount y.newest.act)) counted))
 
-  -- of deeds at one place the earlier has done less
-  earlier_less : (H : Entries) → IsLegal shape H → (n m : ℕ) (y z : Item Note) → HasNumber shape T H n y → HasNumber shape T H m z → n < m → place y ≡ place z →
+  -- of deeds at one occurrence_address the earlier has done less
+  earlier_less : (H : Entries) → IsLegal shape H → (n m : ℕ) (y z : Occurrence Note) → HasNumber shape T H n y → HasNumber shape T H m z → n < m → occurrence_address y ≡ occurrence_address z →
       length y.earlier < length z.earlier
   earlier_less H l n m y z h k lt q =
       let my = number_member shape T H n y h in
@@ -117,7 +117,7 @@ module _ {Note : Type 0} (shape : Shape) (T : Notes Note) where
     p_done : Member (trace T H) p.deed
     p_done = number_member shape T H (entry_number is.put) p.deed p.numbered
 
-    abbrev the_item : NumberedEntry → Item Note
+    abbrev the_item : NumberedEntry → Occurrence Note
     the_item u = item_no H (entry_number u)
 
     counts_of : (u : NumberedEntry) → Present u is.counted → Counts (items_of r (steps_of H)) is.put s u
@@ -148,7 +148,7 @@ module _ {Note : Type 0} (shape : Shape) (T : Notes Note) where
             let q = d.at ∙ ap (address (control_part H)) k.0 ∙ sym e.at in
             inr (q, earlier_less H l (entry_number u) (entry_number v) d.deed e.deed d.numbered e.numbered k.1 q)
 
-    put_not_update : (y : Item Note) (v : ℕ) → y.newest.act ≡ Update r v → p.deed ≢ y
+    put_not_update : (y : Occurrence Note) (v : ℕ) → y.newest.act ≡ Update r v → p.deed ≢ y
     put_not_update y v q e = let k : Put r (entry_value is.put) ≡ Update r v = sym p.act ∙ ap (λ z. z.newest.act) e ∙ q in cc
 
     counted_to : (u : NumberedEntry) → (m : Present u is.counted) → IsCounted r H p.deed (address (control_part H) s) (deed_is u m).deed
@@ -160,7 +160,7 @@ module _ {Note : Type 0} (shape : Shape) (T : Notes Note) where
         let done = number_member shape T H (entry_number u) d.deed d.numbered in
         let from_put = reach_precedes h lh (strand_of is.put) (strand_of u) (subst (λ z. Reaches z (strand_of is.put) (strand_of u)) same_control k.2) in
         let to_own = reach_precedes h lh (strand_of u) s (subst (λ z. Reaches z (strand_of u) s) same_control k.3) in
-        let leads : reaches (place p.deed) (place d.deed) ≡ true = subst₂ (λ a b. reaches a b ≡ true) (sym p.at) (sym d.at) from_put in
+        let leads : reaches (occurrence_address p.deed) (occurrence_address d.deed) ≡ true = subst₂ (λ a b. reaches a b ≡ true) (sym p.at) (sym d.at) from_put in
         let first : Precedes p.deed d.deed =
         elim (order_of shape T H l p.deed d.deed p_done done (put_not_update d.deed (entry_value u) d.act) leads) [
           | inl t ↦ t
@@ -168,12 +168,12 @@ module _ {Note : Type 0} (shape : Shape) (T : Notes Note) where
         ] in
         (done, (entry_value u, d.act), first, subst (λ a. reaches a (address h s) ≡ true) (sym d.at) to_own)
 
-    members_to : (y : Item Note) → Present y (map the_item is.counted) → IsCounted r H p.deed (address (control_part H) s) y
+    members_to : (y : Occurrence Note) → Present y (map the_item is.counted) → IsCounted r H p.deed (address (control_part H) s) y
     members_to y m =
         let t = present_map the_item y is.counted m in
         subst (IsCounted r H p.deed (address (control_part H) s)) (sym (deed_at t.0 t.1) ∙ t.2) (counted_to t.0 t.1)
 
-    members_from : (y : Item Note) → IsCounted r H p.deed (address (control_part H) s) y → Present y (map the_item is.counted)
+    members_from : (y : Occurrence Note) → IsCounted r H p.deed (address (control_part H) s) y → Present y (map the_item is.counted)
     members_from y m =
         let d = change_of_deed shape T updating r m.1.0 H l c y m.0 m.1.1 in
         let h = control_part H in
@@ -192,7 +192,7 @@ module _ {Note : Type 0} (shape : Shape) (T : Notes Note) where
         let listed = (contains_present d.entry is.counted).0 ((is.counts.1 d.entry).1 counts) in
         subst (λ z. Present z (map the_item is.counted)) (item_no_is H (entry_number d.entry) y d.numbered) (map_present the_item d.entry is.counted listed)
 
-    last_of : (z : Item Note) → Member (trace T H) z → (w : ℕ) → z.newest.act ≡ Put r w → (z ≡ p.deed) ⊎ ((z ≢ p.deed) × (Precedes p.deed z → ⊥))
+    last_of : (z : Occurrence Note) → Member (trace T H) z → (w : ℕ) → z.newest.act ≡ Put r w → (z ≡ p.deed) ⊎ ((z ≢ p.deed) × (Precedes p.deed z → ⊥))
     last_of z m w q =
         let d = change_of_deed shape T putting r w H l c z m q in
         let le = is.last.1 d.entry d.has in

@@ -7,7 +7,7 @@ use Rattle.model_histories.specs.Shapes.{Shape}
 use Rattle.model_histories.specs.Extensions.{IsClean, IsCleanAnswer}
 use Rattle.model_races.specs.Judged.{IsJudged}
 use Rattle.model_runs.specs.Serial.{value_given}
-use Rattle.law_interleavings.specs.Traces.{Notes, Spoken, Item, item_of, trace}
+use Rattle.law_interleavings.specs.Traces.{Notes, Spoken, Occurrence, occurrence_of, trace}
 use Rattle.law_interleavings.proofs.Swaps.{Member}
 use Rattle.law_interleavings.proofs.Spoken.{NoneRefused}
 use Rattle.law_interleavings.proofs.Traces.{entry_of}
@@ -32,10 +32,10 @@ module _ {Note : Type 0} where
   spoken_same : (one other : Spoken Note) → one.act ≡ other.act → one.note ≡ other.note → one.value ≡ other.value → one ≡ other
   spoken_same one other a n v = λ i. record { act = a i; note = n i; value = v i }
 
-  abbrev made : Item Note → Spoken Note → Item Note
+  abbrev made : Occurrence Note → Spoken Note → Occurrence Note
   made x newest = record { begin = x.begin; newest = newest; earlier = x.earlier }
 
-  newest_same : (x : Item Note) (newest : Spoken Note) → newest ≡ x.newest → made x newest ≡ x
+  newest_same : (x : Occurrence Note) (newest : Spoken Note) → newest ≡ x.newest → made x newest ≡ x
   newest_same x newest e = λ i. record { begin = x.begin; newest = e i; earlier = x.earlier }
 
 module _ {Note : Type 0} (shape : Shape) (mine T : Notes Note) where
@@ -47,8 +47,8 @@ module _ {Note : Type 0} (shape : Shape) (mine T : Notes Note) where
 
   -- the answer, where the whole is divided at its entry
   answered_like : (H : Entries) (e : Entry) → IsJudged shape (e ∷ H) → NoneRefused H → (later : Entries) (entry : Entry) (before : Entries) →
-      Facts H (later ++ entry ∷ before) → (item_of mine H e).begin ≡ (item_of T before entry).begin →
-      (item_of mine H e).earlier ≡ (item_of T before entry).earlier → e.request.act ≡ entry.request.act → IsLike e.answer entry.answer
+      Facts H (later ++ entry ∷ before) → (occurrence_of mine H e).begin ≡ (occurrence_of T before entry).begin →
+      (occurrence_of mine H e).earlier ≡ (occurrence_of T before entry).earlier → e.request.act ≡ entry.request.act → IsLike e.answer entry.answer
   answered_like H e judged c later entry before facts b q a =
       let meeting : Meeting shape mine T =
       record {
@@ -69,7 +69,7 @@ module _ {Note : Type 0} (shape : Shape) (mine T : Notes Note) where
   part_step : (R : Entries) → IsJudged shape R → NoneRefused R → (H : Entries) (e : Entry) → IsJudged shape (e ∷ H) → NoneRefused H →
       IsPart shape mine T R H → Wanted shape mine T R H e → NoneRefused (e ∷ H) × IsPart shape mine T R (e ∷ H)
   part_step R whole rc H e judged c part w =
-      let x = item_of mine H e in
+      let x = occurrence_of mine H e in
       let y = made x w.newest in
       let en = entry_of shape T R y w.done in
       let facts : Facts H (en.later ++ en.entry ∷ en.before) = subst (Facts H) en.whole (record { judged = whole; clean = rc; part = part }) in

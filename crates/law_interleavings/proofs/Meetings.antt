@@ -1,4 +1,4 @@
--- Where a part asks what the whole did at that place, what comes before it is the same in both.
+-- Where a part asks what the whole did at that occurrence_address, what comes before it is the same in both.
 use Rattle.std.proofs.Common.{◌≡◌, ◌⊎◌, inl, inr, ◌<◌, true, [], ◌∷◌, ◌++◌, length, refl, sym, ◌∙◌, subst}
 use Rattle.model_strands.specs.Address.{Address}
 use Rattle.law_addresses.specs.Address.{reaches}
@@ -10,7 +10,7 @@ use Rattle.model_histories.specs.Shapes.{Shape}
 use Rattle.model_histories.specs.Legal.{IsLegal}
 use Rattle.law_interleavings.proofs.Control.{legal_part}
 use Rattle.model_runs.specs.Frames.{frame_in}
-use Rattle.law_interleavings.specs.Traces.{Notes, spoken_by, beginning, walk, Item, place, item_of, trace, Precedes, IsLaterOf}
+use Rattle.law_interleavings.specs.Traces.{Notes, spoken_by, beginning, walk, Occurrence, occurrence_address, occurrence_of, trace, Precedes, IsLaterOf}
 use Rattle.law_interleavings.proofs.Swaps.{Member}
 use Rattle.law_interleavings.proofs.Fronts.{active_begun}
 use Rattle.law_interleavings.proofs.Traces.{placed, deed_of}
@@ -18,7 +18,7 @@ use Rattle.law_interleavings.proofs.Parts.{IsPart, included, reached}
 use Rattle.law_interleavings.proofs.Comparisons.{within_frame, leads_first, must_lead, member_before}
 
 module _ {Note : Type 0} (shape : Shape) (mine T : Notes Note) where
-  -- the whole is a history with an entry after some others, and the part comes to an entry at the same place with the same deeds of its frame before
+  -- the whole is a history with an entry after some others, and the part comes to an entry at the same occurrence_address with the same deeds of its frame before
   pub record Meeting : Type 0 where
     pub later : Entries
     pub entry : Entry
@@ -28,30 +28,30 @@ module _ {Note : Type 0} (shape : Shape) (mine T : Notes Note) where
     pub whole_legal : IsLegal shape (later ++ entry ∷ before)
     pub part_legal : IsLegal shape (next ∷ part)
     pub is_part : IsPart shape mine T (later ++ entry ∷ before) part
-    pub begin : (item_of mine part next).begin ≡ (item_of T before entry).begin
-    pub earlier : (item_of mine part next).earlier ≡ (item_of T before entry).earlier
+    pub begin : (occurrence_of mine part next).begin ≡ (occurrence_of T before entry).begin
+    pub earlier : (occurrence_of mine part next).earlier ≡ (occurrence_of T before entry).earlier
 
-  abbrev begun_at : Item Note → Address → Item Note
+  abbrev begun_at : Occurrence Note → Address → Occurrence Note
   begun_at x begin = record { begin = begin; newest = x.newest; earlier = x.earlier }
 
-  begin_at : (x : Item Note) (a : Address) → a ≡ x.begin → begun_at x a ≡ x
+  begin_at : (x : Occurrence Note) (a : Address) → a ≡ x.begin → begun_at x a ≡ x
   begin_at x a e = λ i. record { begin = e i; newest = x.newest; earlier = x.earlier }
 
   module _ (meeting : Meeting) where
     abbrev pub whole : Entries
     whole = meeting.later ++ meeting.entry ∷ meeting.before
 
-    abbrev pub own : Item Note
-    own = item_of mine meeting.part meeting.next
+    abbrev pub own : Occurrence Note
+    own = occurrence_of mine meeting.part meeting.next
 
-    abbrev pub other : Item Note
-    other = item_of T meeting.before meeting.entry
+    abbrev pub other : Occurrence Note
+    other = occurrence_of T meeting.before meeting.entry
 
-    pub place_same : place own ≡ place other
+    pub place_same : occurrence_address own ≡ occurrence_address other
     place_same = λ i. (walk (meeting.begin i) (meeting.earlier i)).here
 
-    precedes_same : (y : Item Note) → Precedes y own → Precedes y other
-    precedes_same y (inl p) = inl (subst (λ a. (reaches (place y) a ≡ true) × (place y ≡ a → ⊥)) place_same p)
+    precedes_same : (y : Occurrence Note) → Precedes y own → Precedes y other
+    precedes_same y (inl p) = inl (subst (λ a. (reaches (occurrence_address y) a ≡ true) × (occurrence_address y ≡ a → ⊥)) place_same p)
     precedes_same y (inr p) = inr (p.0 ∙ meeting.begin, subst (λ l. length y.earlier < length l) meeting.earlier p.1)
 
     -- the whole was legal when it came to its entry
@@ -62,33 +62,33 @@ module _ {Note : Type 0} (shape : Shape) (mine T : Notes Note) where
     pub then_legal : IsLegal shape (meeting.entry ∷ meeting.before)
     then_legal = earlier_legal meeting.later meeting.entry meeting.before meeting.whole_legal
 
-    pub member_later : (later : Entries) (entry : Entry) (before : Entries) (y : Item Note) → Member (trace T (entry ∷ before)) y → Member (trace T (later ++ entry ∷ before)) y
+    pub member_later : (later : Entries) (entry : Entry) (before : Entries) (y : Occurrence Note) → Member (trace T (entry ∷ before)) y → Member (trace T (later ++ entry ∷ before)) y
     member_later [] entry before y m = m
     member_later (d ∷ later) entry before y m = inr (member_later later entry before y m)
 
-    pub mine_in_whole : (y : Item Note) → Member (trace mine meeting.part) y → Member (trace T whole) y
+    pub mine_in_whole : (y : Occurrence Note) → Member (trace mine meeting.part) y → Member (trace T whole) y
     mine_in_whole y m = included shape mine T whole meeting.part meeting.part_legal.0 meeting.whole_legal meeting.is_part y m
 
-    pub theirs_in_whole : (y : Item Note) → Member (trace T meeting.before) y → Member (trace T whole) y
+    pub theirs_in_whole : (y : Occurrence Note) → Member (trace T meeting.before) y → Member (trace T whole) y
     theirs_in_whole y m = member_later meeting.later meeting.entry meeting.before y (inr m)
 
-    -- what reaches the place and was done in the part was done in the whole before
-    pub mine_before : (y : Item Note) → Member (trace mine meeting.part) y → reaches (place y) (place own) ≡ true → Member (trace T meeting.before) y
+    -- what reaches the occurrence_address and was done in the part was done in the whole before
+    pub mine_before : (y : Occurrence Note) → Member (trace mine meeting.part) y → reaches (occurrence_address y) (occurrence_address own) ≡ true → Member (trace T meeting.before) y
     mine_before y m r =
         member_before shape T meeting.later meeting.entry meeting.before meeting.whole_legal other y refl (mine_in_whole y m)
         (precedes_same y (leads_first shape mine meeting.part meeting.next meeting.part_legal y m r))
 
     -- and the other way
-    pub theirs_before : (y : Item Note) → Member (trace T meeting.before) y → reaches (place y) (place other) ≡ true → Member (trace mine meeting.part) y
+    pub theirs_before : (y : Occurrence Note) → Member (trace T meeting.before) y → reaches (occurrence_address y) (occurrence_address other) ≡ true → Member (trace mine meeting.part) y
     theirs_before y m r = go (leads_first shape T meeting.before meeting.entry then_legal y m r)
       where
         go : Precedes y other → Member (trace mine meeting.part) y
         go (inl p) =
             let at = placed shape mine meeting.part meeting.next meeting.part_legal in
-            let there : place other ≡ address (control_part meeting.part) meeting.next.request.strand = sym place_same ∙ at in
+            let there : occurrence_address other ≡ address (control_part meeting.part) meeting.next.request.strand = sym place_same ∙ at in
             reached shape mine T whole meeting.part meeting.part_legal.0 meeting.whole_legal meeting.is_part meeting.next.request.strand meeting.part_legal.1.runs
             whole meeting.whole_legal (λ z n. n) y (theirs_in_whole y m)
-            (subst (λ a. reaches (place y) a ≡ true) there p.0) (λ q. p.1 (q ∙ sym there))
+            (subst (λ a. reaches (occurrence_address y) a ≡ true) there p.0) (λ q. p.1 (q ∙ sym there))
         go (inr p) =
             let own_frame = frame_in meeting.part meeting.next.request.strand in
             let begun = active_begun (legal_part shape meeting.part meeting.part_legal.0) meeting.next.request.strand (inl meeting.part_legal.1.runs) in
@@ -99,17 +99,17 @@ module _ {Note : Type 0} (shape : Shape) (mine T : Notes Note) where
             subst (Member (trace mine meeting.part)) (begin_at y (beginning (control_part meeting.part) own_frame) b)
             (deed_of shape mine meeting.part meeting.part_legal.0 own_frame begun y.newest y.earlier v)
 
-    -- what is comparable reaches the place
-    pub mine_leads : (y : Item Note) → Member (trace mine meeting.part) y → (reaches (place y) (place own) ≡ true) ⊎ (reaches (place own) (place y) ≡ true) →
-        reaches (place y) (place own) ≡ true
+    -- what is comparable reaches the occurrence_address
+    pub mine_leads : (y : Occurrence Note) → Member (trace mine meeting.part) y → (reaches (occurrence_address y) (occurrence_address own) ≡ true) ⊎ (reaches (occurrence_address own) (occurrence_address y) ≡ true) →
+        reaches (occurrence_address y) (occurrence_address own) ≡ true
     mine_leads y m (inl r) = r
     mine_leads y m (inr r) =
         let q = must_lead shape mine meeting.part meeting.next meeting.part_legal y m r in
-        subst (λ a. reaches a (place own) ≡ true) q (reaches-self (place own))
+        subst (λ a. reaches a (occurrence_address own) ≡ true) q (reaches-self (occurrence_address own))
 
-    pub theirs_leads : (y : Item Note) → Member (trace T meeting.before) y → (reaches (place y) (place other) ≡ true) ⊎ (reaches (place other) (place y) ≡ true) →
-        reaches (place y) (place other) ≡ true
+    pub theirs_leads : (y : Occurrence Note) → Member (trace T meeting.before) y → (reaches (occurrence_address y) (occurrence_address other) ≡ true) ⊎ (reaches (occurrence_address other) (occurrence_address y) ≡ true) →
+        reaches (occurrence_address y) (occurrence_address other) ≡ true
     theirs_leads y m (inl r) = r
     theirs_leads y m (inr r) =
         let q = must_lead shape T meeting.before meeting.entry then_legal y m r in
-        subst (λ a. reaches a (place other) ≡ true) q (reaches-self (place other))
+        subst (λ a. reaches a (occurrence_address other) ≡ true) q (reaches-self (occurrence_address other))

@@ -26,8 +26,8 @@ use Rattle.model_histories.specs.Legal.{Belongs, IsLegal}
 use Rattle.model_histories.specs.Extensions.{IsEnd, IsFinished}
 use Rattle.law_interleavings.proofs.Control.{legal_part}
 use Rattle.model_runs.specs.Frames.{frame_in, next_frame}
-use Rattle.law_interleavings.specs.Fronts.{Nest, gone, opening, moved, act_in, front, nest_of, stands_at, IsActive, IsBegun, frame_at}
-use Rattle.law_interleavings.specs.Traces.{Notes, Spoken, spoken_of, spoken_by, beginning, walk, Item, place, item_of, trace, IsLaterOf}
+use Rattle.law_interleavings.specs.Fronts.{Nest, gone, first_front, moved, act_in, front, nest_of, stands_at, IsActive, IsBegun, frame_at}
+use Rattle.law_interleavings.specs.Traces.{Notes, Spoken, spoken_of, spoken_by, beginning, walk, Occurrence, occurrence_address, occurrence_of, trace, IsLaterOf}
 use Rattle.law_interleavings.proofs.Swaps.{Member}
 use Rattle.law_interleavings.proofs.Fronts.{fronts, frame_below, active_begun}
 use Rattle.law_interleavings.proofs.Beginnings.{beginning_alone}
@@ -118,10 +118,10 @@ module _ (shape : Shape) where
 
     -- who spawned a frame
     pub record Spawner (K : Entries) (frame : ℕ) : Type 0 where
-      pub deed : Item Note
+      pub deed : Occurrence Note
       pub done : Member (trace T K) deed
       pub spawns : deed.newest.act ≡ Act.Spawn
-      pub begins : beginning (control_part K) frame ≡ extended (place deed) child
+      pub begins : beginning (control_part K) frame ≡ extended (occurrence_address deed) child
 
     pub spawner : (K : Entries) → IsLegal shape K → (frame : ℕ) → IsBegun (control_part K) frame → (frame ≡ 0) ⊎ Spawner K frame
     spawner [] l f b = inl b
@@ -129,22 +129,22 @@ module _ (shape : Shape) where
       where
         go : (IsBegun (control_part K) f → (f ≡ 0) ⊎ Spawner K f) → Fresh K e f ⊎ IsBegun (control_part K) f → (f ≡ 0) ⊎ Spawner (e ∷ K) f
         go older (inl t) =
-            inr (record { deed = item_of T K e; done = inl refl; spawns = t.act; begins = t.begins ∙ ap (λ a. extended a child) (sym (placed shape T K e l)) })
+            inr (record { deed = occurrence_of T K e; done = inl refl; spawns = t.act; begins = t.begins ∙ ap (λ a. extended a child) (sym (placed shape T K e l)) })
         go older (inr b') = elim (older b') [
           | inl q ↦ inl q
           | inr s ↦ inr (record { deed = s.deed; done = inr s.done; spawns = s.spawns; begins = (frame_on shape T K e l f b').1 ∙ s.begins })
         ]
 
     -- the frame that a spawn begins
-    pub record Spawned (H : Entries) (x : Item Note) : Type 0 where
+    pub record Spawned (H : Entries) (x : Occurrence Note) : Type 0 where
       pub frame : ℕ
       pub begun : IsBegun (control_part H) frame
-      pub begins : beginning (control_part H) frame ≡ extended (place x) child
+      pub begins : beginning (control_part H) frame ≡ extended (occurrence_address x) child
       pub spawn : Entry
       pub spawns : spawn.request.act ≡ Act.Spawn
       pub noted : x.newest.note ≡ T frame spawn
 
-    pub spawned_by : (H : Entries) → IsLegal shape H → (x : Item Note) → Member (trace T H) x → x.newest.act ≡ Act.Spawn → Spawned H x
+    pub spawned_by : (H : Entries) → IsLegal shape H → (x : Occurrence Note) → Member (trace T H) x → x.newest.act ≡ Act.Spawn → Spawned H x
     spawned_by [] l x m q = absurd m
     spawned_by (e ∷ H) l x (inr m) q =
         let s = spawned_by H l.0 x m q in
@@ -155,9 +155,9 @@ module _ (shape : Shape) where
         spawns : e.request.act ≡ Act.Spawn
         spawns = sym (ap (λ z. z.newest.act) is) ∙ q
 
-        go : Grown H e → Spawned (e ∷ H) (item_of T H e)
+        go : Grown H e → Spawned (e ∷ H) (occurrence_of T H e)
         go (quiet n m) =
-            let f : moved (opening []) Act.Spawn ≡ opening [] = ap (moved (opening [])) (sym spawns) ∙ m (opening []) in
+            let f : moved (first_front []) Act.Spawn ≡ first_front [] = ap (moved (first_front [])) (sym spawns) ∙ m (first_front []) in
             absurd (let g = ap (λ z. z.here) f in cc)
         go (grows ev n sq aq al) =
             let t = spawn_begins (control_part H) ev (aq ∙ spawns) in
@@ -184,14 +184,14 @@ module _ (shape : Shape) where
     abbrev pub IsPart : Entries → Type 0
     IsPart H = (own : ℕ) → IsBegun (control_part H) own → Matching H own
 
-    abbrev begun_at : Address → Item Note → Item Note
+    abbrev begun_at : Address → Occurrence Note → Occurrence Note
     begun_at begin x = record { begin = begin; newest = x.newest; earlier = x.earlier }
 
-    item_at : (x : Item Note) (a : Address) → a ≡ x.begin → begun_at a x ≡ x
+    item_at : (x : Occurrence Note) (a : Address) → a ≡ x.begin → begun_at a x ≡ x
     item_at x a e = λ i. record { begin = e i; newest = x.newest; earlier = x.earlier }
 
     -- what a part did the whole did
-    pub included : (H : Entries) → IsLegal shape H → IsLegal shape R → IsPart H → (x : Item Note) → Member (trace mine H) x → Member (trace T R) x
+    pub included : (H : Entries) → IsLegal shape H → IsLegal shape R → IsPart H → (x : Occurrence Note) → Member (trace mine H) x → Member (trace T R) x
     included H l r part x m =
         let d = done_by shape mine H l x m in
         let q = part d.frame d.begun in
@@ -201,11 +201,11 @@ module _ (shape : Shape) where
 
     -- one more deed of the whole
     pub part_more : (H : Entries) (e : Entry) → IsLegal shape (e ∷ H) → IsLegal shape R → IsPart H →
-        Member (trace T R) (item_of mine H e) → IsPart (e ∷ H)
+        Member (trace T R) (occurrence_of mine H e) → IsPart (e ∷ H)
     part_more H e l r part m own b = go (fresh H e l own b) (same_or_not (frame_in H e.request.strand) own)
       where
-        x : Item Note
-        x = item_of mine H e
+        x : Occurrence Note
+        x = occurrence_of mine H e
 
         by_item : IsBegun (control_part H) own → frame_in H e.request.strand ≡ own → Matching (e ∷ H) own
         by_item b' q =
@@ -238,7 +238,7 @@ module _ (shape : Shape) where
         newly : Fresh H e own → Matching (e ∷ H) own
         newly t =
             let s = spawned_by T R r x m t.act in
-            let here : beginning (control_part (e ∷ H)) own ≡ extended (place x) child = t.begins ∙ ap (λ a. extended a child) (sym (placed shape mine H e l)) in
+            let here : beginning (control_part (e ∷ H)) own ≡ extended (occurrence_address x) child = t.begins ∙ ap (λ a. extended a child) (sym (placed shape mine H e l)) in
             let none : spoken_by mine (e ∷ H) own ≡ [] =
             spoken_elsewhere mine e H own (λ q. absurd (not_next q)) ∙ spoken_before shape mine H l.0 own (omega (arith, t.is_next)) in
             record {
@@ -266,19 +266,19 @@ module _ (shape : Shape) where
           did = later_none (spoken_by T R 0);
         }
 
-    -- the whole does at that place what the part asks next
+    -- the whole does at that occurrence_address what the part asks next
     pub record Wanted (H : Entries) (e : Entry) : Type 0 where
       pub newest : Spoken Note
-      pub done : Member (trace T R) (record { begin = (item_of mine H e).begin; newest = newest; earlier = (item_of mine H e).earlier })
+      pub done : Member (trace T R) (record { begin = (occurrence_of mine H e).begin; newest = newest; earlier = (occurrence_of mine H e).earlier })
       pub act : newest.act ≡ e.request.act
-      pub note : newest.note ≡ (item_of mine H e).newest.note
+      pub note : newest.note ≡ (occurrence_of mine H e).newest.note
 
     -- what a frame of the whole did next, as a deed
     pub next_deed : (H : Entries) (e : Entry) → IsLegal shape R → (match : Matching H (frame_in H e.request.strand)) → (z : Spoken Note) →
         IsLaterOf (z ∷ spoken_by mine H (frame_in H e.request.strand)) (spoken_by T R match.frame) →
-        Member (trace T R) (record { begin = (item_of mine H e).begin; newest = z; earlier = (item_of mine H e).earlier })
+        Member (trace T R) (record { begin = (occurrence_of mine H e).begin; newest = z; earlier = (occurrence_of mine H e).earlier })
     next_deed H e r match z m =
-        subst (Member (trace T R)) (λ i. record { begin = sym match.begins i; newest = z; earlier = (item_of mine H e).earlier })
+        subst (Member (trace T R)) (λ i. record { begin = sym match.begins i; newest = z; earlier = (occurrence_of mine H e).earlier })
         (deed_of shape T R r match.frame match.begun z (spoken_by mine H (frame_in H e.request.strand)) m)
 
     -- a finished whole did more in the frame of a strand of the part that runs
@@ -299,10 +299,10 @@ module _ (shape : Shape) where
         who (inr t) = no_active (control_part R) (legal_part shape R r) (finished_part R r whole_finished) t.0 t.1
 
     -- where something is left to do, the frame has not returned
-    abbrev front_nest : Item Note → Nest
+    abbrev front_nest : Occurrence Note → Nest
     front_nest x = (walk x.begin x.earlier).nest
 
-    deed_not_gone : (H : Entries) → IsLegal shape H → (x : Item Note) → Member (trace T H) x → front_nest x ≡ gone → ⊥
+    deed_not_gone : (H : Entries) → IsLegal shape H → (x : Occurrence Note) → Member (trace T H) x → front_nest x ≡ gone → ⊥
     deed_not_gone [] l x m g = absurd m
     deed_not_gone (e ∷ H) l x (inr m) g = deed_not_gone H l.0 x m g
     deed_not_gone (e ∷ H) l x (inl q) g =
@@ -316,8 +316,8 @@ module _ (shape : Shape) where
       here = address (control_part H) strand
 
       -- a frame of the part that began there has done what reaches the strand
-      in_frame : (own : ℕ) → IsBegun (control_part H) own → (x : Item Note) → Member (trace T R) x → beginning (control_part H) own ≡ x.begin →
-          reaches (place x) here ≡ true → place x ≢ here → Member (trace mine H) x
+      in_frame : (own : ℕ) → IsBegun (control_part H) own → (x : Occurrence Note) → Member (trace T R) x → beginning (control_part H) own ≡ x.begin →
+          reaches (occurrence_address x) here ≡ true → occurrence_address x ≢ here → Member (trace mine H) x
       in_frame own b x m q leads apart = by_length (long_or_short (length (x.newest ∷ x.earlier)) (length mine_said))
         where
           mine_said : List (Spoken Note)
@@ -345,7 +345,7 @@ module _ (shape : Shape) where
               at_front (inl e) = let u = ap length e in omega (arith, u, le)
               at_front (inr t) = who ((fronts (legal_part shape H l)).found own b)
                 where
-                  y : Item Note
+                  y : Occurrence Note
                   y = record { begin = x.begin; newest = t.0; earlier = mine_said }
 
                   y_done : Member (trace T R) y
@@ -355,20 +355,20 @@ module _ (shape : Shape) where
                   at : front (control_part H) own ≡ walk x.begin mine_said
                   at = walked shape mine H l own ∙ ap (λ a. walk a mine_said) q
 
-                  to_x : reaches (place y) (place x) ≡ true
+                  to_x : reaches (occurrence_address y) (occurrence_address x) ≡ true
                   to_x = walk_leads x.begin mine_said x.earlier (later_either mine_said x.earlier (spoken_by T R d.frame) did
                       (later_transitive x.earlier (x.newest ∷ x.earlier) (spoken_by T R d.frame) (inr (later_self x.earlier)) d.done) le)
 
                   who : ((front (control_part H) own).nest ≡ gone) ⊎ ((n : ℕ) × IsActive (control_part H) n × (frame_at (control_part H) n ≡ own)) → ⊥
                   who (inl g) = deed_not_gone R r y y_done (sym (ap (λ z. z.nest) at) ∙ g)
                   who (inr (n, act, of_frame)) =
-                      let there : address (control_part H) n ≡ place y =
+                      let there : address (control_part H) n ≡ occurrence_address y =
                       sym (ap (λ z. z.here) ((fronts (legal_part shape H l)).at n act)) ∙ ap (λ f. (front (control_part H) f).here) of_frame ∙ ap (λ z. z.here) at in
-                      let to_here : reaches (place y) here ≡ true = reaches-transitive (place y) (place x) here to_x leads in
+                      let to_here : reaches (occurrence_address y) here ≡ true = reaches-transitive (occurrence_address y) (occurrence_address x) here to_x leads in
                       let same_strand = active_reaches (control_part H) (legal_part shape H l) n strand act (inl runs)
                       (subst (λ a. reaches a here ≡ true) (sym there) to_here) in
-                      let y_here : place y ≡ here = sym there ∙ ap (address (control_part H)) same_strand in
-                      apart (reaches-antisymmetric (place x) here leads (subst (λ a. reaches a (place x) ≡ true) y_here to_x))
+                      let y_here : occurrence_address y ≡ here = sym there ∙ ap (address (control_part H)) same_strand in
+                      apart (reaches-antisymmetric (occurrence_address x) here leads (subst (λ a. reaches a (occurrence_address x) ≡ true) y_here to_x))
 
           by_length : (length (x.newest ∷ x.earlier) ≤ length mine_said) ⊎ (length mine_said < length (x.newest ∷ x.earlier)) → Member (trace mine H) x
           by_length (inl le) =
@@ -376,8 +376,8 @@ module _ (shape : Shape) where
               (deed_of shape mine H l own b x.newest x.earlier (later_either (x.newest ∷ x.earlier) mine_said (spoken_by T R d.frame) d.done did le))
           by_length (inr lt) = absurd (stuck (omega arith))
 
-      pub reached : (K : Entries) → IsLegal shape K → ((x : Item Note) → Member (trace T K) x → Member (trace T R) x) → (x : Item Note) → Member (trace T K) x →
-          reaches (place x) here ≡ true → place x ≢ here → Member (trace mine H) x
+      pub reached : (K : Entries) → IsLegal shape K → ((x : Occurrence Note) → Member (trace T K) x → Member (trace T R) x) → (x : Occurrence Note) → Member (trace T K) x →
+          reaches (occurrence_address x) here ≡ true → occurrence_address x ≢ here → Member (trace mine H) x
       reached [] k within x m leads apart = absurd m
       reached (e ∷ K) k within x (inr m) leads apart = reached K k.0 (λ y n. within y (inr n)) x m leads apart
       reached (e ∷ K) k within x (inl q) leads apart =
@@ -390,21 +390,21 @@ module _ (shape : Shape) where
           begins_x : beginning (control_part K) f ≡ x.begin
           begins_x = sym (ap (λ z. z.begin) q)
 
-          from_begin : reaches x.begin (place x) ≡ true
+          from_begin : reaches x.begin (occurrence_address x) ≡ true
           from_begin = walk_leads x.begin [] x.earlier (later_none x.earlier)
 
-          go : (f ≡ 0) ⊎ Spawner T K f → ((y : Item Note) → Member (trace T K) y → reaches (place y) here ≡ true → place y ≢ here → Member (trace mine H) y) →
+          go : (f ≡ 0) ⊎ Spawner T K f → ((y : Occurrence Note) → Member (trace T K) y → reaches (occurrence_address y) here ≡ true → occurrence_address y ≢ here → Member (trace mine H) y) →
               Member (trace mine H) x
           go (inl z) older =
               let t = root_there mine H l in
               in_frame 0 t.0 x (within x (inl q)) (t.1 ∙ sym (root_there T K k.0).1 ∙ ap (beginning (control_part K)) (sym z) ∙ begins_x) leads apart
           go (inr s) older =
               let y = s.deed in
-              let x_begins : x.begin ≡ extended (place y) child = sym begins_x ∙ s.begins in
-              let y_to_x : reaches (place y) (place x) ≡ true =
-              reaches-transitive (place y) x.begin (place x) (subst (λ a. reaches (place y) a ≡ true) (sym x_begins) (reaches-extension (place y) (child ∷ []))) from_begin in
-              let y_apart : place y ≢ here =
-              λ p. apart (reaches-antisymmetric (place x) here leads (subst (λ a. reaches a (place x) ≡ true) p y_to_x)) in
-              let y_done = older y s.done (reaches-transitive (place y) (place x) here y_to_x leads) y_apart in
+              let x_begins : x.begin ≡ extended (occurrence_address y) child = sym begins_x ∙ s.begins in
+              let y_to_x : reaches (occurrence_address y) (occurrence_address x) ≡ true =
+              reaches-transitive (occurrence_address y) x.begin (occurrence_address x) (subst (λ a. reaches (occurrence_address y) a ≡ true) (sym x_begins) (reaches-extension (occurrence_address y) (child ∷ []))) from_begin in
+              let y_apart : occurrence_address y ≢ here =
+              λ p. apart (reaches-antisymmetric (occurrence_address x) here leads (subst (λ a. reaches a (occurrence_address x) ≡ true) p y_to_x)) in
+              let y_done = older y s.done (reaches-transitive (occurrence_address y) (occurrence_address x) here y_to_x leads) y_apart in
               let w = spawned_by mine H l y y_done s.spawns in
               in_frame w.frame w.begun x (within x (inl q)) (w.begins ∙ sym x_begins) leads apart

@@ -28,7 +28,7 @@ use Rattle.model_races.specs.Accesses.{cell_access, is_granted, access_at, grant
 use Rattle.model_races.specs.Verdicts.{IsRefused, IsRightVerdict, MemoryIsJudged}
 use Rattle.model_histories.specs.Extensions.{IsCleanAnswer}
 use Rattle.law_interleavings.proofs.Control.{legal_part, none_listed}
-use Rattle.law_interleavings.specs.Traces.{Notes, Item, place, item_of, trace}
+use Rattle.law_interleavings.specs.Traces.{Notes, Occurrence, occurrence_address, occurrence_of, trace}
 use Rattle.law_interleavings.proofs.Swaps.{Member}
 use Rattle.law_interleavings.proofs.Traces.{placed, begun_on}
 use Rattle.law_interleavings.proofs.Spoken.{NoneRefused}
@@ -94,9 +94,9 @@ access_there is_done found n s cell d f =
 module _ {Note : Type 0} (shape : Shape) (T : Notes Note) where
   -- the deed of a granted access
   pub record AccessDeed (H : Entries) (access : Access) : Type 0 where
-    pub deed : Item Note
+    pub deed : Occurrence Note
     pub done : Member (trace T H) deed
-    pub at : place deed ≡ address (control_part H) access.strand
+    pub at : occurrence_address deed ≡ address (control_part H) access.strand
     pub begun : Begun (control_part H) access.strand
     pub is : cell_access deed.newest.act ≡ Some (cell_of_access access)
 
@@ -113,7 +113,7 @@ module _ {Note : Type 0} (shape : Shape) (T : Notes Note) where
           let p = listed_access (is_granted e.answer) (cell_access e.request.act) (suc (length H)) e.request.strand a k in
           let t = begun_on shape H e l e.request.strand (inl l.1.runs) in
           record {
-            deed = item_of T H e;
+            deed = occurrence_of T H e;
             done = inl refl;
             at = placed shape T H e l ∙ sym t.1 ∙ ap (address (control_part (e ∷ H))) (sym p.0);
             begun = subst (Begun (control_part (e ∷ H))) (sym p.0) t.0;
@@ -121,15 +121,15 @@ module _ {Note : Type 0} (shape : Shape) (T : Notes Note) where
           }
 
   -- the granted access of a deed
-  pub record DeedAccess (H : Entries) (deed : Item Note) (cell : CellAccess) : Type 0 where
+  pub record DeedAccess (H : Entries) (deed : Occurrence Note) (cell : CellAccess) : Type 0 where
     pub access : Access
     pub listed : Contains (granted H) access
     pub kind : access.kind ≡ cell.kind
     pub location : access.location ≡ cell.location
-    pub at : address (control_part H) access.strand ≡ place deed
+    pub at : address (control_part H) access.strand ≡ occurrence_address deed
     pub begun : Begun (control_part H) access.strand
 
-  pub deed_access : (H : Entries) → IsLegal shape H → NoneRefused H → (y : Item Note) → Member (trace T H) y → (cell : CellAccess) →
+  pub deed_access : (H : Entries) → IsLegal shape H → NoneRefused H → (y : Occurrence Note) → Member (trace T H) y → (cell : CellAccess) →
       cell_access y.newest.act ≡ Some cell → DeedAccess H y cell
   deed_access [] l c y m cell q = absurd m
   deed_access (e ∷ H) l c y (inr m) cell q =
@@ -154,7 +154,7 @@ module _ {Note : Type 0} (shape : Shape) (T : Notes Note) where
             (access_there (is_granted e.answer) (cell_access e.request.act) (suc (length H)) e.request.strand cell g is);
         kind = refl;
         location = refl;
-        at = t.1 ∙ sym (placed shape T H e l) ∙ sym (ap place n);
+        at = t.1 ∙ sym (placed shape T H e l) ∙ sym (ap occurrence_address n);
         begun = t.0;
       }
 
@@ -170,12 +170,12 @@ module _ {Note : Type 0} (shape : Shape) (T : Notes Note) where
   not_refused (Refused rule w) c r = c
   not_refused _ c r = absurd r
 
-  abbrev AreComparable : Item Note → Item Note → Type 0
-  AreComparable x y = (reaches (place x) (place y) ≡ true) ⊎ (reaches (place y) (place x) ≡ true)
+  abbrev AreComparable : Occurrence Note → Occurrence Note → Type 0
+  AreComparable x y = (reaches (occurrence_address x) (occurrence_address y) ≡ true) ⊎ (reaches (occurrence_address y) (occurrence_address x) ≡ true)
 
   -- a deed and an earlier one with which it conflicts
-  earlier_compared : (H : Entries) (e : Entry) → IsLegal shape (e ∷ H) → MemoryIsJudged (e ∷ H) → NoneRefused (e ∷ H) → (y : Item Note) →
-      Member (trace T H) y → Conflict y.newest.act e.request.act → AreComparable y (item_of T H e)
+  earlier_compared : (H : Entries) (e : Entry) → IsLegal shape (e ∷ H) → MemoryIsJudged (e ∷ H) → NoneRefused (e ∷ H) → (y : Occurrence Note) →
+      Member (trace T H) y → Conflict y.newest.act e.request.act → AreComparable y (occurrence_of T H e)
   earlier_compared H e l j c y m k =
       let a = deed_access H l.0 c.1 y m k.first k.is_first in
       let at_new = placed shape T H e l in
@@ -192,10 +192,10 @@ module _ {Note : Type 0} (shape : Shape) (T : Notes Note) where
       ]
 
   -- two deeds that conflict
-  pub compared : (H : Entries) → IsLegal shape H → MemoryIsJudged H → NoneRefused H → (x y : Item Note) → Member (trace T H) x → Member (trace T H) y →
+  pub compared : (H : Entries) → IsLegal shape H → MemoryIsJudged H → NoneRefused H → (x y : Occurrence Note) → Member (trace T H) x → Member (trace T H) y →
       Conflict x.newest.act y.newest.act → AreComparable x y
   compared [] l j c x y m n k = absurd m
-  compared (e ∷ H) l j c x y (inl p) (inl q) k = inl (subst (λ z. reaches z (place y) ≡ true) (ap place (q ∙ sym p)) (reaches-self (place y)))
+  compared (e ∷ H) l j c x y (inl p) (inl q) k = inl (subst (λ z. reaches z (occurrence_address y) ≡ true) (ap occurrence_address (q ∙ sym p)) (reaches-self (occurrence_address y)))
   compared (e ∷ H) l j c x y (inr m) (inr n) k = compared H l.0 j.0 c.1 x y m n k
   compared (e ∷ H) l j c x y (inr m) (inl q) k =
       subst (AreComparable x) (sym q) (earlier_compared H e l j c x m (subst (λ z. Conflict x.newest.act z.newest.act) q k))
@@ -205,7 +205,7 @@ module _ {Note : Type 0} (shape : Shape) (T : Notes Note) where
 
   -- so a deed that conflicts with none but comparable ones is not refused
   pub no_race : (H : Entries) (e : Entry) → IsLegal shape (e ∷ H) → MemoryIsJudged (e ∷ H) → (cell : CellAccess) → cell_access e.request.act ≡ Some cell →
-      ((y : Item Note) → Member (trace T H) y → Conflict y.newest.act e.request.act → AreComparable y (item_of T H e)) → IsRefused e.answer → ⊥
+      ((y : Occurrence Note) → Member (trace T H) y → Conflict y.newest.act e.request.act → AreComparable y (occurrence_of T H e)) → IsRefused e.answer → ⊥
   no_race H e l j cell is all refused =
       let right : IsRightVerdict H e.request.strand cell e.answer =
       subst (λ o. MatchOption o (Unit {0}) (λ one. IsRightVerdict H e.request.strand one e.answer)) is j.1 in

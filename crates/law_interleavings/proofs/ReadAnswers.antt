@@ -21,7 +21,7 @@ use Rattle.model_races.specs.Judged.{IsJudged}
 use Rattle.model_histories.specs.Extensions.{IsCleanAnswer}
 use Rattle.law_interleavings.proofs.Control.{legal_part}
 use Rattle.model_runs.specs.Serial.{value_given}
-use Rattle.law_interleavings.specs.Traces.{Notes, Item, place, item_of, trace, Precedes}
+use Rattle.law_interleavings.specs.Traces.{Notes, Occurrence, occurrence_address, occurrence_of, trace, Precedes}
 use Rattle.law_interleavings.proofs.Swaps.{Member}
 use Rattle.law_interleavings.proofs.Traces.{placed}
 use Rattle.law_interleavings.proofs.Spoken.{NoneRefused}
@@ -73,11 +73,11 @@ module _ {Note : Type 0} (shape : Shape) (mine T : Notes Note) (meeting : Meetin
   abbrev R : Entries
   R = meeting.later ++ meeting.entry ∷ meeting.before
 
-  abbrev own : Item Note
-  own = item_of mine meeting.part meeting.next
+  abbrev own : Occurrence Note
+  own = occurrence_of mine meeting.part meeting.next
 
-  abbrev other : Item Note
-  other = item_of T meeting.before meeting.entry
+  abbrev other : Occurrence Note
+  other = occurrence_of T meeting.before meeting.entry
 
   before_clean : NoneRefused (meeting.entry ∷ meeting.before)
   before_clean = then_clean meeting.later meeting.entry meeting.before whole_clean
@@ -91,22 +91,22 @@ module _ {Note : Type 0} (shape : Shape) (mine T : Notes Note) (meeting : Meetin
   other_in_whole : Member (trace T R) other
   other_in_whole = member_later shape mine T meeting meeting.later meeting.entry meeting.before other (inl refl)
 
-  same_place : place own ≡ place other
+  same_place : occurrence_address own ≡ occurrence_address other
   same_place = place_same shape mine T meeting
 
   module _ (r : ℕ) (is : IsReadBy r meeting.entry.request.act) where
-    branch_same : (y : Item Note) → Member (trace T R) y → IsReadBy r y.newest.act → branch (place y) ≡ branch (place other)
+    branch_same : (y : Occurrence Note) → Member (trace T R) y → IsReadBy r y.newest.act → branch (occurrence_address y) ≡ branch (occurrence_address other)
     branch_same y m q = one_branch shape T R meeting.whole_legal whole_judged.reducers whole_clean r y other m other_in_whole q is
 
-    mine_first : (y : Item Note) → Member (trace mine meeting.part) y → IsReadBy r y.newest.act → Member (trace T meeting.before) y
+    mine_first : (y : Occurrence Note) → Member (trace mine meeting.part) y → IsReadBy r y.newest.act → Member (trace T meeting.before) y
     mine_first y m q =
         let b = branch_same y (mine_in_whole shape mine T meeting y m) q ∙ ap branch (sym same_place) in
-        mine_before shape mine T meeting y m (mine_leads shape mine T meeting y m (branch_leads (place y) (place own) b))
+        mine_before shape mine T meeting y m (mine_leads shape mine T meeting y m (branch_leads (occurrence_address y) (occurrence_address own) b))
 
-    theirs_first : (y : Item Note) → Member (trace T meeting.before) y → IsReadBy r y.newest.act → Member (trace mine meeting.part) y
+    theirs_first : (y : Occurrence Note) → Member (trace T meeting.before) y → IsReadBy r y.newest.act → Member (trace mine meeting.part) y
     theirs_first y m q =
         let b = branch_same y (theirs_in_whole shape mine T meeting y m) q in
-        theirs_before shape mine T meeting y m (theirs_leads shape mine T meeting y m (branch_leads (place y) (place other) b))
+        theirs_before shape mine T meeting y m (theirs_leads shape mine T meeting y m (branch_leads (occurrence_address y) (occurrence_address other) b))
 
     own_reads : IsReadBy r meeting.next.request.act
     own_reads = subst (IsReadBy r) (sym same_act) is
@@ -169,10 +169,10 @@ module _ {Note : Type 0} (shape : Shape) (mine T : Notes Note) (meeting : Meetin
       ours = get_deeds shape mine (reducer_of (monoid_of shape.monoids r)) r meeting.part meeting.part_legal.0 clean meeting.next.request.strand
           meeting.part_legal.1.runs found_value.0 found_value.1
 
-      at_own : place own ≡ address (control_part meeting.part) meeting.next.request.strand
+      at_own : occurrence_address own ≡ address (control_part meeting.part) meeting.next.request.strand
       at_own = placed shape mine meeting.part meeting.next meeting.part_legal
 
-      at_other : place other ≡ address (control_part meeting.before) meeting.entry.request.strand
+      at_other : occurrence_address other ≡ address (control_part meeting.before) meeting.entry.request.strand
       at_other = placed shape T meeting.before meeting.entry before_legal
 
       our_put_reads : IsReadBy r ours.put.newest.act
@@ -202,29 +202,29 @@ module _ {Note : Type 0} (shape : Shape) (mine T : Notes Note) (meeting : Meetin
 
           clash : (ours.put ≢ theirs.put) × (Precedes theirs.put ours.put → ⊥) → (theirs.put ≢ ours.put) × (Precedes ours.put theirs.put → ⊥) → ⊥
           clash t u =
-              elim (branch_leads (place ours.put) (place theirs.put) (branch_same ours.put mw our_put_reads ∙ sym (branch_same theirs.put nw their_put_reads))) [
+              elim (branch_leads (occurrence_address ours.put) (occurrence_address theirs.put) (branch_same ours.put mw our_put_reads ∙ sym (branch_same theirs.put nw their_put_reads))) [
                 | inl a ↦ elim (order_of shape T R meeting.whole_legal ours.put theirs.put mw nw t.0 a) [ inl p ↦ u.1 p | inr p ↦ t.1 p ]
                 | inr a ↦ elim (order_of shape T R meeting.whole_legal theirs.put ours.put nw mw u.0 a) [ inl p ↦ t.1 p | inr p ↦ u.1 p ]
               ]
 
-      counted_on : (y : Item Note) → IsCounted shape mine r meeting.part ours.put (address (control_part meeting.part) meeting.next.request.strand) y →
+      counted_on : (y : Occurrence Note) → IsCounted shape mine r meeting.part ours.put (address (control_part meeting.part) meeting.next.request.strand) y →
           IsCounted shape T r meeting.before theirs.put (address (control_part meeting.before) meeting.entry.request.strand) y
       counted_on y k =
-          let to_own : reaches (place y) (place own) ≡ true = subst (λ a. reaches (place y) a ≡ true) (sym at_own) k.3 in (
+          let to_own : reaches (occurrence_address y) (occurrence_address own) ≡ true = subst (λ a. reaches (occurrence_address y) a ≡ true) (sym at_own) k.3 in (
             mine_before shape mine T meeting y k.0 to_own,
             k.1,
             subst (λ z. Precedes z y) puts_same k.2,
-            subst (λ a. reaches (place y) a ≡ true) (same_place ∙ at_other) to_own,
+            subst (λ a. reaches (occurrence_address y) a ≡ true) (same_place ∙ at_other) to_own,
           )
 
-      counted_back : (y : Item Note) → IsCounted shape T r meeting.before theirs.put (address (control_part meeting.before) meeting.entry.request.strand) y →
+      counted_back : (y : Occurrence Note) → IsCounted shape T r meeting.before theirs.put (address (control_part meeting.before) meeting.entry.request.strand) y →
           IsCounted shape mine r meeting.part ours.put (address (control_part meeting.part) meeting.next.request.strand) y
       counted_back y k =
-          let to_other : reaches (place y) (place other) ≡ true = subst (λ a. reaches (place y) a ≡ true) (sym at_other) k.3 in (
+          let to_other : reaches (occurrence_address y) (occurrence_address other) ≡ true = subst (λ a. reaches (occurrence_address y) a ≡ true) (sym at_other) k.3 in (
             theirs_before shape mine T meeting y k.0 to_other,
             k.1,
             subst (λ z. Precedes z y) (sym puts_same) k.2,
-            subst (λ a. reaches (place y) a ≡ true) (sym same_place ∙ at_own) to_other,
+            subst (λ a. reaches (occurrence_address y) a ≡ true) (sym same_place ∙ at_own) to_other,
           )
 
       counted_same : ours.counted ≡ theirs.counted

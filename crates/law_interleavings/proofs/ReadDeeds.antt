@@ -30,7 +30,7 @@ use Rattle.model_races.specs.ViewReads.{Completes, IsRightRead}
 use Rattle.model_races.specs.ReducerVerdicts.{IsRightFor, ReducersAreJudged}
 use Rattle.model_histories.specs.Extensions.{IsCleanAnswer}
 use Rattle.law_interleavings.proofs.Control.{legal_part, none_listed}
-use Rattle.law_interleavings.specs.Traces.{Notes, Item, place, item_of, trace}
+use Rattle.law_interleavings.specs.Traces.{Notes, Occurrence, occurrence_address, occurrence_of, trace}
 use Rattle.law_interleavings.proofs.Swaps.{Member}
 use Rattle.law_interleavings.proofs.Traces.{placed, begun_on}
 use Rattle.law_interleavings.proofs.Spoken.{NoneRefused}
@@ -109,9 +109,9 @@ read_there n s r _ answer b c q = absurd q
 
 module _ {Note : Type 0} (shape : Shape) (T : Notes Note) where
   pub record ReadDeed (H : Entries) (read : ReducerRead) : Type 0 where
-    pub deed : Item Note
+    pub deed : Occurrence Note
     pub done : Member (trace T H) deed
-    pub at : place deed ≡ address (control_part H) read.strand
+    pub at : occurrence_address deed ≡ address (control_part H) read.strand
     pub begun : Begun (control_part H) read.strand
     pub is : IsReadBy read.reducer deed.newest.act
 
@@ -130,21 +130,21 @@ module _ {Note : Type 0} (shape : Shape) (T : Notes Note) where
           let p = listed_read (suc (length H)) e.request.strand e.request.act e.answer a k in
           let t = begun_on shape H e l e.request.strand (inl l.1.runs) in
           record {
-            deed = item_of T H e;
+            deed = occurrence_of T H e;
             done = inl refl;
             at = placed shape T H e l ∙ sym t.1 ∙ ap (address (control_part (e ∷ H))) (sym p.0);
             begun = subst (Begun (control_part (e ∷ H))) (sym p.0) t.0;
             is = p.1;
           }
 
-  pub record DeedRead (H : Entries) (deed : Item Note) (reducer : ℕ) : Type 0 where
+  pub record DeedRead (H : Entries) (deed : Occurrence Note) (reducer : ℕ) : Type 0 where
     pub read : ReducerRead
     pub listed : Contains (granted_reads H) read
     pub reducer_is : read.reducer ≡ reducer
-    pub at : address (control_part H) read.strand ≡ place deed
+    pub at : address (control_part H) read.strand ≡ occurrence_address deed
     pub begun : Begun (control_part H) read.strand
 
-  pub deed_read : (H : Entries) → IsLegal shape H → NoneRefused H → (y : Item Note) → Member (trace T H) y → (reducer : ℕ) → IsReadBy reducer y.newest.act → DeedRead H y reducer
+  pub deed_read : (H : Entries) → IsLegal shape H → NoneRefused H → (y : Occurrence Note) → Member (trace T H) y → (reducer : ℕ) → IsReadBy reducer y.newest.act → DeedRead H y reducer
   deed_read [] l c y m r q = absurd m
   deed_read (e ∷ H) l c y (inr m) r q =
       let d = deed_read H l.0 c.1 y m r q in
@@ -164,7 +164,7 @@ module _ {Note : Type 0} (shape : Shape) (T : Notes Note) where
         read = d.read;
         listed = Contains-append_right (granted_reads H) (option_to_list (read_at (suc (length H)) e.request.strand e.request.act e.answer)) d.read d.listed;
         reducer_is = d.reducer_is;
-        at = ap (address (control_part (e ∷ H))) d.strand_is ∙ t.1 ∙ sym (placed shape T H e l) ∙ sym (ap place n);
+        at = ap (address (control_part (e ∷ H))) d.strand_is ∙ t.1 ∙ sym (placed shape T H e l) ∙ sym (ap occurrence_address n);
         begun = subst (Begun (control_part (e ∷ H))) (sym d.strand_is) t.0;
       }
 
@@ -187,8 +187,8 @@ module _ {Note : Type 0} (shape : Shape) (T : Notes Note) where
       let f = finish_law (control_part H) (legal_part shape H l) in
       (f.0, record { extends = f.1; legal = f.2; finished = f.3 })
 
-  earlier_branch : (H : Entries) (e : Entry) → IsLegal shape (e ∷ H) → ReducersAreJudged shape (e ∷ H) → NoneRefused (e ∷ H) → (reducer : ℕ) (y : Item Note) →
-      Member (trace T H) y → IsReadBy reducer y.newest.act → IsReadBy reducer e.request.act → branch (place y) ≡ branch (place (item_of T H e))
+  earlier_branch : (H : Entries) (e : Entry) → IsLegal shape (e ∷ H) → ReducersAreJudged shape (e ∷ H) → NoneRefused (e ∷ H) → (reducer : ℕ) (y : Occurrence Note) →
+      Member (trace T H) y → IsReadBy reducer y.newest.act → IsReadBy reducer e.request.act → branch (occurrence_address y) ≡ branch (occurrence_address (occurrence_of T H e))
   earlier_branch H e l j c r y m p q =
       let d = deed_read H l.0 c.1 y m r p in
       let v = read_verdict H e r j q in
@@ -201,12 +201,12 @@ module _ {Note : Type 0} (shape : Shape) (T : Notes Note) where
       ap branch (sym d.at) ∙ same_address ∙ ap branch (sym (placed shape T H e l))
 
   -- all puts and gets of a reducer are of one branch
-  pub one_branch : (H : Entries) → IsLegal shape H → ReducersAreJudged shape H → NoneRefused H → (reducer : ℕ) (x y : Item Note) → Member (trace T H) x → Member (trace T H) y →
-      IsReadBy reducer x.newest.act → IsReadBy reducer y.newest.act → branch (place x) ≡ branch (place y)
+  pub one_branch : (H : Entries) → IsLegal shape H → ReducersAreJudged shape H → NoneRefused H → (reducer : ℕ) (x y : Occurrence Note) → Member (trace T H) x → Member (trace T H) y →
+      IsReadBy reducer x.newest.act → IsReadBy reducer y.newest.act → branch (occurrence_address x) ≡ branch (occurrence_address y)
   one_branch [] l j c r x y m n p q = absurd m
-  one_branch (e ∷ H) l j c r x y (inl m) (inl n) p q = ap (λ z. branch (place z)) (m ∙ sym n)
+  one_branch (e ∷ H) l j c r x y (inl m) (inl n) p q = ap (λ z. branch (occurrence_address z)) (m ∙ sym n)
   one_branch (e ∷ H) l j c r x y (inr m) (inr n) p q = one_branch H l.0 j.0 c.1 r x y m n p q
   one_branch (e ∷ H) l j c r x y (inr m) (inl n) p q =
-      earlier_branch H e l j c r x m p (subst (λ z. IsReadBy r z.newest.act) n q) ∙ sym (ap (λ z. branch (place z)) n)
+      earlier_branch H e l j c r x m p (subst (λ z. IsReadBy r z.newest.act) n q) ∙ sym (ap (λ z. branch (occurrence_address z)) n)
   one_branch (e ∷ H) l j c r x y (inl m) (inr n) p q =
-      ap (λ z. branch (place z)) m ∙ sym (earlier_branch H e l j c r y n q (subst (λ z. IsReadBy r z.newest.act) m p))
+      ap (λ z. branch (occurrence_address z)) m ∙ sym (earlier_branch H e l j c r y n q (subst (λ z. IsReadBy r z.newest.act) m p))

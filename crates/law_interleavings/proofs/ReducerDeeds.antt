@@ -19,7 +19,7 @@ use Rattle.model_histories.specs.Shapes.{Shape}
 use Rattle.model_histories.specs.Legal.{Belongs, IsLegal}
 use Rattle.model_races.specs.Reducers.{step_with, steps_of}
 use Rattle.model_histories.specs.Extensions.{IsCleanAnswer}
-use Rattle.law_interleavings.specs.Traces.{Notes, Item, place, item_of, trace, Precedes}
+use Rattle.law_interleavings.specs.Traces.{Notes, Occurrence, occurrence_address, occurrence_of, trace, Precedes}
 use Rattle.law_interleavings.proofs.Swaps.{Member, Paired}
 use Rattle.law_interleavings.proofs.Traces.{placed, begun_on, ordered}
 use Rattle.law_interleavings.proofs.Spoken.{NoneRefused}
@@ -145,21 +145,21 @@ items_length r (e ∷ H) = ap suc (items_length r H)
 
 module _ {Note : Type 0} (shape : Shape) (T : Notes Note) where
   -- the deed with a number
-  abbrev pub HasNumber : Entries → ℕ → Item Note → Type 0
+  abbrev pub HasNumber : Entries → ℕ → Occurrence Note → Type 0
   HasNumber [] number y = ⊥
-  HasNumber (e ∷ H) number y = ((number ≡ suc (length H)) × (y ≡ item_of T H e)) ⊎ HasNumber H number y
+  HasNumber (e ∷ H) number y = ((number ≡ suc (length H)) × (y ≡ occurrence_of T H e)) ⊎ HasNumber H number y
 
-  pub number_member : (H : Entries) (n : ℕ) (y : Item Note) → HasNumber H n y → Member (trace T H) y
+  pub number_member : (H : Entries) (n : ℕ) (y : Occurrence Note) → HasNumber H n y → Member (trace T H) y
   number_member [] n y h = absurd h
   number_member (e ∷ H) n y (inl t) = inl t.1
   number_member (e ∷ H) n y (inr h) = inr (number_member H n y h)
 
-  number_below : (H : Entries) (n : ℕ) (y : Item Note) → HasNumber H n y → n ≤ length H
+  number_below : (H : Entries) (n : ℕ) (y : Occurrence Note) → HasNumber H n y → n ≤ length H
   number_below [] n y h = absurd h
   number_below (e ∷ H) n y (inl t) = let u = t.0 in omega arith
   number_below (e ∷ H) n y (inr h) = let u = number_below H n y h in omega arith
 
-  pub one_item : (H : Entries) (n : ℕ) (y z : Item Note) → HasNumber H n y → HasNumber H n z → y ≡ z
+  pub one_item : (H : Entries) (n : ℕ) (y z : Occurrence Note) → HasNumber H n y → HasNumber H n z → y ≡ z
   one_item [] n y z h k = absurd h
   one_item (e ∷ H) n y z (inl h) (inl k) = h.1 ∙ sym k.1
   one_item (e ∷ H) n y z (inl h) (inr k) = let u = number_below H n z k in let t = h.0 in absurd (omega arith)
@@ -167,7 +167,7 @@ module _ {Note : Type 0} (shape : Shape) (T : Notes Note) where
   one_item (e ∷ H) n y z (inr h) (inr k) = one_item H n y z h k
 
   -- what holds of each two deeds holds by their numbers
-  pub by_number : (R : Item Note → Item Note → Type 0) (H : Entries) → Paired R (trace T H) → (n m : ℕ) (y z : Item Note) → HasNumber H n y → HasNumber H m z → n < m → R z y
+  pub by_number : (R : Occurrence Note → Occurrence Note → Type 0) (H : Entries) → Paired R (trace T H) → (n m : ℕ) (y z : Occurrence Note) → HasNumber H n y → HasNumber H m z → n < m → R z y
   by_number R [] p n m y z h k lt = absurd h
   by_number R (e ∷ H) p n m y z (inl h) (inl k) lt = let t = h.0 in let u = k.0 in absurd (omega arith)
   by_number R (e ∷ H) p n m y z (inl h) (inr k) lt = let t = h.0 in let u = number_below H m z k in absurd (omega arith)
@@ -175,7 +175,7 @@ module _ {Note : Type 0} (shape : Shape) (T : Notes Note) where
   by_number R (e ∷ H) p n m y z (inr h) (inr k) lt = by_number R H p.1 n m y z h k lt
 
   -- what precedes has the lower number
-  pub precedes_number : (H : Entries) → IsLegal shape H → (n m : ℕ) (y z : Item Note) → HasNumber H n y → HasNumber H m z → Precedes y z → n < m
+  pub precedes_number : (H : Entries) → IsLegal shape H → (n m : ℕ) (y z : Occurrence Note) → HasNumber H n y → HasNumber H m z → Precedes y z → n < m
   precedes_number H l n m y z h k p = elim (less_more n m) [
     | inl t ↦ t
     | inr t ↦ elim t [
@@ -186,10 +186,10 @@ module _ {Note : Type 0} (shape : Shape) (T : Notes Note) where
 
   -- the deed of a change
   pub record Deed (change : Change) (reducer : ℕ) (H : Entries) (u : NumberedEntry) : Type 0 where
-    pub deed : Item Note
+    pub deed : Occurrence Note
     pub numbered : HasNumber H (entry_number u) deed
     pub act : deed.newest.act ≡ changing change reducer (entry_value u)
-    pub at : place deed ≡ address (control_part H) (strand_of u)
+    pub at : occurrence_address deed ≡ address (control_part H) (strand_of u)
     pub begun : Begun (control_part H) (strand_of u)
 
   deed_now : (change : Change) (r : ℕ) (H : Entries) (e : Entry) → IsLegal shape (e ∷ H) → (v : ℕ) → e.request.act ≡ changing change r v →
@@ -198,7 +198,7 @@ module _ {Note : Type 0} (shape : Shape) (T : Notes Note) where
       let t = begun_on shape H e l e.request.strand (inl l.1.runs) in
       let tells = entry_tells change (suc (length (items_of r (steps_of H)))) e.request.strand v in
       record {
-        deed = item_of T H e;
+        deed = occurrence_of T H e;
         numbered = inl (tells.0 ∙ ap suc (items_length r H), refl);
         act = q ∙ ap (changing change r) (sym tells.2);
         at = placed shape T H e l ∙ sym t.1 ∙ ap (address (control_part (e ∷ H))) (sym tells.1);
@@ -230,15 +230,15 @@ module _ {Note : Type 0} (shape : Shape) (T : Notes Note) where
       go older (silent no_update no_put quiet) h = deed_on change r H e l u (older ((quiet change items u).0 h))
 
   -- the change of a deed
-  pub record DeedChange (change : Change) (reducer value : ℕ) (H : Entries) (y : Item Note) : Type 0 where
+  pub record DeedChange (change : Change) (reducer value : ℕ) (H : Entries) (y : Occurrence Note) : Type 0 where
     pub entry : NumberedEntry
     pub has : HasChange change (items_of reducer (steps_of H)) entry
     pub numbered : HasNumber H (entry_number entry) y
     pub value_is : entry_value entry ≡ value
-    pub at : address (control_part H) (strand_of entry) ≡ place y
+    pub at : address (control_part H) (strand_of entry) ≡ occurrence_address y
     pub begun : Begun (control_part H) (strand_of entry)
 
-  pub change_of_deed : (change : Change) (r v : ℕ) (H : Entries) → IsLegal shape H → NoneRefused H → (y : Item Note) → Member (trace T H) y → y.newest.act ≡ changing change r v →
+  pub change_of_deed : (change : Change) (r v : ℕ) (H : Entries) → IsLegal shape H → NoneRefused H → (y : Occurrence Note) → Member (trace T H) y → y.newest.act ≡ changing change r v →
       DeedChange change r v H y
   change_of_deed change r v [] l c y m q = absurd m
   change_of_deed change r v (e ∷ H) l c y m q = go (λ n. change_of_deed change r v H l.0 c.1 y n q) (head r e.request.strand e.request.act e.answer l.1.belongs c.0) m
@@ -264,7 +264,7 @@ module _ {Note : Type 0} (shape : Shape) (T : Notes Note) where
             begun = t.0;
           }
 
-      now : item_at r e ≡ item_changing change s v → y ≡ item_of T H e → DeedChange change r v (e ∷ H) y
+      now : item_at r e ≡ item_changing change s v → y ≡ occurrence_of T H e → DeedChange change r v (e ∷ H) y
       now i n =
           let t = begun_on shape H e l s (inl l.1.runs) in
           let tells = entry_tells change (suc (length items)) s v in
@@ -273,7 +273,7 @@ module _ {Note : Type 0} (shape : Shape) (T : Notes Note) where
             has = subst (λ z. HasChange change (z ∷ items) the_entry) (sym i) (has_now change items s v);
             numbered = inl (tells.0 ∙ ap suc (items_length r H), n);
             value_is = tells.2;
-            at = ap (address (control_part (e ∷ H))) tells.1 ∙ t.1 ∙ sym (placed shape T H e l) ∙ sym (ap place n);
+            at = ap (address (control_part (e ∷ H))) tells.1 ∙ t.1 ∙ sym (placed shape T H e l) ∙ sym (ap occurrence_address n);
             begun = subst (Begun (control_part (e ∷ H))) (sym tells.1) t.0;
           }
 

@@ -1,4 +1,4 @@
--- Where a part asks what the whole did at that place, it is answered as the whole was.
+-- Where a part asks what the whole did at that occurrence_address, it is answered as the whole was.
 use Rattle.std.proofs.Common.{◌≡◌, ◌⊎◌, inl, inr, ℕ, true, [], ◌∷◌, ◌++◌, Some, None, refl, sym, ap, ◌∙◌, subst}
 use Rattle.std.specs.Prelude.{MatchOption}
 use Rattle.model_accesses.specs.declared.kind.Kind.TheVariants as kind
@@ -18,7 +18,7 @@ use Rattle.model_races.specs.Verdicts.{IsRefused, IfValue, IsRightVerdict, Memor
 use Rattle.model_races.specs.Judged.{IsJudged}
 use Rattle.model_histories.specs.Extensions.{IsCleanAnswer}
 use Rattle.model_runs.specs.Serial.{value_given}
-use Rattle.law_interleavings.specs.Traces.{Notes, Item, place, item_of, trace}
+use Rattle.law_interleavings.specs.Traces.{Notes, Occurrence, occurrence_address, occurrence_of, trace}
 use Rattle.law_interleavings.proofs.Swaps.{Member}
 use Rattle.law_interleavings.proofs.Spoken.{NoneRefused}
 use Rattle.law_interleavings.proofs.Races.{Conflict, compared, no_race}
@@ -126,22 +126,22 @@ module _ {Note : Type 0} (shape : Shape) (mine T : Notes Note) (meeting : Meetin
   then_judged_here : MemoryIsJudged (meeting.entry ∷ meeting.before)
   then_judged_here = then_memory meeting.later meeting.entry meeting.before whole_judged.memory
 
-  other_in_whole : Member (trace T (meeting.later ++ meeting.entry ∷ meeting.before)) (item_of T meeting.before meeting.entry)
-  other_in_whole = member_later shape mine T meeting meeting.later meeting.entry meeting.before (item_of T meeting.before meeting.entry) (inl refl)
+  other_in_whole : Member (trace T (meeting.later ++ meeting.entry ∷ meeting.before)) (occurrence_of T meeting.before meeting.entry)
+  other_in_whole = member_later shape mine T meeting meeting.later meeting.entry meeting.before (occurrence_of T meeting.before meeting.entry) (inl refl)
 
   -- what conflicts with the deed is comparable to it
-  with_other : (y : Item Note) → Member (trace T (meeting.later ++ meeting.entry ∷ meeting.before)) y → Conflict y.newest.act meeting.entry.request.act →
-      (reaches (place y) (place (item_of T meeting.before meeting.entry)) ≡ true) ⊎ (reaches (place (item_of T meeting.before meeting.entry)) (place y) ≡ true)
+  with_other : (y : Occurrence Note) → Member (trace T (meeting.later ++ meeting.entry ∷ meeting.before)) y → Conflict y.newest.act meeting.entry.request.act →
+      (reaches (occurrence_address y) (occurrence_address (occurrence_of T meeting.before meeting.entry)) ≡ true) ⊎ (reaches (occurrence_address (occurrence_of T meeting.before meeting.entry)) (occurrence_address y) ≡ true)
   with_other y m k = compared shape T (meeting.later ++ meeting.entry ∷ meeting.before) meeting.whole_legal whole_judged.memory whole_clean y
-      (item_of T meeting.before meeting.entry) m other_in_whole k
+      (occurrence_of T meeting.before meeting.entry) m other_in_whole k
 
-  with_own : (y : Item Note) → Member (trace T (meeting.later ++ meeting.entry ∷ meeting.before)) y → Conflict y.newest.act meeting.entry.request.act →
-      (reaches (place y) (place (item_of mine meeting.part meeting.next)) ≡ true) ⊎ (reaches (place (item_of mine meeting.part meeting.next)) (place y) ≡ true)
+  with_own : (y : Occurrence Note) → Member (trace T (meeting.later ++ meeting.entry ∷ meeting.before)) y → Conflict y.newest.act meeting.entry.request.act →
+      (reaches (occurrence_address y) (occurrence_address (occurrence_of mine meeting.part meeting.next)) ≡ true) ⊎ (reaches (occurrence_address (occurrence_of mine meeting.part meeting.next)) (occurrence_address y) ≡ true)
   with_own y m k =
       let q = place_same shape mine T meeting in
       elim (with_other y m k) [
-        | inl r ↦ inl (subst (λ a. reaches (place y) a ≡ true) (sym q) r)
-        | inr r ↦ inr (subst (λ a. reaches a (place y) ≡ true) (sym q) r)
+        | inl r ↦ inl (subst (λ a. reaches (occurrence_address y) a ≡ true) (sym q) r)
+        | inr r ↦ inr (subst (λ a. reaches a (occurrence_address y) ≡ true) (sym q) r)
       ]
 
   no_refusal : meeting.next.request.act ≡ meeting.entry.request.act → (cell : CellAccess) → cell_access meeting.next.request.act ≡ Some cell →
@@ -166,7 +166,7 @@ module _ {Note : Type 0} (shape : Shape) (mine T : Notes Note) (meeting : Meetin
       (w, mine_before shape mine T meeting y m (mine_leads shape mine T meeting y m (with_own y w (reads y t)))))
       (λ y m t. theirs_before shape mine T meeting y m (theirs_leads shape mine T meeting y m (with_other y (theirs_in_whole shape mine T meeting y m) (reads y t))))
     where
-      reads : (y : Item Note) → touching cell y ≡ true → Conflict y.newest.act meeting.entry.request.act
+      reads : (y : Occurrence Note) → touching cell y ≡ true → Conflict y.newest.act meeting.entry.request.act
       reads y t = conflict_of y.newest.act meeting.entry.request.act y.newest.act (Read cell) refl is (read_conflict cell y.newest.act t)
 
   value_then : (entries : Entries) (entry : Entry) (cell value : ℕ) → MemoryIsJudged (entry ∷ entries) → entry.request.act ≡ Read cell → entry.answer ≡ Value value →

@@ -21,7 +21,7 @@ use Rattle.model_histories.specs.Legal.{Belongs, IsLegal}
 use Rattle.law_interleavings.proofs.Control.{legal_part, extends_part}
 use Rattle.model_runs.specs.Frames.{frame_in, next_frame}
 use Rattle.law_interleavings.specs.Fronts.{Front, moved, act_in, frame_at, front, IsBegun}
-use Rattle.law_interleavings.specs.Traces.{Notes, Spoken, spoken_of, spoken_by, beginning, walk, Item, place, item_of, trace, Precedes, IsLaterOf}
+use Rattle.law_interleavings.specs.Traces.{Notes, Spoken, spoken_of, spoken_by, beginning, walk, Occurrence, occurrence_address, occurrence_of, trace, Precedes, IsLaterOf}
 use Rattle.law_interleavings.proofs.Swaps.{Member, Paired}
 use Rattle.law_interleavings.proofs.Fronts.{begun_frame_below, frame_below, fronts, begun_more, active_begun}
 use Rattle.law_interleavings.proofs.Beginnings.{beginning_stays, begun_now, Later, opens, moves_on, later, beginning_alone}
@@ -127,16 +127,16 @@ module _ (shape : Shape) where
         go before (grows ev q sq aq al) = subst Goal (sym q) (moving ev sq aq before (later (control_part H) ev f))
 
     -- a deed is done at its strand's address
-    pub placed : (H : Entries) (e : Entry) → IsLegal shape (e ∷ H) → place (item_of notes H e) ≡ address (control_part H) e.request.strand
+    pub placed : (H : Entries) (e : Entry) → IsLegal shape (e ∷ H) → occurrence_address (occurrence_of notes H e) ≡ address (control_part H) e.request.strand
     placed H e l =
         ap (λ z. z.here) (sym (walked H l.0 (frame_in H e.request.strand)) ∙ (fronts (legal_part shape H l.0)).at e.request.strand (inl l.1.runs))
 
-    pub place_begun : (H : Entries) → IsLegal shape H → (x : Item Note) → Member (trace notes H) x →
-        (n : ℕ) × Begun (control_part H) n × (address (control_part H) n ≡ place x)
+    pub place_begun : (H : Entries) → IsLegal shape H → (x : Occurrence Note) → Member (trace notes H) x →
+        (n : ℕ) × Begun (control_part H) n × (address (control_part H) n ≡ occurrence_address x)
     place_begun [] l x m = absurd m
     place_begun (e ∷ H) l x (inl q) =
         let t = begun_on H e l e.request.strand (inl l.1.runs) in
-        (e.request.strand, t.0, t.1 ∙ sym (placed H e l) ∙ sym (ap place q))
+        (e.request.strand, t.0, t.1 ∙ sym (placed H e l) ∙ sym (ap occurrence_address q))
     place_begun (e ∷ H) l x (inr m) =
         let p = place_begun H l.0 x m in
         let t = begun_on H e l p.0 p.1 in
@@ -161,13 +161,13 @@ module _ (shape : Shape) where
     ]
 
     -- the frame that did a deed
-    pub record DoneBy (H : Entries) (x : Item Note) : Type 0 where
+    pub record DoneBy (H : Entries) (x : Occurrence Note) : Type 0 where
       pub frame : ℕ
       pub begun : IsBegun (control_part H) frame
       pub begins : beginning (control_part H) frame ≡ x.begin
       pub done : IsLaterOf (x.newest ∷ x.earlier) (spoken_by notes H frame)
 
-    pub done_by : (H : Entries) → IsLegal shape H → (x : Item Note) → Member (trace notes H) x → DoneBy H x
+    pub done_by : (H : Entries) → IsLegal shape H → (x : Occurrence Note) → Member (trace notes H) x → DoneBy H x
     done_by [] l x m = absurd m
     done_by (e ∷ H) l x (inl q) =
         let f = frame_in H e.request.strand in
@@ -181,7 +181,7 @@ module _ (shape : Shape) where
         let t = frame_on H e l p.frame p.begun in
         record { frame = p.frame; begun = t.0; begins = t.1 ∙ p.begins; done = spoken_longer e H p.frame (x.newest ∷ x.earlier) p.done }
 
-    abbrev item : Address → Spoken Note → List (Spoken Note) → Item Note
+    abbrev item : Address → Spoken Note → List (Spoken Note) → Occurrence Note
     item begin newest earlier = record { begin = begin; newest = newest; earlier = earlier }
 
     item_same : (a b : Address) (x y : Spoken Note) (xs ys : List (Spoken Note)) → a ≡ b → x ∷ xs ≡ y ∷ ys → item a x xs ≡ item b y ys
@@ -231,8 +231,8 @@ module _ (shape : Shape) where
         go older (inr b') (inr q) = on b' (older b') (subst (IsLaterOf (z ∷ zs)) (spoken_elsewhere notes e H f q) m)
 
     -- the newest deed of a frame comes behind all others
-    pub newest_behind : (H : Entries) (e : Entry) → IsLegal shape (e ∷ H) → (y : Item Note) → Member (trace notes H) y → (item_of notes H e).begin ≡ y.begin →
-        length y.earlier < length (item_of notes H e).earlier
+    pub newest_behind : (H : Entries) (e : Entry) → IsLegal shape (e ∷ H) → (y : Occurrence Note) → Member (trace notes H) y → (occurrence_of notes H e).begin ≡ y.begin →
+        length y.earlier < length (occurrence_of notes H e).earlier
     newest_behind H e l y m q =
         let d = done_by H l.0 y m in
         let f = frame_in H e.request.strand in
@@ -242,12 +242,12 @@ module _ (shape : Shape) where
         omega arith
 
     -- no deed comes behind one that it precedes
-    behind : (H : Entries) (e : Entry) → IsLegal shape (e ∷ H) → (y : Item Note) → Member (trace notes H) y → Precedes (item_of notes H e) y → ⊥
+    behind : (H : Entries) (e : Entry) → IsLegal shape (e ∷ H) → (y : Occurrence Note) → Member (trace notes H) y → Precedes (occurrence_of notes H e) y → ⊥
     behind H e l y m (inl (r, ne)) =
         let p = place_begun H l.0 y m in
         let a = placed H e l in
         let same_strand = running_reaches (control_part H) (legal_part shape H l.0) e.request.strand p.0 l.1.runs p.1
-        (subst (λ z. reaches z (address (control_part H) p.0) ≡ true) a (subst (λ z. reaches (place (item_of notes H e)) z ≡ true) (sym p.2) r)) in
+        (subst (λ z. reaches z (address (control_part H) p.0) ≡ true) a (subst (λ z. reaches (occurrence_address (occurrence_of notes H e)) z ≡ true) (sym p.2) r)) in
         ne (a ∙ ap (address (control_part H)) same_strand ∙ p.2)
     behind H e l y m (inr (q, lt)) = let t = newest_behind H e l y m q in omega (arith, t, lt)
 
@@ -257,17 +257,17 @@ module _ (shape : Shape) where
 
     pub distinct : (H : Entries) → IsLegal shape H → Paired (λ a b. a ≢ b) (trace notes H)
     distinct [] l = tt
-    distinct (e ∷ H) l = ((λ y m q. let t = newest_behind H e l y m (ap (λ z. z.begin) q) in let u = ap (λ (z : Item Note). length z.earlier) q in omega (arith, t, u)), distinct H l.0)
+    distinct (e ∷ H) l = ((λ y m q. let t = newest_behind H e l y m (ap (λ z. z.begin) q) in let u = ap (λ (z : Occurrence Note). length z.earlier) q in omega (arith, t, u)), distinct H l.0)
 
     -- the entry of a deed
-    pub record EntryOf (H : Entries) (x : Item Note) : Type 0 where
+    pub record EntryOf (H : Entries) (x : Occurrence Note) : Type 0 where
       pub later : Entries
       pub entry : Entry
       pub before : Entries
       pub whole : H ≡ later ++ entry ∷ before
-      pub is : x ≡ item_of notes before entry
+      pub is : x ≡ occurrence_of notes before entry
 
-    pub entry_of : (H : Entries) (x : Item Note) → Member (trace notes H) x → EntryOf H x
+    pub entry_of : (H : Entries) (x : Occurrence Note) → Member (trace notes H) x → EntryOf H x
     entry_of [] x m = absurd m
     entry_of (e ∷ H) x (inl q) = record { later = []; entry = e; before = H; whole = refl; is = q }
     entry_of (e ∷ H) x (inr m) =

@@ -9,7 +9,7 @@ use Rattle.model_races.specs.Memory.{cell_value}
 use Rattle.model_races.specs.Judged.{IsJudged}
 use Rattle.model_runs.specs.Frames.{frame_in, next_frame}
 use Rattle.law_interleavings.specs.Fronts.{IsBegun}
-use Rattle.law_interleavings.specs.Traces.{Notes, Spoken, spoken_of, spoken_by, beginning, item_of, trace, IsLaterOf}
+use Rattle.law_interleavings.specs.Traces.{Notes, Spoken, spoken_of, spoken_by, beginning, occurrence_of, trace, IsLaterOf}
 use Rattle.law_interleavings.specs.Asked.{Begins}
 use Rattle.law_interleavings.proofs.Control.{legal_part}
 use Rattle.law_interleavings.proofs.Fronts.{active_begun}
@@ -64,7 +64,7 @@ module _ {Note : Type 0} (shape : Shape) where
 
     -- the deed with which the whole goes on is one of the part
     done_too : (K : Entries) (e : Entry) (later : Entries) → R ≡ later ++ e ∷ K → IsLegal shape (e ∷ K) → NeverLess → IsPart shape T mine H K →
-        Member (trace mine H) (item_of T K e)
+        Member (trace mine H) (occurrence_of T K e)
     done_too K e later w k never before = go (later_next said (spoken_by mine H match.frame) match.did)
       where
         own : ℕ
@@ -98,13 +98,13 @@ module _ {Note : Type 0} (shape : Shape) where
         newest = subst (λ f. IsLaterOf (x ∷ said) (spoken_by T R f)) one
             (subst (λ zs. IsLaterOf zs (spoken_by T R whole.frame)) (spoken_here T e K own refl) whole.did)
 
-        go : (said ≡ spoken_by mine H match.frame) ⊎ ((z : Spoken Note) × IsLaterOf (z ∷ said) (spoken_by mine H match.frame)) → Member (trace mine H) (item_of T K e)
+        go : (said ≡ spoken_by mine H match.frame) ⊎ ((z : Spoken Note) × IsLaterOf (z ∷ said) (spoken_by mine H match.frame)) → Member (trace mine H) (occurrence_of T K e)
         go (inl q) = absurd (never K e later w k match q)
         go (inr (z, m)) =
             let far = later_transitive (z ∷ said) (spoken_by mine H match.frame) (spoken_by T R there.frame) m there.did in
             let lists : z ∷ said ≡ x ∷ said = later_same (z ∷ said) (x ∷ said) (spoken_by T R there.frame) far newest refl in
             let same : z ≡ x = cc in
-            subst (Member (trace mine H)) (λ i. record { begin = (item_of T K e).begin; newest = same i; earlier = said }) (next_deed shape T mine H K e l match z m)
+            subst (Member (trace mine H)) (λ i. record { begin = (occurrence_of T K e).begin; newest = same i; earlier = said }) (next_deed shape T mine H K e l match z m)
 
     whole_by : NeverLess → (K later : Entries) → R ≡ later ++ K → IsPart shape T mine H K
     whole_by never [] later w = part_first shape T mine H l

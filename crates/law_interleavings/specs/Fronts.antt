@@ -27,8 +27,8 @@ pub record Front : Type 0 where
   pub nest : Nest
 
 -- a spawned function begins at this address
-abbrev pub opening : Address → Front
-opening here = record { here = here; nest = in_spawned }
+abbrev pub first_front : Address → Front
+first_front here = record { here = here; nest = in_spawned }
 
 abbrev pub after_spawn : Address → Nest → Front
 after_spawn here (opened end nest) = record { here = extended here next; nest = opened end nest }
@@ -70,10 +70,10 @@ moved_by history event fronts =
 
 -- how far each frame is
 abbrev pub front : History → ℕ → Front
-front [] = λ frame. opening []
+front [] = λ frame. first_front []
 front (split strand the_child the_next the_join first ∷ history) =
     updated (moved_by history (split strand the_child the_next the_join first) (front history)) (suc (length history))
-    (opening (extended (address history strand) child))
+    (first_front (extended (address history strand) child))
 front (event ∷ history) = moved_by history event (front history)
 
 abbrev pub nest_of : History → Stack → Nest

@@ -11,7 +11,7 @@ use Rattle.model_histories.specs.declared.answer.Entry.{Entry}
 use Rattle.model_histories.specs.Entries.{Entries, control_part}
 use Rattle.model_runs.specs.Frames.{frame_in, next_frame}
 use Rattle.model_runs.specs.Serial.{value_given}
-use Rattle.law_interleavings.specs.Fronts.{Front, opening, moved}
+use Rattle.law_interleavings.specs.Fronts.{Front, first_front, moved}
 
 -- the note of an entry, by the number of the frame that it begins where it is a split
 abbrev pub Notes : Type 0 → Type 0
@@ -44,21 +44,21 @@ beginning (_ ∷ history) = beginning history
 
 -- where a frame is that began there and did this
 abbrev pub walk : {Note : Type 0} → Address → List (Spoken Note) → Front
-walk begin [] = opening begin
+walk begin [] = first_front begin
 walk begin (one ∷ before) = moved (walk begin before) one.act
 
 -- one deed of a frame, which began there and did this before
-pub record Item (Note : Type 0) : Type 0 where
+pub record Occurrence (Note : Type 0) : Type 0 where
   pub begin : Address
   pub newest : Spoken Note
   pub earlier : List (Spoken Note)
 
 -- the address of the strand that did it
-abbrev pub place : {Note : Type 0} → Item Note → Address
-place item = (walk item.begin item.earlier).here
+abbrev pub occurrence_address : {Note : Type 0} → Occurrence Note → Address
+occurrence_address item = (walk item.begin item.earlier).here
 
-abbrev pub item_of : {Note : Type 0} → Notes Note → Entries → Entry → Item Note
-item_of notes entries entry =
+abbrev pub occurrence_of : {Note : Type 0} → Notes Note → Entries → Entry → Occurrence Note
+occurrence_of notes entries entry =
     record {
       begin = beginning (control_part entries) (frame_in entries entry.request.strand);
       newest = spoken_of notes (next_frame entries) entry;
@@ -66,14 +66,14 @@ item_of notes entries entry =
     }
 
 -- the deeds of a history, the newest first
-abbrev pub trace : {Note : Type 0} → Notes Note → Entries → List (Item Note)
+abbrev pub trace : {Note : Type 0} → Notes Note → Entries → List (Occurrence Note)
 trace notes [] = []
-trace notes (entry ∷ entries) = item_of notes entries entry ∷ trace notes entries
+trace notes (entry ∷ entries) = occurrence_of notes entries entry ∷ trace notes entries
 
 -- one deed comes before another in every interleaving: its strand reaches the other's, or their frame did it earlier
-abbrev pub Precedes : {Note : Type 0} → Item Note → Item Note → Type 0
+abbrev pub Precedes : {Note : Type 0} → Occurrence Note → Occurrence Note → Type 0
 Precedes one other =
-    ((reaches (place one) (place other) ≡ true) × (place one ≡ place other → ⊥)) ⊎
+    ((reaches (occurrence_address one) (occurrence_address other) ≡ true) × (occurrence_address one ≡ occurrence_address other → ⊥)) ⊎
     ((one.begin ≡ other.begin) × (length one.earlier < length other.earlier))
 
 -- the second list began with the first, both the newest first

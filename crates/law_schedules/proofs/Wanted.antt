@@ -1,4 +1,4 @@
--- What a run asks next is what the clean one did at that place: the function's dialogue tells it.
+-- What a run asks next is what the clean one did at that occurrence_address: the function's dialogue tells it.
 use Rattle.std.proofs.Common.{◌≡◌, ◌⊎◌, inl, inr, ℕ, ◌∷◌, List, [], Some, refl, sym, ap, ◌∙◌, subst, subst₂}
 use Rattle.model_accesses.specs.declared.request.Act.{Act}
 use Rattle.model_strands.specs.Address.{child, extended}
@@ -14,7 +14,7 @@ use Rattle.model_runs.specs.Frames.{Targets, HasFrame, frame_in, next_frame, tar
 use Rattle.model_runs.specs.Runs.{IsRunWith}
 use Rattle.law_runs.proofs.Histories.{spawn_splits, said_here}
 use Rattle.law_interleavings.specs.Fronts.{IsBegun}
-use Rattle.law_interleavings.specs.Traces.{Spoken, Item, place, trace, spoken_by, beginning, IsLaterOf}
+use Rattle.law_interleavings.specs.Traces.{Spoken, Occurrence, occurrence_address, trace, spoken_by, beginning, IsLaterOf}
 use Rattle.law_interleavings.proofs.Control.{legal_part}
 use Rattle.law_interleavings.proofs.Fronts.{active_begun}
 use Rattle.law_interleavings.proofs.Swaps.{Member}
@@ -37,8 +37,8 @@ module _ (shape : Shape) where
       go older (inr b') = elim (older b') [ inl q ↦ inl q | inr s ↦ inr (inr s) ]
 
   -- the function of the frame that a deed spawns
-  spawned_target : (T : Targets) (H : Entries) → IsLegal shape H → (x : Item Told) → Member (trace (told T) H) x → x.newest.act ≡ Act.Spawn → (frame : ℕ) →
-      IsBegun (control_part H) frame → beginning (control_part H) frame ≡ extended (place x) child → Some (T frame) ≡ x.newest.note.target
+  spawned_target : (T : Targets) (H : Entries) → IsLegal shape H → (x : Occurrence Told) → Member (trace (told T) H) x → x.newest.act ≡ Act.Spawn → (frame : ℕ) →
+      IsBegun (control_part H) frame → beginning (control_part H) frame ≡ extended (occurrence_address x) child → Some (T frame) ≡ x.newest.note.target
   spawned_target T H l x m q f b at =
       let s = spawned_by shape (told T) H l x m q in
       let one : f ≡ s.frame = beginning_alone (legal_part shape H l) f s.frame b s.begun (at ∙ sym s.begins) in

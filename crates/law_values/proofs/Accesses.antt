@@ -4,7 +4,7 @@ use Rattle.std.proofs.lemmas.Bool.Decides.{eqb_tells}
 use Rattle.model_strands.specs.History.{History}
 use Rattle.model_reducers.specs.Items as one
 use Rattle.model_reducers.specs.Items.{Item, Items, control_events}
-use Rattle.law_values.specs.Items.{IsAllowed, IsLegal}
+use Rattle.law_values.specs.Items.{IsAllowed, AreLegalItems}
 use Rattle.model_reducers.specs.Steps.{control, update, put, other, Steps, items_of}
 use Rattle.law_values.specs.Accesses.{control_steps, AreLegal}
 use Rattle.law_values.specs.Laws.{ProjectionLaw}
@@ -26,23 +26,23 @@ same_events reducer (put s asked v ∷ steps) =
 same_events reducer (other s ∷ steps) = same_events reducer steps
 
 -- an item is allowed alike after histories that are the same
-legal_cons : (items : Items) (item : Item) (whole : Type 0) (history : History) → control_events items ≡ history → IsLegal items ↔ whole →
-    IsLegal (item ∷ items) ↔ (whole × IsAllowed history item)
+legal_cons : (items : Items) (item : Item) (whole : Type 0) (history : History) → control_events items ≡ history → AreLegalItems items ↔ whole →
+    AreLegalItems (item ∷ items) ↔ (whole × IsAllowed history item)
 legal_cons items item whole history e k = (
   (λ l. (k.0 l.0, subst (λ h. IsAllowed h item) e l.1)),
   (λ l. (k.1 l.0, subst (λ h. IsAllowed h item) (sym e) l.1)),
 )
 
-same_legal : (reducer : ℕ) (steps : Steps) → IsLegal (items_of reducer steps) ↔ AreLegal steps
+same_legal : (reducer : ℕ) (steps : Steps) → AreLegalItems (items_of reducer steps) ↔ AreLegal steps
 same_legal reducer [] = (λ l. l, λ l. l)
 same_legal reducer (control e ∷ steps) =
     legal_cons (items_of reducer steps) (one.control e) (AreLegal steps) (control_steps steps) (same_events reducer steps) (same_legal reducer steps)
 same_legal reducer (update s asked v ∷ steps) =
-    item_cases (λ i. IsLegal (i ∷ items_of reducer steps) ↔ AreLegal (update s asked v ∷ steps)) asked reducer (one.update s v) (one.other s)
+    item_cases (λ i. AreLegalItems (i ∷ items_of reducer steps) ↔ AreLegal (update s asked v ∷ steps)) asked reducer (one.update s v) (one.other s)
     (λ e. legal_cons (items_of reducer steps) (one.update s v) (AreLegal steps) (control_steps steps) (same_events reducer steps) (same_legal reducer steps))
     (λ ne. legal_cons (items_of reducer steps) (one.other s) (AreLegal steps) (control_steps steps) (same_events reducer steps) (same_legal reducer steps))
 same_legal reducer (put s asked v ∷ steps) =
-    item_cases (λ i. IsLegal (i ∷ items_of reducer steps) ↔ AreLegal (put s asked v ∷ steps)) asked reducer (one.put s v) (one.other s)
+    item_cases (λ i. AreLegalItems (i ∷ items_of reducer steps) ↔ AreLegal (put s asked v ∷ steps)) asked reducer (one.put s v) (one.other s)
     (λ e. legal_cons (items_of reducer steps) (one.put s v) (AreLegal steps) (control_steps steps) (same_events reducer steps) (same_legal reducer steps))
     (λ ne. legal_cons (items_of reducer steps) (one.other s) (AreLegal steps) (control_steps steps) (same_events reducer steps) (same_legal reducer steps))
 same_legal reducer (other s ∷ steps) =

@@ -29,7 +29,7 @@ use Rattle.law_strands.proofs.Kept.{address_stays}
 use Rattle.law_strands.proofs.Sinks.{sink_end, running_law}
 use Rattle.law_strands.proofs.EventKinds.{arriving_sink, begun_earlier}
 use Rattle.model_reducers.specs.Items.{control, update, put, other, Items, control_events}
-use Rattle.law_values.specs.Items.{IsLegal}
+use Rattle.law_values.specs.Items.{AreLegalItems}
 use Rattle.model_reducers.specs.Entries.{Entry, update_entry, put_entry, entry_number, strand_of}
 use Rattle.law_values.specs.Logs.{logs_after, log}
 use Rattle.model_reducers.specs.GetValues.{IsLastPut}
@@ -170,7 +170,7 @@ holds_step h e f a P l l' (quiet_step q same_log) ba wrote old x u b below i =
     let t = old x u bx (below_stays h e l l' a x ba bx below) k in
     (t.0, precedes_stays h e l l' a (strand_of u) ba (wrote x u k) t.1)
 
-pub holds_only : (h : Items) → IsLegal h → (p : Entry) → IsLastPut h p → HoldsOnly (control_events h) (log h) (strand_of p) (IsSince h p)
+pub holds_only : (h : Items) → AreLegalItems h → (p : Entry) → IsLastPut h p → HoldsOnly (control_events h) (log h) (strand_of p) (IsSince h p)
 holds_only [] l p t x u b below i = absurd t.0
 holds_only (control e ∷ h) l p t x u b below i =
     let lc = legal_control h l.0 in

@@ -4,7 +4,7 @@ use Rattle.model_strands.specs.Updated.{updated}
 use Rattle.model_strands.specs.Blocks.{root, spawned, Outstanding}
 use Rattle.model_strands.specs.Legal.{open_split, next_split, sync_joined, sync_waits, child_return, last_return}
 use Rattle.model_reducers.specs.Items.{Items, control_events}
-use Rattle.law_values.specs.Items.{IsLegal}
+use Rattle.law_values.specs.Items.{AreLegalItems}
 use Rattle.model_reducers.specs.Entries.{Entry, update_entry, put_entry, entry_number, entry_value}
 use Rattle.law_values.specs.Logs.{log}
 use Rattle.model_reducers.specs.Views.{Reducer, product}
@@ -34,7 +34,7 @@ worked reducer h s p us value g in_log is_view combined = record {
   view_is = is_view;
 }
 
-two_children_legal : IsLegal two_children
+two_children_legal : AreLegalItems two_children
 unfolding updated
 two_children_legal = (
   (
@@ -65,7 +65,7 @@ two_children_legal = (
       | inr t ↦ elim t [ inl q ↦ o.0 (ap (λ z. spawned z 3) (sym q.0)) | inr q ↦ absurd q ]
     ]
 
-early_continuation_legal : IsLegal early_continuation
+early_continuation_legal : AreLegalItems early_continuation
 unfolding updated
 early_continuation_legal = (
   (
@@ -84,7 +84,7 @@ early_continuation_legal = (
   sync_joined {join = 3} {below = root} refl refl (λ m o. elim o.1 [ inl t ↦ o.0 (ap (λ z. spawned z 3) (sym t.0)) | inr t ↦ absurd t ]),
 )
 
-waiting_sync_legal : IsLegal waiting_sync
+waiting_sync_legal : AreLegalItems waiting_sync
 unfolding updated
 waiting_sync_legal = (
   (
@@ -103,7 +103,7 @@ waiting_sync_legal = (
   last_return {number = 1} refl refl (inl refl, (λ m o. elim o [ inl t ↦ t.0 | inr t ↦ absurd t ])),
 )
 
-early_update_legal : IsLegal early_update
+early_update_legal : AreLegalItems early_update
 unfolding updated
 early_update_legal = (((tt, refl), refl), refl)
 

@@ -16,7 +16,7 @@ use Rattle.law_strands.proofs.Branches.{branch_address_law}
 use Rattle.law_strands.proofs.Sinks.{sink_end, running_sink}
 use Rattle.law_strands.proofs.Views.{reach_english, view_law}
 use Rattle.model_reducers.specs.Items.{control_events}
-use Rattle.law_values.specs.Items.{IsLegal}
+use Rattle.law_values.specs.Items.{AreLegalItems}
 use Rattle.model_reducers.specs.Entries.{Entry, entry_number, strand_of, AreInSerialOrder}
 use Rattle.law_values.specs.Logs.{log}
 use Rattle.model_reducers.specs.GetValues.{Counts, AreCounted}
@@ -57,7 +57,7 @@ serial_earlier h l u v bu bv (inr a) = inr a
 pub log_law : LogLaw
 log_law h s p g = (head.0, (tail_sorted, (λ u. (to u, from u))), head.1)
   where
-    l : IsLegal h
+    l : AreLegalItems h
     l = g.legal
 
     c : History

@@ -15,7 +15,7 @@ use Rattle.law_strands.proofs.Sinks.{running_law}
 use Rattle.law_strands.proofs.EventKinds.{arriving_sink, begun_earlier}
 use Rattle.law_strands.proofs.Views.{view_law}
 use Rattle.model_reducers.specs.Items.{control, update, put, other, Items, control_events}
-use Rattle.law_values.specs.Items.{IsLegal}
+use Rattle.law_values.specs.Items.{AreLegalItems}
 use Rattle.model_reducers.specs.Entries.{Entry, update_entry, put_entry, entry_number, strand_of, HasUpdate, HasPut}
 use Rattle.law_values.specs.Logs.{logs_after, log}
 use Rattle.model_reducers.specs.GetValues.{IsLastPut}
@@ -35,7 +35,7 @@ newest_put h s v p t = go t.0
     go (inr q) = absurd (let m : entry_number p ≤ length h = put_numbered h p q in
         let m' : suc (length h) ≤ entry_number p = t.1 (put_entry (suc (length h)) s v) (inl refl) in omega arith)
 
-since_begun : (h : Items) → IsLegal h → (p : Entry) → HasPut h p → (u : Entry) → IsSince h p u → Begun (control_events h) (strand_of u)
+since_begun : (h : Items) → AreLegalItems h → (p : Entry) → HasPut h p → (u : Entry) → IsSince h p u → Begun (control_events h) (strand_of u)
 since_begun h l p t u (inl e) = subst (λ w. Begun (control_events h) (strand_of w)) (sym e) (put_begun h l p t)
 since_begun h l p t u (inr k) = update_begun h l u k.0
 
@@ -72,7 +72,7 @@ keeps_step h e f P l (quiet_step q same_log) known old x u b p cov =
 pub own_view : (h : History) → Legal h → (s x : ℕ) → Running h s → Begun h x → Covers h x s → x ≡ s
 own_view h l s x run b c = sym (running_law h l s x run ((view_law h l).within x s b c).1)
 
-pub keeps : (h : Items) → IsLegal h → (p : Entry) → IsLastPut h p → Keeps (control_events h) (log h) (IsSince h p)
+pub keeps : (h : Items) → AreLegalItems h → (p : Entry) → IsLastPut h p → Keeps (control_events h) (log h) (IsSince h p)
 keeps [] l p t x u b k c = absurd t.0
 keeps (control e ∷ h) l p t x u b k c =
     keeps_step (control_events h) e (log h) (IsSince h p) (legal_control h l.0) (step_of (control_events h) (log h) e (legal_control h l.0) l.1)

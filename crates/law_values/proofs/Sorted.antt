@@ -18,7 +18,7 @@ use Rattle.law_strands.proofs.Branches.{stability_law}
 use Rattle.law_strands.proofs.EventKinds.{arriving_sink, begun_earlier}
 use Rattle.law_strands.proofs.Views.{reach_english, view_law}
 use Rattle.model_reducers.specs.Items.{control, update, put, other, Items, control_events}
-use Rattle.law_values.specs.Items.{IsLegal}
+use Rattle.law_values.specs.Items.{AreLegalItems}
 use Rattle.model_reducers.specs.Entries.{Entry, update_entry, put_entry, entry_number, strand_of}
 use Rattle.law_values.specs.Logs.{logs_after, log}
 use Rattle.law_values.proofs.Lists.{pairs_flat}
@@ -77,7 +77,7 @@ sorted_step h e f l l' (join_step s j g k same_log) cov old x b =
 sorted_step h e f l l' (quiet_step q same_log) cov old x b =
     subst (AllPairs (IsEarlier (e ∷ h))) (sym (same_log x)) (sorted_stays h e f l l' cov old x (q.begun x b))
 
-pub sorted : (h : Items) → IsLegal h → Sorted (control_events h) (log h)
+pub sorted : (h : Items) → AreLegalItems h → Sorted (control_events h) (log h)
 sorted [] l x b = pairs-nil (IsEarlier [])
 sorted (control e ∷ h) l x b =
     sorted_step (control_events h) e (log h) (legal_control h l.0) (then (legal_control h l.0) l.1)

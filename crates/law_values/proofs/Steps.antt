@@ -18,12 +18,12 @@ use Rattle.law_strands.proofs.EventKinds.{Joining, joining_sync, joining_return,
 use Rattle.law_strands.proofs.Kept.{begun_stays}
 use Rattle.law_strands.proofs.Gatherings.{gathering_law}
 use Rattle.model_reducers.specs.Items.{control, update, put, other, Items, control_events}
-use Rattle.law_values.specs.Items.{IsLegal}
+use Rattle.law_values.specs.Items.{AreLegalItems}
 use Rattle.model_reducers.specs.Entries.{Entry, update_entry, put_entry, entry_number, strand_of, HasUpdate, HasPut}
 use Rattle.law_values.specs.Logs.{logs_after, log}
 use Rattle.law_values.proofs.Lists.{in_flat}
 
-pub legal_control : (h : Items) → IsLegal h → Legal (control_events h)
+pub legal_control : (h : Items) → AreLegalItems h → Legal (control_events h)
 legal_control [] l = start
 legal_control (control e ∷ h) l = then (legal_control h l.0) l.1
 legal_control (update s v ∷ h) l = legal_control h l.0
@@ -104,7 +104,7 @@ covered_step h e f (quiet_step q same_log) old x u b i = q.covered x (strand_of 
 covered_here : (h : History) → Legal h → (s x : ℕ) (u w : Entry) → Begun h x → x ≡ s → strand_of w ≡ s → w ≡ u → Covers h x (strand_of u)
 covered_here h l s x u w b e k q = subst (λ y. Covers h x y) (e ∙ sym k ∙ ap strand_of q) (covers_self l x b)
 
-pub covered : (h : Items) → IsLegal h → Covered (control_events h) (log h)
+pub covered : (h : Items) → AreLegalItems h → Covered (control_events h) (log h)
 covered [] l x u b i = absurd i
 covered (control e ∷ h) l x u b i =
     covered_step (control_events h) e (log h) (step_of (control_events h) (log h) e (legal_control h l.0) l.1) (covered h l.0) x u b i
@@ -164,7 +164,7 @@ put_numbered (put s v ∷ h) u (inr t) = let k = put_numbered h u t in omega ari
 put_numbered (update s v ∷ h) u t = let k = put_numbered h u t in omega arith
 put_numbered (other s ∷ h) u t = let k = put_numbered h u t in omega arith
 
-pub update_begun : (h : Items) → IsLegal h → (u : Entry) → HasUpdate h u → Begun (control_events h) (strand_of u)
+pub update_begun : (h : Items) → AreLegalItems h → (u : Entry) → HasUpdate h u → Begun (control_events h) (strand_of u)
 update_begun [] l u t = absurd t
 update_begun (control e ∷ h) l u t = begun_stays (then (legal_control h l.0) l.1) (strand_of u) (update_begun h l.0 u t)
 update_begun (update s v ∷ h) l u (inl e) = inl (subst (λ w. Running (control_events h) (strand_of w)) (sym e) l.1)
@@ -172,7 +172,7 @@ update_begun (update s v ∷ h) l u (inr t) = update_begun h l.0 u t
 update_begun (put s v ∷ h) l u t = update_begun h l.0 u t
 update_begun (other s ∷ h) l u t = update_begun h l.0 u t
 
-pub put_begun : (h : Items) → IsLegal h → (u : Entry) → HasPut h u → Begun (control_events h) (strand_of u)
+pub put_begun : (h : Items) → AreLegalItems h → (u : Entry) → HasPut h u → Begun (control_events h) (strand_of u)
 put_begun [] l u t = absurd t
 put_begun (control e ∷ h) l u t = begun_stays (then (legal_control h l.0) l.1) (strand_of u) (put_begun h l.0 u t)
 put_begun (put s v ∷ h) l u (inl e) = inl (subst (λ w. Running (control_events h) (strand_of w)) (sym e) l.1)
@@ -208,5 +208,5 @@ written (other s ∷ h) x u i = written h x u i
 pub member_numbered : (h : Items) (x : ℕ) (u : Entry) → Present u (log h x) → entry_number u ≤ length h
 member_numbered h x u i = elim (written h x u i) [ inl t ↦ update_numbered h u t | inr t ↦ put_numbered h u t ]
 
-pub member_begun : (h : Items) → IsLegal h → (x : ℕ) (u : Entry) → Present u (log h x) → Begun (control_events h) (strand_of u)
+pub member_begun : (h : Items) → AreLegalItems h → (x : ℕ) (u : Entry) → Present u (log h x) → Begun (control_events h) (strand_of u)
 member_begun h l x u i = elim (written h x u i) [ inl t ↦ update_begun h l u t | inr t ↦ put_begun h l u t ]

@@ -13,6 +13,6 @@ IsAllowed history (put strand value) = Running history strand
 IsAllowed history (other strand) = Running history strand
 
 -- each item was allowed when it came
-abbrev pub IsLegal : Items → Type 0
-IsLegal [] = Unit {0}
-IsLegal (item ∷ items) = IsLegal items × IsAllowed (control_events items) item
+abbrev pub AreLegalItems : Items → Type 0
+AreLegalItems [] = Unit {0}
+AreLegalItems (item ∷ items) = AreLegalItems items × IsAllowed (control_events items) item

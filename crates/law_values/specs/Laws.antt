@@ -1,7 +1,7 @@
 -- What a strand's view is at a granted get.
 use Rattle.std.specs.Prelude.{◌≡◌, ◌↔◌, ℕ, Bool, List, [], ◌∷◌, Some, IsTrue}
 use Rattle.model_reducers.specs.Items.{Item, Items, control_events}
-use Rattle.law_values.specs.Items.{IsLegal}
+use Rattle.law_values.specs.Items.{AreLegalItems}
 use Rattle.model_reducers.specs.Steps.{Steps, items_of}
 use Rattle.law_values.specs.Accesses.{control_steps, AreLegal}
 use Rattle.model_reducers.specs.Entries.{Entry, update_entry, put_entry}
@@ -21,7 +21,7 @@ LogLaw =
 -- only one list is of the updates that count in serial order
 abbrev pub CountedLaw : Type 0
 CountedLaw =
-    (items : Items) → IsLegal items → (strand : ℕ) (put : Entry) (counted others : List Entry) → AreCounted items put strand counted →
+    (items : Items) → AreLegalItems items → (strand : ℕ) (put : Entry) (counted others : List Entry) → AreCounted items put strand counted →
     AreCounted items put strand others → counted ≡ others
 
 -- at a granted get the value is the strand's view, and nothing else is
@@ -44,7 +44,7 @@ StayLaw View =
 abbrev pub ProjectionLaw : Type 0
 ProjectionLaw =
     (reducer : ℕ) (steps : Steps) →
-    (control_events (items_of reducer steps) ≡ control_steps steps) × (IsLegal (items_of reducer steps) ↔ AreLegal steps)
+    (control_events (items_of reducer steps) ≡ control_steps steps) × (AreLegalItems (items_of reducer steps) ↔ AreLegal steps)
 
 -- the get by the strand is granted, these are the updates that count at it, and this is its value and the strand's view
 pub record IsWorked {View : Type 0} (reducer : Reducer View) (items : Items) (strand : ℕ) (put : Entry) (counted : List Entry)

@@ -1,7 +1,7 @@
 -- Why there is no whole run, from what the logs and the gate show.
 use Rattle.std.proofs.Common.{◌≡◌, Bool, true, false, List, reverse, refl, Result, Err}
 use Rattle.model_histories.specs.Shapes.{Shape}
-use Rattle.model_histories.specs.States.{State}
+use Rattle.model_histories.specs.States.{GateState}
 use Rattle.model_bodies.specs.Codes.{Code}
 use Rattle.locked_replay.specs.declared.fault.RunFault.{RunFault}
 use Rattle.locked_replay.specs.declared.fault.RunFault.TheVariants.{Limit, Stopped, Torn, Strange, Memory}
@@ -14,7 +14,7 @@ not_stopped : (stopped : Bool) → (stopped ≡ true → ⊥) → stopped ≡ fa
 not_stopped true not = absurd (not refl)
 not_stopped false not = refl
 
-module _ {L A T : Type 0} (functions : List Code) (shape : Shape) (gate : State) (logs : List (WorkerLog L A)) where
+module _ {L A T : Type 0} (functions : List Code) (shape : Shape) (gate : GateState) (logs : List (WorkerLog L A)) where
   -- the logs are whole, and the gate is not that of a finished run
   pub run_faulted : (checked : Result T RunFault) (fault : RunFault) → (checked ≡ Err Stopped → ⊥) → (gate.stopped ≡ true → checked ≡ Err Stopped) →
       AreWhole (reverse gate.history) logs → (fault ≡ Strange → IsStrangeGate functions shape gate) → (fault ≡ Limit → ⊥) → (fault ≡ Stopped → ⊥) →

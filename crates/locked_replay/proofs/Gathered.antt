@@ -7,7 +7,7 @@ use Rattle.model_histories.specs.Shapes.{Shape}
 use Rattle.model_races.specs.Judged.{IsJudged}
 use Rattle.model_races.specs.Memory.{IsMemory}
 use Rattle.model_histories.specs.Extensions.{IsClean}
-use Rattle.model_histories.specs.States.{State}
+use Rattle.model_histories.specs.States.{GateState}
 use Rattle.race_gate.specs.States.{IsRight}
 use Rattle.program_text.specs.declared.program.Program.{Program}
 use Rattle.program_text.specs.Shapes.{shape_in}
@@ -29,7 +29,7 @@ pub if_err : {A E : Type 0} {P Q : E → Type 0} (result : Result A E) → IfErr
 if_err (Ok a) p f = tt
 if_err (Err e) p f = f e p
 
-module _ {L A B : Type 0} (program : Program B) (gate : State) (logs : List (WorkerLog L A)) where
+module _ {L A B : Type 0} (program : Program B) (gate : GateState) (logs : List (WorkerLog L A)) where
   -- a whole run is that of the gate
   pub record IsGathered (whole : Whole A) : Type 0 where
     pub shape : gate.shape ≡ shape_in program
@@ -78,7 +78,7 @@ module _ {L A B : Type 0} (program : Program B) (gate : State) (logs : List (Wor
   -- why there is none
   pub faulted : IsJudged gate.shape gate.history → IsMemory gate.shape.cells gate.history gate.memory → (fault : RunFault) →
       HasFault program.functions (shape_in program) gate logs fault →
-      (behind : State) × IsRight behind × HasFault program.functions (shape_in program) behind logs fault
+      (behind : GateState) × IsRight behind × HasFault program.functions (shape_in program) behind logs fault
   faulted judged memory fault has = (gate, record { judged = judged; memory = memory }, has)
 
   pub never_limit : (result : Result (Whole A) RunFault) → IfErr result (HasFault program.functions (shape_in program) gate logs) →

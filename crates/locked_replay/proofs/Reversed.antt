@@ -6,7 +6,7 @@ use Rattle.model_histories.specs.declared.answer.Entry.{Entry}
 use Rattle.model_histories.specs.Entries.{Entries}
 use Rattle.model_histories.specs.Extensions.{IsCleanAnswer, IsClean}
 use Rattle.model_histories.specs.Shapes.{Shape}
-use Rattle.model_histories.specs.States.{State}
+use Rattle.model_histories.specs.States.{GateState}
 use Rattle.model_bodies.specs.Codes.{Code}
 use Rattle.run_replay.specs.declared.replays.ReplayFault.{ReplayFault}
 use Rattle.run_replay.specs.declared.replays.ReplayFault.TheVariants as replay_fault
@@ -27,7 +27,7 @@ clean_either listed told tells =
     )
 
 -- what a fault of `replay` that is not want of memory says of the gate whose history was replayed
-pub told_strange : (functions : List Code) (shape : Shape) (gate : State) (listed : List Entry) (fault : ReplayFault) → reverse listed ≡ gate.history →
+pub told_strange : (functions : List Code) (shape : Shape) (gate : GateState) (listed : List Entry) (fault : ReplayFault) → reverse listed ≡ gate.history →
     (fault ≡ replay_fault.Unfinished → IsUnfinishedRun functions shape (reverse listed)) →
     ((number : ℕ) → fault ≡ replay_fault.Strange number → IsStrange functions shape listed number) → run_fault_of fault ≡ run_fault.Strange →
     IsStrangeGate functions shape gate

@@ -3,7 +3,7 @@
 ghost use Rattle.std.specs.Prelude.{◌≡◌, ◌↔◌, true, reverse, IsTrue, IfOk, IfErr, OnOk, Err};
 ghost use Rattle.model_races.specs.Memory.{IsMemory};
 ghost use Rattle.model_histories.specs.Extensions.{IsCleanAnswer, IsClean};
-ghost use Rattle.model_histories.specs.States.{State};
+ghost use Rattle.model_histories.specs.States.{GateState};
 ghost use Rattle.race_gate.specs.States.{IsRight};
 ghost use Rattle.program_text.specs.Shapes.{shape_in};
 ghost use Rattle.model_runs.specs.Runs.{IsFinishedRun};
@@ -162,7 +162,7 @@ pub fn gather<L: Ledger, A: Allocator + Copy, B: Allocator>(
     ensures agree { IfOk result (λ whole.
         IsTrue whole.clean → AllAgree program.now.functions (shape_in program.now) (reverse whole.entries.items)) }
     ensures faults { IfErr result (λ fault.
-        (gate : State) × IsRight gate × HasFault program.now.functions (shape_in program.now) gate logs.items fault) }
+        (gate : GateState) × IsRight gate × HasFault program.now.functions (shape_in program.now) gate logs.items fault) }
     ensures limit { ¬ (result ≡ Err RunFault.Limit) }
 {
     let gate = locked.into_gate();

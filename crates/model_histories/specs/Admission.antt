@@ -9,7 +9,7 @@ use Rattle.model_histories.specs.declared.fault.GateFault.TheVariants.{Stopped, 
 use Rattle.model_histories.specs.Entries.{Entries}
 use Rattle.model_histories.specs.Shapes.{Shape}
 use Rattle.model_histories.specs.Legal.{IsLegal}
-use Rattle.model_histories.specs.States.{State}
+use Rattle.model_histories.specs.States.{GateState}
 use Rattle.model_histories.specs.Replies.{Judges}
 
 -- some answer may follow: with it the history is legal
@@ -29,9 +29,9 @@ IsEnteredOrOfTheGate (Done receipt) = Unit {0}
 IsEnteredOrOfTheGate (Illegal fault) = IsOfTheGate fault
 
 -- one reply to each request, in their order, and to each that is admitted when it comes an entry, but for a fault of the gate
-abbrev pub AdmitsAll : State → List Request → List Reply → State → Type 0
+abbrev pub AdmitsAll : GateState → List Request → List Reply → GateState → Type 0
 AdmitsAll old [] [] new = new ≡ old
 AdmitsAll old (request ∷ requests) (reply ∷ replies) new =
-    (between : State) × Judges old request reply between × (IsAdmitted old.shape old.history request → IsEnteredOrOfTheGate reply) ×
+    (between : GateState) × Judges old request reply between × (IsAdmitted old.shape old.history request → IsEnteredOrOfTheGate reply) ×
     AdmitsAll between requests replies new
 AdmitsAll old requests replies new = ⊥

@@ -8,7 +8,7 @@ use Rattle.model_histories.specs.declared.fault.GateFault.{GateFault}
 use Rattle.model_histories.specs.declared.fault.GateFault.TheVariants.{Stopped, Limit, NotRunning, BadName, Unsynced, Memory}
 use Rattle.model_histories.specs.Entries.{control_part}
 use Rattle.model_histories.specs.Shapes.{IsInRange}
-use Rattle.model_histories.specs.States.{State}
+use Rattle.model_histories.specs.States.{GateState}
 
 -- the place of a fault in their order
 abbrev pub place : GateFault → ℕ
@@ -20,7 +20,7 @@ place Unsynced = 5
 place Memory = 6
 
 -- the cause of the fault is there; want of memory has none that a definition could name
-abbrev pub HasCause : State → Request → GateFault → Type 0
+abbrev pub HasCause : GateState → Request → GateFault → Type 0
 HasCause state request Stopped = IsTrue state.stopped
 HasCause state request Limit = length state.history ≡ state.limit
 HasCause state request NotRunning = Running (control_part state.history) request.strand → ⊥
@@ -29,11 +29,11 @@ HasCause state request Unsynced = (request.act ≡ Return) × (IsSynced (stack (
 HasCause state request Memory = Unit {0}
 
 -- no fault before this one has its cause
-abbrev pub HasNoneBefore : State → Request → GateFault → Type 0
+abbrev pub HasNoneBefore : GateState → Request → GateFault → Type 0
 HasNoneBefore state request fault = (other : GateFault) → place other < place fault → HasCause state request other → ⊥
 
 -- no fault but want of memory has its cause
-pub record IsFaultless (state : State) (request : Request) : Type 0 where
+pub record IsFaultless (state : GateState) (request : Request) : Type 0 where
   pub going : state.stopped ≡ false
   pub below : length state.history < state.limit
   pub runs : Running (control_part state.history) request.strand
@@ -41,5 +41,5 @@ pub record IsFaultless (state : State) (request : Request) : Type 0 where
   pub synced : request.act ≡ Return → IsSynced (stack (control_part state.history) request.strand)
 
 -- the fault is the first that has its cause
-abbrev pub IsFirstFault : State → Request → GateFault → Type 0
+abbrev pub IsFirstFault : GateState → Request → GateFault → Type 0
 IsFirstFault state request fault = HasCause state request fault × HasNoneBefore state request fault

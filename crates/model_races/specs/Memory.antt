@@ -13,15 +13,15 @@ pub data CellEffect : Type 0 where
   leaves : CellEffect
 
 -- granted writes set their cell, and granted bumps add to it
-abbrev pub effect : Act → Answer → CellEffect
-effect (Write location value) Granted = sets location value
-effect (Bump location value) Granted = adds location value
-effect act answer = leaves
+abbrev pub effect_on_cell : Act → Answer → CellEffect
+effect_on_cell (Write location value) Granted = sets location value
+effect_on_cell (Bump location value) Granted = adds location value
+effect_on_cell act answer = leaves
 
 -- the effects of the entries, the newest first
 abbrev pub effects : Entries → List CellEffect
 effects [] = []
-effects (entry ∷ entries) = effect entry.request.act entry.answer ∷ effects entries
+effects (entry ∷ entries) = effect_on_cell entry.request.act entry.answer ∷ effects entries
 
 -- the value of the last write of the cell, or 0 where there is none
 abbrev pub last_written : List CellEffect → ℕ → ℕ

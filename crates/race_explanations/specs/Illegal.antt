@@ -7,7 +7,7 @@ use Rattle.model_strands.specs.Strands.{absent, status, unused}
 use Rattle.model_strands.specs.Blocks.{stack, IsSynced}
 use Rattle.model_histories.specs.Entries.{control_part}
 use Rattle.model_histories.specs.Shapes.{IsInRange}
-use Rattle.model_histories.specs.States.{State}
+use Rattle.model_histories.specs.States.{GateState}
 use Rattle.race_pairs.specs.Standings.{IsEnd, IsKeptBack}
 use Rattle.source_quotes.specs.declared.look.Look.{Look}
 use Rattle.source_quotes.specs.declared.look.Paint.TheVariants.{Red}
@@ -20,7 +20,7 @@ use Rattle.race_explanations.specs.declared.illegal.Illegality.TheVariants.{Ende
 -- ---- the reason
 
 -- The reason is there, in the history of a gate that does not answer the request.
-abbrev pub HasReason : State → Request → Illegality → Type 0
+abbrev pub HasReason : GateState → Request → Illegality → Type 0
 HasReason state request (Ended number) = IsEnd state.history number request.strand
 HasReason state request (NotBegun number) = IsKeptBack state.history number request.strand
 HasReason state request (NoStrand count) =

@@ -7,7 +7,7 @@ ghost use Rattle.trace_text.specs.Traces.{contents as trace_contents};
 ghost use Rattle.model_histories.specs.Faults.{HasCause};
 ghost use Rattle.model_histories.specs.Legal.{IsLegal};
 ghost use Rattle.model_histories.specs.Shapes.{Shape};
-ghost use Rattle.model_histories.specs.States.{State};
+ghost use Rattle.model_histories.specs.States.{GateState};
 ghost use Rattle.race_explanations.specs.Accounts.{Adds};
 ghost use Rattle.race_explanations.specs.Illegal.{HasReason, request_line, at_of, strand_of, told_line, told_request, title_words, help_words, reason_text};
 ghost use Rattle.race_explanations.specs.Illegal.{error_title, request_note, help_note, illegal_in, illegal_text};
@@ -38,7 +38,7 @@ pub enum Illegality {
 /// Why a strand does not run, where it does not.
 fn illegality_of_strand(entries: &[Entry], strand: u32) -> Option<Illegality>
     requires { (shape : Shape) × IsLegal shape (reverse entries.now) }
-    ensures { IfSome result (λ why. (state : State) (request : Request) → state.history ≡ reverse entries.now →
+    ensures { IfSome result (λ why. (state : GateState) (request : Request) → state.history ≡ reverse entries.now →
         request.strand ≡ strand → HasReason state request why) }
 {
     match standing_of(entries, strand) {
@@ -53,7 +53,7 @@ fn illegality_of_strand(entries: &[Entry], strand: u32) -> Option<Illegality>
 /// the gate was stopped, is at its limit, or has no memory.
 pub fn find_illegality(entries: &[Entry], request: Request, fault: GateFault) -> Option<Illegality>
     requires { (shape : Shape) × IsLegal shape (reverse entries.now) }
-    ensures { IfSome result (λ why. (state : State) → state.history ≡ reverse entries.now → HasCause state request fault →
+    ensures { IfSome result (λ why. (state : GateState) → state.history ≡ reverse entries.now → HasCause state request fault →
         HasReason state request why) }
 {
     match fault {

@@ -18,7 +18,7 @@ use Rattle.model_histories.specs.declared.fault.GateFault.{GateFault}
 use Rattle.model_histories.specs.declared.fault.GateFault.TheVariants.{Stopped, Limit, NotRunning, BadName, Unsynced, Memory}
 use Rattle.model_histories.specs.Entries.{control_part, event_between}
 use Rattle.model_histories.specs.Legal.{Belongs}
-use Rattle.model_histories.specs.States.{State}
+use Rattle.model_histories.specs.States.{GateState}
 use Rattle.model_histories.specs.Faults.{IsFaultless, HasCause}
 use Rattle.model_histories.specs.Replies.{JudgesAll}
 use Rattle.model_histories.specs.Admission.{IsAdmitted, IsOfTheGate, AdmitsAll}
@@ -98,7 +98,7 @@ admission_law state legal request = (forth, back)
     }
 
 -- a cause that lies in an admitted request is not there
-pub admitted-fault : (state : State) (request : Request) (fault : GateFault) → IsAdmitted state.shape state.history request → HasCause state request fault → IsOfTheGate fault
+pub admitted-fault : (state : GateState) (request : Request) (fault : GateFault) → IsAdmitted state.shape state.history request → HasCause state request fault → IsOfTheGate fault
 admitted-fault state request Stopped admitted has = tt
 admitted-fault state request Limit admitted has = tt
 admitted-fault state request Memory admitted has = tt
@@ -111,7 +111,7 @@ pub entry_law : EntryLaw
 entry_law old new request (Done receipt) judges admitted = tt
 entry_law old new request (Illegal fault) judges admitted = admitted-fault old request fault admitted judges.1.0
 
-pub admits-all : (old new : State) (requests : List Request) (replies : List Reply) → JudgesAll old requests replies new → AdmitsAll old requests replies new
+pub admits-all : (old new : GateState) (requests : List Request) (replies : List Reply) → JudgesAll old requests replies new → AdmitsAll old requests replies new
 admits-all old new [] [] is = is
 admits-all old new [] (reply ∷ replies) is = absurd is
 admits-all old new (request ∷ requests) [] is = absurd is

@@ -11,7 +11,7 @@ use Rattle.model_histories.specs.declared.fault.GateFault.{GateFault}
 use Rattle.model_histories.specs.declared.fault.GateFault.TheVariants.{Memory}
 use Rattle.model_histories.specs.declared.reply.Reply.TheVariants.{Illegal}
 use Rattle.model_histories.specs.Extensions.{IsEnd}
-use Rattle.model_histories.specs.States.{State}
+use Rattle.model_histories.specs.States.{GateState}
 use Rattle.race_gate.specs.Books.{Books}
 use Rattle.race_gate.specs.Kept.{IsKept, IsReady, with_entry}
 use Rattle.model_histories.specs.Faults.{IsFaultless}
@@ -22,22 +22,22 @@ use Rattle.race_gate.proofs.Entering.{written_back}
 
 -- ---- what a core shows of the states that fit it
 
-module _ (core : CoreState) (state : State) (fits : IsCoreOf core state) where
+module _ (core : CoreState) (state : GateState) (fits : IsCoreOf core state) where
   pub its-shape : core.shape ≡ state.shape
-  its-shape = ap (λ (s : State). s.shape) fits.shown
+  its-shape = ap (λ (s : GateState). s.shape) fits.shown
 
   pub its-limit : core.limit ≡ state.limit
-  its-limit = ap (λ (s : State). s.limit) fits.shown
+  its-limit = ap (λ (s : GateState). s.limit) fits.shown
 
   pub its-stopped : core.stopped ≡ state.stopped
-  its-stopped = ap (λ (s : State). s.stopped) fits.shown
+  its-stopped = ap (λ (s : GateState). s.stopped) fits.shown
 
   pub its-memory : core.memory ≡ state.memory
-  its-memory = ap (λ (s : State). s.memory) fits.shown
+  its-memory = ap (λ (s : GateState). s.memory) fits.shown
 
   pub stopped-fits : IsCoreOf (record core { stopped = true }) (record state { stopped = true })
   stopped-fits = record {
-    shown = ap (λ (s : State). record s { stopped = true }) fits.shown;
+    shown = ap (λ (s : GateState). record s { stopped = true }) fits.shown;
     counted = fits.counted;
     finished = fits.finished;
     kept = record {
@@ -81,7 +81,7 @@ module _ (core : CoreState) (state : State) (fits : IsCoreOf core state) where
       let same_length : length memory ≡ length core.memory = omega (arith, kept.right.memory.len, fits.kept.right.memory.len, ap length its-memory) in
       let written : take len (memory ++ drop (length memory) core.memory) ≡ memory = written_back core.memory memory len (sym counted) same_length in
       record {
-        shown = ap (λ (s : State). with_entry s request answer (take len (memory ++ drop (length memory) core.memory))) fits.shown;
+        shown = ap (λ (s : GateState). with_entry s request answer (take len (memory ++ drop (length memory) core.memory))) fits.shown;
         counted = omega (arith, fits.counted, numbered);
         finished = ends;
         kept = subst (λ (cells : List ℕ). IsKept (with_entry state request answer cells) after marks others) (sym written) kept;
@@ -94,7 +94,7 @@ module _ (core : CoreState) (state : State) (fits : IsCoreOf core state) where
   fits-still memory len after marks others counted same kept =
       let written : take len (memory ++ drop (length memory) core.memory) ≡ memory = written_back core.memory memory len (sym counted) (ap length same) in
       record {
-        shown = ap (λ (cells : List ℕ). let s : State = record { shape = core.shape; limit = core.limit; stopped = core.stopped; history = state.history; memory = cells } in s)
+        shown = ap (λ (cells : List ℕ). let s : GateState = record { shape = core.shape; limit = core.limit; stopped = core.stopped; history = state.history; memory = cells } in s)
             (written ∙ same) ∙ fits.shown;
         counted = fits.counted;
         finished = fits.finished;
@@ -106,7 +106,7 @@ module _ (core : CoreState) (state : State) (fits : IsCoreOf core state) where
       number ≡ core.entries + 1 → IsTrue finished ↔ IsEnd answer → IsKept (with_entry state request answer core.memory) after marks others →
       IsCoreOf (the_core number finished core.memory after marks others) (with_entry state request answer core.memory)
   fits-entered request answer number finished after marks others numbered ends kept = record {
-    shown = ap (λ (s : State). with_entry s request answer core.memory) fits.shown;
+    shown = ap (λ (s : GateState). with_entry s request answer core.memory) fits.shown;
     counted = omega (arith, fits.counted, numbered);
     finished = ends;
     kept = kept;
@@ -117,9 +117,9 @@ module _ (core : CoreState) (state : State) (fits : IsCoreOf core state) where
   fits-kept after marks others kept = record { shown = fits.shown; counted = fits.counted; finished = fits.finished; kept = kept }
 
 -- what a judged request leaves
-pub judges-next : (old new : CoreState) (state : State) (request : Request) (result : Result Answer GateFault) → IsCoreOf old state → IsFaultless state request →
+pub judges-next : (old new : CoreState) (state : GateState) (request : Request) (result : Result Answer GateFault) → IsCoreOf old state → IsFaultless state request →
     MatchResult result (λ answer. IsCoreOf new (with_entry state request answer new.memory)) (λ fault. (fault ≡ Memory) × IsCoreOf new state) →
-    (next : State) × Judges state request (reply_with (old.entries + 1) request result) next × IsCoreOf new next
+    (next : GateState) × Judges state request (reply_with (old.entries + 1) request result) next × IsCoreOf new next
 judges-next old new state request (Ok answer) fits faultless done = (
   with_entry state request answer new.memory,
   record { faultless = faultless; asked = refl; number = omega (arith, fits.counted); after = refl },
@@ -128,9 +128,9 @@ judges-next old new state request (Ok answer) fits faultless done = (
 judges-next old new state request (Err fault) fits faultless done = (state, rw done.0 (refl, only-memory state request faultless), done.1)
 
 -- the number of the entry is how many the core has counted since
-pub replied-next : (old new : CoreState) (state : State) (request : Request) (result : Result Answer GateFault) →
-    (next : State) × Judges state request (reply_with (old.entries + 1) request result) next × IsCoreOf new next →
-    (next : State) × Judges state request (reply_with new.entries request result) next × IsCoreOf new next
+pub replied-next : (old new : CoreState) (state : GateState) (request : Request) (result : Result Answer GateFault) →
+    (next : GateState) × Judges state request (reply_with (old.entries + 1) request result) next × IsCoreOf new next →
+    (next : GateState) × Judges state request (reply_with new.entries request result) next × IsCoreOf new next
 replied-next old new state request (Ok answer) done = (
   done.0,
   record { faultless = done.1.faultless; asked = refl; number = done.2.counted; after = done.1.after },
@@ -140,28 +140,28 @@ replied-next old new state request (Err fault) done = done
 
 -- ---- a gate: its core, and the list of its entries
 
-pub gate-shown : (core : CoreState) (items : List Entry) (state : State) → IsCoreOf core state → reverse items ≡ state.history →
+pub gate-shown : (core : CoreState) (items : List Entry) (state : GateState) → IsCoreOf core state → reverse items ≡ state.history →
     with_history core (reverse items) ≡ state
 gate-shown core items state fits same = ap (with_history core) same ∙ fits.shown
 
-pub gate-fits : (core : CoreState) (items : List Entry) (state : State) → IsCoreOf core state → reverse items ≡ state.history →
+pub gate-fits : (core : CoreState) (items : List Entry) (state : GateState) → IsCoreOf core state → reverse items ≡ state.history →
     IsCoreOf core (with_history core (reverse items))
 gate-fits core items state fits same = subst (IsCoreOf core) (sym (gate-shown core items state fits same)) fits
 
-module _ (core : CoreState) (items : List Entry) (now : State) (shown : with_history core (reverse items) ≡ now) (fits : IsCoreOf core (with_history core (reverse items)))
+module _ (core : CoreState) (items : List Entry) (now : GateState) (shown : with_history core (reverse items) ≡ now) (fits : IsCoreOf core (with_history core (reverse items)))
   where
     pub now-fits : IsCoreOf core now
     now-fits = subst (IsCoreOf core) shown fits
 
     pub now-history : (others : List Entry) → others ≡ items → reverse others ≡ now.history
-    now-history others same = ap reverse same ∙ ap (λ (s : State). s.history) shown
+    now-history others same = ap reverse same ∙ ap (λ (s : GateState). s.history) shown
 
     -- the entry stands behind the others
     pub now-pushed : (pushed : List Entry) (entry : Entry) → pushed ≡ items ++ entry ∷ [] → reverse pushed ≡ entry ∷ now.history
-    now-pushed pushed entry is = ap reverse is ∙ reverse-append items (entry ∷ []) ∙ ap (λ (s : State). entry ∷ s.history) shown
+    now-pushed pushed entry is = ap reverse is ∙ reverse-append items (entry ∷ []) ∙ ap (λ (s : GateState). entry ∷ s.history) shown
 
 -- the entry was made
-pub is-entered : (core : CoreState) (pushed : List Entry) (now : State) (request : Request) (answer : Answer) (number : ℕ) → IsFaultless now request →
+pub is-entered : (core : CoreState) (pushed : List Entry) (now : GateState) (request : Request) (answer : Answer) (number : ℕ) → IsFaultless now request →
     IsCoreOf core (with_entry now request answer core.memory) → reverse pushed ≡ record { request = request; answer = answer } ∷ now.history → number ≡ core.entries →
     IsEntered now request (record { number = number; request = request; answer = answer }) (with_history core (reverse pushed))
 is-entered core pushed now request answer number faultless fits turned numbered = record {
@@ -172,6 +172,6 @@ is-entered core pushed now request answer number faultless fits turned numbered 
 }
 
 -- there was no memory for it
-pub is-out_of_memory : (core : CoreState) (items : List Entry) (now : State) (request : Request) (fault : GateFault) → IsFaultless now request →
+pub is-out_of_memory : (core : CoreState) (items : List Entry) (now : GateState) (request : Request) (fault : GateFault) → IsFaultless now request →
     IsCoreOf core now → reverse items ≡ now.history → fault ≡ Memory → Judges now request (Illegal fault) (with_history core (reverse items))
 is-out_of_memory core items now request fault faultless fits turned is = rw is (gate-shown core items now fits turned, only-memory now request faultless)

@@ -4,7 +4,7 @@ use Rattle.std.specs.Prelude.{◌==◌}
 use Rattle.std.proofs.Math.Nat.{mod-add-mod}
 use Rattle.model_histories.specs.declared.answer.Entry.{Entry}
 use Rattle.model_histories.specs.Entries.{Entries}
-use Rattle.model_races.specs.Memory.{CellEffect, sets, adds, leaves, effect, effects, last_written, bumped_since, IsMemory}
+use Rattle.model_races.specs.Memory.{CellEffect, sets, adds, leaves, effect_on_cell, effects, last_written, bumped_since, IsMemory}
 use Rattle.race_gate.specs.Steps.{after, TakesPlace}
 
 -- the value by the effects alone
@@ -33,9 +33,9 @@ held-after leaves before cell = refl
 
 -- the memory after an entry
 pub memory-after : (cells : ℕ) (entry : Entry) (entries : Entries) (old new : List ℕ) → IsMemory cells entries old →
-    TakesPlace (effect entry.request.act entry.answer) old new → IsMemory cells (entry ∷ entries) new
+    TakesPlace (effect_on_cell entry.request.act entry.answer) old new → IsMemory cells (entry ∷ entries) new
 memory-after cells entry entries old new memory takes =
-    let one = effect entry.request.act entry.answer in
+    let one = effect_on_cell entry.request.act entry.answer in
     record {
       len = takes.len ∙ memory.len;
       each = λ cell below.

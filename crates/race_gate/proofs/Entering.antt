@@ -27,12 +27,12 @@ use Rattle.model_histories.specs.Shapes.{Shape, IsInRange}
 use Rattle.model_histories.specs.Legal.{Belongs}
 use Rattle.model_races.specs.Accesses.{cell_access, is_granted, access_at, granted}
 use Rattle.race_gate.specs.Accesses.{sort_of}
-use Rattle.model_races.specs.Memory.{leaves, effect}
+use Rattle.model_races.specs.Memory.{leaves, effect_on_cell}
 use Rattle.model_races.specs.Verdicts.{IfValue, IsRightVerdict}
 use Rattle.model_races.specs.Reducers.{step_with, steps_of, read_at, granted_reads}
 use Rattle.model_races.specs.ReducerVerdicts.{IsRightFor}
 use Rattle.race_gate.specs.Books.{Books, Keeps, OptionKeepsStill, OptionKeepsOn, OptionKeepsSome, OptionKeepsRunning, OptionHasReducer, OptionAnswersAccess}
-use Rattle.model_histories.specs.States.{State}
+use Rattle.model_histories.specs.States.{GateState}
 use Rattle.race_gate.specs.Kept.{AreBooksOf, IsKept}
 use Rattle.model_histories.specs.Faults.{IsFaultless}
 use Rattle.race_gate.specs.Steps.{IsControl, FollowsWith, GoesOn, if_granted, IsJudgedBy, TakesPlace}
@@ -111,7 +111,7 @@ sort-reducer (Get reducer) is = refl
 sort-reducer act is = absurd (cc)
 
 -- what is no access of a cell leaves memory as it is
-no_access-leaves : (act : Act) (answer : Answer) → cell_access act ≡ None → effect act answer ≡ leaves
+no_access-leaves : (act : Act) (answer : Answer) → cell_access act ≡ None → effect_on_cell act answer ≡ leaves
 no_access-leaves Spawn answer no_access = refl
 no_access-leaves Sync answer no_access = refl
 no_access-leaves Call answer no_access = refl
@@ -240,7 +240,7 @@ books-some shape entries None kept = tt
 books-some shape entries (Some books) kept = (steps_of entries, granted_reads entries, kept.1, steps-control entries)
 
 -- the strands and the books are of one history
-pub kept-follows : (state : State) (strands : Roster) (shadow : List Cell) (books : Option Books) → IsKept state strands shadow books → FollowsWith strands books
+pub kept-follows : (state : GateState) (strands : Roster) (shadow : List Cell) (books : Option Books) → IsKept state strands shadow books → FollowsWith strands books
 kept-follows state strands shadow books kept = (control_part state.history, kept.follows, books-some state.shape state.history books kept.reducers)
 
 books-still : (shape : Shape) (entries : Entries) (old new : Option Books) → OptionKeepsStill old new → AreBooksOf shape entries old → AreBooksOf shape entries new
@@ -250,7 +250,7 @@ books-still shape entries (Some old) None still kept = absurd still
 books-still shape entries (Some old) (Some new) still kept = (still.monoids ∙ kept.0, still.keeps (steps_of entries) (granted_reads entries) kept.1)
 
 -- a refusal of memory changes nothing
-pub kept-still : (state : State) (strands after : Roster) (shadow : List Cell) (old new : Option Books) → IsKept state strands shadow old →
+pub kept-still : (state : GateState) (strands after : Roster) (shadow : List Cell) (old new : Option Books) → IsKept state strands shadow old →
     ((history : History) → Follows strands history → Follows after history) → OptionKeepsStill old new → IsKept state after shadow new
 kept-still state strands after shadow old new kept follows still = record {
   right = kept.right;
@@ -264,14 +264,14 @@ kept-still state strands after shadow old new kept follows still = record {
 
 -- ---- one more entry
 
-module _ (state : State) (strands : Roster) (shadow : List Cell) (books : Option Books) (kept : IsKept state strands shadow books) (entry : Entry)
+module _ (state : GateState) (strands : Roster) (shadow : List Cell) (books : Option Books) (kept : IsKept state strands shadow books) (entry : Entry)
     (faultless : IsFaultless state entry.request) where
   entered : (after : Roster) (marks : List Cell) (others : Option Books) (memory : List ℕ) → Belongs entry.request.act entry.answer →
       MatchOption (event_of entry) (Unit {0}) (Allowed (control_part state.history)) →
       MatchOption (cell_access entry.request.act) (Unit {0}) (λ access. IsRightVerdict state.history entry.request.strand access entry.answer) →
       IsRightFor state.shape.monoids (control_part state.history) (steps_of state.history) (granted_reads state.history) entry.request.strand entry.request.act
       entry.answer →
-      TakesPlace (effect entry.request.act entry.answer) state.memory memory → Follows after (control_part (entry ∷ state.history)) →
+      TakesPlace (effect_on_cell entry.request.act entry.answer) state.memory memory → Follows after (control_part (entry ∷ state.history)) →
       Remembers marks (control_part (entry ∷ state.history)) (granted (entry ∷ state.history)) → length marks ≡ length shadow →
       AreBooksOf state.shape (entry ∷ state.history) others → IsKept (record state { history = entry ∷ state.history; memory = memory }) after marks others
   entered after marks others memory belongs allowed verdict right takes follows remembers len reducers = record {
@@ -314,7 +314,7 @@ module _ (state : State) (strands : Roster) (shadow : List Cell) (books : Option
   pub entered-access : (access : CellAccess) (marks : List Cell) (memory : List ℕ) (number : ℕ) → number ≡ suc (length state.history) →
       cell_access entry.request.act ≡ Some access → access.location < state.shape.cells → Belongs entry.request.act entry.answer →
       IsJudgedBy (control_part state.history) (granted state.history) entry.request.strand access number entry.answer marks →
-      IfValue entry.answer (λ value. value ≡ slice_index state.memory access.location) → TakesPlace (effect entry.request.act entry.answer) state.memory memory →
+      IfValue entry.answer (λ value. value ≡ slice_index state.memory access.location) → TakesPlace (effect_on_cell entry.request.act entry.answer) state.memory memory →
       length marks ≡ length shadow → IsKept (record state { history = entry ∷ state.history; memory = memory }) strands marks books
   entered-access access marks memory number numbered is in_range belongs judged value takes len =
       let step = cell-step (suc (length state.history)) entry.request.strand entry.request.act access entry.answer is in

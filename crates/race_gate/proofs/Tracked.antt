@@ -18,17 +18,17 @@ use Rattle.model_histories.specs.declared.fault.GateFault.TheVariants.{Memory}
 use Rattle.model_histories.specs.Entries.{event_between}
 use Rattle.model_histories.specs.Legal.{Belongs}
 use Rattle.race_gate.specs.Accesses.{sort_of}
-use Rattle.model_races.specs.Memory.{effect}
+use Rattle.model_races.specs.Memory.{effect_on_cell}
 use Rattle.model_races.specs.Verdicts.{IfValue}
 use Rattle.race_gate.specs.Books.{Books, OptionKeepsStill, OptionKeepsOn, OptionKeepsRunning, OptionHasReducer, OptionAnswersAccess}
-use Rattle.model_histories.specs.States.{State}
+use Rattle.model_histories.specs.States.{GateState}
 use Rattle.race_gate.specs.Kept.{IsKept, IsReady, with_entry}
 use Rattle.race_gate.specs.Steps.{FollowsWith, GoesOn, IsJudgedBy, TakesPlace}
 use Rattle.race_gate.proofs.Followed.{running-in-each, synced-in-each, few-in-each}
 use Rattle.race_gate.proofs.Numbers.{not_few}
 use Rattle.race_gate.proofs.Entering.{in-cells, sort-cell, books-known, books-running, kept-follows, entered-access, entered-control, entered-reducer, kept-still}
 
-module _ (state : State) (strands : Roster) (shadow : List Cell) (books : Option Books) (memory : List ℕ) (request : Request) (number : ℕ)
+module _ (state : GateState) (strands : Roster) (shadow : List Cell) (books : Option Books) (memory : List ℕ) (request : Request) (number : ℕ)
     (ready : IsReady state strands shadow books memory request number) where
   -- what the steps ask for
   pub ready-runs : (history : History) → Follows strands history → Running history request.strand
@@ -68,13 +68,13 @@ module _ (state : State) (strands : Roster) (shadow : List Cell) (books : Option
   -- what they answer
   pub answers-cell : (access : CellAccess) (answer : Answer) (marks : List Cell) (cells : List ℕ) → sort_of request.act ≡ CellSort access → Belongs request.act answer →
       ((history : History) (accesses : List Access) → Follows strands history → Remembers shadow history accesses → IsJudgedBy history accesses request.strand access number answer marks) →
-      length marks ≡ length shadow → IfValue answer (λ value. value ≡ slice_index memory access.location) → TakesPlace (effect request.act answer) memory cells →
+      length marks ≡ length shadow → IfValue answer (λ value. value ≡ slice_index memory access.location) → TakesPlace (effect_on_cell request.act answer) memory cells →
       IsKept (with_entry state request answer cells) strands marks books
   answers-cell access answer marks cells is belongs judged len value takes =
       entered-access state strands shadow books ready.kept (record { request = request; answer = answer }) ready.faultless access marks cells number numbered
       (sort-cell _ _ is) (ready-in_cells access is) belongs (judged _ _ ready.kept.follows ready.kept.remembers)
       (subst (λ xs. IfValue answer (λ value. value ≡ slice_index xs access.location)) ready.cells value)
-      (subst (λ xs. TakesPlace (effect request.act answer) xs cells) ready.cells takes) len
+      (subst (λ xs. TakesPlace (effect_on_cell request.act answer) xs cells) ready.cells takes) len
 
   pub answers-control : (after : Roster) (others : Option Books) (result : Result Answer GateFault) → sort_of request.act ≡ Control →
       IfOk result (λ answer. (history : History) → Follows strands history → GoesOn history request.strand request.act answer after) →

@@ -4,11 +4,11 @@ use Rattle.std.specs.Prelude.{◌==◌}
 use Rattle.std.proofs.lemmas.List.{append-nil}
 use Rattle.std.proofs.lemmas.Bool.{eqb-true, eq-eqb}
 use Rattle.model_histories.specs.Entries.{Entries}
-use Rattle.model_races.specs.Memory.{CellEffect, sets, adds, leaves, effect, effects, last_written, bumped_since}
+use Rattle.model_races.specs.Memory.{CellEffect, sets, adds, leaves, effect_on_cell, effects, last_written, bumped_since}
 use Rattle.race_gate.specs.Memory.{IsWriteOf, HasNoWrite, bump_of, bumps_of}
 use Rattle.race_gate.specs.Laws.{ValueLaw}
 
--- one effect that is no write of the cell
+-- one effect_on_cell that is no write of the cell
 last-one : (one : CellEffect) (before : List CellEffect) (cell : ℕ) → (IsWriteOf cell one → ⊥) → last_written (one ∷ before) cell ≡ last_written before cell
 last-one (sets location value) before cell none = at_test (location == cell) refl
   where
@@ -33,13 +33,13 @@ bumped-one leaves before cell none = omega arith
 last-behind : (later before : Entries) (cell : ℕ) → HasNoWrite cell later → last_written (effects (later ++ before)) cell ≡ last_written (effects before) cell
 last-behind [] before cell none = refl
 last-behind (entry ∷ later) before cell none =
-    last-one (effect entry.request.act entry.answer) (effects (later ++ before)) cell none.0 ∙ last-behind later before cell none.1
+    last-one (effect_on_cell entry.request.act entry.answer) (effects (later ++ before)) cell none.0 ∙ last-behind later before cell none.1
 
 bumped-behind : (later before : Entries) (cell : ℕ) → HasNoWrite cell later →
     bumped_since (effects (later ++ before)) cell ≡ bumps_of cell later + bumped_since (effects before) cell
 bumped-behind [] before cell none = omega arith
 bumped-behind (entry ∷ later) before cell none =
-    let one = bumped-one (effect entry.request.act entry.answer) (effects (later ++ before)) cell none.0 in
+    let one = bumped-one (effect_on_cell entry.request.act entry.answer) (effects (later ++ before)) cell none.0 in
     let rest = bumped-behind later before cell none.1 in
     omega (arith, one, rest)
 

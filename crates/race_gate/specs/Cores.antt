@@ -10,7 +10,7 @@ use Rattle.model_histories.specs.declared.fault.GateFault.{GateFault}
 use Rattle.model_histories.specs.Entries.{Entries}
 use Rattle.model_histories.specs.Shapes.{Shape}
 use Rattle.model_histories.specs.Extensions.{IsFinished}
-use Rattle.model_histories.specs.States.{State}
+use Rattle.model_histories.specs.States.{GateState}
 use Rattle.race_gate.specs.Books.{Books}
 use Rattle.race_gate.specs.Kept.{IsKept}
 
@@ -28,12 +28,12 @@ pub record CoreState : Type 0 where
   pub reducers : Option Books
 
 -- the state of a gate that has the core and these entries
-abbrev pub with_history : CoreState → Entries → State
+abbrev pub with_history : CoreState → Entries → GateState
 with_history core history =
     record { shape = core.shape; limit = core.limit; stopped = core.stopped; history = history; memory = core.memory }
 
 -- The state fits the core: with the state's entries the core shows the state, it has counted them, and what it keeps is that of the state.
-pub record IsCoreOf (core : CoreState) (state : State) : Type 0 where
+pub record IsCoreOf (core : CoreState) (state : GateState) : Type 0 where
   pub shown : with_history core state.history ≡ state
   pub counted : core.entries ≡ length state.history
   pub finished : IsTrue core.finished ↔ IsFinished state.history
@@ -41,7 +41,7 @@ pub record IsCoreOf (core : CoreState) (state : State) : Type 0 where
 
 -- some state fits
 abbrev pub IsCore : CoreState → Type 0
-IsCore core = (state : State) × IsCoreOf core state
+IsCore core = (state : GateState) × IsCoreOf core state
 
 -- the reply that has the result, where an entry's number would be this one
 abbrev pub reply_with : ℕ → Request → Result Answer GateFault → Reply

@@ -9,7 +9,7 @@ use Rattle.model_histories.specs.Entries.{Entries, control_part}
 use Rattle.model_histories.specs.Shapes.{Shape, most_entries}
 use Rattle.model_races.specs.Accesses.{granted}
 use Rattle.model_races.specs.Reducers.{steps_of, granted_reads}
-use Rattle.model_histories.specs.States.{State}
+use Rattle.model_histories.specs.States.{GateState}
 use Rattle.race_gate.specs.States.{IsRight}
 use Rattle.model_histories.specs.Faults.{IsFaultless}
 use Rattle.race_gate.specs.Books.{Books, Keeps, OpensBooks}
@@ -22,7 +22,7 @@ AreBooksOf shape history (Some books) = (books.views.monoids ≡ shape.monoids) 
 
 -- the history is judged rightly, the strands follow its control part, the shadow history remembers its granted accesses, and the books its
 -- reducers
-pub record IsKept (state : State) (strands : Roster) (shadow : List Cell) (books : Option Books) : Type 0 where
+pub record IsKept (state : GateState) (strands : Roster) (shadow : List Cell) (books : Option Books) : Type 0 where
   pub right : IsRight state
   pub follows : Follows strands (control_part state.history)
   pub remembers : Remembers shadow (control_part state.history) (granted state.history)
@@ -39,7 +39,7 @@ pub record OpensTracks (strands : Roster) (shadow : List Cell) (books : Option B
   pub opens : OpensBooks books monoids
 
 -- the request has no fault in the state, and its entry will have this number
-pub record IsReady (state : State) (strands : Roster) (shadow : List Cell)
+pub record IsReady (state : GateState) (strands : Roster) (shadow : List Cell)
     (books : Option Books) (memory : List ℕ) (request : Request) (number : ℕ) : Type 0 where
   pub kept : IsKept state strands shadow books
   pub cells : memory ≡ state.memory
@@ -47,7 +47,7 @@ pub record IsReady (state : State) (strands : Roster) (shadow : List Cell)
   pub numbered : number ≡ length state.history + 1
 
 -- the state after one more entry
-abbrev pub with_entry : State → Request → Answer → List ℕ → State
+abbrev pub with_entry : GateState → Request → Answer → List ℕ → GateState
 with_entry state request answer memory = record state {
   history = record { request = request; answer = answer } ∷ state.history;
   memory = memory;

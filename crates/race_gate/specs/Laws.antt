@@ -8,7 +8,7 @@ use Rattle.model_races.specs.declared.access.CellAccess.{CellAccess}
 use Rattle.model_histories.specs.declared.answer.Entry.{Entry}
 use Rattle.model_races.specs.Accesses.{granted}
 use Rattle.model_races.specs.Races.{HasRace}
-use Rattle.model_races.specs.Memory.{sets, effect, cell_value}
+use Rattle.model_races.specs.Memory.{sets, effect_on_cell, cell_value}
 use Rattle.race_gate.specs.Memory.{HasNoWrite, bumps_of}
 use Rattle.model_histories.specs.Extensions.{ExtendsEntries}
 
@@ -22,6 +22,6 @@ RaceLaw =
 -- the value of a cell is that of its last granted write, or 0 where there is none, and the granted bumps since, modulo 2^64
 pub record ValueLaw : Type 0 where
   pub written : (later before : Entries) (write : Entry) (cell value : ℕ) →
-      effect write.request.act write.answer ≡ sets cell value → HasNoWrite cell later →
+      effect_on_cell write.request.act write.answer ≡ sets cell value → HasNoWrite cell later →
       cell_value (later ++ write ∷ before) cell ≡ (value + bumps_of cell later) % 2 ^ 64
   pub unwritten : (entries : Entries) (cell : ℕ) → HasNoWrite cell entries → cell_value entries cell ≡ bumps_of cell entries % 2 ^ 64

@@ -43,10 +43,10 @@ impl<A: Allocator + Clone, H: History> Drop for Gate<A, H> {
 
 impl<A: Allocator + Clone, H: History> Model for Gate<A, H> {
     ghost use Rattle.std.specs.Prelude.{reverse};
-    ghost use Rattle.model_histories.specs.States.{State};
+    ghost use Rattle.model_histories.specs.States.{GateState};
     ghost use Rattle.race_gate.specs.Cores.{IsCoreOf, with_history};
 
-    ghost Value = { State };
+    ghost Value = { GateState };
 
     ghost view = { λ gate. with_history gate.core (reverse (H.entries gate.history)) };
 

@@ -7,7 +7,7 @@ ghost use Rattle.model_reducers.specs.Limits.{most_reducers};
 ghost use Rattle.model_histories.specs.Shapes.{most_entries};
 ghost use Rattle.model_races.specs.Memory.{IsMemory};
 ghost use Rattle.model_histories.specs.Extensions.{IsEnd};
-ghost use Rattle.model_histories.specs.States.{State, opening};
+ghost use Rattle.model_histories.specs.States.{GateState, opening};
 ghost use Rattle.model_histories.specs.Faults.{IsFaultless, IsFirstFault};
 ghost use Rattle.race_gate.specs.Kept.{with_entry};
 ghost use Rattle.model_histories.specs.Replies.{Judges, reply_of};
@@ -156,7 +156,7 @@ impl<A: Allocator + Clone> Core<A> {
     /// What the cells hold.
     pub fn memory(&self) -> &[u64]
         ensures cells { result.now ≡ self.now.memory }
-        ensures values { (state : State) → IsCoreOf self.now state → IsMemory state.shape.cells state.history result.now }
+        ensures values { (state : GateState) → IsCoreOf self.now state → IsMemory state.shape.cells state.history result.now }
     {
         self.memory.as_slice()
     }
@@ -201,7 +201,7 @@ impl<A: Allocator + Clone> Core<A> {
     /// Stops the core: from now on it judges no request.
     pub fn stop(&mut self)
         ensures is { self.new ≡ record self.old { stopped = true } }
-        ensures fits { (state : State) → IsCoreOf self.old state → IsCoreOf self.new (record state { stopped = true }) }
+        ensures fits { (state : GateState) → IsCoreOf self.old state → IsCoreOf self.new (record state { stopped = true }) }
     {
         self.stopped = true;
     }
@@ -210,7 +210,7 @@ impl<A: Allocator + Clone> Core<A> {
     #[inline(always)]
     pub fn check(&self, request: Request) -> Result<(), GateFault>
         ensures fits { IsCore self.now }
-        ensures fault { (state : State) → IsCoreOf self.now state →
+        ensures fault { (state : GateState) → IsCoreOf self.now state →
             MatchResult result (λ _. IsFaultless state request) (IsFirstFault state request) }
     {
         if self.stopped {
@@ -234,8 +234,8 @@ impl<A: Allocator + Clone> Core<A> {
     /// Answers a request that has no fault, and does what was granted. Where memory is refused, nothing changes.
     #[inline(always)]
     pub(crate) fn answer(&mut self, request: Request) -> Result<Answer, GateFault>
-        requires { (state : State) × IsCoreOf self.old state × IsFaultless state request }
-        ensures { (state : State) → IsCoreOf self.old state → IsFaultless state request → MatchResult result
+        requires { (state : GateState) × IsCoreOf self.old state × IsFaultless state request }
+        ensures { (state : GateState) → IsCoreOf self.old state → IsFaultless state request → MatchResult result
             (λ answer. IsCoreOf self.new (with_entry state request answer self.new.memory))
             (λ fault. (fault ≡ GateFault.Memory) × IsCoreOf self.new state) }
     {
@@ -253,9 +253,9 @@ impl<A: Allocator + Clone> Core<A> {
     /// rules of legal histories admit is answered unless the core was stopped, is at its limit, or has no memory.
     #[inline(always)]
     pub fn judge(&mut self, request: Request) -> Result<Answer, GateFault>
-        ensures judges { (state : State) → IsCoreOf self.old state →
-            (next : State) × Judges state request (reply_with (self.old.entries + 1) request result) next × IsCoreOf self.new next }
-        ensures admitted { (state : State) → IsCoreOf self.old state → IsAdmitted state.shape state.history request →
+        ensures judges { (state : GateState) → IsCoreOf self.old state →
+            (next : GateState) × Judges state request (reply_with (self.old.entries + 1) request result) next × IsCoreOf self.new next }
+        ensures admitted { (state : GateState) → IsCoreOf self.old state → IsAdmitted state.shape state.history request →
             IfErr result IsOfTheGate }
     {
         self.check(request)?;
@@ -268,9 +268,9 @@ impl<A: Allocator + Clone> Core<A> {
     #[inline(always)]
     pub fn answer_cell(&mut self, request: Request) -> Receipt
         requires is { (access : CellAccess) × sort_of request.act ≡ Sort.Cell access }
-        requires faultless { (state : State) × IsCoreOf self.old state × IsFaultless state request }
-        ensures { (state : State) → IsCoreOf self.old state → IsFaultless state request →
-            (next : State) × Judges state request (Done result) next × IsCoreOf self.new next }
+        requires faultless { (state : GateState) × IsCoreOf self.old state × IsFaultless state request }
+        ensures { (state : GateState) → IsCoreOf self.old state → IsFaultless state request →
+            (next : GateState) × Judges state request (Done result) next × IsCoreOf self.new next }
     {
         let Sort::Cell(access) = sort_of(request.act) else {
             unreachable!()
@@ -293,9 +293,9 @@ impl<A: Allocator + Clone> Core<A> {
     #[inline(always)]
     pub fn answer_reducer(&mut self, request: Request) -> Result<Receipt, GateFault>
         requires is { sort_of request.act ≡ Sort.Reducer }
-        requires faultless { (state : State) × IsCoreOf self.old state × IsFaultless state request }
-        ensures { (state : State) → IsCoreOf self.old state → IsFaultless state request →
-            (next : State) × Judges state request (reply_of result) next × IsCoreOf self.new next }
+        requires faultless { (state : GateState) × IsCoreOf self.old state × IsFaultless state request }
+        ensures { (state : GateState) → IsCoreOf self.old state → IsFaultless state request →
+            (next : GateState) × Judges state request (reply_of result) next × IsCoreOf self.new next }
     {
         let number = self.entries + 1;
         let answer = self.tracks.access_reducer(number, request)?;
@@ -312,8 +312,8 @@ impl<A: Allocator + Clone> Core<A> {
     #[inline(always)]
     fn judge_control(&mut self, request: Request) -> Result<Answer, GateFault>
         requires { sort_of request.act ≡ Sort.Control }
-        ensures { (state : State) → IsCoreOf self.old state →
-            (next : State) × Judges state request (reply_with (self.old.entries + 1) request result) next × IsCoreOf self.new next }
+        ensures { (state : GateState) → IsCoreOf self.old state →
+            (next : GateState) × Judges state request (reply_with (self.old.entries + 1) request result) next × IsCoreOf self.new next }
     {
         self.check(request)?;
         let number = self.entries + 1;
@@ -341,7 +341,7 @@ impl<A: Allocator + Clone> Core<A> {
     /// Answers a request as [`Core::judge`] does, and gives the reply of a gate that judged the same requests.
     #[inline(always)]
     pub fn reply(&mut self, request: Request) -> Reply
-        ensures { (state : State) → IsCoreOf self.old state → (next : State) × Judges state request result next × IsCoreOf self.new next }
+        ensures { (state : GateState) → IsCoreOf self.old state → (next : GateState) × Judges state request result next × IsCoreOf self.new next }
     {
         let judged = self.judge(request);
         self.reply_of(request, judged)
@@ -352,7 +352,7 @@ impl<A: Allocator + Clone> Core<A> {
     #[inline(always)]
     pub fn reply_to_control(&mut self, request: Request) -> Reply
         requires { sort_of request.act ≡ Sort.Control }
-        ensures { (state : State) → IsCoreOf self.old state → (next : State) × Judges state request result next × IsCoreOf self.new next }
+        ensures { (state : GateState) → IsCoreOf self.old state → (next : GateState) × Judges state request result next × IsCoreOf self.new next }
     {
         let judged = self.judge_control(request);
         self.reply_of(request, judged)

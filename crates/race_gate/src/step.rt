@@ -14,7 +14,7 @@ ghost use Rattle.model_histories.specs.Legal.{Belongs};
 ghost use Rattle.race_gate.specs.Books.{KeepsStill, KeepsOn, OptionKeepsStill, OptionKeepsOn, OptionKeepsRunning};
 ghost use Rattle.race_gate.specs.Books.{OptionAnswersAccess, OptionHasReducer};
 ghost use Rattle.model_races.specs.Accesses.{cell_access, is_granted};
-ghost use Rattle.model_races.specs.Memory.{effect};
+ghost use Rattle.model_races.specs.Memory.{effect_on_cell};
 ghost use Rattle.model_races.specs.Verdicts.{IfValue};
 ghost use Rattle.race_gate.specs.Steps.{IsControl, FollowsWith, GoesOn, IsJudgedBy, TakesPlace};
 
@@ -200,7 +200,7 @@ pub fn judge_access<A: Allocator>(
         IsJudgedBy history accesses strand access number result shadow.new }
     ensures locations { length shadow.new ≡ length shadow.old }
     ensures value { IfValue result (λ value. value ≡ slice_index memory.old access.location) }
-    ensures memory { TakesPlace (effect act result) memory.old memory.new }
+    ensures memory { TakesPlace (effect_on_cell act result) memory.old memory.new }
 {
     let CellAccess { kind, location } = access;
     if let Some(witness) = shadow.find(strands, location, kind, strand) {
@@ -222,7 +222,7 @@ fn perform(memory: &mut [u64], act: Act) -> Answer
     ensures granted { is_granted result ≡ true }
     ensures value { (access : CellAccess) → cell_access act ≡ Some access →
         IfValue result (λ value. value ≡ slice_index memory.old access.location) }
-    ensures memory { TakesPlace (effect act result) memory.old memory.new }
+    ensures memory { TakesPlace (effect_on_cell act result) memory.old memory.new }
 {
     match act {
         Act::Read(location) => Answer::Value(memory[location as usize]),

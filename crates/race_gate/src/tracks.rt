@@ -5,7 +5,7 @@ ghost use Rattle.model_strands.specs.History.{History};
 ghost use Rattle.sp_labels.specs.Roster.{Follows};
 ghost use Rattle.shadow_history.specs.Shadow.{Remembers};
 ghost use Rattle.race_gate.specs.Kept.{IsKept, IsReady, OpensTracks, with_entry};
-ghost use Rattle.model_histories.specs.States.{State};
+ghost use Rattle.model_histories.specs.States.{GateState};
 ghost use Rattle.race_gate.specs.Accesses.{sort_of};
 
 use crate::access::{Sort, sort_of};
@@ -66,8 +66,8 @@ impl<A: Allocator + Clone> Tracks<A> {
         number: u32,
         request: Request,
     ) -> Result<Answer, GateFault>
-        requires { (state : State) × IsReady state self.old.strands self.old.shadow self.old.reducers memory.old request number }
-        ensures { (state : State) → IsReady state self.old.strands self.old.shadow self.old.reducers memory.old request number →
+        requires { (state : GateState) × IsReady state self.old.strands self.old.shadow self.old.reducers memory.old request number }
+        ensures { (state : GateState) → IsReady state self.old.strands self.old.shadow self.old.reducers memory.old request number →
             MatchResult result
             (λ answer. IsKept (with_entry state request answer memory.new) self.new.strands self.new.shadow self.new.reducers)
             (λ fault. (fault ≡ GateFault.Memory) × (memory.new ≡ memory.old)
@@ -90,8 +90,8 @@ impl<A: Allocator + Clone> Tracks<A> {
         access: CellAccess,
     ) -> Answer
         requires is { sort_of request.act ≡ Sort.Cell access }
-        requires ready { (state : State) × IsReady state self.old.strands self.old.shadow self.old.reducers memory.old request number }
-        ensures { (state : State) → IsReady state self.old.strands self.old.shadow self.old.reducers memory.old request number →
+        requires ready { (state : GateState) × IsReady state self.old.strands self.old.shadow self.old.reducers memory.old request number }
+        ensures { (state : GateState) → IsReady state self.old.strands self.old.shadow self.old.reducers memory.old request number →
             IsKept (with_entry state request result memory.new) self.new.strands self.new.shadow self.new.reducers }
     {
         judge_access(
@@ -109,9 +109,9 @@ impl<A: Allocator + Clone> Tracks<A> {
     #[inline(always)]
     pub fn access_reducer(&mut self, number: u32, request: Request) -> Result<Answer, GateFault>
         requires is { sort_of request.act ≡ Sort.Reducer }
-        requires ready { (state : State) × (cells : List ℕ) ×
+        requires ready { (state : GateState) × (cells : List ℕ) ×
             IsReady state self.old.strands self.old.shadow self.old.reducers cells request number }
-        ensures { (state : State) (cells : List ℕ) → IsReady state self.old.strands self.old.shadow self.old.reducers cells request number →
+        ensures { (state : GateState) (cells : List ℕ) → IsReady state self.old.strands self.old.shadow self.old.reducers cells request number →
             MatchResult result
             (λ answer. IsKept (with_entry state request answer cells) self.new.strands self.new.shadow self.new.reducers)
             (λ fault. (fault ≡ GateFault.Memory) × IsKept state self.new.strands self.new.shadow self.new.reducers) }
@@ -123,9 +123,9 @@ impl<A: Allocator + Clone> Tracks<A> {
     #[inline(always)]
     pub fn control(&mut self, number: u32, request: Request) -> Result<Answer, GateFault>
         requires is { sort_of request.act ≡ Sort.Control }
-        requires ready { (state : State) × (cells : List ℕ) ×
+        requires ready { (state : GateState) × (cells : List ℕ) ×
             IsReady state self.old.strands self.old.shadow self.old.reducers cells request number }
-        ensures { (state : State) (cells : List ℕ) → IsReady state self.old.strands self.old.shadow self.old.reducers cells request number →
+        ensures { (state : GateState) (cells : List ℕ) → IsReady state self.old.strands self.old.shadow self.old.reducers cells request number →
             MatchResult result
             (λ answer. IsKept (with_entry state request answer cells) self.new.strands self.new.shadow self.new.reducers)
             (λ fault. (fault ≡ GateFault.Memory) × IsKept state self.new.strands self.new.shadow self.new.reducers) }

@@ -11,7 +11,7 @@ use Rattle.model_strands.specs.Legal.{Allowed, Legal}
 use Rattle.law_strands.specs.Acts.{Act as ControlAct, spawns, syncs, calls, returns, Answers}
 use Rattle.law_strands.proofs.Finish.{answer_law, unsynced_law, finish_law}
 use Rattle.model_reducers.specs.Items.{Items, control, update, put, other as elsewhere}
-use Rattle.law_values.specs.Items.{IsLegal as AreItemsLegal}
+use Rattle.law_values.specs.Items.{AreLegalItems as AreItemsLegal}
 use Rattle.model_reducers.specs.Entries.{Entry as ItemEntry, entry_number, entry_value, HasPut}
 use Rattle.model_reducers.specs.Steps.{Steps, items_of}
 use Rattle.law_values.specs.Accesses.{control_steps, AreLegal}

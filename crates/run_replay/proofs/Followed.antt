@@ -5,7 +5,7 @@ use Rattle.std.proofs.lemmas.List.{take-append-drop, reverse-append, length-reve
 use Rattle.model_histories.specs.declared.answer.Entry.{Entry}
 use Rattle.model_histories.specs.Entries.{Entries}
 use Rattle.model_histories.specs.Shapes.{Shape, most_entries}
-use Rattle.model_histories.specs.States.{State as GateState}
+use Rattle.model_histories.specs.States.{GateState}
 use Rattle.model_races.specs.Judged.{IsJudged}
 use Rattle.run_replay.specs.Turns.{IsEntered}
 use Rattle.run_replay.proofs.Told.{more_played}

@@ -6,10 +6,10 @@ use Rattle.model_histories.specs.declared.answer.Entry.{Entry}
 use Rattle.model_histories.specs.Entries.{Entries}
 use Rattle.model_histories.specs.Shapes.{Shape, most_entries}
 use Rattle.model_races.specs.Judged.{IsJudged}
-use Rattle.model_histories.specs.States.{State as GateState, opening}
+use Rattle.model_histories.specs.States.{GateState, opening}
 use Rattle.model_races.specs.Verdicts.{IsRefused}
 use Rattle.model_bodies.specs.Codes.{Code}
-use Rattle.frame_steps.specs.States.{State}
+use Rattle.frame_steps.specs.States.{FrameState}
 use Rattle.frame_steps.specs.Frames.{Stands, IsAfter}
 use Rattle.model_runs.specs.Frames.{Targets, HasFrame}
 use Rattle.model_runs.specs.Runs.{IsRun, IsRunWith}
@@ -25,11 +25,11 @@ module _ (functions : List Code) (shape : Shape) (main : ℕ) where
   first_targets : Targets
   first_targets number = record { function = main; argument = 0 }
 
-  first_run : (frame : State) → IsAfter functions main 0 [] frame → IsRunWith functions shape main (λ number. record { function = main; argument = 0 }) []
+  first_run : (frame : FrameState) → IsAfter functions main 0 [] frame → IsRunWith functions shape main (λ number. record { function = main; argument = 0 }) []
   first_run frame begun =
       record { judged = record { legal = tt; memory = tt; reducers = tt }; root = refl; says = λ number has. after_part functions frame main 0 [] begun }
 
-  first_cast : (frame : State) → Stands functions frame → IsAfter functions main 0 [] frame →
+  first_cast : (frame : FrameState) → Stands functions frame → IsAfter functions main 0 [] frame →
       IsFrameTable functions shape main (λ number. record { function = main; argument = 0 }) [] (frame ∷ []) (0 ∷ [])
   first_cast frame stands begun = record {
     run = first_run frame begun;
@@ -44,7 +44,7 @@ module _ (functions : List Code) (shape : Shape) (main : ℕ) where
       same others run number (inl e) = ap others e ∙ run.root
       same others run number (inr none) = elim none [ ]
 
-pub opens_plays : (functions : List Code) (shape : Shape) (gate : GateState) (frames : List State) (places : List ℕ) → Opens functions shape gate frames places →
+pub opens_plays : (functions : List Code) (shape : Shape) (gate : GateState) (frames : List FrameState) (places : List ℕ) → Opens functions shape gate frames places →
     Plays functions shape gate frames places
 opens_plays functions shape gate frames places o =
     subst (λ g. Plays functions shape g frames places) (sym o.gate_is)
@@ -60,7 +60,7 @@ opens_plays functions shape gate frames places o =
       cast = first_cast functions shape o.main o.frame o.stands o.begun;
     })))
 
-module _ (functions : List Code) (shape : Shape) (gate : GateState) (frames : List State) (places : List ℕ) (plays : Plays functions shape gate frames places) where
+module _ (functions : List Code) (shape : Shape) (gate : GateState) (frames : List FrameState) (places : List ℕ) (plays : Plays functions shape gate frames places) where
   -- the entries so far are a run
   pub plays_run : IsRun functions shape gate.history
   plays_run = record { main = plays.main; is_main = plays.is_main; targets = plays.targets; run = plays.cast.run }
@@ -69,7 +69,7 @@ module _ (functions : List Code) (shape : Shape) (gate : GateState) (frames : Li
     pub judged_so : (after : GateState) → IsEntered entry gate after → IsJudged shape (entry ∷ gate.history)
     judged_so after e = subst (λ s. IsJudged s (entry ∷ gate.history)) (e.shape ∙ plays.shape_is) (subst (IsJudged after.shape) e.history e.judged)
 
-    pub plays_on : (after : GateState) → IsEntered entry gate after → (targets : Targets) (frames2 : List State) (places2 : List ℕ) →
+    pub plays_on : (after : GateState) → IsEntered entry gate after → (targets : Targets) (frames2 : List FrameState) (places2 : List ℕ) →
         IsFrameTable functions shape plays.main targets (entry ∷ gate.history) frames2 places2 → Plays functions shape after frames2 places2
     plays_on after e targets frames2 places2 cast = record {
       shape_is = e.shape ∙ plays.shape_is;
@@ -89,7 +89,7 @@ module _ (functions : List Code) (shape : Shape) (gate : GateState) (frames : Li
           | inr refused ↦ inr refused
         ]
 
-    pub turn_misfit : (place : ℕ) (frame : State) → slice_get places entry.request.strand ≡ Some place → slice_get frames place ≡ Some frame →
+    pub turn_misfit : (place : ℕ) (frame : FrameState) → slice_get places entry.request.strand ≡ Some place → slice_get frames place ≡ Some frame →
         HasNoTurn functions entry frame → IsMisfit functions shape entry gate
     turn_misfit place frame its_place got none run =
         absurd (misfit_turn functions shape plays.main plays.is_main plays.targets gate.history frames places plays.cast entry place frame its_place got none run)

@@ -6,10 +6,10 @@ use Rattle.model_histories.specs.declared.answer.Answer.TheVariants.{Split}
 use Rattle.model_strands.specs.declared.spawned.Spawned.{Spawned}
 use Rattle.model_histories.specs.declared.answer.Entry.{Entry}
 use Rattle.model_histories.specs.Shapes.{Shape}
-use Rattle.model_histories.specs.States.{State as GateState}
+use Rattle.model_histories.specs.States.{GateState}
 use Rattle.model_bodies.specs.Codes.{Code}
 use Rattle.model_programs.specs.declared.target.Target.{Target}
-use Rattle.frame_steps.specs.States.{State}
+use Rattle.frame_steps.specs.States.{FrameState}
 use Rattle.frame_steps.specs.Frames.{Stands}
 use Rattle.model_runs.specs.Frames.{IsSplit}
 use Rattle.run_replay.specs.Turns.{IsEntered, IsTurn, HasNoTurn}
@@ -22,12 +22,12 @@ use Rattle.run_replay.proofs.Slots.{same_item, held_turn}
 use Rattle.run_replay.proofs.Turns.{over_none}
 
 -- the frame of a its_place
-module _ (functions : List Code) (shape : Shape) (gate : GateState) (frames : List State) (places : List ℕ) (plays : Plays functions shape gate frames places) (entry : Entry)
+module _ (functions : List Code) (shape : Shape) (gate : GateState) (frames : List FrameState) (places : List ℕ) (plays : Plays functions shape gate frames places) (entry : Entry)
     (place : ℕ) (its_place : slice_get places entry.request.strand ≡ Some place) where
   pub place_there : place < length frames
   place_there = its_place_there functions shape plays.main plays.is_main plays.targets gate.history frames places plays.cast entry place its_place
 
-  module _ (before after : State) (target : Option Target) (gate2 : GateState) (got : slice_get frames place ≡ Some before) (turn : IsTurn functions entry target before after)
+  module _ (before after : FrameState) (target : Option Target) (gate2 : GateState) (got : slice_get frames place ≡ Some before) (turn : IsTurn functions entry target before after)
       (entered : IsEntered entry gate gate2) where
     pub plays_calm : (IsSplit entry.answer → ⊥) → Plays functions shape gate2 (set frames place after) places
     plays_calm calm =
@@ -35,7 +35,7 @@ module _ (functions : List Code) (shape : Shape) (gate : GateState) (frames : Li
         (went_on functions shape plays.main plays.is_main plays.targets gate.history frames places plays.cast entry place before after target
         (judged_so functions shape gate frames places plays entry gate2 entered) its_place got turn calm)
 
-    pub plays_split : (strands : Spawned) → entry.answer ≡ Split strands → (one : Target) → target ≡ Some one → (frames2 : List State) →
+    pub plays_split : (strands : Spawned) → entry.answer ≡ Split strands → (one : Target) → target ≡ Some one → (frames2 : List FrameState) →
         IsBegun functions one (set frames place after) frames2 → (places2 : List ℕ) →
         places2 ≡ places ++ new_places strands.first (length (set frames place after)) place → Plays functions shape gate2 frames2 places2
     plays_split strands split one some frames2 begun places2 sat =
@@ -55,7 +55,7 @@ module _ {A : Type 0} (functions : List Code) (shape : Shape) (gate : GateState)
   housed = let there = place_there functions shape gate plays.0 places plays.2 entry place its_place in omega (arith, there, plays.1.counted)
 
   module _ (home : ℕ) (home_is : slice_get homes place ≡ Some home) where
-    frame : (frame : State) × (slice_get plays.0 place ≡ Some frame)
+    frame : (frame : FrameState) × (slice_get plays.0 place ≡ Some frame)
     frame = item_below plays.0 place (place_there functions shape gate plays.0 places plays.2 entry place its_place)
 
     house : IsHome slots home place frame.0
@@ -96,7 +96,7 @@ module _ {A : Type 0} (functions : List Code) (shape : Shape) (gate : GateState)
         )
 
         pub split_in : (strands : Spawned) → entry.answer ≡ Split strands → (one : Target) → target ≡ Some one → (slots2 : List (Slot A)) (homes2 : List ℕ) →
-            ((frames : List State) → AreHeld (set slots home after) homes frames → (next : List State) × AreHeld slots2 homes2 next × IsBegun functions one frames next) →
+            ((frames : List FrameState) → AreHeld (set slots home after) homes frames → (next : List FrameState) × AreHeld slots2 homes2 next × IsBegun functions one frames next) →
             (places2 : List ℕ) → places2 ≡ places ++ new_places strands.first (length homes) place → PlaysIn functions shape gate2 slots2 homes2 places2
         split_in strands split one some slots2 homes2 begins places2 sat =
             let next = begins (set plays.0 place after.frame) held in (

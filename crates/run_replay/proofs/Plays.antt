@@ -23,7 +23,7 @@ use Rattle.model_bodies.specs.Sound.{IsMain}
 use Rattle.model_programs.specs.declared.target.Target.{Target}
 use Rattle.model_programs.specs.Exchanges.{Exchange}
 use Rattle.model_programs.specs.Dialogue.{Part, DialogueOf}
-use Rattle.frame_steps.specs.States.{State}
+use Rattle.frame_steps.specs.States.{FrameState}
 use Rattle.frame_steps.specs.Frames.{Stands, IsAfter, CanFollow}
 use Rattle.frame_steps.proofs.Histories.{after_part}
 use Rattle.model_runs.specs.Frames.{Targets, IsSplit, HasFrame, frame_of, frame_in, next_frame, target_of, exchange_of, said_by}
@@ -46,7 +46,7 @@ item_below xs place below =
 same_some : {A : Type 0} (x y : A) → Some x ≡ Some y → x ≡ y
 same_some x y e = cc
 
-module _ (functions : List Code) (shape : Shape) (main : ℕ) (is_main : IsMain functions main) (targets : Targets) (entries : Entries) (frames : List State) (places : List ℕ)
+module _ (functions : List Code) (shape : Shape) (main : ℕ) (is_main : IsMain functions main) (targets : Targets) (entries : Entries) (frames : List FrameState) (places : List ℕ)
     (cast : IsFrameTable functions shape main targets entries frames places) (entry : Entry) where
   here : ℕ
   here = frame_in entries entry.request.strand
@@ -73,7 +73,7 @@ module _ (functions : List Code) (shape : Shape) (main : ℕ) (is_main : IsMain 
   same_main run = subst (λ m. IsRunWith functions shape m run.targets (entry ∷ entries)) (same_some run.main main (sym run.is_main ∙ is_main)) run.run
 
   -- where the frame has no such turn there is no run
-  pub misfit_turn : (place : ℕ) (frame : State) → slice_get places entry.request.strand ≡ Some place → slice_get frames place ≡ Some frame →
+  pub misfit_turn : (place : ℕ) (frame : FrameState) → slice_get places entry.request.strand ≡ Some place → slice_get frames place ≡ Some frame →
       HasNoTurn functions entry frame → IsRun functions shape (entry ∷ entries) → ⊥
   misfit_turn place frame its_place got none run =
       let n = frame_in entries entry.request.strand in
@@ -94,7 +94,7 @@ module _ (functions : List Code) (shape : Shape) (main : ℕ) (is_main : IsMain 
       let count = cast.counted in
       omega arith
 
-  module _ (place : ℕ) (before after : State) (target : Option Target) (judged : IsJudged shape (entry ∷ entries)) (its_place : slice_get places entry.request.strand ≡ Some place)
+  module _ (place : ℕ) (before after : FrameState) (target : Option Target) (judged : IsJudged shape (entry ∷ entries)) (its_place : slice_get places entry.request.strand ≡ Some place)
       (got : slice_get frames place ≡ Some before) (turn : IsTurn functions entry target before after) where
     next : ℕ
     next = next_frame entries
@@ -119,7 +119,7 @@ module _ (functions : List Code) (shape : Shape) (main : ℕ) (is_main : IsMain 
     said_old : (frame : ℕ) → said_by grown entries frame ≡ said_by targets entries frame
     said_old frame = said_same shape grown targets entries cast.run.judged.legal at_old frame
 
-    moved : (number : ℕ) (frame : State) (history : List Exchange) → HasFrame entries number → said_by grown (entry ∷ entries) number ≡ history →
+    moved : (number : ℕ) (frame : FrameState) (history : List Exchange) → HasFrame entries number → said_by grown (entry ∷ entries) number ≡ history →
         IsAfter functions (targets number).function (targets number).argument history frame →
         IsAfter functions (grown number).function (grown number).argument (said_by grown (entry ∷ entries) number) frame
     moved number frame history has said a =
@@ -127,7 +127,7 @@ module _ (functions : List Code) (shape : Shape) (main : ℕ) (is_main : IsMain 
         (subst (λ l. IsAfter functions (targets number).function (targets number).argument l frame) (sym said) a)
 
     -- the frames that there were
-    each_old : (k number : ℕ) (frame : State) → slice_get (frames_in entries) k ≡ Some number → slice_get (set frames place after) k ≡ Some frame →
+    each_old : (k number : ℕ) (frame : FrameState) → slice_get (frames_in entries) k ≡ Some number → slice_get (set frames place after) k ≡ Some frame →
         Stands functions frame × IsAfter functions (grown number).function (grown number).argument (said_by grown (entry ∷ entries) number) frame
     each_old k number frame at is =
         elim (got_set frames place after k frame is) [
@@ -138,7 +138,7 @@ module _ (functions : List Code) (shape : Shape) (main : ℕ) (is_main : IsMain 
               let said : said_by grown (entry ∷ entries) number ≡ said_by targets entries number ++ asks entry target ∷ [] =
               said_here grown entry entries number (sym same) ∙ ap (λ l. l ++ exchange_of grown (next_frame entries) entry ∷ []) (said_old number) ∙
               ap (λ x. said_by targets entries number ++ x ∷ []) exchange_is in
-              let P : State → Type 0 = λ f. Stands functions f × IsAfter functions (grown number).function (grown number).argument (said_by grown (entry ∷ entries) number) f in
+              let P : FrameState → Type 0 = λ f. Stands functions f × IsAfter functions (grown number).function (grown number).argument (said_by grown (entry ∷ entries) number) f in
               let now = subst (λ m. IsAfter functions (targets m).function (targets m).argument (said_by targets entries m ++ asks entry target ∷ []) after) (sym same) (turn.goes_on _ _ _ old) in
               subst P s.1 (turn.stands, moved number after (said_by targets entries number ++ asks entry target ∷ []) (frame_at_place entries k number at) said now)
               )
@@ -166,8 +166,8 @@ module _ (functions : List Code) (shape : Shape) (main : ℕ) (is_main : IsMain 
     only_grown others run frame (inr (inr has)) =
         cast.only others (run_shorter functions shape main others entry entries run) frame (inr has) ∙ sym (at_old frame (inr has))
 
-    module _ (frames2 : List State) (places2 : List ℕ) (counted : length frames2 ≡ length (frames_in (entry ∷ entries)))
-        (each : (k number : ℕ) (frame : State) → slice_get (frames_in (entry ∷ entries)) k ≡ Some number → slice_get frames2 k ≡ Some frame →
+    module _ (frames2 : List FrameState) (places2 : List ℕ) (counted : length frames2 ≡ length (frames_in (entry ∷ entries)))
+        (each : (k number : ℕ) (frame : FrameState) → slice_get (frames_in (entry ∷ entries)) k ≡ Some number → slice_get frames2 k ≡ Some frame →
         Stands functions frame × IsAfter functions (grown number).function (grown number).argument (said_by grown (entry ∷ entries) number) frame)
         (strands : length places2 ≡ unused (control_part (entry ∷ entries)))
         (placed : (strand k : ℕ) → slice_get places2 strand ≡ Some k → slice_get (frames_in (entry ∷ entries)) k ≡ Some (frame_in (entry ∷ entries) strand)) where
@@ -205,13 +205,13 @@ module _ (functions : List Code) (shape : Shape) (main : ℕ) (is_main : IsMain 
         (λ k number frame at is. each_old k number frame (ap (λ l. slice_get l k) (sym same) ∙ at) is) (cast.strands ∙ sym (same_unused entry entries calm)) place_kept
 
     -- the entry is a split
-    module _ (strands : Spawned) (is : entry.answer ≡ Split strands) (one : Target) (some : target ≡ Some one) (frames2 : List State)
+    module _ (strands : Spawned) (is : entry.answer ≡ Split strands) (one : Target) (some : target ≡ Some one) (frames2 : List FrameState)
         (begun : IsBegun functions one (set frames place after) frames2) (places2 : List ℕ)
         (sat : places2 ≡ places ++ new_places strands.first (length (set frames place after)) place) where
       abbrev event : Event
       event = split entry.request.strand strands.child strands.next strands.join strands.first
 
-      abbrev kept : List State
+      abbrev kept : List FrameState
       kept = set frames place after
 
       abbrev news : List ℕ
@@ -252,7 +252,7 @@ module _ (functions : List Code) (shape : Shape) (main : ℕ) (is_main : IsMain 
           let other : frame_in entries entry.request.strand ≢ next_frame entries = λ e. absurd (omega arith) in
           said_elsewhere grown entry entries (next_frame entries) other ∙ said_before grown entries (next_frame entries) (omega arith)
 
-      abbrev Fits : ℕ → State → Type 0
+      abbrev Fits : ℕ → FrameState → Type 0
       Fits number frame = Stands functions frame × IsAfter functions (grown number).function (grown number).argument (said_by grown (entry ∷ entries) number) frame
 
       fresh : Fits (next_frame entries) begun.frame
@@ -262,7 +262,7 @@ module _ (functions : List Code) (shape : Shape) (main : ℕ) (is_main : IsMain 
             (subst (λ l. IsAfter functions one.function one.argument l begun.frame) (sym silent) begun.begun),
       )
 
-      each2 : (k number : ℕ) (frame : State) → slice_get (frames_in (entry ∷ entries)) k ≡ Some number → slice_get frames2 k ≡ Some frame →
+      each2 : (k number : ℕ) (frame : FrameState) → slice_get (frames_in (entry ∷ entries)) k ≡ Some number → slice_get frames2 k ≡ Some frame →
           Stands functions frame × IsAfter functions (grown number).function (grown number).argument (said_by grown (entry ∷ entries) number) frame
       each2 k number frame at got2 =
           by (got_cases (frames_in entries) (next_frame entries ∷ []) k number (ap (λ l. slice_get l k) (sym frames_are) ∙ at))

@@ -3,7 +3,7 @@ use Rattle.std.proofs.Common.{◌≡◌, ◌≢◌, ◌⊎◌, inl, inr, ℕ, ze
 use Rattle.std.specs.Prelude.{slice_get}
 use Rattle.std.proofs.lemmas.Option.{slice_get_within}
 use Rattle.law_strands.proofs.Updates.{same_or_not}
-use Rattle.frame_steps.specs.States.{State}
+use Rattle.frame_steps.specs.States.{FrameState}
 use Rattle.frame_steps.specs.declared.phase.Phase.TheVariants.{Over}
 use Rattle.run_replay.specs.declared.frame_table.Slot.{Slot}
 use Rattle.run_replay.specs.Slots.{IsHome, AreHeld}
@@ -41,14 +41,14 @@ held_alone slot first = record {
       };
 }
 
-module _ {A : Type 0} (slots : List (Slot A)) (homes : List ℕ) (frames : List State) (held : AreHeld slots homes frames) where
+module _ {A : Type 0} (slots : List (Slot A)) (homes : List ℕ) (frames : List FrameState) (held : AreHeld slots homes frames) where
   -- the slot of another frame was changed
-  elsewhere : (home number at : ℕ) (slot : Slot A) (frame : State) → at ≢ home → IsHome slots at number frame → IsHome (set slots home slot) at number frame
+  elsewhere : (home number at : ℕ) (slot : Slot A) (frame : FrameState) → at ≢ home → IsHome slots at number frame → IsHome (set slots home slot) at number frame
   elsewhere home number at slot frame other old =
       record { held = old.held; there = set_elsewhere slots home slot at old.held other old.there; own = old.own; lost = old.lost }
 
   -- the slot has the number of another frame now
-  over_now : (home number : ℕ) (before slot : Slot A) (frame : State) → slice_get slots home ≡ Some before → slot.number ≢ number → frame.phase ≡ Over → IsHome (set slots home slot) home number frame
+  over_now : (home number : ℕ) (before slot : Slot A) (frame : FrameState) → slice_get slots home ≡ Some before → slot.number ≢ number → frame.phase ≡ Over → IsHome (set slots home slot) home number frame
   over_now home number before slot frame there other over =
       record { held = slot; there = set_there slots home slot before there; own = λ e. absurd (other e); lost = λ e. over }
 
@@ -68,7 +68,7 @@ module _ {A : Type 0} (slots : List (Slot A)) (homes : List ℕ) (frames : List 
         ];
   }
     where
-      moved : (number at : ℕ) (frame : State) → number ≢ place → IsHome slots at number frame → IsHome (set slots home after) at number frame
+      moved : (number at : ℕ) (frame : FrameState) → number ≢ place → IsHome slots at number frame → IsHome (set slots home after) at number frame
       moved number at frame other old =
           elim (same_or_not at home) [
             | inl same ↦ (
@@ -80,19 +80,19 @@ module _ {A : Type 0} (slots : List (Slot A)) (homes : List ℕ) (frames : List 
           ]
 
   -- what was held before one more frame
-  below : (number : ℕ) (frame : State) → slice_get frames number ≡ Some frame → number ≢ length frames
+  below : (number : ℕ) (frame : FrameState) → slice_get frames number ≡ Some frame → number ≢ length frames
   below number frame got e = let within = slice_get_within frames number frame got in absurd (omega (arith, e, within))
 
   -- by where the home and the frame of a number stand
   grown : (slots2 : List (Slot A)) (home : ℕ) (slot : Slot A) → slice_get slots2 home ≡ Some slot → slot.number ≡ length frames →
-      ((number at : ℕ) (frame : State) → number ≢ length frames → IsHome slots at number frame → IsHome slots2 at number frame) →
+      ((number at : ℕ) (frame : FrameState) → number ≢ length frames → IsHome slots at number frame → IsHome slots2 at number frame) →
       AreHeld slots2 (homes ++ home ∷ []) (frames ++ slot.frame ∷ [])
   grown slots2 home slot there is kept = record {
     counted = append_length homes (home ∷ []) ∙ ap (λ n. n + 1) held.counted ∙ sym (append_length frames (slot.frame ∷ []));
     each = λ number at frame at_home got. by number at frame (got_cases homes (home ∷ []) number at at_home) (got_cases frames (slot.frame ∷ []) number frame got);
   }
     where
-      by : (number at : ℕ) (frame : State) → (slice_get homes number ≡ Some at) ⊎ ((behind : ℕ) × (number ≡ length homes + behind) × (slice_get (home ∷ []) behind ≡ Some at)) →
+      by : (number at : ℕ) (frame : FrameState) → (slice_get homes number ≡ Some at) ⊎ ((behind : ℕ) × (number ≡ length homes + behind) × (slice_get (home ∷ []) behind ≡ Some at)) →
           (slice_get frames number ≡ Some frame) ⊎ ((behind : ℕ) × (number ≡ length frames + behind) × (slice_get (slot.frame ∷ []) behind ≡ Some frame)) → IsHome slots2 at number frame
       by number at frame (inl h) (inl f) = kept number at frame (below number frame f) (held.each number at frame h f)
       by number at frame (inl h) (inr f) =
@@ -121,15 +121,15 @@ module _ {A : Type 0} (slots : List (Slot A)) (homes : List ℕ) (frames : List 
       AreHeld (set slots home after) (homes ++ home ∷ []) (frames ++ after.frame ∷ [])
   held_reused home before after there over is = grown (set slots home after) home after (set_there slots home after before there) is kept
     where
-      ended : (number : ℕ) (frame : State) → IsHome slots home number frame → frame.phase ≡ Over
+      ended : (number : ℕ) (frame : FrameState) → IsHome slots home number frame → frame.phase ≡ Over
       ended number frame old =
           let slot : old.held ≡ before = same_item old.held before (sym old.there ∙ there) in
           elim (same_or_not old.held.number number) [
-            | inl own ↦ ap (λ (s : State). s.phase) (sym (old.own own)) ∙ ap (λ (s : Slot A). s.frame.phase) slot ∙ over
+            | inl own ↦ ap (λ (s : FrameState). s.phase) (sym (old.own own)) ∙ ap (λ (s : Slot A). s.frame.phase) slot ∙ over
             | inr lost ↦ old.lost lost
           ]
 
-      kept : (number at : ℕ) (frame : State) → number ≢ length frames → IsHome slots at number frame → IsHome (set slots home after) at number frame
+      kept : (number at : ℕ) (frame : FrameState) → number ≢ length frames → IsHome slots at number frame → IsHome (set slots home after) at number frame
       kept number at frame other old =
           elim (same_or_not at home) [
             | inl same ↦ (

@@ -6,11 +6,11 @@ use Rattle.std.proofs.Math.Seq.{take-length}
 use Rattle.model_histories.specs.declared.answer.Entry.{Entry}
 use Rattle.model_histories.specs.Entries.{Entries}
 use Rattle.model_histories.specs.Shapes.{Shape, most_entries}
-use Rattle.model_histories.specs.States.{State as GateState}
+use Rattle.model_histories.specs.States.{GateState}
 use Rattle.model_races.specs.Verdicts.{IsRefused}
 use Rattle.model_histories.specs.Extensions.{IsFinished}
 use Rattle.model_bodies.specs.Codes.{Code}
-use Rattle.frame_steps.specs.States.{State}
+use Rattle.frame_steps.specs.States.{FrameState}
 use Rattle.model_runs.specs.Runs.{IsRun, IsFinishedRun}
 use Rattle.run_replay.specs.FrameTables.{Plays, IsMisfit}
 use Rattle.run_replay.specs.Replays.{IsUnfinishedRun, IsStrange}
@@ -37,7 +37,7 @@ more_played entries index other old new below played before =
     played ∙ ap (λ l. get_or entries index other ∷ l) before ∙
     sym (ap reverse (take_more entries index other below) ∙ reverse-append (take index entries) (get_or entries index other ∷ []))
 
-module _ (functions : List Code) (shape : Shape) (gate : GateState) (frames : List State) (places : List ℕ) (plays : Plays functions shape gate frames places)
+module _ (functions : List Code) (shape : Shape) (gate : GateState) (frames : List FrameState) (places : List ℕ) (plays : Plays functions shape gate frames places)
     (entries : List Entry) (index : ℕ) (history : gate.history ≡ reverse (take index entries)) where
   strange_there : (entry : Entry) (number : ℕ) → index < length entries → entry ≡ get_or entries index entry → number ≡ suc (length gate.history) →
       IsMisfit functions shape entry gate → IsStrange functions shape entries number

@@ -11,7 +11,7 @@ use Rattle.model_histories.specs.declared.reply.Receipt.{Receipt}
 use Rattle.model_histories.specs.declared.fault.GateFault.{GateFault}
 use Rattle.model_histories.specs.declared.fault.GateFault.TheVariants.{Stopped, Limit, NotRunning, BadName, Unsynced, Memory}
 use Rattle.model_histories.specs.Entries.{control_part}
-use Rattle.model_histories.specs.States.{State as GateState}
+use Rattle.model_histories.specs.States.{GateState}
 use Rattle.model_races.specs.Judged.{IsJudged}
 use Rattle.model_histories.specs.Faults.{IsFaultless, HasCause, HasNoneBefore}
 use Rattle.model_histories.specs.Replies.{IsEntered as EntersReceipt}
@@ -23,7 +23,7 @@ use Rattle.function_steps.specs.Activations.{asked_act}
 use Rattle.frame_steps.specs.declared.phase.Phase.TheVariants.{Over}
 use Rattle.frame_steps.specs.Requests.{asked_target}
 use Rattle.frame_steps.specs.Stacks.{StackDialogue}
-use Rattle.frame_steps.specs.States.{State}
+use Rattle.frame_steps.specs.States.{FrameState}
 use Rattle.frame_steps.specs.Frames.{Stands, Wants, IsAfter, CanFollow, MayAnswer, stack_in}
 use Rattle.model_programs.specs.Dialogue.{Part}
 use Rattle.model_runs.specs.Frames.{target_of}
@@ -56,7 +56,7 @@ asked_fits (Some (If line register otherwise)) registers act target e f = absurd
 asked_fits (Some (Else line to)) registers act target e f = absurd (cc)
 asked_fits (Some (End line)) registers act target e f = absurd (cc)
 
-wants_fit : (functions : List Code) (frame : State) (x : Exchange) → Wants functions frame x → (other : Target) → target_of x.act (target_or x.target other) ≡ x.target
+wants_fit : (functions : List Code) (frame : FrameState) (x : Exchange) → Wants functions frame x → (other : Target) → target_of x.act (target_or x.target other) ≡ x.target
 wants_fit functions frame x w = asked_fits _ _ x.act x.target w.follows.act w.follows.target
 
 no_target : (act : Act) (target : Target) → (act ≡ Act.Spawn → ⊥) → None ≡ target_of act target
@@ -64,11 +64,11 @@ no_target Act.Spawn target other = absurd (other refl)
 no_target act target other = refl
 
 -- a frame that wants another act spawns nothing
-pub none_spawned : (functions : List Code) (frame : State) (x : Exchange) → Wants functions frame x → (x.act ≡ Act.Spawn → ⊥) → None ≡ x.target
+pub none_spawned : (functions : List Code) (frame : FrameState) (x : Exchange) → Wants functions frame x → (x.act ≡ Act.Spawn → ⊥) → None ≡ x.target
 none_spawned functions frame x w other =
     let some : Target = record { function = 0; argument = 0 } in no_target x.act (target_or x.target some) other ∙ wants_fit functions frame x w some
 
-module _ (functions : List Code) (entry : Entry) (before middle : State)
+module _ (functions : List Code) (entry : Entry) (before middle : FrameState)
     (sought : (function argument : ℕ) (history : List Exchange) → IsAfter functions function argument history before → IsAfter functions function argument history middle)
     (only : (function argument : ℕ) (history : List Exchange) (x : Exchange) → IsAfter functions function argument history before →
     CanFollow functions function argument history x → Wants functions middle x) where
@@ -83,7 +83,7 @@ module _ (functions : List Code) (entry : Entry) (before middle : State)
   other_answer none = λ function argument history target a can.
       none (record { exchange = asks entry target; wants = only function argument history (asks entry target) a can; is = refl })
 
-  pub turned : (after : State) (act : Act) (line : ℕ) (target : Option Target) →
+  pub turned : (after : FrameState) (act : Act) (line : ℕ) (target : Option Target) →
       ((x : Exchange) → Wants functions middle x → (x.act ≡ act) × (x.line ≡ line)) → act ≡ entry.request.act → line ≡ entry.request.line →
       ((x : Exchange) → Wants functions middle x → target ≡ x.target) → IfSome target (λ one. one.function < length functions) →
       MayAnswer functions middle entry.answer →
@@ -107,7 +107,7 @@ module _ (functions : List Code) (entry : Entry) (before middle : State)
       }
 
 -- a frame that is over does not go on
-pub over_none : (functions : List Code) (entry : Entry) (before : State) → before.phase ≡ Over → HasNoTurn functions entry before
+pub over_none : (functions : List Code) (entry : Entry) (before : FrameState) → before.phase ≡ Over → HasNoTurn functions entry before
 over_none functions entry before over function argument history target a can =
     let none = subst (λ p. StackDialogue functions Part (stack_in functions p before.top before.callers) (asks entry target ∷ [])) over ((a.goes_on Part (asks entry target ∷ [])).1 can) in
     nothing (asks entry target) none

@@ -6,12 +6,12 @@ use Rattle.model_histories.specs.declared.answer.Answer.TheVariants.{Split}
 use Rattle.model_histories.specs.declared.answer.Entry.{Entry}
 use Rattle.model_histories.specs.Entries.{Entries, control_part}
 use Rattle.model_histories.specs.Shapes.{Shape, most_entries}
-use Rattle.model_histories.specs.States.{State as GateState, opening}
+use Rattle.model_histories.specs.States.{GateState, opening}
 use Rattle.model_races.specs.Verdicts.{IsRefused}
 use Rattle.model_bodies.specs.Codes.{Code}
 use Rattle.model_bodies.specs.Sound.{IsMain}
 use Rattle.model_programs.specs.declared.target.Target.{Target}
-use Rattle.frame_steps.specs.States.{State}
+use Rattle.frame_steps.specs.States.{FrameState}
 use Rattle.frame_steps.specs.Frames.{Stands, IsAfter}
 use Rattle.model_runs.specs.Frames.{Targets, HasFrame, frame_in, next_frame, said_by}
 use Rattle.model_runs.specs.Runs.{IsRun, IsRunWith}
@@ -32,18 +32,18 @@ new_places true child spawner = child ∷ spawner ∷ spawner ∷ []
 new_places false child spawner = child ∷ spawner ∷ []
 
 -- one more frame, of a function that begins
-pub record IsBegun (functions : List Code) (target : Target) (before after : List State) : Type 0 where
-  pub frame : State
+pub record IsBegun (functions : List Code) (target : Target) (before after : List FrameState) : Type 0 where
+  pub frame : FrameState
   pub stands : Stands functions frame
   pub begun : IsAfter functions target.function target.argument [] frame
   pub pushed : after ≡ before ++ frame ∷ []
 
 -- the function of `main` alone has begun, before a gate without entries
-pub record Opens (functions : List Code) (shape : Shape) (gate : GateState) (frames : List State) (places : List ℕ) : Type 0 where
+pub record Opens (functions : List Code) (shape : Shape) (gate : GateState) (frames : List FrameState) (places : List ℕ) : Type 0 where
   pub main : ℕ
   pub is_main : IsMain functions main
   pub gate_is : gate ≡ opening shape most_entries
-  pub frame : State
+  pub frame : FrameState
   pub stands : Stands functions frame
   pub begun : IsAfter functions main 0 [] frame
   pub frames_are : frames ≡ frame ∷ []
@@ -51,19 +51,19 @@ pub record Opens (functions : List Code) (shape : Shape) (gate : GateState) (fra
 
 -- The frames are those of the entries, each after what it said with these targets, and no run of these entries has other targets.
 pub record IsFrameTable (functions : List Code) (shape : Shape) (main : ℕ) (targets : Targets)
-    (entries : Entries) (frames : List State) (places : List ℕ) : Type 0 where
+    (entries : Entries) (frames : List FrameState) (places : List ℕ) : Type 0 where
   pub run : IsRunWith functions shape main targets entries
   pub only : (others : Targets) → IsRunWith functions shape main others entries → (frame : ℕ) → HasFrame entries frame →
       others frame ≡ targets frame
   pub counted : length frames ≡ length (frames_in entries)
-  pub each : (place number : ℕ) (frame : State) → slice_get (frames_in entries) place ≡ Some number → slice_get frames place ≡ Some frame →
+  pub each : (place number : ℕ) (frame : FrameState) → slice_get (frames_in entries) place ≡ Some number → slice_get frames place ≡ Some frame →
       Stands functions frame × IsAfter functions (targets number).function (targets number).argument (said_by targets entries number) frame
   pub strands : length places ≡ unused (control_part entries)
   pub placed : (strand place : ℕ) → slice_get places strand ≡ Some place →
       slice_get (frames_in entries) place ≡ Some (frame_in entries strand)
 
 -- So it is for some targets, and the gate has these entries.
-pub record Plays (functions : List Code) (shape : Shape) (gate : GateState) (frames : List State) (places : List ℕ) : Type 0 where
+pub record Plays (functions : List Code) (shape : Shape) (gate : GateState) (frames : List FrameState) (places : List ℕ) : Type 0 where
   pub shape_is : gate.shape ≡ shape
   pub limit_is : gate.limit ≡ most_entries
   pub going : gate.stopped ≡ false

@@ -2,12 +2,12 @@
 use Rattle.std.specs.Prelude.{◌≡◌, ◌⊎◌, ◌<◌, ℕ, false, List, [], ◌∷◌, ◌++◌, length, Option, Some, None, IfSome}
 use Rattle.model_histories.specs.declared.answer.Entry.{Entry}
 use Rattle.model_races.specs.Judged.{IsJudged}
-use Rattle.model_histories.specs.States.{State as GateState}
+use Rattle.model_histories.specs.States.{GateState}
 use Rattle.model_races.specs.Verdicts.{IsRefused}
 use Rattle.model_bodies.specs.Codes.{Code}
 use Rattle.model_programs.specs.declared.target.Target.{Target}
 use Rattle.model_programs.specs.Exchanges.{Exchange}
-use Rattle.frame_steps.specs.States.{State}
+use Rattle.frame_steps.specs.States.{FrameState}
 use Rattle.frame_steps.specs.Frames.{Stands, IsAfter, CanFollow}
 use Rattle.model_runs.specs.Frames.{target_of}
 
@@ -21,7 +21,7 @@ target_or None other = other
 target_or (Some target) other = target
 
 -- The frame went on by the entry, which spawns this and could spawn nothing else.
-pub record IsTurn (functions : List Code) (entry : Entry) (target : Option Target) (before after : State) : Type 0 where
+pub record IsTurn (functions : List Code) (entry : Entry) (target : Option Target) (before after : FrameState) : Type 0 where
   pub stands : Stands functions after
   pub there : IfSome target (λ one. one.function < length functions)
   pub fits : (other : Target) → target_of entry.request.act (target_or target other) ≡ target
@@ -31,7 +31,7 @@ pub record IsTurn (functions : List Code) (entry : Entry) (target : Option Targe
       CanFollow functions function argument history x → x.target ≡ target
 
 -- The frame does not go on so.
-abbrev pub HasNoTurn : List Code → Entry → State → Type 0
+abbrev pub HasNoTurn : List Code → Entry → FrameState → Type 0
 HasNoTurn functions entry frame =
     (function argument : ℕ) (history : List Exchange) (target : Option Target) → IsAfter functions function argument history frame →
     CanFollow functions function argument history (asks entry target) → ⊥

@@ -2,8 +2,8 @@
 
 ghost use Rattle.std.specs.Prelude.{◌≡◌, ◌≢◌, ◌⊎◌, ◌<◌, ◌++◌, [], ◌∷◌, List, length, slice_get, Some, IfOk, IfErr, IfSome, OnOk, Err};
 ghost use Rattle.model_histories.specs.Shapes.{most_entries};
-ghost use Rattle.model_histories.specs.States.{State as GateState, opening};
-ghost use Rattle.frame_steps.specs.States.{State};
+ghost use Rattle.model_histories.specs.States.{GateState, opening};
+ghost use Rattle.frame_steps.specs.States.{FrameState};
 ghost use Rattle.frame_steps.specs.Frames.{Stands};
 ghost use Rattle.frame_steps.specs.declared.phase.Phase.{Phase};
 ghost use Rattle.run_replay.specs.declared.frame_table.Slot.{Slot};
@@ -154,8 +154,8 @@ impl<A: Allocator + Copy> FrameTable<A> {
     ) -> Result<usize, AllocError>
         requires there { target.function < length program.now.functions }
         ensures frames { IfOk result (λ home.
-            (frames : List State) → (length frames ≡ number) → AreHeld self.old.slots.items self.old.homes.items frames →
-            (next : List State) × AreHeld self.new.slots.items (self.old.homes.items ++ home ∷ []) next
+            (frames : List FrameState) → (length frames ≡ number) → AreHeld self.old.slots.items self.old.homes.items frames →
+            (next : List FrameState) × AreHeld self.new.slots.items (self.old.homes.items ++ home ∷ []) next
             × IsBegun program.now.functions target frames next) }
         ensures rest { OnOk result ((self.new.homes ≡ self.old.homes)
             × (self.new.places ≡ self.old.places)) }
@@ -186,8 +186,8 @@ impl<A: Allocator + Copy> FrameTable<A> {
         first: bool,
     ) -> Result<(), AllocError>
         requires there { target.function < length program.now.functions }
-        ensures frames { OnOk result ((frames : List State) → AreHeld self.old.slots.items self.old.homes.items frames →
-            (next : List State) × AreHeld self.new.slots.items self.new.homes.items next
+        ensures frames { OnOk result ((frames : List FrameState) → AreHeld self.old.slots.items self.old.homes.items frames →
+            (next : List FrameState) × AreHeld self.new.slots.items self.new.homes.items next
             × IsBegun program.now.functions target frames next) }
         ensures places { OnOk result
             (self.new.places.items ≡ self.old.places.items ++ new_places first (length self.old.homes.items) place) }

@@ -3,7 +3,7 @@
 ghost use Rattle.std.specs.Prelude.{◌≡◌, ◌↔◌, ◌+◌, ◌≤◌, ℕ, length, reverse, IsTrue, IfOk, OnOk, Err};
 ghost use Rattle.model_histories.specs.Extensions.{IsFinished};
 ghost use Rattle.model_histories.specs.Shapes.{most_entries};
-ghost use Rattle.model_histories.specs.States.{State as GateState, opening};
+ghost use Rattle.model_histories.specs.States.{GateState, opening};
 ghost use Rattle.model_races.specs.Judged.{IsJudged};
 ghost use Rattle.race_gate.specs.Cores.{IsCoreOf};
 ghost use Rattle.program_text.specs.Shapes.{shape_in};

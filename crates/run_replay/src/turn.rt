@@ -1,7 +1,7 @@
 //! One entry: the turn of its frame, and the gate's answer.
 
 ghost use Rattle.std.specs.Prelude.{◌≡◌, ◌≢◌, ◌↔◌, ◌<◌, length, IsTrue, IfOk, IfSome, OnOk, Err};
-ghost use Rattle.model_histories.specs.States.{State};
+ghost use Rattle.model_histories.specs.States.{GateState};
 ghost use Rattle.model_histories.specs.Faults.{HasCause};
 ghost use Rattle.race_gate.specs.Cores.{IsCoreOf};
 ghost use Rattle.model_programs.specs.Exchanges.{Exchange};
@@ -82,10 +82,10 @@ fn is_same_answer(one: Answer, other: Answer) -> bool
 /// Has a core judge an entry's request, and compares the answer. A request that has another fault of the gate than want of
 /// memory is strange, so want of memory is told only where it has none.
 pub fn confirm<A: Allocator + Clone>(core: &mut Core<A>, entry: Entry) -> Result<(), Misfit>
-    ensures ok { (state : State) → IsCoreOf core.old state →
-        OnOk result ((next : State) × IsCoreOf core.new next × IsEntered entry state next) }
-    ensures strange { (state : State) → IsCoreOf core.old state → result ≡ Err Misfit.Strange → IsOdd entry state }
-    ensures fault { (state : State) → IsCoreOf core.old state →
+    ensures ok { (state : GateState) → IsCoreOf core.old state →
+        OnOk result ((next : GateState) × IsCoreOf core.new next × IsEntered entry state next) }
+    ensures strange { (state : GateState) → IsCoreOf core.old state → result ≡ Err Misfit.Strange → IsOdd entry state }
+    ensures fault { (state : GateState) → IsCoreOf core.old state →
         (fault : GateFault) → fault ≢ GateFault.Memory → HasCause state entry.request fault → result ≡ Err Misfit.Strange }
 {
     match core.judge(entry.request) {

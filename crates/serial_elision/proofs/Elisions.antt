@@ -22,7 +22,7 @@ use Rattle.model_programs.specs.Scripts.{closing, script, numbers}
 use Rattle.model_programs.specs.Evaluation.{Effect, effect, Store, Evaluates}
 use Rattle.serial_elision.specs.Evaluation.{Standing, StackEvaluates, Leads}
 use Rattle.model_programs.specs.Elisions.{first_store, HasMain, Elides, NeedsMore}
-use Rattle.serial_elision.specs.States.{State, store_of, with_store, with_top, moved, turning, begun, with_begun, left_at, left_in, standing_in, standing, callers_of, stack_in, stack_of, are_turns, length_in, IsInPlace, Stands, Makes, IsOpening, IsLeft, is_left, opening}
+use Rattle.serial_elision.specs.States.{ElisionState, store_of, with_store, with_top, moved, turning, begun, with_begun, left_at, left_in, standing_in, standing, callers_of, stack_in, stack_of, are_turns, length_in, IsInPlace, Stands, Makes, IsOpening, IsLeft, is_left, first_state}
 use Rattle.program_text.proofs.Taken.{main_below}
 use Rattle.function_steps.proofs.Trees.{and_then_assoc, if_left}
 use Rattle.function_steps.proofs.Places.{drop_at, found}
@@ -55,7 +55,7 @@ on_ok (Ok v) P Q f p = f p
 on_ok (Err e) P Q f p = tt
 
 -- a turn's function is there
-pub callee_known : (functions : List Code) (before : State) (turns : Turns) → before.top.turns ≡ Some turns → are_turns functions before.top.turns → turns.function < length functions
+pub callee_known : (functions : List Code) (before : ElisionState) (turns : Turns) → before.top.turns ≡ Some turns → are_turns functions before.top.turns → turns.function < length functions
 callee_known functions before turns on known = (subst (λ o. are_turns functions o) on known).0
 
 -- the measure: a request uses up one of those that are left, and between requests the topmost function comes further
@@ -85,7 +85,7 @@ module _ (functions : List Code) (monoids : List Monoid) where
   turning_standing activation code turns here on =
       ap (λ o. standing_in o activation) here ∙ ap (λ t. record { end_line = code.end_line; rest = left_in code.end_line t (drop activation.place code.body); registers = activation.registers }) on
 
-  going_stack : (state : State) → state.over ≡ false → stack_of functions state ≡ standing functions state.top ∷ callers_of functions state.callers
+  going_stack : (state : ElisionState) → state.over ≡ false → stack_of functions state ≡ standing functions state.top ∷ callers_of functions state.callers
   going_stack state going = ap (λ b. stack_in functions b state.top state.callers) going
 
   callers_pushed : (callers : List ElidedCall) (caller : ElidedCall) → callers_of functions (callers ++ caller ∷ []) ≡ standing functions caller ∷ callers_of functions callers
@@ -97,9 +97,9 @@ module _ (functions : List Code) (monoids : List Monoid) where
 
   -- ---- a line of the topmost function
 
-  module _ (cells : ℕ) (before : State) (code : Code) (here : slice_get functions before.top.function ≡ Some code) where
+  module _ (cells : ℕ) (before : ElisionState) (code : Code) (here : slice_get functions before.top.function ≡ Some code) where
     -- the evaluator stands after it
-    pub moved_stands : (place : ℕ) (registers : Registers) (after : State) → Stands functions monoids cells before → place ≤ length code.body → after ≡ with_top before (moved before.top place registers) → Stands functions monoids cells after
+    pub moved_stands : (place : ℕ) (registers : Registers) (after : ElisionState) → Stands functions monoids cells before → place ≤ length code.body → after ≡ with_top before (moved before.top place registers) → Stands functions monoids cells after
     moved_stands place registers after s within e =
         subst (λ t. Stands functions monoids cells t) (sym e) (record {
           top = record { known = s.top.known; within = subst (λ o. place ≤ length_in o) (sym here) within; turning = s.top.turning };
@@ -110,7 +110,7 @@ module _ (functions : List Code) (monoids : List Monoid) where
           fits = s.fits;
         })
 
-    pub stored_stands : (place : ℕ) (registers : Registers) (cell value : ℕ) (after : State) → Stands functions monoids cells before → place ≤ length code.body → after ≡ with_store (with_top before (moved before.top place registers)) (record { memory = slice_set before.memory cell value; views = before.views }) → Stands functions monoids cells after
+    pub stored_stands : (place : ℕ) (registers : Registers) (cell value : ℕ) (after : ElisionState) → Stands functions monoids cells before → place ≤ length code.body → after ≡ with_store (with_top before (moved before.top place registers)) (record { memory = slice_set before.memory cell value; views = before.views }) → Stands functions monoids cells after
     stored_stands place registers cell value after s within e =
         subst (λ t. Stands functions monoids cells t) (sym e) (record {
           top = record { known = s.top.known; within = subst (λ o. place ≤ length_in o) (sym here) within; turning = s.top.turning };
@@ -134,7 +134,7 @@ module _ (functions : List Code) (monoids : List Monoid) where
         same_or_not (suc one) zero = inr (λ e. omega arith)
         same_or_not (suc one) (suc two) = elim (same_or_not one two) [ inl e ↦ inl (ap suc e) | inr n ↦ inr (λ e. n (omega arith)) ]
 
-    pub viewed_stands : (place : ℕ) (registers : Registers) (reducer : ℕ) (view : View) (after : State) → Stands functions monoids cells before → place ≤ length code.body → reducer < length before.views → FitsMonoid (monoid_of before.monoids reducer) view → after ≡ with_store (with_top before (moved before.top place registers)) (record { memory = before.memory; views = slice_set before.views reducer view }) → Stands functions monoids cells after
+    pub viewed_stands : (place : ℕ) (registers : Registers) (reducer : ℕ) (view : View) (after : ElisionState) → Stands functions monoids cells before → place ≤ length code.body → reducer < length before.views → FitsMonoid (monoid_of before.monoids reducer) view → after ≡ with_store (with_top before (moved before.top place registers)) (record { memory = before.memory; views = slice_set before.views reducer view }) → Stands functions monoids cells after
     viewed_stands place registers reducer view after s within known fits e =
         subst (λ t. Stands functions monoids cells t) (sym e) (record {
           top = record { known = s.top.known; within = subst (λ o. place ≤ length_in o) (sym here) within; turning = s.top.turning };
@@ -145,7 +145,7 @@ module _ (functions : List Code) (monoids : List Monoid) where
           fits = set_fits reducer view s known (subst (λ m. FitsMonoid (monoid_of m reducer) view) s.same_monoids fits);
         })
 
-    pub counted_stands : (turns : Turns) (after : State) → Stands functions monoids cells before → before.top.place + 1 ≤ length code.body → are_turns functions (Some turns) → after ≡ with_top before (turning (moved before.top (before.top.place + 1) before.top.registers) (Some turns)) → Stands functions monoids cells after
+    pub counted_stands : (turns : Turns) (after : ElisionState) → Stands functions monoids cells before → before.top.place + 1 ≤ length code.body → are_turns functions (Some turns) → after ≡ with_top before (turning (moved before.top (before.top.place + 1) before.top.registers) (Some turns)) → Stands functions monoids cells after
     counted_stands turns after s within known e =
         subst (λ t. Stands functions monoids cells t) (sym e) (record {
           top = record { known = s.top.known; within = subst (λ o. before.top.place + 1 ≤ length_in o) (sym here) within; turning = known };
@@ -162,7 +162,7 @@ module _ (functions : List Code) (monoids : List Monoid) where
           going_stack before going ∙ ap (λ t. t ∷ callers_of functions before.callers) (quiet_standing before.top code here quiet ∙ ap (λ l. record { end_line = code.end_line; rest = left_at code.end_line l; registers = before.top.registers }) (drop_at code.body before.top.place statement at))
 
       -- what the line does, and what is left then
-      pub line_makes : (asked place : ℕ) (registers : Registers) (store : Store) (done : List Effect) (after : State) → length done ≡ asked → (asked ≡ 0 → before.top.place < place) → Leads functions monoids done (record { end_line = code.end_line; rest = left_at code.end_line (statement ∷ drop (before.top.place + 1) code.body); registers = before.top.registers } ∷ callers_of functions before.callers) (store_of before) (record { end_line = code.end_line; rest = left_at code.end_line (drop place code.body); registers = registers } ∷ callers_of functions before.callers) store → after ≡ with_store (with_top before (moved before.top place registers)) store → Makes functions monoids asked before after
+      pub line_makes : (asked place : ℕ) (registers : Registers) (store : Store) (done : List Effect) (after : ElisionState) → length done ≡ asked → (asked ≡ 0 → before.top.place < place) → Leads functions monoids done (record { end_line = code.end_line; rest = left_at code.end_line (statement ∷ drop (before.top.place + 1) code.body); registers = before.top.registers } ∷ callers_of functions before.callers) (store_of before) (record { end_line = code.end_line; rest = left_at code.end_line (drop place code.body); registers = registers } ∷ callers_of functions before.callers) store → after ≡ with_store (with_top before (moved before.top place registers)) store → Makes functions monoids asked before after
       line_makes asked place registers store done after count further leads e =
           let last = with_store (with_top before (moved before.top place registers)) store in
           subst (λ t. Makes functions monoids asked before t) (sym e) (record {
@@ -173,14 +173,14 @@ module _ (functions : List Code) (monoids : List Monoid) where
           })
 
       -- a line at which the function only goes on elsewhere
-      pub same_makes : (place : ℕ) (after : State) → before.top.place < place → left_of (drop place code.body) ≡ left_of (statement ∷ drop (before.top.place + 1) code.body) → after ≡ with_top before (moved before.top place before.top.registers) → Makes functions monoids 0 before after
+      pub same_makes : (place : ℕ) (after : ElisionState) → before.top.place < place → left_of (drop place code.body) ≡ left_of (statement ∷ drop (before.top.place + 1) code.body) → after ≡ with_top before (moved before.top place before.top.registers) → Makes functions monoids 0 before after
       same_makes place after further same e =
           line_makes 0 place before.top.registers (store_of before) [] after refl (λ _. further)
           (leads_between [] _ _ _ _ (store_of before) (store_of before) (ap (λ t. record { end_line = code.end_line; rest = and_then t (closing code.end_line); registers = before.top.registers } ∷ callers_of functions before.callers) (sym same)) refl (leads_nowhere functions monoids (record { end_line = code.end_line; rest = left_at code.end_line (drop place code.body); registers = before.top.registers } ∷ callers_of functions before.callers) (store_of before)))
           e
 
       -- a `pfor`, whose turns are left then
-      pub counts_makes : (turns : Turns) (after : State) → Leads functions monoids [] (record { end_line = code.end_line; rest = left_at code.end_line (statement ∷ drop (before.top.place + 1) code.body); registers = before.top.registers } ∷ callers_of functions before.callers) (store_of before) (record { end_line = code.end_line; rest = left_in code.end_line (Some turns) (drop (before.top.place + 1) code.body); registers = before.top.registers } ∷ callers_of functions before.callers) (store_of before) → after ≡ with_top before (turning (moved before.top (before.top.place + 1) before.top.registers) (Some turns)) → Makes functions monoids 0 before after
+      pub counts_makes : (turns : Turns) (after : ElisionState) → Leads functions monoids [] (record { end_line = code.end_line; rest = left_at code.end_line (statement ∷ drop (before.top.place + 1) code.body); registers = before.top.registers } ∷ callers_of functions before.callers) (store_of before) (record { end_line = code.end_line; rest = left_in code.end_line (Some turns) (drop (before.top.place + 1) code.body); registers = before.top.registers } ∷ callers_of functions before.callers) (store_of before) → after ≡ with_top before (turning (moved before.top (before.top.place + 1) before.top.registers) (Some turns)) → Makes functions monoids 0 before after
       counts_makes turns after leads e =
           let last = with_top before (turning (moved before.top (before.top.place + 1) before.top.registers) (Some turns)) in
           subst (λ t. Makes functions monoids 0 before t) (sym e) (record {
@@ -191,7 +191,7 @@ module _ (functions : List Code) (monoids : List Monoid) where
           })
 
     -- a function that is begun
-    pub begun_stands : (caller : ElidedCall) (function argument : ℕ) (after : State) → Stands functions monoids cells before → IsInPlace functions caller → function < length functions → after ≡ with_begun before caller function argument → Stands functions monoids cells after
+    pub begun_stands : (caller : ElidedCall) (function argument : ℕ) (after : ElisionState) → Stands functions monoids cells before → IsInPlace functions caller → function < length functions → after ≡ with_begun before caller function argument → Stands functions monoids cells after
     begun_stands caller function argument after s placed known e =
         subst (λ t. Stands functions monoids cells t) (sym e) (record {
           top = record { known = known; within = omega arith; turning = tt };
@@ -203,7 +203,7 @@ module _ (functions : List Code) (monoids : List Monoid) where
         })
 
   -- a function whose turns are over
-  pub stopped_stands : (cells : ℕ) (before after : State) → Stands functions monoids cells before → after ≡ with_top before (turning before.top None) → Stands functions monoids cells after
+  pub stopped_stands : (cells : ℕ) (before after : ElisionState) → Stands functions monoids cells before → after ≡ with_top before (turning before.top None) → Stands functions monoids cells after
   stopped_stands cells before after s e =
       subst (λ t. Stands functions monoids cells t) (sym e) (record {
         top = record { known = s.top.known; within = s.top.within; turning = tt };
@@ -217,12 +217,12 @@ module _ (functions : List Code) (monoids : List Monoid) where
   begun_standing : (function argument : ℕ) (callee : Code) → slice_get functions function ≡ Some callee → standing functions (begun function argument) ≡ record { end_line = callee.end_line; rest = script callee; registers = first_registers argument }
   begun_standing function argument callee h = ap (λ o. standing_in o (begun function argument)) h
 
-  begun_stack : (before : State) (caller : ElidedCall) (function argument : ℕ) (callee : Code) → slice_get functions function ≡ Some callee → before.over ≡ false → stack_of functions (with_begun before caller function argument) ≡ record { end_line = callee.end_line; rest = script callee; registers = first_registers argument } ∷ standing functions caller ∷ callers_of functions before.callers
+  begun_stack : (before : ElisionState) (caller : ElidedCall) (function argument : ℕ) (callee : Code) → slice_get functions function ≡ Some callee → before.over ≡ false → stack_of functions (with_begun before caller function argument) ≡ record { end_line = callee.end_line; rest = script callee; registers = first_registers argument } ∷ standing functions caller ∷ callers_of functions before.callers
   begun_stack before caller function argument callee h going =
       going_stack (with_begun before caller function argument) going ∙ ap (λ t. t ∷ callers_of functions (before.callers ++ caller ∷ [])) (begun_standing function argument callee h) ∙ ap (λ l. record { end_line = callee.end_line; rest = script callee; registers = first_registers argument } ∷ l) (callers_pushed before.callers caller)
 
   -- a spawn or a call
-  pub enter_makes : (before : State) (code : Code) (statement : Statement) (function argument : ℕ) (callee : Code) (did : Effect) (after : State) → slice_get functions before.top.function ≡ Some code → before.over ≡ false → before.top.turns ≡ None → slice_get code.body before.top.place ≡ Some statement → slice_get functions function ≡ Some callee → Leads functions monoids (did ∷ []) (record { end_line = code.end_line; rest = left_at code.end_line (statement ∷ drop (before.top.place + 1) code.body); registers = before.top.registers } ∷ callers_of functions before.callers) (store_of before) (record { end_line = callee.end_line; rest = script callee; registers = first_registers argument } ∷ record { end_line = code.end_line; rest = left_at code.end_line (drop (before.top.place + 1) code.body); registers = before.top.registers } ∷ callers_of functions before.callers) (store_of before) → after ≡ with_begun before (moved before.top (before.top.place + 1) before.top.registers) function argument → Makes functions monoids 1 before after
+  pub enter_makes : (before : ElisionState) (code : Code) (statement : Statement) (function argument : ℕ) (callee : Code) (did : Effect) (after : ElisionState) → slice_get functions before.top.function ≡ Some code → before.over ≡ false → before.top.turns ≡ None → slice_get code.body before.top.place ≡ Some statement → slice_get functions function ≡ Some callee → Leads functions monoids (did ∷ []) (record { end_line = code.end_line; rest = left_at code.end_line (statement ∷ drop (before.top.place + 1) code.body); registers = before.top.registers } ∷ callers_of functions before.callers) (store_of before) (record { end_line = callee.end_line; rest = script callee; registers = first_registers argument } ∷ record { end_line = code.end_line; rest = left_at code.end_line (drop (before.top.place + 1) code.body); registers = before.top.registers } ∷ callers_of functions before.callers) (store_of before) → after ≡ with_begun before (moved before.top (before.top.place + 1) before.top.registers) function argument → Makes functions monoids 1 before after
   enter_makes before code statement function argument callee did after here going quiet at h leads e =
       let caller = moved before.top (before.top.place + 1) before.top.registers in
       subst (λ t. Makes functions monoids 1 before t) (sym e) (record {
@@ -234,13 +234,13 @@ module _ (functions : List Code) (monoids : List Monoid) where
 
   -- ---- turns of a `pfor`
 
-  module _ (before : State) (code : Code) (turns : Turns) (here : slice_get functions before.top.function ≡ Some code) (going : before.over ≡ false) (on : before.top.turns ≡ Some turns) where
+  module _ (before : ElisionState) (code : Code) (turns : Turns) (here : slice_get functions before.top.function ≡ Some code) (going : before.over ≡ false) (on : before.top.turns ≡ Some turns) where
     turning_stack : (left : ℕ) → turns.left ≡ left → stack_of functions before ≡ record { end_line = code.end_line; rest = numbers turns.line turns.register turns.function turns.number left (left_at code.end_line (drop before.top.place code.body)); registers = before.top.registers } ∷ callers_of functions before.callers
     turning_stack left e =
         going_stack before going ∙ ap (λ t. t ∷ callers_of functions before.callers) (turning_standing before.top code turns here on) ∙ ap (λ n. record { end_line = code.end_line; rest = numbers turns.line turns.register turns.function turns.number n (left_at code.end_line (drop before.top.place code.body)); registers = before.top.registers } ∷ callers_of functions before.callers) e
 
     -- the sync behind the last turn
-    pub turns_over : (after : State) → turns.left ≡ 0 → after ≡ with_top before (turning before.top None) → Makes functions monoids 1 before after
+    pub turns_over : (after : ElisionState) → turns.left ≡ 0 → after ≡ with_top before (turning before.top None) → Makes functions monoids 1 before after
     turns_over after left e =
         let last = with_top before (turning before.top None) in
         subst (λ t. Makes functions monoids 1 before t) (sym e) (record {
@@ -258,13 +258,13 @@ module _ (functions : List Code) (monoids : List Monoid) where
     abbrev turned : ElidedCall
     turned = turned_in turns.register.index
 
-    pub turned_stands : (cells index : ℕ) (after : State) → index ≡ turns.register.index → Stands functions monoids cells before → 0 < turns.left → after ≡ with_begun before (turned_in index) turns.function turns.number → Stands functions monoids cells after
+    pub turned_stands : (cells index : ℕ) (after : ElisionState) → index ≡ turns.register.index → Stands functions monoids cells before → 0 < turns.left → after ≡ with_begun before (turned_in index) turns.function turns.number → Stands functions monoids cells after
     turned_stands cells index after i s some e =
         let is : after ≡ with_begun before turned turns.function turns.number = e ∙ ap (λ k. with_begun before (turned_in k) turns.function turns.number) i in
         let t = subst (λ o. are_turns functions o) on s.top.turning in
         begun_stands cells before code here turned turns.function turns.number after s (record { known = s.top.known; within = s.top.within; turning = (t.0, let b = t.1 in omega (arith, b, some)) }) t.0 is
 
-    pub turn_makes : (left index : ℕ) (callee : Code) (after : State) → index ≡ turns.register.index → turns.left ≡ suc left → slice_get functions turns.function ≡ Some callee → after ≡ with_begun before (turned_in index) turns.function turns.number → Makes functions monoids 1 before after
+    pub turn_makes : (left index : ℕ) (callee : Code) (after : ElisionState) → index ≡ turns.register.index → turns.left ≡ suc left → slice_get functions turns.function ≡ Some callee → after ≡ with_begun before (turned_in index) turns.function turns.number → Makes functions monoids 1 before after
     turn_makes left index callee after i e h f =
         let is : after ≡ with_begun before turned turns.function turns.number = f ∙ ap (λ k. with_begun before (turned_in k) turns.function turns.number) i in
         let rest = left_at code.end_line (drop before.top.place code.body) in
@@ -284,16 +284,16 @@ module _ (functions : List Code) (monoids : List Monoid) where
 
   -- ---- the end of a function
 
-  left_stack : (before after : State) (over : Bool) → after.over ≡ over → is_left over before after → stack_of functions after ≡ callers_of functions before.callers
+  left_stack : (before after : ElisionState) (over : Bool) → after.over ≡ over → is_left over before after → stack_of functions after ≡ callers_of functions before.callers
   left_stack before after true e l = ap (λ b. stack_in functions b after.top after.callers) e ∙ ap (λ c. callers_of functions c) (sym l.0)
   left_stack before after false e l = going_stack after e ∙ sym (callers_pushed after.callers after.top) ∙ ap (λ c. callers_of functions c) (sym l)
 
-  left_places : (before after : State) (over : Bool) → IsInPlace functions before.top → ((index : ℕ) (caller : ElidedCall) → slice_get before.callers index ≡ Some caller → IsInPlace functions caller) → is_left over before after → IsInPlace functions after.top × ((index : ℕ) (caller : ElidedCall) → slice_get after.callers index ≡ Some caller → IsInPlace functions caller)
+  left_places : (before after : ElisionState) (over : Bool) → IsInPlace functions before.top → ((index : ℕ) (caller : ElidedCall) → slice_get before.callers index ≡ Some caller → IsInPlace functions caller) → is_left over before after → IsInPlace functions after.top × ((index : ℕ) (caller : ElidedCall) → slice_get after.callers index ≡ Some caller → IsInPlace functions caller)
   left_places before after true top callers l = (subst (λ a. IsInPlace functions a) (sym l.2) (record { known = let k = top.known in omega (arith, k); within = omega arith; turning = tt }), λ k caller h. absurd (no_item k caller (ap (λ xs. slice_get xs k) (sym l.1) ∙ h)))
   left_places before after false top callers l =
       (callers (length after.callers) after.top (ap (λ xs. slice_get xs (length after.callers)) l ∙ item_pushed after.callers after.top), λ k caller h. callers k caller (ap (λ xs. slice_get xs k) l ∙ item_kept after.callers after.top k caller h))
 
-  pub left_stands : (cells : ℕ) (before after : State) → Stands functions monoids cells before → IsLeft before after → Stands functions monoids cells after
+  pub left_stands : (cells : ℕ) (before after : ElisionState) → Stands functions monoids cells before → IsLeft before after → Stands functions monoids cells after
   left_stands cells before after s l =
       let p = left_places before after after.over s.top s.callers l.stack in
       record {
@@ -311,7 +311,7 @@ module _ (functions : List Code) (monoids : List Monoid) where
   drop_all (suc place) [] h = refl
   drop_all (suc place) (x ∷ body) h = drop_all place body (omega (arith, h))
 
-  pub left_makes : (before after : State) (code : Code) → slice_get functions before.top.function ≡ Some code → before.over ≡ false → before.top.turns ≡ None → length code.body ≤ before.top.place → IsLeft before after → Makes functions monoids 2 before after
+  pub left_makes : (before after : ElisionState) (code : Code) → slice_get functions before.top.function ≡ Some code → before.over ≡ false → before.top.turns ≡ None → length code.body ≤ before.top.place → IsLeft before after → Makes functions monoids 2 before after
   left_makes before after code here going quiet ends l =
       let store : store_of before ≡ store_of after = λ i. record { memory = sym l.memory i; views = sym l.views i } in
       record {
@@ -327,7 +327,7 @@ module _ (functions : List Code) (monoids : List Monoid) where
 
   -- ---- `if`
 
-  module _ (cells : ℕ) (before : State) (code : Code) (here : slice_get functions before.top.function ≡ Some code) (line : ℕ) (register : Register) (otherwise : ℕ) (ends : EndsAt code.body before.top.place otherwise) (after : State) where
+  module _ (cells : ℕ) (before : ElisionState) (code : Code) (here : slice_get functions before.top.function ≡ Some code) (line : ℕ) (register : Register) (otherwise : ℕ) (ends : EndsAt code.body before.top.place otherwise) (after : ElisionState) where
     pub if_stands : Stands functions monoids cells before → before.top.place + 1 ≤ length code.body → (held : ℕ) → slice_index before.top.registers register.index ≡ held → (slice_index before.top.registers register.index ≢ 0 → after ≡ with_top before (moved before.top (before.top.place + 1) before.top.registers)) → (slice_index before.top.registers register.index ≡ 0 → after ≡ with_top before (moved before.top otherwise before.top.registers)) → Stands functions monoids cells after
     if_stands s within zero e first second = moved_stands cells before code here otherwise before.top.registers after s ends.1 (second e)
     if_stands s within (suc held) e first second = moved_stands cells before code here (before.top.place + 1) before.top.registers after s within (first (λ z. omega (arith, e, z)))
@@ -362,7 +362,7 @@ module _ (functions : List Code) (monoids : List Monoid) where
       subst (λ m. Evaluates functions monoids main.end_line (script main) (first_registers 0) store effects m) s.4.1 (subst (λ l. Evaluates functions monoids main.end_line (script main) (first_registers 0) store l s.2) e s.3)
 
   -- what opens the program stands in it
-  opening_placed : (main cells : ℕ) → main < length functions → Stands functions monoids cells (opening main monoids cells)
+  opening_placed : (main cells : ℕ) → main < length functions → Stands functions monoids cells (first_state main monoids cells)
   opening_placed main cells known = record {
     top = record { known = known; within = omega arith; turning = tt };
     callers = λ k caller h. absurd (no_item k caller h);
@@ -372,24 +372,24 @@ module _ (functions : List Code) (monoids : List Monoid) where
     fits = λ reducer h. subst (λ v. FitsMonoid (monoid_of monoids reducer) v) (sym (get_or-map identity_of monoids reducer Sum Nothing h)) (identity_fits (monoid_of monoids reducer));
   }
 
-  pub opening_stands : (cells : ℕ) (state : State) → IsOpening functions monoids cells state → Stands functions monoids cells state
+  pub opening_stands : (cells : ℕ) (state : ElisionState) → IsOpening functions monoids cells state → Stands functions monoids cells state
   opening_stands cells state o = subst (λ s. Stands functions monoids cells s) (sym o.is) (opening_placed o.main cells (main_below functions o.main o.is_main))
 
   -- and leads on from its begin
-  pub opening_leads : (cells : ℕ) (state : State) → IsOpening functions monoids cells state → (main : Code) × HasMain functions main × Leads functions monoids [] (main_stack main) (first_store monoids cells) (stack_of functions state) (store_of state)
+  pub opening_leads : (cells : ℕ) (state : ElisionState) → IsOpening functions monoids cells state → (main : Code) × HasMain functions main × Leads functions monoids [] (main_stack main) (first_store monoids cells) (stack_of functions state) (store_of state)
   opening_leads cells state o =
       let f = found functions o.main (main_below functions o.main o.is_main) in
-      let first = opening o.main monoids cells in
+      let first = first_state o.main monoids cells in
       let e : stack_of functions first ≡ main_stack f.0 = ap (λ t. t ∷ []) (begun_standing o.main 0 f.0 f.1) in
       (f.0, (o.main, o.is_main, f.1), subst (λ s. Leads functions monoids [] (main_stack f.0) (first_store monoids cells) (stack_of functions s) (store_of s)) (sym o.is) (leads_between [] _ _ _ _ (first_store monoids cells) (first_store monoids cells) refl e (leads_nowhere functions monoids (main_stack f.0) (first_store monoids cells))))
 
   -- some requests more
-  pub more_leads : (cells asked requests : ℕ) (main : Code) (done : List Effect) (before after : State) → length done ≡ requests → Leads functions monoids done (main_stack main) (first_store monoids cells) (stack_of functions before) (store_of before) → Makes functions monoids asked before after → (more : List Effect) × (length more ≡ requests + asked) × Leads functions monoids more (main_stack main) (first_store monoids cells) (stack_of functions after) (store_of after)
+  pub more_leads : (cells asked requests : ℕ) (main : Code) (done : List Effect) (before after : ElisionState) → length done ≡ requests → Leads functions monoids done (main_stack main) (first_store monoids cells) (stack_of functions before) (store_of before) → Makes functions monoids asked before after → (more : List Effect) × (length more ≡ requests + asked) × Leads functions monoids more (main_stack main) (first_store monoids cells) (stack_of functions after) (store_of after)
   more_leads cells asked requests main done before after count leads m =
       (done ++ m.done, (let c = length-append done m.done in let d = m.count in omega (arith, c, d, count)), leads_on functions monoids done m.done _ _ _ _ _ _ leads m.leads)
 
   -- an evaluator that is over has found the program's memory
-  pub over_elides : (cells requests : ℕ) (main : Code) (done : List Effect) (state : State) → HasMain functions main → state.over ≡ true → length done ≡ requests → Leads functions monoids done (main_stack main) (first_store monoids cells) (stack_of functions state) (store_of state) → Elides functions monoids cells state.memory requests
+  pub over_elides : (cells requests : ℕ) (main : Code) (done : List Effect) (state : ElisionState) → HasMain functions main → state.over ≡ true → length done ≡ requests → Leads functions monoids done (main_stack main) (first_store monoids cells) (stack_of functions state) (store_of state) → Elides functions monoids cells state.memory requests
   over_elides cells requests main done state is_main over count leads =
       let l = subst (λ s. Leads functions monoids done (main_stack main) (first_store monoids cells) s (store_of state)) (ap (λ b. stack_in functions b state.top state.callers) over) leads in
       record {

@@ -8,11 +8,11 @@ use Rattle.model_bodies.specs.declared.statement.Statement.TheVariants.{Update, 
 use Rattle.model_bodies.specs.Codes.{Code}
 use Rattle.model_programs.specs.Values.{with_ok, value_of}
 use Rattle.model_programs.specs.Evaluation.{view_at, with_view}
-use Rattle.serial_elision.specs.States.{State, store_of, with_store, with_top, moved, callers_of, left_at, Makes}
+use Rattle.serial_elision.specs.States.{ElisionState, store_of, with_store, with_top, moved, callers_of, left_at, Makes}
 use Rattle.serial_elision.proofs.Evaluations.{update_leads, put_leads}
 use Rattle.serial_elision.proofs.Elisions.{line_makes}
 
-module _ (functions : List Code) (monoids : List Monoid) (cells : ℕ) (before : State) (code : Code) (here : slice_get functions before.top.function ≡ Some code) (going : before.over ≡ false) (quiet : before.top.turns ≡ None) (same : before.monoids ≡ monoids) (line reducer : ℕ) (value : Operand) (after : State) where
+module _ (functions : List Code) (monoids : List Monoid) (cells : ℕ) (before : ElisionState) (code : Code) (here : slice_get functions before.top.function ≡ Some code) (going : before.over ≡ false) (quiet : before.top.turns ≡ None) (same : before.monoids ≡ monoids) (line reducer : ℕ) (value : Operand) (after : ElisionState) where
   pub update_makes : slice_get code.body before.top.place ≡ Some (Update line reducer value) → after ≡ with_store (with_top before (moved before.top (before.top.place + 1) (with_ok 1 before.top.registers))) (with_view (store_of before) reducer (product_of (monoid_of before.monoids reducer) (view_at (store_of before) reducer) (update_view (monoid_of before.monoids reducer) (value_of value before.top.registers)))) → Makes functions monoids 1 before after
   update_makes at e =
       line_makes functions monoids cells before code here going quiet _ at 1 (before.top.place + 1) _ _ _ after refl (λ z. absurd (omega (arith, z)))

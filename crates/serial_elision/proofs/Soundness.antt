@@ -9,7 +9,7 @@ use Rattle.reducer_views.specs.Products.{FitsMonoid}
 use Rattle.model_reducers.specs.Products.{monoid_of}
 use Rattle.program_text.specs.declared.program.Program.{Program}
 use Rattle.serial_elision.specs.declared.activation.ElidedCall.{ElidedCall}
-use Rattle.serial_elision.specs.States.{State, Stands, IsInPlace, length_in, monoids_in}
+use Rattle.serial_elision.specs.States.{ElisionState, Stands, IsInPlace, length_in, monoids_in}
 use Rattle.function_steps.proofs.Places.{found}
 use Rattle.std.proofs.lemmas.Option.{slice_get_within, get_or_from_slice_get}
 use Rattle.model_bodies.specs.declared.statement.Statement.{Statement}
@@ -37,7 +37,7 @@ module _ (cells reducers : ℕ) (functions : List Code) (sound : IsSound cells r
     part_ends to e = body_sound.linked place to (ap part_end at ∙ e)
 
 -- a reducer that a statement names has a view
-pub reducer_known : {B : Type 0} (program : Program B) (state : State) → Stands program.functions (monoids_in program) (cells_of program.mems) state → (reducer : ℕ) → IsTrue (nat_lt reducer (length program.reducers)) → reducer < length state.views
+pub reducer_known : {B : Type 0} (program : Program B) (state : ElisionState) → Stands program.functions (monoids_in program) (cells_of program.mems) state → (reducer : ℕ) → IsTrue (nat_lt reducer (length program.reducers)) → reducer < length state.views
 reducer_known program state s reducer h =
     let a = ltb-true reducer (length program.reducers) h in
     let b = length-map program.reducers (λ reducer. reducer.monoid) in
@@ -45,7 +45,7 @@ reducer_known program state s reducer h =
     omega (arith, a, b, c)
 
 -- and that view fits its monoid
-pub reducer_fits : {B : Type 0} (program : Program B) (state : State) → Stands program.functions (monoids_in program) (cells_of program.mems) state → (reducer : ℕ) → IsTrue (nat_lt reducer (length program.reducers)) → FitsMonoid (monoid_of state.monoids reducer) (slice_index_or state.views reducer Nothing)
+pub reducer_fits : {B : Type 0} (program : Program B) (state : ElisionState) → Stands program.functions (monoids_in program) (cells_of program.mems) state → (reducer : ℕ) → IsTrue (nat_lt reducer (length program.reducers)) → FitsMonoid (monoid_of state.monoids reducer) (slice_index_or state.views reducer Nothing)
 reducer_fits program state s reducer h =
     let a = ltb-true reducer (length program.reducers) h in
     let b = length-map program.reducers (λ reducer. reducer.monoid) in

@@ -20,7 +20,7 @@ use Rattle.model_programs.specs.Evaluation.{Effect, Store}
 use Rattle.serial_elision.specs.Evaluation.{Standing, Leads}
 
 -- what an evaluator holds
-pub record State : Type 0 where
+pub record ElisionState : Type 0 where
   pub top : ElidedCall
   pub callers : List ElidedCall
   pub memory : List ℕ
@@ -46,21 +46,21 @@ abbrev pub is_idle : List ElidedCall → Bool
 is_idle [] = true
 is_idle (first ∷ more) = false
 
-abbrev pub state_in : List ElidedCall → List ℕ → List View → List Monoid → State
+abbrev pub state_in : List ElidedCall → List ℕ → List View → List Monoid → ElisionState
 state_in stack memory views monoids =
     record { top = topmost stack; callers = waiting stack; memory = memory; views = views; monoids = monoids; over = is_idle stack }
 
-abbrev pub state_of : {A : Type 0} → Elision A → State
+abbrev pub state_of : {A : Type 0} → Elision A → ElisionState
 state_of elision = state_in elision.stack.items elision.memory.items elision.views.items elision.monoids
 
 abbrev pub top_of : {A : Type 0} → Elision A → ElidedCall
 top_of elision = topmost elision.stack.items
 
-abbrev pub store_of : State → Store
+abbrev pub store_of : ElisionState → Store
 store_of state = record { memory = state.memory; views = state.views }
 
 -- the same with this store
-abbrev pub with_store : State → Store → State
+abbrev pub with_store : ElisionState → Store → ElisionState
 with_store state store = record {
   top = state.top;
   callers = state.callers;
@@ -71,7 +71,7 @@ with_store state store = record {
 }
 
 -- the same with this topmost function
-abbrev pub with_top : State → ElidedCall → State
+abbrev pub with_top : ElisionState → ElidedCall → ElisionState
 with_top state top = record {
   top = top;
   callers = state.callers;
@@ -106,7 +106,7 @@ counted turns top = record {
 }
 
 -- the same with a function begun above the topmost one
-abbrev pub with_begun : State → ElidedCall → ℕ → ℕ → State
+abbrev pub with_begun : ElisionState → ElidedCall → ℕ → ℕ → ElisionState
 with_begun state caller function argument =
     record {
       top = begun function argument;
@@ -147,7 +147,7 @@ stack_in functions true top callers = []
 stack_in functions false top callers = standing functions top ∷ callers_of functions callers
 
 -- the functions that the evaluator is in, the topmost first
-abbrev pub stack_of : List Code → State → List Standing
+abbrev pub stack_of : List Code → ElisionState → List Standing
 stack_of functions state = stack_in functions state.over state.top state.callers
 
 abbrev pub are_turns : List Code → Option Turns → Type 0
@@ -165,7 +165,7 @@ pub record IsInPlace (functions : List Code) (activation : ElidedCall) : Type 0 
   pub turning : are_turns functions activation.turns
 
 -- the evaluator is in functions of this program, and its store has this size and fits the monoids
-pub record Stands (functions : List Code) (monoids : List Monoid) (cells : ℕ) (state : State) : Type 0 where
+pub record Stands (functions : List Code) (monoids : List Monoid) (cells : ℕ) (state : ElisionState) : Type 0 where
   pub top : IsInPlace functions state.top
   pub callers : (index : ℕ) (caller : ElidedCall) → slice_get state.callers index ≡ Some caller → IsInPlace functions caller
   pub memory : length state.memory ≡ cells
@@ -174,25 +174,25 @@ pub record Stands (functions : List Code) (monoids : List Monoid) (cells : ℕ) 
   pub fits : (reducer : ℕ) → reducer < length monoids → FitsMonoid (monoid_of monoids reducer) (slice_index_or state.views reducer Nothing)
 
 -- the evaluator goes on by a line of this function
-pub record IsGoing (functions : List Code) (monoids : List Monoid) (cells : ℕ) (state : State) (code : Code) : Type 0 where
+pub record IsGoing (functions : List Code) (monoids : List Monoid) (cells : ℕ) (state : ElisionState) (code : Code) : Type 0 where
   pub stands : Stands functions monoids cells state
   pub going : state.over ≡ false
   pub quiet : state.top.turns ≡ None
   pub here : slice_get functions state.top.function ≡ Some code
 
 -- so many requests lead from the one to the other; where there are none, the topmost function has come further
-pub record Makes (functions : List Code) (monoids : List Monoid) (asked : ℕ) (before after : State) : Type 0 where
+pub record Makes (functions : List Code) (monoids : List Monoid) (asked : ℕ) (before after : ElisionState) : Type 0 where
   pub done : List Effect
   pub count : length done ≡ asked
   pub leads : Leads functions monoids done (stack_of functions before) (store_of before) (stack_of functions after) (store_of after)
   pub further : asked ≡ 0 → before.top.place < after.top.place
 
-abbrev pub is_left : Bool → State → State → Type 0
+abbrev pub is_left : Bool → ElisionState → ElisionState → Type 0
 is_left true before after = (before.callers ≡ []) × (after.callers ≡ []) × (after.top ≡ begun 0 0)
 is_left false before after = before.callers ≡ after.callers ++ after.top ∷ []
 
 -- an evaluator before and after its topmost function returned
-pub record IsLeft (before after : State) : Type 0 where
+pub record IsLeft (before after : ElisionState) : Type 0 where
   pub stack : is_left after.over before after
   pub memory : after.memory ≡ before.memory
   pub views : after.views ≡ before.views
@@ -203,8 +203,8 @@ abbrev pub monoids_in : {B : Type 0} → Program B → List Monoid
 monoids_in program = map (λ reducer. reducer.monoid) program.reducers
 
 -- a function at its begin with argument 0, in the first store
-abbrev pub opening : (function : ℕ) → List Monoid → (cells : ℕ) → State
-opening function monoids cells =
+abbrev pub first_state : (function : ℕ) → List Monoid → (cells : ℕ) → ElisionState
+first_state function monoids cells =
     record {
       top = begun function 0;
       callers = [];
@@ -215,7 +215,7 @@ opening function monoids cells =
     }
 
 -- nothing has been done yet
-pub record IsOpening (functions : List Code) (monoids : List Monoid) (cells : ℕ) (state : State) : Type 0 where
+pub record IsOpening (functions : List Code) (monoids : List Monoid) (cells : ℕ) (state : ElisionState) : Type 0 where
   pub main : ℕ
   pub is_main : IsMain functions main
-  pub is : state ≡ opening main monoids cells
+  pub is : state ≡ first_state main monoids cells

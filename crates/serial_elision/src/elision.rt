@@ -9,7 +9,7 @@ ghost use Rattle.model_reducers.specs.Products.{identity_of, product_of, put_vie
 ghost use Rattle.model_bodies.specs.Sound.{is_located};
 ghost use Rattle.model_programs.specs.Values.{cell_of, result_of, value_of, with_ok};
 ghost use Rattle.model_programs.specs.Evaluation.{got, view_at, with_cell, with_register, with_view};
-ghost use Rattle.serial_elision.specs.States.{IsGoing, IsLeft, IsOpening, Makes, Stands, counted, moved, monoids_in, opening};
+ghost use Rattle.serial_elision.specs.States.{IsGoing, IsLeft, IsOpening, Makes, Stands, counted, moved, monoids_in, first_state};
 ghost use Rattle.serial_elision.specs.States.{state_of, store_of, top_of, turning, with_begun, with_store, with_top};
 ghost use Rattle.serial_elision.specs.Statements.{is_access, is_invocation, is_reduction, is_silent};
 ghost use Rattle.model_programs.specs.Elisions.{Elides, NeedsMore};
@@ -152,7 +152,7 @@ impl<A: Allocator + Clone> Elision<A> {
 
     /// A function at its first statement, in the first store of this shape.
     fn begin_in(alloc: A, main: u32, shape: Shape<A>) -> Result<Elision<A>, AllocError>
-        ensures { IfOk result (λ elision. state_of elision ≡ opening main shape.monoids shape.cells) }
+        ensures { IfOk result (λ elision. state_of elision ≡ first_state main shape.monoids shape.cells) }
     {
         let (memory, views) = first_store(&alloc, &shape)?;
         let mut stack = Vec::new(alloc);

@@ -4,7 +4,7 @@ use Rattle.std.specs.Prelude.{IfOk, OnOk}
 use Rattle.model_bodies.specs.Codes.{Code}
 use Rattle.model_histories.specs.declared.reply.Receipt.{Receipt}
 use Rattle.model_programs.specs.Exchanges.{Exchange}
-use Rattle.frame_steps.specs.States.{State}
+use Rattle.frame_steps.specs.States.{FrameState}
 use Rattle.frame_steps.specs.Frames.{IsAfter}
 use Rattle.locked_replay.specs.declared.fault.RunFault.{RunFault}
 use Rattle.steal_workers.specs.declared.worker.NextStep.{NextStep}
@@ -16,7 +16,7 @@ on_ok (Ok value) P holds = holds
 on_ok (Err fault) P holds = tt
 
 -- room for a call says nothing of what was said
-pub roomy : (functions : List Code) (function argument : ℕ) (history : List Exchange) (frame : State) (room : Bool) → IsAfter functions function argument history frame
+pub roomy : (functions : List Code) (function argument : ℕ) (history : List Exchange) (frame : FrameState) (room : Bool) → IsAfter functions function argument history frame
     → IsAfter functions function argument history (record frame { has_room = room })
 roomy functions function argument history frame room after = record { goes_on = after.goes_on; joins = after.joins }
 

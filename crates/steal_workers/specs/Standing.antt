@@ -11,7 +11,7 @@ use Rattle.function_steps.specs.declared.activation.Turn.{Turn}
 use Rattle.function_steps.specs.declared.activation.Turn.TheVariants.{Plainly, Numbering, Spawning, Returning}
 use Rattle.function_steps.specs.declared.activation.Activation.{Activation}
 use Rattle.function_steps.specs.Activations.{statement_of, asked_act, IsTurn, StandsIn, IsInPlace}
-use Rattle.frame_steps.specs.States.{State}
+use Rattle.frame_steps.specs.States.{FrameState}
 use Rattle.frame_steps.specs.Frames.{Stands, IsAsking}
 
 -- an option holds one thing at most
@@ -44,7 +44,7 @@ asking_once acts functions activation u v =
     Σ_prop_path {B = λ (act : Act). asked_act (statement_of functions activation) activation.registers ≡ Some act}
     (λ act. acts _ (Some act)) {u = u} {v = v} (same_Some u.0 v.0 (sym u.1 ∙ v.1))
 
-pub stands_once : IsSet (Option Code) → IsSet (Option Act) → (functions : List Code) (frame : State) → IsProp (Stands functions frame)
+pub stands_once : IsSet (Option Code) → IsSet (Option Act) → (functions : List Code) (frame : FrameState) → IsProp (Stands functions frame)
 stands_once codes acts functions frame u v =
     let callers = Π_prop (λ index. Π_prop (λ caller. →_prop (in_place_once codes functions caller))) in
     let asking = →_prop (asking_once acts functions frame.top) in

@@ -13,7 +13,7 @@ use Rattle.model_histories.specs.Faults.{IsFirstFault}
 use Rattle.model_races.specs.Judged.{IsJudged}
 use Rattle.model_histories.specs.Replies.{Judges, JudgesAll}
 use Rattle.model_histories.specs.Shapes.{Shape, most_entries}
-use Rattle.model_histories.specs.States.{State, opening}
+use Rattle.model_histories.specs.States.{GateState, opening}
 use Rattle.race_gate.proofs.Lists.{JudgesAll-more}
 use Rattle.command_streams.specs.Streams.{declared_shape, IsJudgedBy}
 use Rattle.tool_commands.specs.declared.ask.Stop.{Stop}
@@ -21,12 +21,12 @@ use Rattle.tool_commands.specs.Replays.{IsDone, AnswersAll, StopsAt}
 use Rattle.command_streams.proofs.TakenLines.{requests_more}
 
 -- a gate without entries has answered no request
-pub none_answered : (shape : Shape) (gate : State) → gate ≡ opening shape most_entries → IsJudged gate.shape gate.history →
+pub none_answered : (shape : Shape) (gate : GateState) → gate ≡ opening shape most_entries → IsJudged gate.shape gate.history →
     (replies : List Reply) × IsJudgedBy shape most_entries [] replies gate × All IsDone replies
 none_answered shape gate opens judged = ([], record { judges = opens; judged = judged }, All-nil IsDone)
 
 -- one more was answered
-pub answered_more : (taken : List TraceLine) (line : TraceLine) (shape : Shape) (old new : State) (receipt : Receipt) → Judges old line.request (Done receipt) new → IsJudged new.shape new.history →
+pub answered_more : (taken : List TraceLine) (line : TraceLine) (shape : Shape) (old new : GateState) (receipt : Receipt) → Judges old line.request (Done receipt) new → IsJudged new.shape new.history →
     ((replies : List Reply) × IsJudgedBy shape most_entries (map (λ line. line.request) taken) replies old × All IsDone replies) →
     (replies : List Reply) × IsJudgedBy shape most_entries (map (λ line. line.request) (taken ++ line ∷ [])) replies new × All IsDone replies
 answered_more taken line shape old new receipt judges judged before = (
@@ -39,7 +39,7 @@ answered_more taken line shape old new receipt judges judged before = (
 )
 
 -- the first that is not answered stops the gate
-pub answers_end : (taken later : List TraceLine) (line : TraceLine) (trace : Contents) (shape : Shape) (gate : State) (stop : Stop) →
+pub answers_end : (taken later : List TraceLine) (line : TraceLine) (trace : Contents) (shape : Shape) (gate : GateState) (stop : Stop) →
     trace.lines ≡ taken ++ line ∷ later → shape ≡ declared_shape trace →
     ((replies : List Reply) × IsJudgedBy shape most_entries (map (λ line. line.request) taken) replies gate × All IsDone replies) →
     IsFirstFault gate stop.request stop.fault → line.request ≡ stop.request → stop.number ≡ length taken + 1 → StopsAt trace gate stop
@@ -56,7 +56,7 @@ answers_end taken later line trace shape gate stop same declared before first is
 }
 
 -- all were answered
-pub answers_all : (trace : Contents) (taken : List TraceLine) (shape : Shape) (gate : State) → trace.lines ≡ taken → shape ≡ declared_shape trace →
+pub answers_all : (trace : Contents) (taken : List TraceLine) (shape : Shape) (gate : GateState) → trace.lines ≡ taken → shape ≡ declared_shape trace →
     ((replies : List Reply) × IsJudgedBy shape most_entries (map (λ line. line.request) taken) replies gate × All IsDone replies) → AnswersAll trace gate
 answers_all trace taken shape gate same declared before = record {
   replies = before.0;
@@ -67,12 +67,12 @@ answers_all trace taken shape gate same declared before = record {
 }
 
 -- the limit of a gate stays
-limit_stays : (old new : State) (request : Request) (reply : Reply) → Judges old request reply new → new.limit ≡ old.limit
-limit_stays old new request (Done receipt) judges = ap (λ (state : State). state.limit) judges.after
-limit_stays old new request (Illegal fault) judges = ap (λ (state : State). state.limit) judges.0
+limit_stays : (old new : GateState) (request : Request) (reply : Reply) → Judges old request reply new → new.limit ≡ old.limit
+limit_stays old new request (Done receipt) judges = ap (λ (state : GateState). state.limit) judges.after
+limit_stays old new request (Illegal fault) judges = ap (λ (state : GateState). state.limit) judges.0
 
-pub limit_kept : (requests : List Request) (replies : List Reply) (old new : State) → JudgesAll old requests replies new → new.limit ≡ old.limit
-limit_kept [] [] old new judges = ap (λ (state : State). state.limit) judges
+pub limit_kept : (requests : List Request) (replies : List Reply) (old new : GateState) → JudgesAll old requests replies new → new.limit ≡ old.limit
+limit_kept [] [] old new judges = ap (λ (state : GateState). state.limit) judges
 limit_kept [] (reply ∷ replies) old new judges = absurd judges
 limit_kept (request ∷ requests) [] old new judges = absurd judges
 limit_kept (request ∷ requests) (reply ∷ replies) old new judges =

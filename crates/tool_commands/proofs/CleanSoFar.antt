@@ -11,7 +11,7 @@ use Rattle.model_histories.specs.declared.reply.Reply.TheVariants.{Done, Illegal
 use Rattle.model_histories.specs.Extensions.{IsCleanAnswer, IsClean}
 use Rattle.model_histories.specs.Replies.{Judges, JudgesAll}
 use Rattle.model_histories.specs.Shapes.{Shape, most_entries}
-use Rattle.model_histories.specs.States.{State, opening}
+use Rattle.model_histories.specs.States.{GateState, opening}
 use Rattle.race_gate.specs.Cores.{CoreState, IsCoreOf}
 use Rattle.race_gate.proofs.Lists.{JudgesAll-more}
 use Rattle.command_streams.specs.Streams.{declared_shape}
@@ -22,7 +22,7 @@ use Rattle.tool_commands.proofs.Answering.{answers_all}
 
 -- some gate that fits the core has answered these requests, and refused none
 pub record IsCleanSoFar (shape : Shape) (requests : List Request) (core : CoreState) : Type 0 where
-  pub gate : State
+  pub gate : GateState
   pub fits : IsCoreOf core gate
   pub replies : List Reply
   pub judges : JudgesAll (opening shape most_entries) requests replies gate
@@ -41,12 +41,12 @@ clean_at_first shape core fits = record {
 
 pub clean_more : (shape : Shape) (taken : List TraceLine) (line : TraceLine) (old new : CoreState) (reply : Reply) →
     (so_far : IsCleanSoFar shape (map (λ line. line.request) taken) old) →
-    ((next : State) × Judges so_far.gate line.request reply next × IsCoreOf new next) → IsCleanReply reply →
+    ((next : GateState) × Judges so_far.gate line.request reply next × IsCoreOf new next) → IsCleanReply reply →
     IsCleanSoFar shape (map (λ line. line.request) (taken ++ line ∷ [])) new
 clean_more shape taken line old new (Illegal fault) so_far next clean = absurd clean
 clean_more shape taken line old new (Done receipt) so_far next clean =
     let entry : Entry = record { request = line.request; answer = receipt.answer } in
-    let grown : next.0.history ≡ entry ∷ so_far.gate.history = ap (λ (state : State). state.history) next.1.after in
+    let grown : next.0.history ≡ entry ∷ so_far.gate.history = ap (λ (state : GateState). state.history) next.1.after in
     record {
       gate = next.0;
       fits = next.2;

@@ -13,7 +13,7 @@ use Rattle.model_histories.specs.declared.reply.Reply.TheVariants.{Done}
 use Rattle.model_histories.specs.Entries.{Entries}
 use Rattle.model_histories.specs.Replies.{Judges, JudgesAll}
 use Rattle.model_histories.specs.Shapes.{Shape, most_entries}
-use Rattle.model_histories.specs.States.{State, opening}
+use Rattle.model_histories.specs.States.{GateState, opening}
 use Rattle.model_races.specs.Judged.{IsJudged}
 use Rattle.race_gate.specs.Cores.{CoreState, IsCoreOf}
 use Rattle.race_gate.proofs.Lists.{JudgesAll-more}
@@ -31,7 +31,7 @@ AreBelow last told = All (λ entry. entry.request.line ≤ last) told
 
 -- some gate that fits the core has answered these requests, and the digest is that of its entries
 pub record IsDigestedSoFar (shape : Shape) (requests : List Request) (last : ℕ) (core : CoreState) (digest : Digest) : Type 0 where
-  pub gate : State
+  pub gate : GateState
   pub fits : IsCoreOf core gate
   pub limit : gate.limit ≡ most_entries
   pub replies : List Reply
@@ -57,7 +57,7 @@ digested_at_first shape core digest fits is = record {
 entry_by : Request → Receipt → Entry
 entry_by request receipt = record { request = request; answer = receipt.answer }
 
-pub is_next : (gate next : State) (core : CoreState) (request : Request) (receipt : Receipt) (entry : Entry) → Judges gate request (Done receipt) next →
+pub is_next : (gate next : GateState) (core : CoreState) (request : Request) (receipt : Receipt) (entry : Entry) → Judges gate request (Done receipt) next →
     IsCoreOf core next → gate.limit ≡ most_entries → entry ≡ record { request = receipt.request; answer = receipt.answer } → IsNext (reverse gate.history) entry
 is_next gate next core request receipt entry judges fits limit is = (
   next.shape,
@@ -67,7 +67,7 @@ is_next gate next core request receipt entry judges fits limit is = (
   where
     grown : next.history ≡ entry ∷ reverse (reverse gate.history)
     grown =
-        ap (λ (state : State). state.history) judges.after ∙
+        ap (λ (state : GateState). state.history) judges.after ∙
         (ap (λ (r : Request). record { request = r; answer = receipt.answer } ∷ gate.history) (sym judges.asked) ∙
         (ap (λ (e : Entry). e ∷ gate.history) (sym is) ∙ ap (λ (h : Entries). entry ∷ h) (sym (reverse-reverse gate.history))))
 
@@ -81,12 +81,12 @@ below_more last told entry below less =
     All-push (λ (one : Entry). one.request.line ≤ entry.request.line) told entry (λ k d lt. (let old = below k d lt in omega arith)) (omega arith)
 
 -- the line of the entry is that of the request
-line_answered : (gate next : State) (request : Request) (receipt : Receipt) (entry : Entry) → Judges gate request (Done receipt) next →
+line_answered : (gate next : GateState) (request : Request) (receipt : Receipt) (entry : Entry) → Judges gate request (Done receipt) next →
     entry ≡ record { request = receipt.request; answer = receipt.answer } → entry.request.line ≡ request.line
 line_answered gate next request receipt entry judges is = ap (λ (e : Entry). e.request.line) is ∙ ap (λ (r : Request). r.line) judges.asked
 
 pub digested_next : (shape : Shape) (requests : List Request) (request : Request) (last : ℕ) (old new : CoreState) (before : Digest) (receipt : Receipt) (entry : Entry) →
-    (so_far : IsDigestedSoFar shape requests last old before) → (next : State) → Judges so_far.gate request (Done receipt) next → IsCoreOf new next →
+    (so_far : IsDigestedSoFar shape requests last old before) → (next : GateState) → Judges so_far.gate request (Done receipt) next → IsCoreOf new next →
     entry ≡ record { request = receipt.request; answer = receipt.answer } → (is_of_own_lines before ≡ true → last < request.line) →
     IsNextOf before (reverse so_far.gate.history) entry
 digested_next shape requests request last old new before receipt entry so_far next judges fits is behind = (
@@ -96,7 +96,7 @@ digested_next shape requests request last old new before receipt entry so_far ne
 )
 
 pub digested_more : (shape : Shape) (taken : List TraceLine) (line : TraceLine) (last : ℕ) (old new : CoreState) (before after : Digest) (receipt : Receipt) (entry : Entry) →
-    (so_far : IsDigestedSoFar shape (map (λ line. line.request) taken) last old before) → (next : State) → Judges so_far.gate line.request (Done receipt) next → IsCoreOf new next →
+    (so_far : IsDigestedSoFar shape (map (λ line. line.request) taken) last old before) → (next : GateState) → Judges so_far.gate line.request (Done receipt) next → IsCoreOf new next →
     entry ≡ record { request = receipt.request; answer = receipt.answer } → (is_of_own_lines before ≡ true → last < line.request.line) →
     is_of_own_lines after ≡ is_of_own_lines before →
     ((told : List Entry) → IsDigest told before → IsNextOf before told entry → IsDigest (told ++ entry ∷ []) after) →
@@ -104,7 +104,7 @@ pub digested_more : (shape : Shape) (taken : List TraceLine) (line : TraceLine) 
 digested_more shape taken line last old new before after receipt entry so_far next judges fits is behind own_still adds = record {
   gate = next;
   fits = fits;
-  limit = ap (λ (state : State). state.limit) judges.after ∙ so_far.limit;
+  limit = ap (λ (state : GateState). state.limit) judges.after ∙ so_far.limit;
   replies = so_far.replies ++ Done receipt ∷ [];
   judges = JudgesAll-more _ _ _ _ _ _ _ _ _ (requests_more taken line) refl so_far.judges judges;
   done = All-push IsDone so_far.replies (Done receipt) so_far.done tt;
@@ -121,7 +121,7 @@ digested_more shape taken line last old new before after receipt entry so_far ne
 
     turned : reverse next.history ≡ reverse so_far.gate.history ++ entry ∷ []
     turned =
-        ap reverse (ap (λ (state : State). state.history) judges.after ∙
+        ap reverse (ap (λ (state : GateState). state.history) judges.after ∙
         (ap (λ (r : Request). record { request = r; answer = receipt.answer } ∷ so_far.gate.history) (sym judges.asked) ∙
         ap (λ (e : Entry). e ∷ so_far.gate.history) (sym is))) ∙ reverse-append (entry ∷ []) so_far.gate.history
 

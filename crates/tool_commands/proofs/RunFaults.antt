@@ -7,7 +7,7 @@ use Rattle.std.specs.List.Sorted.{IsPermutation}
 use Rattle.model_histories.specs.declared.answer.Entry.{Entry}
 use Rattle.model_histories.specs.declared.reply.Receipt.{Receipt}
 use Rattle.model_histories.specs.Entries.{Entries}
-use Rattle.model_histories.specs.States.{State}
+use Rattle.model_histories.specs.States.{GateState}
 use Rattle.race_gate.specs.States.{IsRight}
 use Rattle.model_histories.specs.Extensions.{IsFinished}
 use Rattle.program_text.specs.declared.program.Program.{Program}
@@ -51,7 +51,7 @@ module _ {L A : Type 0} where
 
 -- what `gather` says of the gate and the logs
 pub gathered_fault : {L A B : Type 0} (program : Program B) (limit : ℕ) (logs : List (WorkerLog L A)) (fault : RunFault) →
-    (gate : State) × IsRight gate × HasFault program.functions (shape_in program) gate logs fault → IsRunFault (contents program) limit (fault_of_run fault)
+    (gate : GateState) × IsRight gate × HasFault program.functions (shape_in program) gate logs fault → IsRunFault (contents program) limit (fault_of_run fault)
 gathered_fault program limit logs run.Limit has = absurd has.2
 gathered_fault program limit logs run.Stopped has = record { gate = has.0; right = has.1; left = inl has.2 }
 gathered_fault program limit logs run.Torn has = record {
@@ -67,12 +67,12 @@ finished_some [] finished none = finished
 finished_some (entry ∷ entries) finished none = omega (arith, none, length-reverse (entry ∷ entries))
 
 -- nobody brought a finished run that is there
-pub nobody_brought : (gate : State) → IsRight gate → IsFinished gate.history → IsLeft IsTornGate
+pub nobody_brought : (gate : GateState) → IsRight gate → IsFinished gate.history → IsLeft IsTornGate
 nobody_brought gate right finished =
     record { gate = gate; right = right; left = inr (record { logs = []; asked = 0; torn = λ are. finished_some gate.history finished are.counted }) }
 
 -- what `check_run` says of the gate
-pub left_fault : {A : Type 0} (program : Program A) (limit : ℕ) (gate : State) (fault : RunFault) → IsRight gate →
+pub left_fault : {A : Type 0} (program : Program A) (limit : ℕ) (gate : GateState) (fault : RunFault) → IsRight gate →
     (fault ≡ run.Strange → IsStrangeGate program.functions (shape_in program) gate) → (fault ≡ run.Limit → ⊥) → (fault ≡ run.Stopped → ⊥) → (fault ≡ run.Torn → ⊥) →
     IsRunFault (contents program) limit (fault_of_run fault)
 left_fault program limit gate run.Limit right strange no_limit no_stop no_torn = absurd (no_limit refl)
@@ -82,7 +82,7 @@ left_fault program limit gate run.Strange right strange no_limit no_stop no_torn
 left_fault program limit gate run.Memory right strange no_limit no_stop no_torn = tt
 
 -- a fault that stopped the gate
-pub stopped_fault : {A : Type 0} (program : Program A) (limit : ℕ) (gate : State) (fault : RunFault) → IsRight gate → gate.stopped ≡ true → (fault ≡ run.Limit → ⊥) →
+pub stopped_fault : {A : Type 0} (program : Program A) (limit : ℕ) (gate : GateState) (fault : RunFault) → IsRight gate → gate.stopped ≡ true → (fault ≡ run.Limit → ⊥) →
     IsRunFault (contents program) limit (fault_of_run fault)
 stopped_fault program limit gate run.Limit right stopped no_limit = absurd (no_limit refl)
 stopped_fault program limit gate run.Stopped right stopped no_limit = record { gate = gate; right = right; left = inl stopped }

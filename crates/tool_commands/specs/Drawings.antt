@@ -6,7 +6,7 @@ use Rattle.text_words.specs.Values.{Contents}
 use Rattle.trace_text.specs.Grammar.{TextMeans}
 use Rattle.model_histories.specs.declared.answer.Entry.{Entry}
 use Rattle.model_histories.specs.Entries.{control_part}
-use Rattle.model_histories.specs.States.{State}
+use Rattle.model_histories.specs.States.{GateState}
 use Rattle.dag_drawing.specs.declared.drawing.Drawing.{Drawing}
 use Rattle.dag_drawing.specs.Drawn.{IsDrawing, HasMoreStrands}
 use Rattle.dag_drawing.specs.declared.form.Form.{Form}
@@ -30,7 +30,7 @@ naming_in notes trace = record { mems = trace.known.mems; reducers = trace.known
 -- A gate answered each request of the trace, and the text is that of the drawing of the gate's history in this language, by the names
 -- that the trace declares and by notes. The status tells whether something was refused in it.
 pub record DrawsContents {A : Type 0} (form : Form) (notes : Notes A) (trace : Contents) (text : List ℕ) (status : ℕ) : Type 0 where
-  pub gate : State
+  pub gate : GateState
   pub answers : AnswersAll trace gate
   pub entries : List Entry
   pub history : reverse entries ≡ gate.history
@@ -47,7 +47,7 @@ StopsEntries entries fault = ⊥
 
 -- A gate answered each request of the trace, and more strands have begun than a drawing may have.
 pub record HasTooManyStrands (trace : Contents) : Type 0 where
-  pub gate : State
+  pub gate : GateState
   pub answers : AnswersAll trace gate
   pub more : HasMoreStrands (control_part gate.history)
 

@@ -50,7 +50,7 @@ use Rattle.tool_commands.specs.Programs.{shape_of_program}
 use Rattle.tool_commands.specs.Runs.{IsRunFault}
 use Rattle.command_streams.specs.Streams.{IsRead}
 use Rattle.tool_commands.specs.Outcomes.{refusal_status}
-use Rattle.model_histories.specs.States.{State}
+use Rattle.model_histories.specs.States.{GateState}
 use Rattle.tool_commands.specs.declared.ask.Stop.{Stop}
 use Rattle.tool_commands.specs.Replays.{AnswersAll, StopsAt, StopsGate}
 use Rattle.tool_commands.specs.Sorts.{is_program_text}
@@ -228,7 +228,7 @@ TellsTrace (Record form) manner notes trace entries told = RecordsTrace form not
 pub record IsTraceTold (manner : Manner) (text : List ℕ) (told : List ℕ) (status : ℕ) : Type 0 where
   pub trace : TraceContents
   pub means : TraceMeans text trace
-  pub gate : State
+  pub gate : GateState
   pub answers : AnswersAll trace gate
   pub entries : List Entry
   pub history : reverse entries ≡ gate.history
@@ -250,7 +250,7 @@ pub record IsTraceFaultTold (manner : Manner) (text : List ℕ) (told : List ℕ
 pub record IsIllegalTold (manner : Manner) (text : List ℕ) (told : List ℕ) (status : ℕ) : Type 0 where
   pub trace : TraceContents
   pub means : TraceMeans text trace
-  pub gate : State
+  pub gate : GateState
   pub stop : Stop
   pub stops : StopsAt trace gate stop
   pub why : Illegality

@@ -14,7 +14,7 @@ use Rattle.model_histories.specs.declared.fault.GateFault.{GateFault}
 use Rattle.model_histories.specs.declared.fault.GateFault.TheVariants.{Limit as GateLimit, Memory as GateMemory}
 use Rattle.model_histories.specs.Faults.{IsFirstFault}
 use Rattle.model_histories.specs.Shapes.{most_entries}
-use Rattle.model_histories.specs.States.{State}
+use Rattle.model_histories.specs.States.{GateState}
 use Rattle.command_streams.specs.declared.fault.CliFault.{CliFault}
 use Rattle.command_streams.specs.declared.fault.CliFault.TheVariants.{Usage, Read, Write, TooLong, Trace, Program}
 use Rattle.command_streams.specs.declared.fault.CliFault.TheVariants.{Shape as ShapeFault, Illegal, Limit, Memory}
@@ -35,7 +35,7 @@ IsDone (Done receipt) = Unit {0}
 IsDone (IllegalReply fault) = ⊥
 
 -- all requests were answered
-pub record AnswersAll (trace : TraceContents) (gate : State) : Type 0 where
+pub record AnswersAll (trace : TraceContents) (gate : GateState) : Type 0 where
   pub replies : List Reply
   pub judges : JudgesTrace trace most_entries replies gate
   pub done : All IsDone replies
@@ -47,7 +47,7 @@ fault_of_request number GateMemory = Memory
 fault_of_request number fault = Illegal number
 
 -- All requests before this one were answered, and it is not, by its first fault; the first request has the number 1.
-pub record StopsAt (trace : TraceContents) (gate : State) (stop : Stop) : Type 0 where
+pub record StopsAt (trace : TraceContents) (gate : GateState) (stop : Stop) : Type 0 where
   pub earlier : List Request
   pub later : List Request
   pub asked : requests_of trace ≡ earlier ++ stop.request ∷ later
@@ -59,13 +59,13 @@ pub record StopsAt (trace : TraceContents) (gate : State) (stop : Stop) : Type 0
 
 -- some request is such a one, and this is the fault of a command for it
 pub record StopsGate (trace : TraceContents) (fault : CliFault) : Type 0 where
-  pub gate : State
+  pub gate : GateState
   pub stop : Stop
   pub stops : StopsAt trace gate stop
   pub named : fault ≡ fault_of_request stop.number stop.fault
 
 -- all requests were answered, or this one is the first that is not
-abbrev pub Asks : TraceContents → State → Option Stop → Type 0
+abbrev pub Asks : TraceContents → GateState → Option Stop → Type 0
 Asks trace gate None = AnswersAll trace gate
 Asks trace gate (Some stop) = StopsAt trace gate stop
 
@@ -75,7 +75,7 @@ Asks trace gate (Some stop) = StopsAt trace gate stop
 -- what is so.
 pub record ReplaysContents (program : Contents) (trace : TraceContents) (line : List ℕ) (status : ℕ) : Type 0 where
   pub same : DeclareSame program.known trace.known
-  pub gate : State
+  pub gate : GateState
   pub answers : AnswersAll trace gate
   pub entries : List Entry
   pub history : reverse entries ≡ gate.history

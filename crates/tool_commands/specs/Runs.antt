@@ -10,7 +10,7 @@ use Rattle.model_histories.specs.declared.answer.Entry.{Entry}
 use Rattle.model_histories.specs.declared.reply.Receipt.{Receipt}
 use Rattle.model_histories.specs.Entries.{Entries}
 use Rattle.model_races.specs.Memory.{IsMemory}
-use Rattle.model_histories.specs.States.{State}
+use Rattle.model_histories.specs.States.{GateState}
 use Rattle.race_gate.specs.States.{IsRight}
 use Rattle.model_histories.specs.Extensions.{IsFinished, IsClean}
 use Rattle.model_runs.specs.Runs.{IsRun, IsFinishedRun}
@@ -49,14 +49,14 @@ pub record AreReceiptsOf (entries : List Entry) (logs : List (List Receipt)) (as
   pub counted : asked ≡ length entries
 
 -- what was brought back of the gate's entries is something else
-pub record IsTornGate (gate : State) : Type 0 where
+pub record IsTornGate (gate : GateState) : Type 0 where
   pub logs : List (List Receipt)
   pub asked : ℕ
   pub torn : AreReceiptsOf (reverse gate.history) logs asked → ⊥
 
 -- Behind the workers stands a gate that is right, and it was stopped, or this is so of it.
-pub record IsLeft (P : State → Type 0) : Type 0 where
-  pub gate : State
+pub record IsLeft (P : GateState → Type 0) : Type 0 where
+  pub gate : GateState
   pub right : IsRight gate
   pub left : (gate.stopped ≡ true) ⊎ P gate
 

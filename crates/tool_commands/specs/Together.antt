@@ -11,7 +11,7 @@ use Rattle.trace_notes.specs.declared.notes.Notes.{Notes}
 use Rattle.trace_notes.specs.Notes.{AreNotes, kept_runs}
 use Rattle.model_histories.specs.declared.answer.Entry.{Entry}
 use Rattle.model_histories.specs.Extensions.{IsClean}
-use Rattle.model_histories.specs.States.{State}
+use Rattle.model_histories.specs.States.{GateState}
 use Rattle.law_traces.specs.CleanTraces.{SpeaksForOrders}
 use Rattle.race_explanations.specs.Explained.{trace_setting}
 use Rattle.race_explanations.specs.Findings.{Found, found_of, nothing_found, AddsTrace, found_text}
@@ -78,7 +78,7 @@ AddsFound (Record form) manner notes trace entries old new =
 pub record AddsText (manner : Manner) (text : List ℕ) (old new : Together) : Type 0 where
   pub trace : TraceContents
   pub means : TraceMeans text trace
-  pub gate : State
+  pub gate : GateState
   pub answers : AnswersAll trace gate
   pub entries : List Entry
   pub history : reverse entries ≡ gate.history

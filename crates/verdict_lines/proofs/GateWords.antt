@@ -22,7 +22,7 @@ use Rattle.model_races.specs.Verdicts.{IsRightVerdict}
 use Rattle.model_races.specs.Reducers.{steps_of, granted_reads}
 use Rattle.model_races.specs.ReducerVerdicts.{IsRightFor}
 use Rattle.model_races.specs.Judged.{IsJudged}
-use Rattle.model_histories.specs.States.{State}
+use Rattle.model_histories.specs.States.{GateState}
 use Rattle.model_histories.specs.Replies.{JudgesAll}
 use Rattle.verdict_lines.specs.VerdictText.{HasWord, HasWords}
 
@@ -50,17 +50,17 @@ answer_has_word shape entries strand Return (Refused rule witness) belongs right
 answer_has_word shape entries strand act answer belongs right reads = tt
 
 -- Where the history in the end is judged rightly, so is the one before, and each reply has its word.
-pub replies_have_words : (requests : List Request) (replies : List Reply) (old new : State) → JudgesAll old requests replies new →
+pub replies_have_words : (requests : List Request) (replies : List Reply) (old new : GateState) → JudgesAll old requests replies new →
     IsJudged new.shape new.history → IsJudged old.shape old.history × All HasWords replies
-replies_have_words [] [] old new same judged = (subst (λ (state : State). IsJudged state.shape state.history) same judged, All-nil HasWords)
+replies_have_words [] [] old new same judged = (subst (λ (state : GateState). IsJudged state.shape state.history) same judged, All-nil HasWords)
 replies_have_words [] (reply ∷ replies) old new wrong judged = absurd wrong
 replies_have_words (request ∷ requests) [] old new wrong judged = absurd wrong
 replies_have_words (request ∷ requests) (Illegal fault ∷ replies) old new all judged =
     let later = replies_have_words requests replies all.0 new all.2 judged in
-    (subst (λ (state : State). IsJudged state.shape state.history) all.1.0 later.0, All-cons HasWords (Illegal fault) replies tt later.1)
+    (subst (λ (state : GateState). IsJudged state.shape state.history) all.1.0 later.0, All-cons HasWords (Illegal fault) replies tt later.1)
 replies_have_words (request ∷ requests) (Done receipt ∷ replies) old new all judged =
     let later = replies_have_words requests replies all.0 new all.2 judged in
-    let longer = subst (λ (state : State). IsJudged state.shape state.history) all.1.after later.0 in
+    let longer = subst (λ (state : GateState). IsJudged state.shape state.history) all.1.after later.0 in
     let word = answer_has_word old.shape old.history request.strand request.act receipt.answer longer.legal.1.belongs longer.memory.1 longer.reducers.1 in (
       record { legal = longer.legal.0; memory = longer.memory.0; reducers = longer.reducers.0 },
       All-cons HasWords (Done receipt) replies (subst (λ (asked : Request). HasWord asked.act receipt.answer) (sym all.1.asked) word) later.1,

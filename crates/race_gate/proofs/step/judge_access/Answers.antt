@@ -10,7 +10,7 @@ use Rattle.model_accesses.specs.Accesses.{access_of_witness}
 use Rattle.model_histories.specs.declared.answer.Answer.{Answer}
 use Rattle.model_histories.specs.declared.answer.Answer.TheVariants.{Split, Same, Joined, Waits, Resumed, Ended, EndedJoined, Finished, Granted, Value, Refused, Unset}
 use Rattle.model_races.specs.Accesses.{is_granted}
-use Rattle.model_races.specs.Memory.{effect}
+use Rattle.model_races.specs.Memory.{effect_on_cell}
 use Rattle.race_gate.specs.Steps.{after}
 use Rattle.model_races.specs.Verdicts.{IsRefused, IfRefused}
 use Rattle.race_gate.proofs.step.judge_access.Goals as goal
@@ -45,7 +45,7 @@ names_nothing (Value value) Names not = tt
 names_nothing Unset Names not = tt
 
 -- a refused access leaves each cell
-leaves_each : (act : Act) (rule : Rule) (witness : Witness) (cell value : ℕ) → value ≡ after (effect act (Refused rule witness)) cell value
+leaves_each : (act : Act) (rule : Rule) (witness : Witness) (cell value : ℕ) → value ≡ after (effect_on_cell act (Refused rule witness)) cell value
 leaves_each (act.Read location) rule witness cell value = refl
 leaves_each (act.Write location written) rule witness cell value = refl
 leaves_each (act.Bump location added) rule witness cell value = refl

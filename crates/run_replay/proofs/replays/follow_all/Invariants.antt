@@ -1,10 +1,10 @@
 use Rattle.std.proofs.Common.{◌≡◌, reverse, take}
-use Rattle.model_histories.specs.States.{State}
+use Rattle.model_histories.specs.States.{GateState}
 use Rattle.program_text.specs.Shapes.{shape_in}
 use Rattle.run_replay.specs.Slots.{PlaysIn}
 use Rattle.run_replay.proofs.replays.follow_all.Given as goal
 
 abbrev pub invariant-loop-at : goal.invariant-loop-at
 invariant-loop-at g l =
-    (state : State) × PlaysIn l.program.functions (shape_in l.program) state l.cast.slots.items l.cast.homes.items l.cast.places.items ×
+    (state : GateState) × PlaysIn l.program.functions (shape_in l.program) state l.cast.slots.items l.cast.homes.items l.cast.places.items ×
     (state.history ≡ reverse (take l.at l.entries.items))

@@ -1,5 +1,5 @@
 use Rattle.std.proofs.Common.{◌≡◌, reverse, take}
-use Rattle.model_histories.specs.States.{State}
+use Rattle.model_histories.specs.States.{GateState}
 use Rattle.race_gate.specs.Cores.{IsCoreOf}
 use Rattle.program_text.specs.Shapes.{shape_in}
 use Rattle.run_replay.specs.Slots.{PlaysIn}
@@ -7,6 +7,6 @@ use Rattle.run_replay.proofs.replays.play_all.Given as goal
 
 abbrev pub invariant-loop-entry : goal.invariant-loop-entry
 invariant-loop-entry g l = record {
-  plays : (state : State) × IsCoreOf l.core state × PlaysIn l.program.functions (shape_in l.program) state l.cast.slots.items l.cast.homes.items l.cast.places.items ×
+  plays : (state : GateState) × IsCoreOf l.core state × PlaysIn l.program.functions (shape_in l.program) state l.cast.slots.items l.cast.homes.items l.cast.places.items ×
       (state.history ≡ reverse (take l.entry-index l.entries));
 }

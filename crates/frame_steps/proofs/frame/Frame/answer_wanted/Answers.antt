@@ -7,7 +7,7 @@ use Rattle.function_steps.specs.Requests.{answered}
 use Rattle.function_steps.specs.Activations.{left, statement_of}
 use Rattle.function_steps.proofs.Takings.{taken, left_same, statement_same}
 use Rattle.frame_steps.specs.Joins.{join_after}
-use Rattle.frame_steps.specs.States.{State}
+use Rattle.frame_steps.specs.States.{FrameState}
 use Rattle.frame_steps.proofs.Answered.{refused, left_answered, call_answered, statement_answered}
 use Rattle.frame_steps.proofs.Histories.{call_same}
 use Rattle.frame_steps.proofs.frame.Frame.answer_wanted.Goals as goal
@@ -16,7 +16,7 @@ pub returns-in-None : goal.returns-in-None
 returns-in-None g c =
     let functions = c.args.program.now.functions in
     let before = c.args.self.now in
-    let top = ap (λ (s : State). s.top) c.self.view_is in
+    let top = ap (λ (s : FrameState). s.top) c.self.view_is in
     let none : statement_of functions before.top ≡ None = ap (λ t. statement_of functions t) (sym top) ∙ sym c.statement.ensures.at ∙ c.in-None.is in
     left_answered functions before c.leave.new.self c.args.answer.now c.leave.result c.requires.stands c.requires.wanting none c.leave.ensures.ok c.leave.ensures.returned c.leave.ensures.unasked c.leave.ensures.room c.leave.ensures.err c.leave.ensures.strange
 
@@ -24,7 +24,7 @@ pub returns-in-Same : goal.returns-in-Same
 returns-in-Same g c =
     let functions = c.args.program.now.functions in
     let before = c.args.self.now in
-    let top = ap (λ (s : State). s.top) c.self.view_is in
+    let top = ap (λ (s : FrameState). s.top) c.self.view_is in
     let line = c.in-Some-Call.field-0-0 in
     let function = c.in-Some-Call.function in
     let argument = c.in-Some-Call.argument in
@@ -36,7 +36,7 @@ pub returns-in_default : goal.returns-in_default
 returns-in_default g c =
     let functions = c.args.program.now.functions in
     let before = c.args.self.now in
-    let top = ap (λ (s : State). s.top) c.self.view_is in
+    let top = ap (λ (s : FrameState). s.top) c.self.view_is in
     let line = c.in-Some-Call.field-0-0 in
     let function = c.in-Some-Call.function in
     let argument = c.in-Some-Call.argument in
@@ -47,7 +47,7 @@ pub returns-then-apply_answer : goal.returns-then-apply_answer
 returns-then-apply_answer g c =
     let functions = c.args.program.now.functions in
     let before = c.args.self.now in
-    let top = ap (λ (s : State). s.top) c.self.view_is in
+    let top = ap (λ (s : FrameState). s.top) c.self.view_is in
     let statement = c.in-Some.statement in
     let e : statement_of functions before.top ≡ Some statement = ap (λ t. statement_of functions t) (sym top) ∙ sym c.statement.ensures.at ∙ c.in-Some.is in
     let r = ap (λ (t : Activation). answered statement c.args.answer.now t.registers) (sym top) ∙ taken _ _ _ c.apply_answer.new.registers c.apply_answer.ensures c.if-apply_answer.true in
@@ -55,5 +55,5 @@ returns-then-apply_answer g c =
     statement_answered functions before c.go_on.new.self statement c.args.answer.now c.apply_answer.new.registers _ c.requires.stands c.requires.wanting e r c.go_on.ensures.place
     (c.go_on.ensures.function ∙ ap same top) c.go_on.ensures.registers (c.go_on.ensures.join ∙ ap (λ (t : Activation). join_after c.args.answer.now t.join) top)
     (λ t is plain. ap (λ a. left functions a) (sym top) ∙ sym (left_same functions _ _) ∙ c.go_on.ensures.behind t (statement_same functions _ _ ∙ ap (λ a. statement_of functions a) top ∙ is) plain)
-    (c.go_on.ensures.rest.0 ∙ ap (λ (s : State). s.callers) c.self.view_is) c.go_on.ensures.rest.1
-    (c.go_on.ensures.rest.2 ∙ ap (λ (s : State). s.has_room) c.self.view_is)
+    (c.go_on.ensures.rest.0 ∙ ap (λ (s : FrameState). s.callers) c.self.view_is) c.go_on.ensures.rest.1
+    (c.go_on.ensures.rest.2 ∙ ap (λ (s : FrameState). s.has_room) c.self.view_is)

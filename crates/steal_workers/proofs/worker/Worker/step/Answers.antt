@@ -1,7 +1,7 @@
 use Rattle.std.proofs.Common.{true, refl, sym, subst, ap, ◌∙◌}
 use Rattle.model_accesses.specs.declared.request.Request.{Request}
 use Rattle.model_histories.specs.declared.reply.Receipt.{Receipt}
-use Rattle.frame_steps.specs.States.{State}
+use Rattle.frame_steps.specs.States.{FrameState}
 use Rattle.frame_steps.specs.Frames.{IsAfter}
 use Rattle.steal_workers.specs.Workers.{AsksFor, IsWanted}
 use Rattle.steal_workers.proofs.Asking.{on_ok, roomy, ends_at_join}
@@ -15,7 +15,7 @@ returns-clause-asks g c =
     let request : Request = record { strand = task.strand; act = c.next-want.result.act; line = c.next-want.result.line } in
     let receipt : Receipt = record { number = kept.0; request = request; answer = c.in_ok-answer.answer } in
     let wanted : IsWanted task request = λ function argument history x after can.
-    let with_room = subst (λ (frame : State). IsAfter functions function argument history (record frame { has_room = true })) (sym c.deref_mut.ensures.value)
+    let with_room = subst (λ (frame : FrameState). IsAfter functions function argument history (record frame { has_room = true })) (sym c.deref_mut.ensures.value)
     (roomy functions function argument history task.frame.value true after) in
     let reserved = subst (IsAfter functions function argument history) (sym c.in_ok-reserve_call.ensures.ok) with_room in
     let roomed = subst (IsAfter functions function argument history) (sym c.deref_mut-2.ensures.value) reserved in
