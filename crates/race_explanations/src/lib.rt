@@ -2,8 +2,8 @@
 //! there, the spawn where the two part, and what would order them.
 //!
 //! [`explanation`] tells the entries of a run. Its contract says that its text tells each pair of lines that raced once, in the order
-//! of their first refusals, with what a witness of the refusal is and the spawn where its strand and the refused one part, as the crates
-//! `race_pairs` and `spawn_chains` define these; and the text is a function of these values, letter by letter, in `specs/`.
+//! of their first refusals, with what a witness of the refusal is and the spawn where its strand and the refused one part, as the crate
+//! `race_pairs` defines these; and the text is a function of these values, letter by letter, in `specs/`.
 //! [`illegal_explanation`] tells why a request of a trace is illegal, by a reason that [`find_illegality`] finds in the history before it.
 #![tactic(auto)]
 
