@@ -7,7 +7,7 @@ pub mod Framed
 pub mod Stood
 pub mod OpenerLists
 pub mod Parted
-pub mod Known
+pub mod KnownMakers
 pub mod Outstanding
 pub mod LineageGrown
 pub mod Events

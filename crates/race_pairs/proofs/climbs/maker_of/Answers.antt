@@ -1,6 +1,6 @@
 use Rattle.std.proofs.Common.{sym}
 use Rattle.race_pairs.proofs.Places.{no_strand, no_frame}
-use Rattle.race_pairs.proofs.Known.{known_made, none_made, number_is}
+use Rattle.race_pairs.proofs.KnownMakers.{known_made, none_made, number_is}
 use Rattle.race_pairs.proofs.climbs.maker_of.Goals as goal
 
 pub returns-then-maker-eq0 : goal.returns-then-maker-eq0

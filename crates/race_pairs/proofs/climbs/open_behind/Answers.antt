@@ -1,5 +1,5 @@
 use Rattle.std.proofs.Common.{◌<◌, length, arith}
-use Rattle.race_pairs.proofs.Known.{begun_within}
+use Rattle.race_pairs.proofs.KnownMakers.{begun_within}
 use Rattle.race_pairs.proofs.Outstanding.{way_first, way_back, way_outstanding}
 use Rattle.race_pairs.proofs.climbs.open_behind.Goals as goal
 

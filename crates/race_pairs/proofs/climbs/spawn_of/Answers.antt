@@ -1,6 +1,6 @@
 use Rattle.std.proofs.Common.{arith}
 use Rattle.race_pairs.proofs.Places.{no_strand, no_frame}
-use Rattle.race_pairs.proofs.Known.{known_made, place_some, number_is, known_spawn, known_some}
+use Rattle.race_pairs.proofs.KnownMakers.{known_made, place_some, number_is, known_spawn, known_some}
 use Rattle.race_pairs.proofs.climbs.spawn_of.Goals as goal
 
 pub overflow_sub-opener : goal.overflow_sub-opener

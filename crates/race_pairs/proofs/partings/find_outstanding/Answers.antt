@@ -3,7 +3,7 @@ use Rattle.law_addresses.specs.Address.{IsPrefix}
 use Rattle.model_strands.specs.Addresses.{address}
 use Rattle.model_histories.specs.Entries.{control_part}
 use Rattle.race_pairs.specs.Makers.{IsSpawn}
-use Rattle.race_pairs.proofs.Known.{begun_within}
+use Rattle.race_pairs.proofs.KnownMakers.{begun_within}
 use Rattle.race_pairs.proofs.Outstanding.{some_maker, outstanding_told, swapped}
 use Rattle.race_pairs.proofs.partings.find_outstanding.Goals as goal
 use Rattle.race_pairs.proofs.partings.find_outstanding.Goals.{then-two-spawned, else-two-spawned}

@@ -1,6 +1,6 @@
 use Rattle.std.proofs.Common.{inl, inr, refl, sym, ◌∙◌, subst, arith}
 use Rattle.race_pairs.specs.Makers.{IsSpawn}
-use Rattle.race_pairs.proofs.Known.{begun_within}
+use Rattle.race_pairs.proofs.KnownMakers.{begun_within}
 use Rattle.race_pairs.proofs.Parted.{root_told, beside_told, sided, sided_turned, told_parallel}
 use Rattle.race_pairs.proofs.partings.find_parting.Goals as goal
 use Rattle.race_pairs.proofs.partings.find_parting.Goals.{else-one-spawned-via-then-one-spawned+else-two-spawned, else-one-spawned-via-else-one-spawned, else-two-spawned-2-via-then-two-spawned-2+else-one-spawned-2, else-two-spawned-2-via-else-two-spawned-2}
