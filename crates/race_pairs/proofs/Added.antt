@@ -18,10 +18,12 @@ use Rattle.race_pairs.specs.declared.kept.Strand.{Strand}
 use Rattle.race_pairs.specs.Makers.{Began}
 use Rattle.race_pairs.specs.Frames.{frames}
 use Rattle.race_pairs.specs.Lineages.{Kept, IsAt, Encloses, outermost, IsNumberAt, root, begun, HasStood, AreKept, IsLineage, MayGrow}
+use Rattle.race_pairs.specs.Jumps.{AreRaised}
 use Rattle.race_pairs.specs.Growths.{CanGrow}
 use Rattle.race_pairs.proofs.Made.{split_made}
 use Rattle.race_pairs.proofs.Places.{no_strand, index_within, item_here}
 use Rattle.race_pairs.proofs.LineageGrown.{ends, IsQuiet}
+use Rattle.race_pairs.proofs.Raised.{no_jump, raised_first}
 
 -- Before any entry.
 
@@ -56,11 +58,13 @@ kept_first = record {
     none [] (e ∷ earlier) x is = absurd (cc)
     none (e ∷ later) earlier x is = absurd (cc)
 
-pub lineage_first : (kept : Kept) → kept.count ≡ 0 → kept.opened ≡ [] → kept.turns ≡ [] → kept.strands ≡ no_strand ∷ [] → IsLineage kept []
-lineage_first kept none no_frames no_turns one = record {
+pub lineage_first : (kept : Kept) → kept.count ≡ 0 → kept.opened ≡ [] → kept.turns ≡ [] → kept.strands ≡ no_strand ∷ [] → kept.jumps ≡ no_jump ∷ [] →
+    IsLineage kept []
+lineage_first kept none no_frames no_turns one jumps = record {
   kept_are = subst (λ (F : List Frame). AreKept F kept.turns kept.strands []) (sym no_frames)
       (subst (λ (T : List Turn). AreKept [] T kept.strands []) (sym no_turns)
       (subst (λ (S : List Strand). AreKept [] [] S []) (sym one) kept_first));
+  raised = raised_first kept.jumps jumps;
   count_is = none;
   few = omega arith;
 }
@@ -68,9 +72,11 @@ lineage_first kept none no_frames no_turns one = record {
 -- One entry more.
 
 pub lineage_more : (old new : Kept) (entry : Entry) (entries : Entries) → IsLineage old entries → MayGrow entries entry →
-    AreKept new.opened new.turns new.strands (entry ∷ entries) → new.count ≡ old.count + 1 → IsLineage new (entry ∷ entries)
-lineage_more old new entry entries lineage grows kept count = record {
+    AreKept new.opened new.turns new.strands (entry ∷ entries) → AreRaised new.jumps (entry ∷ entries) → new.count ≡ old.count + 1 →
+    IsLineage new (entry ∷ entries)
+lineage_more old new entry entries lineage grows kept raised count = record {
   kept_are = kept;
+  raised = raised;
   count_is = omega (arith, count, lineage.count_is);
   few = omega (arith, grows.1);
 }

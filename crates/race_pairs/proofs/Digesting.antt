@@ -22,7 +22,7 @@ use Rattle.race_pairs.specs.declared.sighting.Sighting.{Sighting}
 use Rattle.race_pairs.specs.declared.digest.Digest.{Digest}
 use Rattle.race_pairs.specs.Refusals.{refusal_asked, refusal_told, entry_at, lines_of, HasLines, is_refusal, refusals_among}
 use Rattle.race_pairs.specs.Sightings.{sighting_of, IsSighting}
-use Rattle.race_pairs.specs.Kept.{AreKept, IsFresh, IsFreshBy}
+use Rattle.race_pairs.specs.Kept.{AreKept, IsFresh, IsFreshBy, IsSeen}
 use Rattle.race_pairs.specs.Digests.{IsDigest, IsNext, IsNextOf, is_of_own_lines, HasOwnLine}
 use Rattle.race_pairs.proofs.Knowing.{kept_none}
 use Rattle.race_pairs.proofs.Witnesses.{here_at, next_none, next_sighting, next_nothing}
@@ -112,6 +112,10 @@ own_fresh told behind entry sighting own s number le h =
     ap (λ (l : Lines). l.line) s.lines_are ∙ line_told entry s.refusal (sym (ap (option_and_then refusal_told) (here_at told behind entry)) ∙ s.told_here) in
     omega arith
 
+take-append-all : (xs ys : List Entry) → take (length xs) (xs ++ ys) ≡ xs
+take-append-all [] ys = refl
+take-append-all (x ∷ xs) ys = ap (λ (zs : List Entry). x ∷ zs) (take-append-all xs ys)
+
 -- ---- one entry more
 
 module _ (told : List Entry) (entry : Entry) (old new : Digest) (is : IsDigest told old) (next : IsNext told entry)
@@ -154,13 +158,29 @@ module _ (told : List Entry) (entry : Entry) (old new : Digest) (is : IsDigest t
         plain : refusals_among told + length (filter is_refusal (entry ∷ [])) ≡ refusals_among told
         plain = rw none (omega arith)
 
+    pub seen_next : (sighting : Sighting) → sighting_of entry new.lines.items ≡ Some sighting → (lines_now : List ℕ) → lines_now ≡ new.lines.items →
+        (behind : List Entry) → IsSeen ((told ++ entry ∷ []) ++ behind) (length told) new.lineage lines_now sighting
+    seen_next sighting some lines_now same behind = record {
+      sighting_is = next_sighting next.0 told behind entry new.lines.items sighting next.1 lines_more some;
+      seen = subst (λ (xs : List Entry). IsSighting xs (suc (length told)) sighting) (sym front)
+          (subst (λ (xs : List Entry). IsSighting xs (suc (length told)) sighting) (append-nil (told ++ entry ∷ []))
+          (next_sighting next.0 told [] entry new.lines.items sighting next.1 lines_more some));
+      legal = (next.0, subst (λ (xs : List Entry). IsLegal next.0 (reverse xs)) (sym front) (subst (IsLegal next.0) (sym (turned told entry)) next.1.legal));
+      lineage_is = subst (λ (xs : List Entry). IsLineage new.lineage (reverse xs)) (sym front) (subst (IsLineage new.lineage) (sym (turned told entry)) lineage);
+      lines_are = same ∙ (lines_more ∙ ap (map line_of) (sym front));
+    }
+      where
+        front : take (suc (length told)) ((told ++ entry ∷ []) ++ behind) ≡ told ++ entry ∷ []
+        front =
+            ap (λ (n : ℕ). take n ((told ++ entry ∷ []) ++ behind)) (sym (longer told entry)) ∙ take-append-all (told ++ entry ∷ []) behind
+
     pub next_refused : (is_of_own_lines old ≡ true → HasOwnLine told entry) → (sighting : Sighting) → sighting_of entry new.lines.items ≡ Some sighting →
-        new.refusals ≡ old.refusals + 1 →
-        ((whole : List Entry) (last : ℕ) → AreKept whole last old.races → IsSighting whole (suc last) sighting → IsFreshBy old.races.known whole last sighting.lines →
-        AreKept whole (suc last) new.races) → IsDigest (told ++ entry ∷ []) new
-    next_refused own sighting some refusals adds = with_races
+        (lines_now : List ℕ) → lines_now ≡ new.lines.items → new.refusals ≡ old.refusals + 1 →
+        ((whole : List Entry) (last : ℕ) → AreKept whole last old.races → IsSeen whole last new.lineage lines_now sighting →
+        IsFreshBy old.races.known whole last sighting.lines → AreKept whole (suc last) new.races) → IsDigest (told ++ entry ∷ []) new
+    next_refused own sighting some lines_now same refusals adds = with_races
         (refusals ∙ (ap (λ (n : ℕ). n + 1) is.refusals ∙ sym (counted true refused ∙ more)))
-        (λ behind. adds ((told ++ entry ∷ []) ++ behind) (length told) (before behind) (seen behind)
+        (λ behind. adds ((told ++ entry ∷ []) ++ behind) (length told) (before behind) (seen_next sighting some lines_now same behind)
         (λ of_own. own_fresh told behind entry sighting (own of_own) (seen behind)))
       where
         seen : (behind : List Entry) → IsSighting ((told ++ entry ∷ []) ++ behind) (suc (length told)) sighting
@@ -187,6 +207,10 @@ digest_none digest lines lineage refusals races = record {
   refusals = refusals;
   races = races;
 }
+
+-- the races where the next refusal is added
+pub races_before : (told : List Entry) (entry : Entry) (digest : Digest) → IsDigest told digest → AreKept (told ++ entry ∷ []) (length told) digest.races
+races_before told entry digest is = is.races (entry ∷ [])
 
 pub races_now : (told : List Entry) (digest : Digest) → IsDigest told digest → AreKept told (length told) digest.races
 races_now told digest is = subst (λ (xs : List Entry). AreKept xs (length told) digest.races) (append-nil told) (is.races [])

@@ -24,10 +24,10 @@ use Rattle.race_pairs.specs.declared.refusal.Reason.TheVariants.{ViewRead}
 use Rattle.race_pairs.specs.declared.refusal.Side.{Side}
 use Rattle.race_pairs.specs.declared.race.Race.{Race}
 use Rattle.race_pairs.specs.declared.digest.Digest.{Digest}
-use Rattle.race_pairs.specs.Refusals.{entry_at, side_of, access_at, IsSideAt}
+use Rattle.race_pairs.specs.Refusals.{entry_at, side_of, strand_at, access_at, IsSideAt}
 use Rattle.race_pairs.specs.Kept.{IsRace}
 use Rattle.race_pairs.specs.Digests.{IsDigest}
-use Rattle.race_pairs.specs.Encounters.{chain_at, strand_at, strands_of, PartAt, IsOpenBy, IsOpenAt, IsRaceOf, IsMet}
+use Rattle.race_pairs.specs.Encounters.{chain_at, strands_of, PartAt, IsOpenBy, IsOpenAt, IsRaceOf, IsMet}
 
 -- ---- strands
 

@@ -37,7 +37,7 @@ makers_by : (e : Entry) (es : Entries) (event : Event) (x : ℕ) → event_of e 
     maker (e ∷ es) x ≡ with_maker (Some event) (suc (length es)) (maker es) x
 makers_by e es event x is = ap (λ (o : Option Event). with_maker o (suc (length es)) (maker es) x) is
 
-unused_by : (e : Entry) (es : Entries) (event : Event) → event_of e ≡ Some event → unused (control_part (e ∷ es)) ≡ unused (event ∷ control_part es)
+pub unused_by : (e : Entry) (es : Entries) (event : Event) → event_of e ≡ Some event → unused (control_part (e ∷ es)) ≡ unused (event ∷ control_part es)
 unused_by e es event is = ap (λ (o : Option Event). unused (with_event o (control_part es))) is
 
 -- A turn of a strand.

@@ -38,14 +38,24 @@ module _ {K : Type 0} (tells : ℕ → K → Type 0) where
       from number le is (inr ge) = let e : suc last ≡ number = omega arith in subst (Contains (numbers ++ (suc last ∷ []))) e (Contains-push numbers (suc last))
 
   -- where a number tells one key, two firsts of one key are one
-  pub one_first : ((number : ℕ) (key other : K) → tells number key → tells number other → key ≡ other) → (one two : ℕ) (key : K) →
-      IsFirst tells one → IsFirst tells two → tells one key → tells two key → one ≡ two
-  one_first single one two key first second at_one at_two = go (below_or_beyond one two) (below_or_beyond two one)
+  pub one_first : (bound : ℕ) → ((number : ℕ) → number ≤ bound → (key other : K) → tells number key → tells number other → key ≡ other) →
+      (one two : ℕ) (key : K) → one ≤ bound → two ≤ bound → IsFirst tells one → IsFirst tells two → tells one key → tells two key → one ≡ two
+  one_first bound single one two key low also first second at_one at_two = go (below_or_beyond one two) (below_or_beyond two one)
     where
       go : (one < two) ⊎ (two ≤ one) → (two < one) ⊎ (one ≤ two) → one ≡ two
-      go (inl lt) other = absurd (second.2 one lt (subst (tells one) (single two key second.0 at_two second.1) at_one))
-      go (inr ge) (inl lt) = absurd (first.2 two lt (subst (tells two) (single one key first.0 at_one first.1) at_two))
+      go (inl lt) other = absurd (second.2 one lt (subst (tells one) (single two also key second.0 at_two second.1) at_one))
+      go (inr ge) (inl lt) = absurd (first.2 two lt (subst (tells two) (single one low key first.0 at_one first.1) at_two))
       go (inr ge) (inr le) = omega arith
+
+  -- a key that no first number tells is told by none
+  pub no_first : (last : ℕ) (numbers : List ℕ) → AreFirsts tells last numbers → (key : K) →
+      ((number : ℕ) → Contains numbers number → tells number key → ⊥) → (number : ℕ) → number ≤ last → tells number key → ⊥
+  no_first last numbers f key never number le t = go (suc number) number (omega arith) le t
+    where
+      go : (bound n : ℕ) → n < bound → n ≤ last → tells n key → ⊥
+      go zero n lt low at = absurd (omega (arith, lt))
+      go (suc bound) n lt low at =
+          never n ((f.each n).1 (low, (key, at, λ earlier less h. go bound earlier (omega (arith, less, lt)) (omega (arith, less, low)) h))) at
 
   pub tells_within : (key : K) (last times : ℕ) → Tells tells key last times → times ≤ last
   tells_within key _ _ none = omega arith

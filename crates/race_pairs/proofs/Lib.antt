@@ -7,10 +7,13 @@ pub mod Framed
 pub mod Stood
 pub mod OpenerLists
 pub mod Parted
+pub mod Jumping
+pub mod Forking
 pub mod KnownMakers
 pub mod Outstanding
 pub mod LineageGrown
 pub mod Events
+pub mod Raised
 pub mod Added
 pub mod StrandCount
 pub mod Statuses
@@ -21,7 +24,9 @@ pub mod Grown
 pub mod Nearer
 pub mod Linked
 pub mod Encountered
+pub mod SpawnLines
 pub mod Knowing
 pub mod Witnesses
 pub mod Digesting
 pub mod Same
+pub mod Grouped

@@ -147,6 +147,58 @@ openers_rise (entry ∷ entries) = go (openers_rise entries) (one_or_none (event
         let most = number_most entries _ _ (listed entries (length (openers entries) - 1) d below) in
         omega (arith, most, t.2))))
 
+-- each has a number of its own
+openers_apart : (entries : Entries) (i j : ℕ) (d : Opener) → i < j → j < length (openers entries) →
+    (get_or (openers entries) i d).number < (get_or (openers entries) j d).number
+openers_apart [] i j d lt within = absurd (omega (arith, within))
+openers_apart (entry ∷ entries) i j d lt within =
+    go (λ old. openers_apart entries i j d lt old) (one_or_none (event_of entry) (suc (length entries))) (below_or_beyond j (length (openers entries)))
+  where
+    at : (k : ℕ) → k < length (openers entries) → get_or (openers (entry ∷ entries)) k d ≡ get_or (openers entries) k d
+    at k old = get_or_append_left (openers entries) (opener_of (event_of entry) (suc (length entries))) d k old
+
+    go : (j < length (openers entries) → (get_or (openers entries) i d).number < (get_or (openers entries) j d).number) →
+        (opener_of (event_of entry) (suc (length entries)) ≡ []) ⊎ ((opener : Opener) × (opener_of (event_of entry) (suc (length entries)) ≡ opener ∷ []) × (opener.number ≡ suc (length entries))) →
+        (j < length (openers entries)) ⊎ (length (openers entries) ≤ j) →
+        (get_or (openers (entry ∷ entries)) i d).number < (get_or (openers (entry ∷ entries)) j d).number
+    go ih t (inl old) =
+        let less = ih old in
+        let at_i : (get_or (openers (entry ∷ entries)) i d).number ≡ (get_or (openers entries) i d).number = ap (λ (o : Opener). o.number) (at i (omega (arith, lt, old))) in
+        let at_j : (get_or (openers (entry ∷ entries)) j d).number ≡ (get_or (openers entries) j d).number = ap (λ (o : Opener). o.number) (at j old) in
+        omega (arith, less, at_i, at_j)
+    go ih (inl e) (inr ge) =
+        let none : length (openers (entry ∷ entries)) ≡ length (openers entries) =
+        ap (λ (xs : List Opener). length (openers entries ++ xs)) e ∙ ap length (append-nil (openers entries)) in
+        absurd (omega (arith, none, ge, within))
+    go ih (inr t) (inr ge) =
+        let more : length (openers (entry ∷ entries)) ≡ suc (length (openers entries)) =
+        ap (λ (xs : List Opener). length (openers entries ++ xs)) t.1 ∙ omega (arith, length-append (openers entries) (t.0 ∷ [])) in
+        let here : j ≡ length (openers entries) = omega (arith, more, ge, within) in
+        let old : i < length (openers entries) = omega (arith, lt, here) in
+        let is : (get_or (openers (entry ∷ entries)) j d).number ≡ suc (length entries) =
+        ap (λ (n : ℕ). (get_or (openers (entry ∷ entries)) n d).number) here ∙
+        (ap (λ (xs : List Opener). (get_or (openers entries ++ xs) (length (openers entries)) d).number) t.1 ∙
+        (ap (λ (o : Opener). o.number) (get_or-append_seam (openers entries) t.0 [] d) ∙ t.2)) in
+        let at_i : (get_or (openers (entry ∷ entries)) i d).number ≡ (get_or (openers entries) i d).number = ap (λ (o : Opener). o.number) (at i old) in
+        let low = number_most entries _ _ (listed entries i d old) in
+        omega (arith, is, at_i, low)
+
+-- two frames of one number are one
+pub same_frame : (entries : Entries) (opened : List Frame) → AreOpeners entries opened → (i j : ℕ) (d : Frame) → i < length opened → j < length opened →
+    (get_or opened i d).opener.number ≡ (get_or opened j d).opener.number → i ≡ j
+same_frame entries opened are i j d li lj alike = go (below_or_beyond i j) (below_or_beyond j i)
+  where
+    all : length opened ≡ length (openers entries)
+    all = sym (length-map opened (λ frame. frame.opener)) ∙ ap length are
+
+    at : (k : ℕ) → k < length opened → (get_or (openers entries) k d.opener).number ≡ (get_or opened k d).opener.number
+    at k lt = ap (λ (o : Opener). o.number) (ap (λ (xs : List Opener). get_or xs k d.opener) (sym are) ∙ get_or-map (λ frame. frame.opener) opened k d d.opener lt)
+
+    go : (i < j) ⊎ (j ≤ i) → (j < i) ⊎ (i ≤ j) → i ≡ j
+    go (inl lt) other = absurd (omega (arith, openers_apart entries i j d.opener lt (omega (arith, lj, all)), at i li, at j lj, alike))
+    go (inr ge) (inl lt) = absurd (omega (arith, openers_apart entries j i d.opener lt (omega (arith, li, all)), at i li, at j lj, alike))
+    go (inr ge) (inr le) = omega (arith, ge, le)
+
 pub frames_rise : (entries : Entries) (opened : List Frame) → AreOpeners entries opened → IsNonDecreasingBy (λ (frame : Frame). frame.opener.number) opened
 frames_rise entries opened are i j d le below =
     let same_length : length opened ≡ length (openers entries) = sym (length-map opened (λ frame. frame.opener)) ∙ ap length are in

@@ -1,5 +1,5 @@
 -- What is kept of the races of a history in place of its entries.
-use Rattle.std.specs.Prelude.{◌≡◌, ◌<◌, Bool, true, List, ◌∷◌, ◌++◌, length, map, reverse}
+use Rattle.std.specs.Prelude.{◌≡◌, ◌<◌, ℕ, Bool, true, List, ◌∷◌, ◌++◌, length, map, reverse}
 use Rattle.std.specs.List.{All}
 use Rattle.model_histories.specs.declared.answer.Entry.{Entry}
 use Rattle.model_histories.specs.Shapes.{Shape, most_entries}
@@ -26,6 +26,10 @@ IsNext told entry = (shape : Shape) × IsJudged shape (entry ∷ reverse told) �
 -- the digest is one of entries no two of which have one line
 abbrev pub is_of_own_lines : Digest → Bool
 is_of_own_lines digest = has_own digest.races.known
+
+-- how many pairs it keeps whole
+abbrev pub most_of : Digest → ℕ
+most_of digest = digest.races.most
 
 -- the line of the entry lies behind those of these
 abbrev pub HasOwnLine : List Entry → Entry → Type 0

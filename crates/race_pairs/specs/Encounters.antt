@@ -25,7 +25,7 @@ use Rattle.race_pairs.specs.declared.encounter.Way.{Way}
 use Rattle.race_pairs.specs.declared.encounter.Way.TheVariants.{Spawned, Called}
 use Rattle.race_pairs.specs.declared.encounter.Link.{Link}
 use Rattle.race_pairs.specs.declared.encounter.Encounter.{Encounter}
-use Rattle.race_pairs.specs.Refusals.{entry_at, access_at, IsSideAt}
+use Rattle.race_pairs.specs.Refusals.{entry_at, strand_at, access_at, IsSideAt}
 use Rattle.race_pairs.specs.Kept.{IsRace}
 use Rattle.race_pairs.specs.Onward.{IsToward}
 use Rattle.race_pairs.specs.Digests.{IsDigest}
@@ -34,10 +34,6 @@ use Rattle.race_pairs.specs.Digests.{IsDigest}
 abbrev pub chain_at : List Entry → ℕ → List ℕ
 chain_at told number =
     unwrap_or (option_map (λ entry. frames (reverse (take (number - 1) told)) entry.request.strand) (entry_at told number)) []
-
--- the strand of the entry with this number
-abbrev pub strand_at : List Entry → ℕ → Option ℕ
-strand_at told number = option_map (λ entry. entry.request.strand) (entry_at told number)
 
 -- the strands of the first refused access of a pair and of its witness, where both are there
 abbrev pub strands_of : List Entry → Pair → Option (ℕ × ℕ)

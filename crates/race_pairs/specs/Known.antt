@@ -1,10 +1,13 @@
 -- Which pairs of lines raced.
-use Rattle.std.specs.Prelude.{◌≡◌, ◌+◌, ℕ, Bool, true, false, cond, List, length}
-use Rattle.std.specs.List.{list_any}
-use Rattle.race_pairs.specs.declared.refusal.Lines.{Lines}
-use Rattle.race_pairs.specs.contracts.refusal.LinesPartialEq.TheImpl.{eq-value}
+use Rattle.std.specs.Prelude.{◌≡◌, ◌<◌, ℕ, Bool, true, false, List, length, get_or, MatchOption}
+use Rattle.std.specs.List.{All}
+use Rattle.std.specs.HashMap.{get, hash_map_len}
+use Rattle.race_pairs.specs.declared.race.Pair.{Pair}
+use Rattle.race_pairs.specs.declared.race.PairKey.{PairKey}
+use Rattle.race_pairs.specs.contracts.race.PairKeyPartialEq.TheImpl.{eq-value}
 use Rattle.race_pairs.specs.declared.known.Known.{Known}
 use Rattle.race_pairs.specs.declared.known.Known.TheVariants.{Own, Among}
+use Rattle.race_pairs.specs.PairKeys.{key_of}
 
 -- no two refusals have one line
 abbrev pub has_own : Known → Bool
@@ -13,24 +16,19 @@ has_own (Among all) = false
 
 abbrev pub known_count : Known → ℕ
 known_count (Own count) = count
-known_count (Among all) = length all.keys
+known_count (Among all) = hash_map_len all
 
--- these are the lines of the pairs
-abbrev pub Knows : Known → List Lines → Type 0
-Knows (Own count) lines = count ≡ length lines
-Knows (Among all) lines = lines ≡ all.keys
+-- none of the pairs has the key
+abbrev pub IsNewKey : PairKey → List Pair → Type 0
+IsNewKey key pairs = All (λ pair. key_of pair ≡ key → ⊥) pairs
 
-abbrev pub is_among : Lines → List Lines → Bool
-is_among one lines = list_any (eq-value.it one) lines
+-- so many pairs stand before one with the key
+abbrev pub IsKeyAt : PairKey → List Pair → ℕ → Type 0
+IsKeyAt key pairs before = (before < length pairs) × ((d : Pair) → key_of (get_or pairs before d) ≡ key)
 
--- The lines are those of the pairs with one pair more.
-pub record AreMore (one : Lines) (old new : List Lines) : Type 0 where
-  pub longer : length new ≡ length old + 1
-  pub grown : (other : Lines) → is_among other new ≡ cond (eq-value.it one other) true (is_among other old)
-
--- One pair more is known, where it is new; it is new where no two refusals have one line.
-pub record IsAdded (one : Lines) (is_new : Bool) (old new : Known) : Type 0 where
-  pub own : has_own old ≡ true → is_new ≡ true
-  pub seen : has_own old ≡ false → (lines : List Lines) → Knows old lines → is_among one lines ≡ cond is_new false true
-  pub same : is_new ≡ false → (lines : List Lines) → Knows old lines → Knows new lines
-  pub more : is_new ≡ true → (lines : List Lines) → Knows old lines → (more : List Lines) × Knows new more × AreMore one lines more
+-- these are the pairs
+abbrev pub Knows : Known → List Pair → Type 0
+Knows (Own count) pairs = count ≡ length pairs
+Knows (Among all) pairs =
+    (hash_map_len all ≡ length pairs) ×
+    ((key : PairKey) → MatchOption (get eq-value.it all key) (IsNewKey key pairs) (IsKeyAt key pairs))

@@ -1,4 +1,5 @@
 pub mod Makers
+pub mod Jumps
 pub mod Partings
 pub mod Climbs
 pub mod Frames
@@ -10,6 +11,7 @@ pub mod Growths
 pub mod Steps
 pub mod Refusals
 pub mod Firsts
+pub mod PairKeys
 pub mod Pairs
 pub mod Places
 pub mod Races
@@ -17,5 +19,6 @@ pub mod Sightings
 pub mod Known
 pub mod Kept
 pub mod Digests
+pub mod Groups
 pub mod Onward
 pub mod Encounters

@@ -9,16 +9,20 @@ use Rattle.model_histories.specs.Shapes.{most_entries}
 use Rattle.race_pairs.specs.declared.kept.Frame.{Frame}
 use Rattle.race_pairs.specs.declared.kept.Turn.{Turn}
 use Rattle.race_pairs.specs.declared.kept.Strand.{Strand}
+use Rattle.race_pairs.specs.declared.kept.Jump.{Jump}
 use Rattle.race_pairs.specs.Makers.{maker}
+use Rattle.race_pairs.specs.Jumps.{AreRaised}
 use Rattle.race_pairs.specs.Openers.{AreOpeners}
 use Rattle.race_pairs.specs.Frames.{frames}
 
--- how many entries there were, the frames that they opened and the turns that they made, in order, and each strand by its number
+-- how many entries there were, the frames that they opened and the turns that they made, in order, and each strand and its jump by its
+-- number
 pub record Kept : Type 0 where
   pub count : ℕ
   pub opened : List Frame
   pub turns : List Turn
   pub strands : List Strand
+  pub jumps : List Jump
 
 -- the list has the item at this place, from 1 on
 pub record IsAt {X : Type 0} (items : List X) (place : ℕ) (item : X) : Type 0 where
@@ -69,10 +73,14 @@ pub record AreMade (opened : List Frame) (strands : List Strand) (entries : Entr
   pub len : length strands ≡ unused (control_part entries)
   pub each : (strand : ℕ) (it : Strand) → IsAt strands (suc strand) it → IsNumberAt opened it.maker (maker entries strand)
 
--- it is kept of entries in which the two strands have begun
-abbrev pub AreSides : List Frame → List Strand → Entries → ℕ → ℕ → Type 0
-AreSides opened strands entries strand other =
-    AreMade opened strands entries × Begun (control_part entries) strand × Begun (control_part entries) other
+-- the makers of the strands and their jumps are those of the entries
+abbrev pub AreWays : List Frame → List Strand → List Jump → Entries → Type 0
+AreWays opened strands jumps entries = AreMade opened strands entries × AreRaised jumps entries
+
+-- they are those of entries in which the two strands have begun
+abbrev pub AreSides : List Frame → List Strand → List Jump → Entries → ℕ → ℕ → Type 0
+AreSides opened strands jumps entries strand other =
+    AreWays opened strands jumps entries × Begun (control_part entries) strand × Begun (control_part entries) other
 
 -- where a strand has stood
 pub record HasStood (opened : List Frame) (turns : List Turn) (entries : Entries) (strand : ℕ) (it : Strand) : Type 0 where
@@ -93,6 +101,7 @@ AreSomeKept opened turns strands = (entries : Entries) × AreKept opened turns s
 -- the lineage is that of the entries
 pub record IsLineage (kept : Kept) (entries : Entries) : Type 0 where
   pub kept_are : AreKept kept.opened kept.turns kept.strands entries
+  pub raised : AreRaised kept.jumps entries
   pub count_is : kept.count ≡ length entries
   pub few : length entries ≤ most_entries
 

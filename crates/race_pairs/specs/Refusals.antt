@@ -53,6 +53,10 @@ line_in lines (suc before) = unwrap_or (slice_get lines before) 0
 abbrev pub lines_of : List Entry → Refusal → Lines
 lines_of told refusal = record { reason = refusal.reason; line = refusal.line; witness_line = line_at told refusal.witness }
 
+-- the strand of the entry with this number
+abbrev pub strand_at : List Entry → ℕ → Option ℕ
+strand_at told number = option_map (λ entry. entry.request.strand) (entry_at told number)
+
 -- the refusal that the entry with this number tells, where it is one
 abbrev pub refusal_at : List Entry → ℕ → Option Refusal
 refusal_at told number = option_and_then refusal_told (entry_at told number)

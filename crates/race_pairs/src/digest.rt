@@ -5,7 +5,7 @@ ghost use Rattle.model_histories.specs.declared.answer.Entry.{Entry as AnyEntry}
 ghost use Rattle.model_histories.specs.Shapes.{Shape, most_entries};
 ghost use Rattle.model_races.specs.Judged.{IsJudged};
 ghost use Rattle.race_pairs.specs.Known.{known_count};
-ghost use Rattle.race_pairs.specs.Digests.{IsDigest, IsNextOf, is_of_own_lines};
+ghost use Rattle.race_pairs.specs.Digests.{IsDigest, IsNextOf, is_of_own_lines, most_of};
 
 use crate::known::Known;
 use crate::lineage::Lineage;
@@ -14,10 +14,11 @@ use crate::races::Races;
 use crate::sighting::sighting_of;
 use race_gate::Entry;
 use std::alloc::{AllocError, Global};
-use std::collections::HashSet;
+use std::collections::HashMap;
 
 /// What is kept of the races of a history in place of its entries, which are added one by one, the oldest first: the line of each entry,
-/// the spawns and calls, how many refusals there are, the first twenty pairs of lines that raced, and which pairs there are.
+/// the spawns and calls, how many refusals there are, the first pairs of lines that raced, and which pairs there are. Two refusals are of one
+/// pair where their lines and the line of the spawn at which their strands part are the same.
 pub struct Digest {
     alloc: Global,
     /// The line of each entry.
@@ -43,42 +44,42 @@ impl Drop for Digest {
 }
 
 /// That of no entries, with room for the lines of so many.
-fn start_digest(alloc: Global, room: usize, known: Known) -> Result<Digest, AllocError>
+fn start_digest(alloc: Global, room: usize, most: usize, known: Known) -> Result<Digest, AllocError>
     requires { known_count known ≡ 0 }
-    ensures { IfOk result (λ digest. IsDigest [] digest × (digest.races.known ≡ known)) }
+    ensures { IfOk result (λ digest. IsDigest [] digest × (digest.races.known ≡ known) × (most_of digest ≡ most)) }
 {
     Ok(Digest {
         alloc,
         lines: Vec::with_capacity(alloc, room)?,
         lineage: Lineage::new(alloc)?,
         refusals: 0,
-        races: Races::new(alloc, known),
+        races: Races::new(alloc, most, known),
     })
 }
 
 impl Digest {
-    /// That of no entries, with room for the lines of so many.
-    pub fn new(alloc: Global, room: usize) -> Result<Digest, AllocError>
-        ensures { IfOk result (λ digest. IsDigest [] digest × (is_of_own_lines digest ≡ false)) }
+    /// That of no entries, with room for the lines of so many, which keeps so many pairs whole.
+    pub fn new(alloc: Global, room: usize, most: usize) -> Result<Digest, AllocError>
+        ensures { IfOk result (λ digest. IsDigest [] digest × (is_of_own_lines digest ≡ false) × (most_of digest ≡ most)) }
     {
-        start_digest(alloc, room, Known::Among(HashSet::new(alloc)))
+        start_digest(alloc, room, most, Known::Among(HashMap::new(alloc)))
     }
 
     /// The same for entries each of whose lines lies behind those before: then each refusal is a pair of its own, and no pair need be looked
     /// up.
-    pub fn with_own_lines(alloc: Global, room: usize) -> Result<Digest, AllocError>
-        ensures { IfOk result (λ digest. IsDigest [] digest × (is_of_own_lines digest ≡ true)) }
+    pub fn with_own_lines(alloc: Global, room: usize, most: usize) -> Result<Digest, AllocError>
+        ensures { IfOk result (λ digest. IsDigest [] digest × (is_of_own_lines digest ≡ true) × (most_of digest ≡ most)) }
     {
-        start_digest(alloc, room, Known::Own(0))
+        start_digest(alloc, room, most, Known::Own(0))
     }
 
     /// That of entries that are given from the oldest on. Errors where there is no memory.
-    pub fn of(alloc: Global, entries: &[Entry]) -> Result<Digest, AllocError>
+    pub fn of(alloc: Global, entries: &[Entry], most: usize) -> Result<Digest, AllocError>
         requires judged { (shape : Shape) × IsJudged shape (reverse entries.now) }
         requires few { length entries.now ≤ most_entries }
-        ensures { IfOk result (IsDigest entries.now) }
+        ensures { IfOk result (λ digest. IsDigest entries.now digest × (most_of digest ≡ most)) }
     {
-        let mut digest = Digest::new(alloc, entries.len())?;
+        let mut digest = Digest::new(alloc, entries.len(), most)?;
         for entry in entries {
             digest.add(*entry)?;
         }
@@ -90,6 +91,7 @@ impl Digest {
     pub fn add(&mut self, entry: Entry) -> Result<(), AllocError>
         requires { (told : List AnyEntry) × IsDigest told self.old × IsNextOf self.old told entry }
         ensures own { OnOk result (is_of_own_lines self.new ≡ is_of_own_lines self.old) }
+        ensures most { OnOk result (most_of self.new ≡ most_of self.old) }
         ensures next { OnOk result ((told : List AnyEntry) → IsDigest told self.old → IsNextOf self.old told entry →
             IsDigest (told ++ entry ∷ []) self.new) }
     {
@@ -99,7 +101,8 @@ impl Digest {
             return Ok(());
         };
         self.refusals += 1;
-        self.races.add(self.alloc, sighting)
+        self.races
+            .add(self.alloc, &self.lineage, self.lines.as_slice(), sighting)
     }
 
     /// Whether each line lies behind those before.
@@ -109,7 +112,14 @@ impl Digest {
         self.races.known.has_own()
     }
 
-    /// The first twenty pairs of lines that raced, in the order of their first refusals.
+    /// How many pairs are kept whole.
+    pub fn most(&self) -> usize
+        ensures { result ≡ most_of self.now }
+    {
+        self.races.most
+    }
+
+    /// The first pairs of lines that raced, in the order of their first refusals: all, or as many as are kept whole.
     pub fn races(&self) -> &[Race]
         ensures { result.now ≡ self.now.races.list.items }
     {

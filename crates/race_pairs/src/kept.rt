@@ -41,3 +41,12 @@ pub struct Strand {
     /// The place of its last turn.
     pub turn: u32,
 }
+
+/// How far down a strand stands, and where the way up from it is shortened.
+#[derive(Clone, Copy, Debug, PartialEq, Eq)]
+pub struct Jump {
+    /// How many spawns lead to the strand.
+    pub depth: u32,
+    /// A strand above it; strand 0 where it has none.
+    pub to: u32,
+}

@@ -1,19 +1,21 @@
 //! Which pairs of lines raced.
 
-ghost use Rattle.std.specs.Prelude.{◌≡◌, ◌<◌, ◌^◌, IfOk};
-ghost use Rattle.race_pairs.specs.Known.{has_own, known_count, IsAdded};
+ghost use Rattle.std.specs.Prelude.{◌≡◌, ◌<◌, ◌^◌, ◌++◌, [], ◌∷◌, List, false, true, None, OnOk, MatchOption};
+ghost use Rattle.race_pairs.specs.declared.race.Pair.{Pair};
+ghost use Rattle.race_pairs.specs.PairKeys.{key_of};
+ghost use Rattle.race_pairs.specs.Known.{has_own, known_count, Knows, IsNewKey, IsKeyAt};
 
-use crate::refusal::Lines;
+use crate::race::PairKey;
 use std::alloc::AllocError;
-use std::collections::HashSet;
+use std::collections::HashMap;
 
 /// Which pairs of lines raced.
 #[derive(Drop)]
 pub enum Known {
     /// So many, where no two refusals have one line.
     Own(usize),
-    /// Those of these lines.
-    Among(HashSet<Lines>),
+    /// Those with these keys, and how many were known before each.
+    Among(HashMap<PairKey, usize>),
 }
 
 impl Known {
@@ -37,18 +39,48 @@ impl Known {
         }
     }
 
-    /// Adds the lines of a refusal, and tells whether they are new.
-    pub(crate) fn add(&mut self, lines: Lines) -> Result<bool, AllocError>
-        requires { known_count self.old < 2 ^ 32 }
-        ensures own { IfOk result (λ is_new. has_own self.new ≡ has_own self.old) }
-        ensures added { IfOk result (λ is_new. IsAdded lines is_new self.old self.new) }
+    /// Counts one pair more, where no two refusals have one line.
+    pub(crate) fn count_own(&mut self)
+        requires own { has_own self.old ≡ true }
+        requires few { known_count self.old < 2 ^ 32 }
+        ensures own { has_own self.new ≡ true }
+        ensures added { (pairs : List Pair) (pair : Pair) → Knows self.old pairs → Knows self.new (pairs ++ pair ∷ []) }
+    {
+        match self {
+            Known::Own(count) => *count += 1,
+            Known::Among(_) => {}
+        }
+    }
+
+    /// How many pairs were known before the one with this key. None where it is not known, and where no two refusals have one line.
+    pub(crate) fn find(&self, key: PairKey) -> Option<usize>
+        ensures own { has_own self.now ≡ true → result ≡ None }
+        ensures among { has_own self.now ≡ false → (pairs : List Pair) → Knows self.now pairs →
+            MatchOption result (IsNewKey key pairs) (IsKeyAt key pairs) }
+    {
+        match self {
+            Known::Own(_) => None,
+            Known::Among(all) => all.get(&key).copied(),
+        }
+    }
+
+    /// Adds a pair that is not known. Errors where there is no memory.
+    pub(crate) fn add(&mut self, key: PairKey) -> Result<(), AllocError>
+        requires few { known_count self.old < 2 ^ 32 }
+        ensures own { OnOk result (has_own self.new ≡ has_own self.old) }
+        ensures added { OnOk result ((pairs : List Pair) (pair : Pair) → Knows self.old pairs → IsNewKey key pairs → key_of pair ≡ key →
+            Knows self.new (pairs ++ pair ∷ [])) }
     {
         match self {
             Known::Own(count) => {
                 *count += 1;
-                Ok(true)
+                Ok(())
             }
-            Known::Among(all) => Ok(all.insert(lines)?),
+            Known::Among(all) => {
+                let before = all.len();
+                all.insert(key, before)?;
+                Ok(())
+            }
         }
     }
 }

@@ -14,7 +14,8 @@ ghost use Rattle.race_pairs.specs.OpenSpawns.{IsOutstanding};
 
 use crate::frames::{numbers_from, place_before};
 use crate::growth::{Step, add_call, add_return, add_spawn, step_of};
-use crate::kept::{Frame, Opener, Strand, Turn};
+use crate::jumps::add_jumps;
+use crate::kept::{Frame, Jump, Opener, Strand, Turn};
 use crate::openers::find_opener;
 use crate::partings::{find_outstanding, find_parting};
 use model_strands::Spawned;
@@ -67,6 +68,8 @@ pub struct Lineage<A: Allocator> {
     turns: Vec<Turn, A>,
     /// By the strand's number.
     strands: Vec<Strand, A>,
+    /// By the strand's number.
+    jumps: Vec<Jump, A>,
 }
 
 /// Written out, so that what lets a lineage go calls one function.
@@ -77,6 +80,7 @@ impl<A: Allocator> Drop for Lineage<A> {
             opened: _,
             turns: _,
             strands: _,
+            jumps: _,
         } = self;
     }
 }
@@ -91,6 +95,7 @@ impl<A: Allocator> Model for Lineage<A> {
       opened = lineage.opened.items;
       turns = lineage.turns.items;
       strands = lineage.strands.items;
+      jumps = lineage.jumps.items;
     } };
 }
 
@@ -101,11 +106,14 @@ impl<A: Allocator + Copy> Lineage<A> {
     {
         let mut strands = Vec::new(alloc);
         strands.push(Strand { maker: 0, turn: 0 })?;
+        let mut jumps = Vec::new(alloc);
+        jumps.push(Jump { depth: 0, to: 0 })?;
         Ok(Lineage {
             count: 0,
             opened: Vec::new(alloc),
             turns: Vec::new(alloc),
             strands,
+            jumps,
         })
     }
 
@@ -142,6 +150,7 @@ impl<A: Allocator> Lineage<A> {
                     strand,
                     spawned,
                 )?;
+                add_jumps(&mut self.jumps, strand, spawned)?;
             }
             Step::Calls => {
                 add_call(
@@ -209,7 +218,7 @@ impl<A: Allocator> Lineage<A> {
     }
 
     /// The spawn where two begun strands of the history part, and none where a path leads from one to the other or they are one
-    /// strand. Its time is at most linear in the spawns that lead to the two.
+    /// strand. Its time is logarithmic in the spawns that lead to the two.
     pub fn parting(&self, strand: u32, other: u32) -> Option<Parting>
         requires { (entries : Entries) × AreBegun self.now entries strand other }
         ensures parts { (entries : Entries) → AreBegun self.now entries strand other → IfSome result (IsParting entries strand other) }
@@ -219,13 +228,14 @@ impl<A: Allocator> Lineage<A> {
         find_parting(
             self.opened.as_slice(),
             self.strands.as_slice(),
+            self.jumps.as_slice(),
             strand,
             other,
         )
     }
 
-    /// A spawn of the history that is outstanding at one of two begun strands and not at the other. Its time is at most linear in the
-    /// spawns that lead to the two.
+    /// A spawn of the history that is outstanding at one of two begun strands and not at the other. Its time is logarithmic in the spawns
+    /// that lead to the two, and where a path leads from the one to the other linear in the syncs at its end.
     pub fn outstanding(&self, first: u32, second: u32) -> Option<OpenSpawn>
         requires { (entries : Entries) × AreBegun self.now entries first second }
         ensures { (entries : Entries) → AreBegun self.now entries first second → IfSome result (IsOutstanding entries first second) }
@@ -233,6 +243,7 @@ impl<A: Allocator> Lineage<A> {
         find_outstanding(
             self.opened.as_slice(),
             self.strands.as_slice(),
+            self.jumps.as_slice(),
             first,
             second,
         )

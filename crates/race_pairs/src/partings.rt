@@ -8,22 +8,23 @@ ghost use Rattle.race_pairs.specs.Partings.{IsParting};
 ghost use Rattle.race_pairs.specs.OpenSpawns.{IsOutstanding};
 
 use crate::climbs::{find_meeting, open_behind, opposite, spawn_of};
-use crate::kept::{Frame, Strand};
+use crate::kept::{Frame, Jump, Strand};
 use crate::lineage::{OpenSpawn, Parting};
 
 /// The spawn where two begun strands part.
 pub(crate) fn find_parting(
     opened: &[Frame],
     strands: &[Strand],
+    jumps: &[Jump],
     strand: u32,
     other: u32,
 ) -> Option<Parting>
-    requires { (entries : Entries) × AreSides opened.now strands.now entries strand other }
-    ensures parts { (entries : Entries) → AreSides opened.now strands.now entries strand other → IfSome result (IsParting entries strand other) }
-    ensures found { (entries : Entries) → AreSides opened.now strands.now entries strand other →
+    requires { (entries : Entries) × AreSides opened.now strands.now jumps.now entries strand other }
+    ensures parts { (entries : Entries) → AreSides opened.now strands.now jumps.now entries strand other → IfSome result (IsParting entries strand other) }
+    ensures found { (entries : Entries) → AreSides opened.now strands.now jumps.now entries strand other →
         (IsSome result ↔ IsParallel (control_part entries) strand other) }
 {
-    let (one, two, entry) = find_meeting(opened, strands, strand, other);
+    let (one, two, entry) = find_meeting(opened, strands, jumps, strand, other);
     if entry == 0 {
         return None;
     }
@@ -48,13 +49,14 @@ pub(crate) fn find_parting(
 pub(crate) fn find_outstanding(
     opened: &[Frame],
     strands: &[Strand],
+    jumps: &[Jump],
     first: u32,
     second: u32,
 ) -> Option<OpenSpawn>
-    requires { (entries : Entries) × AreSides opened.now strands.now entries first second }
-    ensures { (entries : Entries) → AreSides opened.now strands.now entries first second → IfSome result (IsOutstanding entries first second) }
+    requires { (entries : Entries) × AreSides opened.now strands.now jumps.now entries first second }
+    ensures { (entries : Entries) → AreSides opened.now strands.now jumps.now entries first second → IfSome result (IsOutstanding entries first second) }
 {
-    let (one, two, maker) = find_meeting(opened, strands, first, second);
+    let (one, two, maker) = find_meeting(opened, strands, jumps, first, second);
     if one == two {
         return if one == first {
             open_behind(opened, strands, first, second)

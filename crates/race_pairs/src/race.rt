@@ -7,22 +7,34 @@ use crate::refusal::{Lines, Side};
 use std::alloc::{AllocError, Global};
 use std::collections::HashSet;
 
-/// A pair of lines that raced.
+/// What the refusals of one pair share.
+#[derive(Clone, Copy, Debug, PartialEq, Eq)]
+#[derive_where(Hash)]
+pub struct PairKey {
+    pub lines: Lines,
+    /// The line of the spawn at which the strands of the refused access and its witness part, and None where they part at none.
+    pub spawn: Option<u32>,
+}
+
+/// A pair of lines that raced, and the spawn at which the strands part.
 #[derive(Clone, Copy, Debug, PartialEq, Eq)]
 pub struct Pair {
     pub lines: Lines,
-    /// The number, from 1 on, of the first refused entry with these lines.
+    /// The line of the spawn at which the strands of each refused access and its witness part. None where the two are not parallel, or
+    /// there is no witness.
+    pub spawn: Option<u32>,
+    /// The number, from 1 on, of the first refused entry with these lines and this spawn.
     pub first: usize,
     /// The number of the entry of its witness, and 0 where there is none.
     pub witness: usize,
-    /// How many refused entries have these lines.
+    /// How many refused entries have these lines and this spawn.
     pub times: usize,
 }
 
 /// A pair of lines that raced, and on what.
 pub struct Race {
     pub pair: Pair,
-    /// The first refused access with these lines.
+    /// The first refused access of the pair.
     pub refused: Side,
     /// Its witness, where there is one.
     pub witness: Option<Side>,

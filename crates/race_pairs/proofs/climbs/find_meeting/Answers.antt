@@ -1,76 +1,86 @@
-use Rattle.std.proofs.Common.{◌<◌, length, arith}
-use Rattle.race_pairs.proofs.Parted.{climb_one, climb_two}
-use Rattle.race_pairs.proofs.Climbing.{climbs_first}
+use Rattle.std.proofs.Common.{inl, inr, ◌<◌, ◌∙◌, length, arith}
+use Rattle.race_pairs.proofs.Places.{no_strand, no_frame}
+use Rattle.race_pairs.proofs.KnownMakers.{apart_by, alike_by}
+use Rattle.race_pairs.proofs.Jumping.{climbs_level, climbs_above}
+use Rattle.race_pairs.proofs.Raised.{no_jump}
 use Rattle.race_pairs.proofs.climbs.find_meeting.Goals as goal
 
+pub rise_to-one-requires : goal.rise_to-one-requires
+rise_to-one-requires c =
+    let ways = c.requires.1 in
+    let it = ways.1.each c.args.strand no_jump (omega (arith, c.requires.2, ways.0.len, ways.1.len)) in
+    (c.requires.0, (ways, c.requires.2, omega (arith, it.depth, c.lesser-depth.ensures.one)))
+
+pub rise_to-two-requires : goal.rise_to-two-requires
+rise_to-two-requires c =
+    let ways = c.requires.1 in
+    let it = ways.1.each c.args.other no_jump (omega (arith, c.requires.3, ways.0.len, ways.1.len)) in
+    (c.requires.0, (ways, c.requires.3, omega (arith, it.depth, c.lesser-depth.ensures.other)))
+
 pub climb-init : goal.climb-init
-climb-init c = λ entries made. (
-  climbs_first entries c.args.strand c.args.other (omega (arith, made.len, c.requires.2)) (omega (arith, made.len, c.requires.3)),
-  c.maker_of-one_made.ensures entries made,
-  c.maker_of-two_made.ensures entries made,
-)
+climb-init c = λ entries ways.
+    let strand = ways.1.each c.args.strand no_jump (omega (arith, c.requires.2, ways.0.len, ways.1.len)) in
+    let other = ways.1.each c.args.other no_jump (omega (arith, c.requires.3, ways.0.len, ways.1.len)) in
+    let one = c.rise_to-one.ensures entries (ways, c.requires.2, omega (arith, strand.depth, c.lesser-depth.ensures.one)) in
+    let two = c.rise_to-two.ensures entries (ways, c.requires.3, omega (arith, other.depth, c.lesser-depth.ensures.other)) in (
+      climbs_level entries c.args.strand c.args.other c.rise_to-one.result c.rise_to-two.result c.lesser-depth.result one two
+          (elim c.lesser-depth.ensures.is [ inl e ↦ inl (e ∙ strand.depth) | inr e ↦ inr (e ∙ other.depth) ]),
+      omega (arith, one.1, two.1),
+    )
 
-pub spawn_of-two-requires : goal.spawn_of-two-requires
-spawn_of-two-requires c =
-    let now = c.climb.invariant c.requires.0 c.requires.1 in
-    (c.requires.0, c.requires.1, omega (arith, c.requires.1.len, now.0.two_known), omega (arith, now.2, c.if-one_made-two_made.true))
+pub bounds-strands-one : goal.bounds-strands-one
+bounds-strands-one c =
+    let ways = c.requires.1 in
+    let now = c.climb.invariant c.requires.0 ways in
+    omega (arith, now.0.one_known, ways.0.len)
 
-pub maker_of-two_made-requires-then-one_made-two_made : goal.maker_of-two_made-requires-then-one_made-two_made
-maker_of-two_made-requires-then-one_made-two_made c =
-    let now = c.climb.invariant c.requires.0 c.requires.1 in
-    let up = climb_two c.requires.0 c.requires.1.legal c.args.strand c.args.other c.climb.one c.climb.two now.0 (omega (arith, now.1, now.2, c.if-one_made-two_made.true))
-    _ _ (c.spawn_of-two.ensures c.requires.0 c.requires.1) in
-    let known : c.spawn_of-two.result.0 < length c.args.strands.now = omega (arith, c.requires.1.len, up.0.two_known) in
-    (c.requires.0, c.requires.1, known, known)
+pub bounds-strands-two : goal.bounds-strands-two
+bounds-strands-two c =
+    let ways = c.requires.1 in
+    let now = c.climb.invariant c.requires.0 ways in
+    omega (arith, now.0.two_known, ways.0.len)
 
-pub climb-smaller-then-one_made-two_made : goal.climb-smaller-then-one_made-two_made
-climb-smaller-then-one_made-two_made c =
-    let now = c.climb.invariant c.requires.0 c.requires.1 in
-    let up = climb_two c.requires.0 c.requires.1.legal c.args.strand c.args.other c.climb.one c.climb.two now.0 (omega (arith, now.1, now.2, c.if-one_made-two_made.true))
-    _ _ (c.spawn_of-two.ensures c.requires.0 c.requires.1) in
-    let is = c.maker_of-two_made-then-one_made-two_made.ensures c.requires.0 c.requires.1 in
-    omega (arith, now.2, is, up.1)
-
-pub climb-preserved-then-one_made-two_made : goal.climb-preserved-then-one_made-two_made
-climb-preserved-then-one_made-two_made c = λ entries made.
-    let now = c.climb.invariant entries made in
-    let up = climb_two entries made.legal c.args.strand c.args.other c.climb.one c.climb.two now.0 (omega (arith, now.1, now.2, c.if-one_made-two_made.true))
-    _ _ (c.spawn_of-two.ensures entries made) in
-    (up.0, now.1, c.maker_of-two_made-then-one_made-two_made.ensures entries made)
-
-pub spawn_of-one-requires : goal.spawn_of-one-requires
-spawn_of-one-requires c =
-    let now = c.climb.invariant c.requires.0 c.requires.1 in
-    (c.requires.0, c.requires.1, omega (arith, c.requires.1.len, now.0.one_known), omega (arith, now.1, c.climb-test.true, c.if-one_made-two_made.false))
-
-pub maker_of-one_made-requires-else-one_made-two_made : goal.maker_of-one_made-requires-else-one_made-two_made
-maker_of-one_made-requires-else-one_made-two_made c =
-    let now = c.climb.invariant c.requires.0 c.requires.1 in
-    let up = climb_one c.requires.0 c.requires.1.legal c.args.strand c.args.other c.climb.one c.climb.two now.0 (omega (arith, now.1, now.2, c.climb-test.true, c.if-one_made-two_made.false))
-    _ _ (c.spawn_of-one.ensures c.requires.0 c.requires.1) in
-    let known : c.spawn_of-one.result.0 < length c.args.strands.now = omega (arith, c.requires.1.len, up.0.one_known) in
-    (c.requires.0, c.requires.1, known, known)
+pub step_both-left-requires : goal.step_both-left-requires
+step_both-left-requires c =
+    let ways = c.requires.1 in
+    let now = c.climb.invariant c.requires.0 ways in (
+      c.requires.0,
+      apart_by c.args.opened.now c.args.strands.now c.args.jumps.now c.requires.0 ways c.climb.one c.climb.two now.0.one_known now.0.two_known now.1
+          no_strand no_frame c.climb-test.true,
+    )
 
 pub climb-smaller : goal.climb-smaller
 climb-smaller c =
-    let now = c.climb.invariant c.requires.0 c.requires.1 in
-    let up = climb_one c.requires.0 c.requires.1.legal c.args.strand c.args.other c.climb.one c.climb.two now.0 (omega (arith, now.1, now.2, c.climb-test.true, c.if-one_made-two_made.false))
-    _ _ (c.spawn_of-one.ensures c.requires.0 c.requires.1) in
-    let is = c.maker_of-one_made-else-one_made-two_made.ensures c.requires.0 c.requires.1 in
-    omega (arith, now.1, is, up.1)
+    let ways = c.requires.1 in
+    let now = c.climb.invariant c.requires.0 ways in
+    let up = c.step_both-left.ensures c.requires.0 (apart_by c.args.opened.now c.args.strands.now c.args.jumps.now c.requires.0 ways c.climb.one c.climb.two
+    now.0.one_known now.0.two_known now.1 no_strand no_frame c.climb-test.true) in
+    let it = ways.1.each c.climb.one no_jump (omega (arith, now.0.one_known, ways.1.len)) in
+    let over = ways.1.each c.step_both-left.result.0 no_jump (omega (arith, up.left_up.0, ways.1.len)) in
+    omega (arith, it.depth, over.depth, up.further)
 
 pub climb-preserved : goal.climb-preserved
-climb-preserved c = λ entries made.
-    let now = c.climb.invariant entries made in
-    let up = climb_one entries made.legal c.args.strand c.args.other c.climb.one c.climb.two now.0 (omega (arith, now.1, now.2, c.climb-test.true, c.if-one_made-two_made.false))
-    _ _ (c.spawn_of-one.ensures entries made) in
-    (up.0, c.maker_of-one_made-else-one_made-two_made.ensures entries made, now.2)
+climb-preserved c = λ entries ways.
+    let now = c.climb.invariant entries ways in
+    let up = c.step_both-left.ensures entries (apart_by c.args.opened.now c.args.strands.now c.args.jumps.now entries ways c.climb.one c.climb.two
+    now.0.one_known now.0.two_known now.1 no_strand no_frame c.climb-test.true) in
+    (climbs_above entries c.args.strand c.args.other c.climb.one c.climb.two c.step_both-left.result.0 c.step_both-left.result.1 now.0 up, up.level)
+
+pub maker_of-requires : goal.maker_of-requires
+maker_of-requires c =
+    let ways = c.requires.1 in
+    let now = c.climb.invariant c.requires.0 ways in
+    let known : c.climb.one < length c.args.strands.now = omega (arith, now.0.one_known, ways.0.len) in
+    (c.requires.0, ways.0, known, known)
 
 pub returns-clause-climbs : goal.returns-clause-climbs
-returns-clause-climbs c = λ entries made. (c.climb.invariant entries made).0
+returns-clause-climbs c = λ entries ways. (c.climb.invariant entries ways).0
 
 pub returns-clause-one : goal.returns-clause-one
-returns-clause-one c = λ entries made. (c.climb.invariant entries made).1
+returns-clause-one c = λ entries ways. c.maker_of.ensures entries ways.0
 
 pub returns-clause-two : goal.returns-clause-two
-returns-clause-two c = λ entries made. (let now = c.climb.invariant entries made in omega (arith, now.2, c.climb-test.false))
+returns-clause-two c = λ entries ways.
+    let now = c.climb.invariant entries ways in
+    c.maker_of.ensures entries ways.0 ∙ alike_by c.args.opened.now c.args.strands.now c.args.jumps.now entries ways c.climb.one c.climb.two now.0.one_known
+    now.0.two_known no_strand c.climb-test.false

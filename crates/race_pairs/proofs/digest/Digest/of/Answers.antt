@@ -17,4 +17,5 @@ loop-entry-preserved c = record {
       (shared_next c.loop-entry.digest _ _ c.loop-entry.invariant.shared
       (next_at c.requires.judged.0 c.args.entries.now c.requires.judged.1 c.requires.few c.loop-entry.entry-index _ c.loop-entry-test.true)));
   shared = c.in_ok-add.ensures.own ∙ c.loop-entry.invariant.shared;
+  most_is = c.in_ok-add.ensures.most ∙ c.loop-entry.invariant.most_is;
 }
