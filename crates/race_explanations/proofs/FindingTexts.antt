@@ -6,6 +6,7 @@ use Rattle.source_quotes.specs.Quotes.{counted}
 use Rattle.race_pairs.specs.declared.race.Pair.{Pair}
 use Rattle.race_pairs.specs.declared.encounter.Encounter.{Encounter}
 use Rattle.race_pairs.specs.Places.{ArePlaces}
+use Rattle.race_pairs.specs.PairKeys.{key_of}
 use Rattle.race_explanations.specs.declared.finding.Finding.{Finding}
 use Rattle.race_explanations.specs.Settings.{Origin, in_program, in_trace, Setting}
 use Rattle.race_explanations.specs.Accounts.{Adds}
@@ -48,7 +49,7 @@ said (in_trace notes) setting finding pair places encounter is trace kind name b
     rw is refl
 
 pub is_finding : (setting : Setting) (entries : List Entry) (finding : Finding) (pair : Pair) (places : List ℕ) (encounter : Encounter) → IsOfTrace setting.origin →
-    ArePlaces entries pair.lines places → IsEncounter entries pair encounter →
+    ArePlaces entries (key_of pair) places → IsEncounter entries pair encounter →
     finding.kind.items ≡ kind_text setting pair.lines.reason → finding.name.items ≡ name_text setting pair.lines.reason places →
     finding.body.items ≡ body_text setting pair encounter →
     map (λ (name : Vec ℕ). name.items) finding.names.keys ≡ told_names setting pair.lines.reason places → finding.times ≡ pair.times →

@@ -1,5 +1,7 @@
 pub mod Telling
 pub mod Accounts
+pub mod Gathering
 pub mod Merging
+mod TraceAdding
 pub mod FindingTexts
 mod Named

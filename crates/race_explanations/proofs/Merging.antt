@@ -79,9 +79,9 @@ race_added setting entries races index d finding old one two below before is new
     (subst (λ (pair : Pair). IsFinding setting entries pair finding) (sym (get_or-map (λ (race : Race). race.pair) races index d d.pair below)) is) new
 
 -- the first so many pairs
-pub pairs_added : (setting : Setting) (entries : List Entry) (pairs front : List Pair) (old new : List Finding) (count : ℕ) → ArePairs entries pairs →
-    front ≡ take 20 pairs → count ≡ length pairs → AddsAll setting entries front old new → AddsPairs setting entries old new count
-pairs_added setting entries pairs front old new count are is count_is adds = record {
+pub pairs_added : (setting : Setting) (entries : List Entry) (most : ℕ) (pairs front : List Pair) (old new : List Finding) (count : ℕ) → ArePairs entries pairs →
+    front ≡ take most pairs → count ≡ length pairs → AddsAll setting entries front old new → AddsPairs setting entries most old new count
+pairs_added setting entries most pairs front old new count are is count_is adds = record {
   pairs = pairs;
   are_pairs = are;
   count_is = count_is;

@@ -17,39 +17,11 @@ use Rattle.race_explanations.specs.Paths.{line_words, shown_line}
 abbrev pub parts_words : List ℕ
 parts_words = codes " here they part: what is spawned comes to "
 
--- what would order the rounds of a loop
-abbrev pub rounds_words : Origin → List ℕ
-rounds_words (in_program file source functions) =
-    codes "help: rounds of one `pfor` are never ordered: give each a cell of its own, or use a reducer\n"
-rounds_words (in_trace notes) =
-    codes "help: what is spawned here again and again is never ordered: give each a place of its own, or use a reducer\n"
-
 abbrev pub outstanding_words : List ℕ
 outstanding_words = codes " this spawn is outstanding at "
 
 abbrev pub elsewhere_words : List ℕ
 elsewhere_words = codes ", and not at "
-
-abbrev pub move_words : List ℕ
-move_words = codes "help: move what stands on "
-
-abbrev pub behind_words : List ℕ
-behind_words = codes " behind the `sync` of "
-
-abbrev pub ended_words : List ℕ
-ended_words = codes ", where this spawn has ended\n"
-
-abbrev pub put_words : List ℕ
-put_words = codes "help: a `put` into it has to come first in the serial order\n"
-
-abbrev pub sync_words : List ℕ
-sync_words = codes "help: a `sync` in "
-
-abbrev pub before_words : List ℕ
-before_words = codes " before "
-
-abbrev pub order_words : List ℕ
-order_words = codes " would order them\n"
 
 abbrev pub onward_words : List ℕ
 onward_words = codes " goes on to "
@@ -98,22 +70,9 @@ parts_text setting pair refused parting onward =
     while_words ++ function_word setting (line_in setting.lines parting.entry) ++
     (onward_words ++ line_words setting.origin onward ++ codes "\n")
 
--- That a sync before a line would order two strands.
-abbrev pub missing_text : Setting → ℕ → ℕ → List ℕ
-missing_text setting line onward =
-    noted setting.look ++ sync_words ++ function_word setting line ++ (before_words ++ line_words setting.origin onward) ++ order_words
-
--- What would order two strands that part at a spawn on one line, behind which the spawner goes on to another.
-abbrev pub sync_text : Setting → ℕ → ℕ → List ℕ
-sync_text setting line onward =
-    if line == onward
-    then noted setting.look ++ rounds_words setting.origin
-    else missing_text setting line onward
-
-abbrev pub parting_text : Setting → Pair → (refused : ℕ) → Option Parting → ℕ → List ℕ
-parting_text setting pair refused (Some parting) onward =
-    parts_text setting pair refused parting onward ++ sync_text setting (line_in setting.lines parting.entry) onward
-parting_text setting pair refused None onward = []
+abbrev pub parted_text : Setting → Pair → (refused : ℕ) → Option Parting → ℕ → List ℕ
+parted_text setting pair refused (Some parting) onward = parts_text setting pair refused parting onward
+parted_text setting pair refused None onward = []
 
 -- at which of two lines a spawn is outstanding
 abbrev pub open_words : Origin → ℕ → ℕ → List ℕ
@@ -125,16 +84,65 @@ abbrev pub open_text : Setting → Pair → (refused : ℕ) → OpenSpawn → Li
 open_text setting pair refused spawn =
     spawn_line setting spawn.entry ++ open_words setting.origin (line_on pair refused spawn.parallel) (line_on pair refused spawn.ordered)
 
--- What makes a read the same in every run.
-abbrev pub move_text : Setting → Pair → (refused : ℕ) → OpenSpawn → List ℕ
-move_text setting pair refused spawn =
-    noted setting.look ++ (move_words ++ line_words setting.origin (line_on pair refused spawn.parallel)) ++
-    behind_words ++ function_word setting (line_in setting.lines spawn.entry) ++ ended_words
+abbrev pub opened_text : Setting → Pair → (refused : ℕ) → Option OpenSpawn → List ℕ
+opened_text setting pair refused (Some spawn) = open_text setting pair refused spawn
+opened_text setting pair refused None = []
 
-abbrev pub outstanding_text : Setting → Pair → (refused : ℕ) → Option OpenSpawn → List ℕ
-outstanding_text setting pair refused (Some spawn) = open_text setting pair refused spawn ++ move_text setting pair refused spawn
-outstanding_text setting pair refused None = []
+-- ---- help
 
--- What makes a get find something.
-abbrev pub put_text : Setting → List ℕ
-put_text setting = noted setting.look ++ put_words
+-- what would order the rounds of a loop
+abbrev pub rounds_words : Origin → List ℕ
+rounds_words (in_program file source functions) =
+    codes "rounds of one `pfor` are never ordered: give each a cell of its own, or use a reducer"
+rounds_words (in_trace notes) =
+    codes "what is spawned here again and again is never ordered: give each a place of its own, or use a reducer"
+
+-- a sync in the function in which a line stands, before another line
+abbrev pub sync_before : Setting → (line onward : ℕ) → List ℕ
+sync_before setting line onward =
+    codes "a `sync` in " ++ function_word setting line ++ codes " before " ++ line_words setting.origin onward
+
+-- that it would order two strands
+abbrev pub missing_help : Setting → (line onward : ℕ) → List ℕ
+missing_help setting line onward = sync_before setting line onward ++ codes " would order them"
+
+-- what would order two strands that part at a spawn on one line, behind which the spawner goes on to another
+abbrev pub sync_help : Setting → (line onward : ℕ) → List ℕ
+sync_help setting line onward = if line == onward then rounds_words setting.origin else missing_help setting line onward
+
+-- what makes a read on one line the same in every run, where a spawn on another is outstanding
+abbrev pub move_help : Setting → (at line : ℕ) → List ℕ
+move_help setting at line =
+    codes "move what stands on " ++ line_words setting.origin at ++ codes " behind the `sync` of " ++ function_word setting line ++
+    codes ", where this spawn has ended"
+
+-- what makes a get find something
+abbrev pub put_help : List ℕ
+put_help = codes "a `put` into it has to come first in the serial order"
+
+-- what would order two strands that part there
+abbrev pub sync_help_of : Setting → (onward : ℕ) → Option Parting → Option (List ℕ)
+sync_help_of setting onward (Some parting) = Some (sync_help setting (line_in setting.lines parting.entry) onward)
+sync_help_of setting onward None = None
+
+-- what makes a read the same in every run, where that spawn is outstanding
+abbrev pub move_help_of : Setting → Pair → (refused : ℕ) → Option OpenSpawn → Option (List ℕ)
+move_help_of setting pair refused (Some spawn) =
+    Some (move_help setting (line_on pair refused spawn.parallel) (line_in setting.lines spawn.entry))
+move_help_of setting pair refused None = None
+
+-- ---- notes of help
+
+abbrev pub help_begun : Setting → List ℕ
+help_begun setting = noted setting.look ++ codes "help: "
+
+abbrev pub help_note : Setting → Option (List ℕ) → List ℕ
+help_note setting (Some words) = help_begun setting ++ words ++ codes "\n"
+help_note setting None = []
+
+abbrev pub rounds_note : Setting → List ℕ
+rounds_note setting = help_begun setting ++ rounds_words setting.origin ++ codes "\n"
+
+-- a sync in the function in which a line stands, before another line, and what it does
+abbrev pub sync_note : Setting → (line onward : ℕ) → (does : List ℕ) → List ℕ
+sync_note setting line onward does = help_begun setting ++ sync_before setting line onward ++ does

@@ -1,6 +1,6 @@
 -- What is told of the entries of a run.
 use Rattle.std.specs.Prelude.{ℕ, ◌≡◌, ◌-◌, nat_lt, Bool, List, [], ◌∷◌, ◌++◌, codes, map}
-use Rattle.std.specs.Prelude.{length, take, Option, Some, IfSome, if◌then◌else◌}
+use Rattle.std.specs.Prelude.{length, take, if◌then◌else◌}
 use Rattle.std.specs.Global.{Global}
 use Rattle.text_words.specs.Values.{Known}
 use Rattle.program_text.specs.Drafts.{Contents}
@@ -9,46 +9,21 @@ use Rattle.source_quotes.specs.Quotes.{look_of, counted}
 use Rattle.trace_notes.specs.declared.notes.Notes.{Notes}
 use Rattle.race_pairs.specs.Refusals.{refusals_among}
 use Rattle.race_pairs.specs.Pairs.{ArePairs}
-use Rattle.race_pairs.specs.Places.{ArePlaces}
-use Rattle.race_pairs.specs.Encounters.{IsEncounter}
+use Rattle.race_pairs.specs.Groups.{AreGroups}
 use Rattle.race_pairs.specs.declared.race.Pair.{Pair}
-use Rattle.race_pairs.specs.declared.encounter.Encounter.{Encounter}
+use Rattle.race_pairs.specs.declared.race.Race.{Race}
+use Rattle.race_pairs.specs.declared.groups.Group.{Group}
+use Rattle.race_explanations.specs.declared.case.Case.{Case}
+use Rattle.race_explanations.specs.declared.extent.Extent.{Extent}
 use Rattle.race_explanations.specs.Settings.{Origin, in_program, in_trace, Setting}
-use Rattle.race_explanations.specs.Accounts.{added}
-use Rattle.race_explanations.specs.Messages.{message}
+use Rattle.race_explanations.specs.Cases.{AreCases}
+use Rattle.race_explanations.specs.Extents.{most_pairs, most_shown}
+use Rattle.race_explanations.specs.Groups.{pairs_words, groups_text}
 
--- The text tells of the pair: with the cells or reducers on which it raced, what led to its first refusal and to the witness of that, and
--- where the two part.
-pub record Tells (setting : Setting) (entries : List Entry) (pair : Pair) (text : List ℕ) : Type 0 where
-  pub places : List ℕ
-  pub encounter : Encounter
-  pub are_places : ArePlaces entries pair.lines places
-  pub is_encounter : IsEncounter entries pair encounter
-  pub text_is : text ≡ message setting pair places encounter
-
--- The text tells of each pair, in their order.
-pub data AllTold (setting : Setting) (entries : List Entry) : List Pair → List ℕ → Type 0 where
-  none : AllTold setting entries [] []
-  more : {pairs : List Pair} {text : List ℕ} (pair : Pair) (part : List ℕ) → AllTold setting entries pairs text →
-      Tells setting entries pair part → AllTold setting entries (pairs ++ pair ∷ []) (text ++ part)
-
--- a text that tells of each pair is told, in their order, where there was memory for it
-abbrev pub AreTold : Setting → List Entry → List Pair → Option (List ℕ) → Type 0
-AreTold setting entries pairs told = IfSome told (λ text. AllTold setting entries pairs text)
-
--- a text that tells of the pair is told behind what was told before, where there was memory for it
-pub record TellsMore (setting : Setting) (entries : List Entry) (pair : Pair) (old new : Option (List ℕ)) : Type 0 where
-  pub tells : IfSome new (λ text. (part : List ℕ) × Tells setting entries pair part × added old part ≡ Some text)
-
--- what there are pairs of
-abbrev pub pairs_words : Origin → List ℕ
-pairs_words (in_program file source functions) = codes " of lines"
-pairs_words (in_trace notes) = codes " of places"
-
--- how many pairs are left out, behind the first twenty
-abbrev pub pairs_left_out : Origin → ℕ → List ℕ
-pairs_left_out origin count =
-    if nat_lt 20 count then codes "and " ++ counted (count - 20) (codes "more pair") ++ pairs_words origin ++ codes "\n" else []
+-- how many pairs are left out, behind the first
+abbrev pub pairs_left_out : Origin → (most count : ℕ) → List ℕ
+pairs_left_out origin most count =
+    if nat_lt most count then codes "and " ++ counted (count - most) (codes "more pair") ++ pairs_words origin ++ codes "\n" else []
 
 -- at how many pairs, and among how many requests
 abbrev pub among : Origin → ℕ → ℕ → List ℕ
@@ -59,14 +34,19 @@ among origin count requests =
 abbrev pub summary : Origin → List Entry → ℕ → List ℕ
 summary origin entries count = counted (refusals_among entries) (codes "refusal") ++ among origin count (length entries)
 
--- The text tells of the entries, the oldest first: of each of the first twenty pairs of lines that raced, how many more there are, and how
--- many refusals there were.
-pub record TellsEntries (setting : Setting) (entries : List Entry) (text : List ℕ) : Type 0 where
+-- The text tells of the entries, the oldest first: of each of the first pairs of lines that raced, in groups of those that part at spawns on
+-- one line, how many more there are, and how many refusals there were.
+pub record TellsEntries (setting : Setting) (extent : Extent) (entries : List Entry) (text : List ℕ) : Type 0 where
   pub pairs : List Pair
   pub are_pairs : ArePairs entries pairs
-  pub told : List ℕ
-  pub all_told : AllTold setting entries (take 20 pairs) told
-  pub text_is : text ≡ told ++ pairs_left_out setting.origin (length pairs) ++ summary setting.origin entries (length pairs)
+  pub races : List Race
+  pub are_kept : map (λ race. race.pair) races ≡ take (most_pairs extent) pairs
+  pub cases : List Case
+  pub are_cases : AreCases entries (take (most_pairs extent) pairs) cases
+  pub groups : List Group
+  pub are_groups : AreGroups races groups
+  pub text_is : text ≡ groups_text setting (most_shown extent) cases groups ++ pairs_left_out setting.origin (most_pairs extent) (length pairs) ++
+      summary setting.origin entries (length pairs)
 
 -- the entries are those of a run of a program, which a file with these lines holds
 abbrev pub program_setting : (is_painted : Bool) → (file : List ℕ) → (source : List (List ℕ)) → Contents → List Entry → Setting
@@ -78,8 +58,9 @@ program_setting is_painted file source program entries = record {
   lines = map (λ entry. entry.request.line) entries;
 }
 
-abbrev pub IsExplanation : (is_painted : Bool) → (file : List ℕ) → (source : List (List ℕ)) → Contents → List Entry → (text : List ℕ) → Type 0
-IsExplanation is_painted file source program entries text = TellsEntries (program_setting is_painted file source program entries) entries text
+abbrev pub IsExplanation : (is_painted : Bool) → Extent → (file : List ℕ) → (source : List (List ℕ)) → Contents → List Entry → (text : List ℕ) → Type 0
+IsExplanation is_painted extent file source program entries text =
+    TellsEntries (program_setting is_painted file source program entries) extent entries text
 
 -- the entries are those of a trace with these declarations and notes
 abbrev pub trace_setting : (is_painted : Bool) → Notes Global → Known → List Entry → Setting
@@ -91,5 +72,5 @@ trace_setting is_painted notes known entries = record {
   lines = map (λ entry. entry.request.line) entries;
 }
 
-abbrev pub IsTraceExplanation : (is_painted : Bool) → Notes Global → Known → List Entry → (text : List ℕ) → Type 0
-IsTraceExplanation is_painted notes known entries text = TellsEntries (trace_setting is_painted notes known entries) entries text
+abbrev pub IsTraceExplanation : (is_painted : Bool) → Extent → Notes Global → Known → List Entry → (text : List ℕ) → Type 0
+IsTraceExplanation is_painted extent notes known entries text = TellsEntries (trace_setting is_painted notes known entries) extent entries text

@@ -12,8 +12,11 @@ use Rattle.race_pairs.specs.declared.race.Pair.{Pair}
 use Rattle.race_pairs.specs.declared.encounter.Encounter.{Encounter}
 use Rattle.race_pairs.specs.Pairs.{ArePairs}
 use Rattle.race_pairs.specs.Places.{ArePlaces}
+use Rattle.race_pairs.specs.PairKeys.{key_of}
 use Rattle.race_explanations.specs.declared.finding.Finding.{Finding}
 use Rattle.race_explanations.specs.declared.findings.Findings.{Findings}
+use Rattle.race_explanations.specs.declared.extent.Extent.{Extent}
+use Rattle.race_explanations.specs.Extents.{most_pairs}
 use Rattle.race_explanations.specs.Settings.{Origin, in_program, in_trace, Setting}
 use Rattle.race_explanations.specs.Titles.{sort_word, reason_words, listed_names, told_names, left_out}
 use Rattle.race_explanations.specs.Messages.{earlier_text, refused_text, advice_text, message}
@@ -50,7 +53,7 @@ IsOfTrace (in_trace notes) = Unit {0}
 pub record IsFinding (setting : Setting) (entries : List Entry) (pair : Pair) (finding : Finding) : Type 0 where
   pub places : List ℕ
   pub encounter : Encounter
-  pub are_places : ArePlaces entries pair.lines places
+  pub are_places : ArePlaces entries (key_of pair) places
   pub is_encounter : IsEncounter entries pair encounter
   pub kind_is : finding.kind.items ≡ kind_text setting pair.lines.reason
   pub name_is : finding.name.items ≡ name_text setting pair.lines.reason places
@@ -126,28 +129,28 @@ found_of findings = record {
 abbrev pub nothing_found : Found
 nothing_found = record { findings = []; untold = []; refusals = 0; requests = 0; traces = 0 }
 
--- how many pairs of a trace are not kept, behind the first twenty
-abbrev pub untold_in : (file : List ℕ) → ℕ → List ℕ
-untold_in file count =
-    if nat_lt 20 count then codes "and " ++ counted (count - 20) (codes "more pair") ++ codes " of places in " ++ file ++ codes "\n" else []
+-- how many pairs of a trace are not kept, behind the first
+abbrev pub untold_in : (file : List ℕ) → (most count : ℕ) → List ℕ
+untold_in file most count =
+    if nat_lt most count then codes "and " ++ counted (count - most) (codes "more pair") ++ codes " of places in " ++ file ++ codes "\n" else []
 
--- with one trace more: the findings of its first twenty pairs, and how many pairs there are
-abbrev pub with_trace : (file : List ℕ) → List Entry → List Finding → (count : ℕ) → Found → Found
-with_trace file entries findings count found = record {
+-- with one trace more: the findings of its first pairs, and how many pairs there are
+abbrev pub with_trace : Extent → (file : List ℕ) → List Entry → List Finding → (count : ℕ) → Found → Found
+with_trace extent file entries findings count found = record {
   findings = with_findings found.findings findings;
-  untold = found.untold ++ untold_in file count;
+  untold = found.untold ++ untold_in file (most_pairs extent) count;
   refusals = added_up found.refusals (refusals_among entries);
   requests = added_up found.requests (length entries);
   traces = added_up found.traces 1;
 }
 
--- Findings of the first twenty of so many pairs were added.
-pub record AddsPairs (setting : Setting) (entries : List Entry) (old new : List Finding) (count : ℕ) : Type 0 where
+-- Findings of the first of so many pairs were added.
+pub record AddsPairs (setting : Setting) (entries : List Entry) (most : ℕ) (old new : List Finding) (count : ℕ) : Type 0 where
   pub pairs : List Pair
   pub are_pairs : ArePairs entries pairs
   pub count_is : count ≡ length pairs
   pub findings : List Finding
-  pub all_found : AllFound setting entries (take 20 pairs) findings
+  pub all_found : AllFound setting entries (take most pairs) findings
   pub new_is : new ≡ with_findings old findings
 
 -- Findings of all these pairs were added.
@@ -157,14 +160,14 @@ pub record AddsAll (setting : Setting) (entries : List Entry) (pairs : List Pair
   pub new_is : new ≡ with_findings old findings
 
 -- A trace was added.
-pub record AddsTrace (file : List ℕ) (setting : Setting) (entries : List Entry) (old new : Found) : Type 0 where
+pub record AddsTrace (extent : Extent) (file : List ℕ) (setting : Setting) (entries : List Entry) (old new : Found) : Type 0 where
   pub count : ℕ
   pub pairs : List Pair
   pub are_pairs : ArePairs entries pairs
   pub count_is : count ≡ length pairs
   pub findings : List Finding
-  pub all_found : AllFound setting entries (take 20 pairs) findings
-  pub new_is : new ≡ with_trace file entries findings count old
+  pub all_found : AllFound setting entries (take (most_pairs extent) pairs) findings
+  pub new_is : new ≡ with_trace extent file entries findings count old
 
 -- ---- what is told of them
 
@@ -181,10 +184,10 @@ clean_found_text found =
     codes "clean: in none of these " ++ traces_text found.traces ++
     codes " do two of the accesses race, in whatever order its strands run\njudged: " ++ requests_text found
 
--- how many findings are not told, behind the first twenty
-abbrev pub findings_left_out : ℕ → List ℕ
-findings_left_out count =
-    if nat_lt 20 count then codes "and " ++ counted (count - 20) (codes "more pair") ++ codes " of places\n" else []
+-- how many findings are not told, behind the first
+abbrev pub findings_left_out : (most count : ℕ) → List ℕ
+findings_left_out most count =
+    if nat_lt most count then codes "and " ++ counted (count - most) (codes "more pair") ++ codes " of places\n" else []
 
 -- at how many pairs of places, where all are kept
 abbrev pub at_pairs : (untold : List ℕ) → ℕ → List ℕ
@@ -199,11 +202,11 @@ found_summary found =
 abbrev pub findings_text : List Finding → List ℕ
 findings_text findings = flat_map finding_text findings
 
--- the first twenty findings, how many there are more, and how many refusals there were
-abbrev pub races_found_text : Found → List ℕ
-races_found_text found =
-    findings_text (take 20 found.findings) ++ findings_left_out (length found.findings) ++ found.untold ++ found_summary found
+-- the first findings, how many there are more, and how many refusals there were
+abbrev pub races_found_text : Extent → Found → List ℕ
+races_found_text extent found =
+    findings_text (take (most_pairs extent) found.findings) ++ findings_left_out (most_pairs extent) (length found.findings) ++ found.untold ++ found_summary found
 
 -- what is told of what is found in several traces
-abbrev pub found_text : Found → List ℕ
-found_text found = if found.refusals == 0 then clean_found_text found else races_found_text found
+abbrev pub found_text : Extent → Found → List ℕ
+found_text extent found = if found.refusals == 0 then clean_found_text found else races_found_text extent found

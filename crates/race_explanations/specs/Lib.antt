@@ -2,10 +2,13 @@ pub mod Settings
 pub mod Scenes
 pub mod Accounts
 pub mod Names
+pub mod Extents
+pub mod Cases
 pub mod Titles
 pub mod Paths
 pub mod Advice
 pub mod Messages
+pub mod Groups
 pub mod Explained
 pub mod Findings
 pub mod Illegal

@@ -1,5 +1,5 @@
 -- What is told of a pair of lines that raced.
-use Rattle.std.specs.Prelude.{ℕ, List, [], ◌++◌, codes, Some, unwrap_or}
+use Rattle.std.specs.Prelude.{ℕ, List, [], ◌++◌, codes, Option, Some, None, unwrap_or}
 use Rattle.race_pairs.specs.Refusals.{line_in}
 use Rattle.race_pairs.specs.declared.refusal.Reason.{Reason}
 use Rattle.race_pairs.specs.declared.refusal.Reason.TheVariants.{Race, ViewRead, Unset}
@@ -8,7 +8,8 @@ use Rattle.race_pairs.specs.declared.encounter.Encounter.{Encounter}
 use Rattle.race_explanations.specs.Settings.{Setting}
 use Rattle.race_explanations.specs.Titles.{title_text}
 use Rattle.race_explanations.specs.Paths.{access_text, chain_text}
-use Rattle.race_explanations.specs.Advice.{between, parting_text, outstanding_text, put_text}
+use Rattle.race_explanations.specs.declared.case.Case.{Case}
+use Rattle.race_explanations.specs.Advice.{between, parted_text, opened_text, help_note, sync_help_of, move_help_of, put_help}
 
 -- ---- words
 
@@ -39,12 +40,28 @@ abbrev pub refused_text : Setting → Pair → Encounter → List ℕ
 refused_text setting pair encounter =
     access_text setting pair.first (Some encounter.refused) 94 ++ verdict_words pair.lines.reason ++ chain_text setting encounter.chain.items
 
--- What would order the two.
+-- Where the two strands of a race part, and of a view-read race which spawn is outstanding at one of them alone.
+abbrev pub where_text : Reason → Setting → Pair → Encounter → List ℕ
+where_text (Race earlier refused) setting pair encounter =
+    parted_text setting pair encounter.refused.strand encounter.parting (line_in setting.lines (unwrap_or encounter.onward 0))
+where_text ViewRead setting pair encounter = opened_text setting pair encounter.refused.strand encounter.outstanding
+where_text Unset setting pair encounter = []
+
+-- What would order the two, where it is known.
+abbrev pub help_of : Reason → Setting → Pair → Encounter → Option (List ℕ)
+help_of (Race earlier refused) setting pair encounter =
+    sync_help_of setting (line_in setting.lines (unwrap_or encounter.onward 0)) encounter.parting
+help_of ViewRead setting pair encounter = move_help_of setting pair encounter.refused.strand encounter.outstanding
+help_of Unset setting pair encounter = Some put_help
+
+-- The same of one of several races that part at one spawn: what would order all of them is told once.
+abbrev pub own_help_of : Reason → Setting → Pair → Encounter → Option (List ℕ)
+own_help_of (Race earlier refused) setting pair encounter = None
+own_help_of reason setting pair encounter = help_of reason setting pair encounter
+
+-- Where they part, and what would order them.
 abbrev pub advice_text : Reason → Setting → Pair → Encounter → List ℕ
-advice_text (Race earlier refused) setting pair encounter =
-    parting_text setting pair encounter.refused.strand encounter.parting (line_in setting.lines (unwrap_or encounter.onward 0))
-advice_text ViewRead setting pair encounter = outstanding_text setting pair encounter.refused.strand encounter.outstanding
-advice_text Unset setting pair encounter = put_text setting
+advice_text reason setting pair encounter = where_text reason setting pair encounter ++ help_note setting (help_of reason setting pair encounter)
 
 -- All that is told of a pair of lines: the kind of the race and where it is, the two accesses with what led there, and what would order
 -- them.
@@ -52,3 +69,16 @@ abbrev pub message : Setting → Pair → List ℕ → Encounter → List ℕ
 message setting pair places encounter =
     title_text setting pair places ++ earlier_text pair.lines.reason setting pair encounter ++ refused_text setting pair encounter ++
     advice_text pair.lines.reason setting pair encounter ++ codes "\n"
+
+-- The same of a case.
+abbrev pub case_text : Setting → Case → List ℕ
+case_text setting case = message setting case.race.now.pair case.race.now.places.items case.encounter
+
+-- The same of one of several races that part at one spawn.
+abbrev pub member_message : Setting → Pair → List ℕ → Encounter → List ℕ
+member_message setting pair places encounter =
+    title_text setting pair places ++ earlier_text pair.lines.reason setting pair encounter ++ refused_text setting pair encounter ++
+    (where_text pair.lines.reason setting pair encounter ++ help_note setting (own_help_of pair.lines.reason setting pair encounter)) ++ codes "\n"
+
+abbrev pub member_text : Setting → Case → List ℕ
+member_text setting case = member_message setting case.race.now.pair case.race.now.places.items case.encounter

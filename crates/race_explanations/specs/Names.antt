@@ -1,11 +1,15 @@
 -- Words for what stands in a program and in a run of it.
-use Rattle.std.specs.Prelude.{ℕ, nat_lt, List, [], ◌∷◌, codes, take, drop, Option, Some, None, if◌then◌else◌}
+use Rattle.std.specs.Prelude.{ℕ, nat_lt, Bool, true, false, List, [], ◌∷◌, codes, take, drop, Option, Some, None, if◌then◌else◌}
+use Rattle.std.specs.Str.{bytes_eq}
+use Rattle.trace_notes.specs.Places.{PlaceParts}
+use Rattle.trace_notes.specs.Notes.{noted_place}
 use Rattle.model_accesses.specs.Table.{spelling}
 use Rattle.model_bodies.specs.Codes.{Code}
 use Rattle.race_pairs.specs.declared.refusal.Side.{Side}
 use Rattle.race_pairs.specs.declared.encounter.Way.{Way}
 use Rattle.race_pairs.specs.declared.encounter.Way.TheVariants.{Spawned, Called}
 use Rattle.source_quotes.specs.Lines.{blanks, statement_length}
+use Rattle.race_explanations.specs.Settings.{Origin, in_program, in_trace}
 
 -- the name of the last of the functions that begins before a line, and else this name
 abbrev pub name_before : List ℕ → List Code → ℕ → List ℕ
@@ -15,6 +19,24 @@ name_before name (function ∷ functions) line = if nat_lt function.line line th
 -- the name of the function in which a line stands
 abbrev pub function_at : List Code → ℕ → List ℕ
 function_at functions line = name_before [] functions line
+
+-- the function in which a place of a trace stands, where its note says so
+abbrev pub noted_function : Option PlaceParts → Option (List ℕ)
+noted_function (Some place) = place.function
+noted_function None = None
+
+-- the two are one name, or there is none of both
+abbrev pub is_one_name : Option (List ℕ) → Option (List ℕ) → Bool
+is_one_name (Some one) (Some other) = bytes_eq one other
+is_one_name (Some one) None = false
+is_one_name None (Some other) = false
+is_one_name None None = true
+
+-- two lines stand in one function, as far as it is known
+abbrev pub are_in_one_function : Origin → (line other : ℕ) → Bool
+are_in_one_function (in_program file source functions) line other = bytes_eq (function_at functions line) (function_at functions other)
+are_in_one_function (in_trace notes) line other =
+    is_one_name (noted_function (noted_place notes line)) (noted_function (noted_place notes other))
 
 -- what an access did, where there is one
 abbrev pub side_word : Option Side → List ℕ

@@ -1,20 +1,20 @@
 //! Where two strands part, and what would order them.
 
-ghost use Rattle.std.specs.Prelude.{◌≡◌, Some};
+ghost use Rattle.std.specs.Prelude.{◌≡◌, Some, IfOk, OnOk};
 ghost use Rattle.std.specs.Option.{option_map};
 ghost use Rattle.trace_notes.specs.Places.{place_parts};
 ghost use Rattle.race_explanations.specs.Accounts.{Adds};
 ghost use Rattle.race_explanations.specs.Scenes.{setting_of};
-ghost use Rattle.race_explanations.specs.Advice.{between, line_on, spawn_line, function_word, parts_text, missing_text};
-ghost use Rattle.race_explanations.specs.Advice.{spawner_word, place_word, rounds_words};
-ghost use Rattle.race_explanations.specs.Advice.{sync_text, parting_text, open_text, move_text, outstanding_text, put_text};
+ghost use Rattle.race_explanations.specs.Advice.{between, line_on, spawn_line, function_word, parts_text, parted_text, open_text, opened_text};
+ghost use Rattle.race_explanations.specs.Advice.{spawner_word, place_word, rounds_words, sync_before, missing_help, sync_help, move_help, put_help};
+ghost use Rattle.race_explanations.specs.Advice.{help_begun, help_note, sync_help_of, move_help_of, rounds_note, sync_note};
 
 use crate::account::Account;
 use crate::paths::{push_line, push_shown};
 use crate::scene::{Origin, Scene};
 use crate::words::{function_in, line_of};
 use race_pairs::{OpenSpawn, Pair, Parting};
-use std::alloc::Global;
+use std::alloc::{AllocError, Global};
 use trace_notes::Place;
 
 /// Adds what stands between two quotes.
@@ -75,7 +75,7 @@ fn push_place_name(account: &mut Account, place: Option<Place<'_>>)
 }
 
 /// Adds the name of the function in which a line stands.
-fn push_function(account: &mut Account, scene: &Scene<'_, '_>, line: u32)
+pub(crate) fn push_function(account: &mut Account, scene: &Scene<'_, '_>, line: u32)
     ensures { Adds account.old (function_word (setting_of scene.now) line) account.new }
 {
     match &scene.origin {
@@ -106,16 +106,21 @@ fn push_parts(
     account.push_words("\n");
 }
 
-/// Adds that a sync would order two strands.
-fn push_missing(account: &mut Account, scene: &Scene<'_, '_>, line: u32, onward: u32)
-    ensures { Adds account.old (missing_text (setting_of scene.now) line onward) account.new }
+/// Adds where two strands part.
+pub(crate) fn push_parted(
+    account: &mut Account,
+    scene: &Scene<'_, '_>,
+    pair: &Pair,
+    refused: u32,
+    parting: Option<Parting>,
+    onward: u32,
+)
+    ensures { Adds account.old (parted_text (setting_of scene.now) pair.now refused parting onward) account.new }
 {
-    account.begin_source_note(scene);
-    account.push_words("help: a `sync` in ");
-    push_function(account, scene, line);
-    account.push_words(" before ");
-    push_line(account, scene, onward);
-    account.push_words(" would order them\n");
+    match parting {
+        Some(parting) => push_parts(account, scene, pair, refused, &parting, onward),
+        None => {}
+    }
 }
 
 /// What would order the rounds of a loop.
@@ -124,44 +129,140 @@ fn rounds_words(scene: &Scene<'_, '_>) -> &'static str
 {
     match &scene.origin {
         Origin::Program { .. } => {
-            "help: rounds of one `pfor` are never ordered: give each a cell of its own, or use a reducer\n"
+            "rounds of one `pfor` are never ordered: give each a cell of its own, or use a reducer"
         }
         Origin::Trace { .. } => {
-            "help: what is spawned here again and again is never ordered: give each a place of its own, or use a reducer\n"
+            "what is spawned here again and again is never ordered: give each a place of its own, or use a reducer"
         }
     }
 }
 
+/// Adds a sync in the function in which a line stands, before another line.
+fn push_sync_before(account: &mut Account, scene: &Scene<'_, '_>, line: u32, onward: u32)
+    ensures { Adds account.old (sync_before (setting_of scene.now) line onward) account.new }
+{
+    account.push_words("a `sync` in ");
+    push_function(account, scene, line);
+    account.push_words(" before ");
+    push_line(account, scene, onward);
+}
+
+/// Adds that a sync would order two strands.
+fn push_missing(account: &mut Account, scene: &Scene<'_, '_>, line: u32, onward: u32)
+    ensures { Adds account.old (missing_help (setting_of scene.now) line onward) account.new }
+{
+    push_sync_before(account, scene, line, onward);
+    account.push_words(" would order them");
+}
+
 /// Adds what would order two strands that part at a spawn on one line, behind which the spawner goes on to another.
-fn push_sync(account: &mut Account, scene: &Scene<'_, '_>, line: u32, onward: u32)
-    ensures { Adds account.old (sync_text (setting_of scene.now) line onward) account.new }
+fn push_sync_help(account: &mut Account, scene: &Scene<'_, '_>, line: u32, onward: u32)
+    ensures { Adds account.old (sync_help (setting_of scene.now) line onward) account.new }
 {
     if line == onward {
-        account.begin_source_note(scene);
         account.push_words(rounds_words(scene));
     } else {
         push_missing(account, scene, line, onward);
     }
 }
 
-/// Adds where two strands part and what would order them.
-pub(crate) fn push_parting(
+/// Adds what makes a read on one line the same in every run, where a spawn on another is outstanding.
+fn push_move_help(account: &mut Account, scene: &Scene<'_, '_>, at: u32, line: u32)
+    ensures { Adds account.old (move_help (setting_of scene.now) at line) account.new }
+{
+    account.push_words("move what stands on ");
+    push_line(account, scene, at);
+    account.push_words(" behind the `sync` of ");
+    push_function(account, scene, line);
+    account.push_words(", where this spawn has ended");
+}
+
+/// What makes a get find something.
+fn put_help() -> &'static str
+    ensures { result.now ≡ put_help }
+{
+    "a `put` into it has to come first in the serial order"
+}
+
+/// Begins a note that helps.
+fn begin_help(account: &mut Account, scene: &Scene<'_, '_>)
+    ensures { Adds account.old (help_begun (setting_of scene.now)) account.new }
+{
+    account.begin_source_note(scene);
+    account.push_words("help: ");
+}
+
+/// Adds a note on what would order the rounds of a loop.
+pub(crate) fn push_rounds(account: &mut Account, scene: &Scene<'_, '_>)
+    ensures { Adds account.old (rounds_note (setting_of scene.now)) account.new }
+{
+    begin_help(account, scene);
+    account.push_words(rounds_words(scene));
+    account.push_words("\n");
+}
+
+/// Adds a note on a sync in the function in which a line stands, before another line, which does so.
+pub(crate) fn push_sync(
+    account: &mut Account,
+    scene: &Scene<'_, '_>,
+    line: u32,
+    onward: u32,
+    does: &str,
+)
+    ensures { Adds account.old (sync_note (setting_of scene.now) line onward does.now) account.new }
+{
+    begin_help(account, scene);
+    push_sync_before(account, scene, line, onward);
+    account.push_words(does);
+}
+
+/// Adds a note on what would order two strands that part there.
+pub(crate) fn push_sync_note(
+    account: &mut Account,
+    scene: &Scene<'_, '_>,
+    onward: u32,
+    parting: Option<Parting>,
+)
+    ensures { Adds account.old (help_note (setting_of scene.now) (sync_help_of (setting_of scene.now) onward parting)) account.new }
+{
+    match parting {
+        Some(parting) => {
+            begin_help(account, scene);
+            push_sync_help(account, scene, line_of(scene, parting.entry), onward);
+            account.push_words("\n");
+        }
+        None => {}
+    }
+}
+
+/// Adds a note on what makes a read the same in every run.
+pub(crate) fn push_move_note(
     account: &mut Account,
     scene: &Scene<'_, '_>,
     pair: &Pair,
     refused: u32,
-    parting: Option<Parting>,
-    onward: u32,
+    spawn: Option<OpenSpawn>,
 )
-    ensures { Adds account.old (parting_text (setting_of scene.now) pair.now refused parting onward) account.new }
+    ensures { Adds account.old (help_note (setting_of scene.now) (move_help_of (setting_of scene.now) pair.now refused spawn)) account.new }
 {
-    match parting {
-        Some(parting) => {
-            push_parts(account, scene, pair, refused, &parting, onward);
-            push_sync(account, scene, line_of(scene, parting.entry), onward);
+    match spawn {
+        Some(spawn) => {
+            begin_help(account, scene);
+            let at = line_on(pair, refused, spawn.parallel);
+            push_move_help(account, scene, at, line_of(scene, spawn.entry));
+            account.push_words("\n");
         }
         None => {}
     }
+}
+
+/// Adds a note on what makes a get find something.
+pub(crate) fn push_put_note(account: &mut Account, scene: &Scene<'_, '_>)
+    ensures { Adds account.old (help_note (setting_of scene.now) (Some put_help)) account.new }
+{
+    begin_help(account, scene);
+    account.push_words(put_help());
+    account.push_words("\n");
 }
 
 /// Adds that a spawn is outstanding at one of two reads and not at the other.
@@ -184,48 +285,55 @@ fn push_open(
     account.push_words("\n");
 }
 
-/// Adds what makes a read the same in every run.
-fn push_move(
-    account: &mut Account,
-    scene: &Scene<'_, '_>,
-    pair: &Pair,
-    refused: u32,
-    spawn: &OpenSpawn,
-)
-    ensures { Adds account.old (move_text (setting_of scene.now) pair.now refused spawn.now) account.new }
-{
-    account.begin_source_note(scene);
-    let at = line_on(pair, refused, spawn.parallel);
-    account.push_words("help: move what stands on ");
-    push_line(account, scene, at);
-    account.push_words(" behind the `sync` of ");
-    push_function(account, scene, line_of(scene, spawn.entry));
-    account.push_words(", where this spawn has ended\n");
-}
-
-/// Adds which spawn makes the peers of two reads differ, and what makes the reads the same in every run.
-pub(crate) fn push_outstanding(
+/// Adds which spawn makes the peers of two reads differ.
+pub(crate) fn push_opened(
     account: &mut Account,
     scene: &Scene<'_, '_>,
     pair: &Pair,
     refused: u32,
     spawn: Option<OpenSpawn>,
 )
-    ensures { Adds account.old (outstanding_text (setting_of scene.now) pair.now refused spawn) account.new }
+    ensures { Adds account.old (opened_text (setting_of scene.now) pair.now refused spawn) account.new }
 {
     match spawn {
-        Some(spawn) => {
-            push_open(account, scene, pair, refused, &spawn);
-            push_move(account, scene, pair, refused, &spawn);
-        }
+        Some(spawn) => push_open(account, scene, pair, refused, &spawn),
         None => {}
     }
 }
 
-/// Adds what makes a get find something.
-pub(crate) fn push_put(account: &mut Account, scene: &Scene<'_, '_>)
-    ensures { Adds account.old (put_text (setting_of scene.now)) account.new }
+/// What would order two strands that part at a spawn on one line, behind which the spawner goes on to another.
+pub(crate) fn sync_help(
+    alloc: Global,
+    scene: &Scene<'_, '_>,
+    line: u32,
+    onward: u32,
+) -> Result<Vec<u8>, AllocError>
+    ensures { IfOk result (λ help. help.items ≡ sync_help (setting_of scene.now) line onward) }
 {
-    account.begin_source_note(scene);
-    account.push_words("help: a `put` into it has to come first in the serial order\n");
+    let mut account = Account::new(alloc);
+    push_sync_help(&mut account, scene, line, onward);
+    account.end()
+}
+
+/// What makes a read on one line the same in every run, where a spawn on another is outstanding.
+pub(crate) fn move_help(
+    alloc: Global,
+    scene: &Scene<'_, '_>,
+    at: u32,
+    line: u32,
+) -> Result<Vec<u8>, AllocError>
+    ensures { IfOk result (λ help. help.items ≡ move_help (setting_of scene.now) at line) }
+{
+    let mut account = Account::new(alloc);
+    push_move_help(&mut account, scene, at, line);
+    account.end()
+}
+
+/// What makes a get find something.
+pub(crate) fn put_words(alloc: Global) -> Result<Vec<u8>, AllocError>
+    ensures { IfOk result (λ help. help.items ≡ put_help) }
+{
+    let mut account = Account::new(alloc);
+    account.push_words(put_help());
+    account.end()
 }

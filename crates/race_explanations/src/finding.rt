@@ -2,7 +2,7 @@
 
 ghost use Rattle.std.specs.Prelude.{◌≡◌, List, map, IfOk, OnOk};
 ghost use Rattle.model_histories.specs.declared.answer.Entry.{Entry};
-ghost use Rattle.race_pairs.specs.Digests.{IsDigest};
+ghost use Rattle.race_pairs.specs.Digests.{IsDigest, most_of};
 ghost use Rattle.race_pairs.specs.Encounters.{IsRaceOf, AreRacesOf};
 ghost use Rattle.race_explanations.specs.Scenes.{setting_of};
 ghost use Rattle.race_explanations.specs.Findings.{kind_text, name_text, body_text, IsOfTrace, IsFinding, AddsAll, AddsPairs};
@@ -154,7 +154,7 @@ pub(crate) fn add_pairs(
     requires digest { (entries : List Entry) × IsDigest entries scene.now.digest.now }
     requires trace { IsOfTrace (setting_of scene.now).origin }
     ensures { IfOk result (λ count. (entries : List Entry) → IsDigest entries scene.now.digest.now →
-        AddsPairs (setting_of scene.now) entries findings.old.items findings.new.items count) }
+        AddsPairs (setting_of scene.now) entries (most_of scene.now.digest.now) findings.old.items findings.new.items count) }
 {
     add_all(alloc, scene, scene.digest.races(), findings)?;
     Ok(scene.digest.pair_count())

@@ -2,18 +2,20 @@
 
 ghost use Rattle.std.specs.Prelude.{◌≡◌, ◌++◌, ◌==◌, List, IfOk, OnOk, length, take};
 ghost use Rattle.model_histories.specs.declared.answer.Entry.{Entry};
-ghost use Rattle.race_pairs.specs.Digests.{IsDigest};
+ghost use Rattle.race_pairs.specs.Digests.{IsDigest, most_of};
 ghost use Rattle.trace_text.specs.Traces.{contents as trace_contents};
 ghost use Rattle.race_explanations.specs.Accounts.{Adds};
 ghost use Rattle.race_explanations.specs.Explained.{trace_setting};
+ghost use Rattle.race_explanations.specs.Extents.{most_pairs};
 ghost use Rattle.race_explanations.specs.Findings.{found_of, nothing_found, untold_in, AddsTrace, finding_text, findings_text, findings_left_out};
 ghost use Rattle.race_explanations.specs.Findings.{requests_text, at_pairs, found_summary, clean_found_text, races_found_text, found_text};
 
 use crate::account::Account;
+use crate::extent::{Extent, most_pairs};
 use crate::finding::{Finding, add_pairs};
 use crate::settings::trace_scene;
 use crate::title::push_left_out;
-use race_pairs::{Digest, PAIRS};
+use race_pairs::Digest;
 use source_quotes::push_count;
 use std::alloc::{AllocError, Global};
 use text_buffers::push_words;
@@ -45,14 +47,14 @@ impl Drop for Findings {
 }
 
 /// Adds how many pairs of a trace are not kept.
-fn push_untold(text: &mut Vec<u8>, file: &str, count: usize) -> Result<(), AllocError>
-    ensures { OnOk result (text.new.items ≡ text.old.items ++ untold_in file.now count) }
+fn push_untold(text: &mut Vec<u8>, file: &str, most: usize, count: usize) -> Result<(), AllocError>
+    ensures { OnOk result (text.new.items ≡ text.old.items ++ untold_in file.now most count) }
 {
-    if count <= PAIRS {
+    if count <= most {
         return Ok(());
     }
     push_words(text, "and ")?;
-    push_count(text, count - PAIRS, "more pair")?;
+    push_count(text, count - most, "more pair")?;
     push_words(text, " of places in ")?;
     push_words(text, file)?;
     push_words(text, "\n")
@@ -81,14 +83,14 @@ fn tell_findings(account: &mut Account, findings: &[Finding])
 }
 
 /// Tells how many pairs are kept, and not told.
-fn tell_left_out(account: &mut Account, count: usize)
-    ensures { Adds account.old (findings_left_out count) account.new }
+fn tell_left_out(account: &mut Account, most: usize, count: usize)
+    ensures { Adds account.old (findings_left_out most count) account.new }
 {
-    if count <= PAIRS {
+    if count <= most {
         return;
     }
     account.push_words("and ");
-    account.push_count(count - PAIRS, "more pair");
+    account.push_count(count - most, "more pair");
     account.push_words(" of places\n");
 }
 
@@ -118,24 +120,26 @@ impl Findings {
         }
     }
 
-    /// Adds what is found in a trace, of whose entries this is the digest: its first twenty pairs of places. Errors where there is
-    /// no memory.
+    /// Adds what is found in a trace, of whose entries this is the digest: as many of its first pairs of places as the digest keeps, which is
+    /// what the extent wants. Errors where there is no memory.
     pub fn add<'s>(
         &mut self,
         alloc: Global,
         is_painted: bool,
+        extent: Extent,
         file: &str,
         notes: &'s Notes<Global>,
         trace: &'s Trace<Global>,
         digest: &'s Digest,
     ) -> Result<(), AllocError>
-        requires { (entries : List Entry) × IsDigest entries digest.now }
+        requires digest { (entries : List Entry) × IsDigest entries digest.now }
+        requires most { most_of digest.now ≡ most_pairs extent }
         ensures { OnOk result ((entries : List Entry) → IsDigest entries digest.now →
-            AddsTrace file.now (trace_setting is_painted notes.now (trace_contents trace.now).known entries) entries (found_of self.old) (found_of self.new)) }
+            AddsTrace extent file.now (trace_setting is_painted notes.now (trace_contents trace.now).known entries) entries (found_of self.old) (found_of self.new)) }
     {
         let scene = trace_scene(is_painted, notes, trace, digest);
         let count = add_pairs(alloc, &scene, &mut self.list)?;
-        push_untold(&mut self.untold, file, count)?;
+        push_untold(&mut self.untold, file, most_pairs(extent), count)?;
         self.refusals = self.refusals.saturating_add(digest.refusals);
         self.requests = self.requests.saturating_add(digest.lines.len());
         self.traces = self.traces.saturating_add(1);
@@ -182,34 +186,35 @@ impl Findings {
     }
 
     /// Tells what raced.
-    fn tell_races(&self, account: &mut Account)
-        ensures { Adds account.old (races_found_text (found_of self.now)) account.new }
+    fn tell_races(&self, extent: Extent, account: &mut Account)
+        ensures { Adds account.old (races_found_text extent (found_of self.now)) account.new }
     {
-        let (first, _) = self.list.as_slice().split_at(self.list.len().min(PAIRS));
+        let most = most_pairs(extent);
+        let (first, _) = self.list.as_slice().split_at(self.list.len().min(most));
         tell_findings(account, first);
-        tell_left_out(account, self.list.len());
+        tell_left_out(account, most, self.list.len());
         account.push_bytes(self.untold.as_slice());
         self.tell_summary(account);
     }
 
     /// Tells what raced, or that nothing was refused.
-    fn tell(&self, account: &mut Account)
-        ensures { Adds account.old (found_text (found_of self.now)) account.new }
+    fn tell(&self, extent: Extent, account: &mut Account)
+        ensures { Adds account.old (found_text extent (found_of self.now)) account.new }
     {
         if self.is_clean() {
             self.tell_clean(account);
         } else {
-            self.tell_races(account);
+            self.tell_races(extent, account);
         }
     }
 
-    /// What is told of all traces: each of the first twenty pairs of places as where its trace is told alone, with the counts of all that
+    /// What is told of all traces: each of the first pairs of places as where its trace is told alone and has no other, with the counts of all that
     /// are told alike, how many more there are, and how many refusals; or that nothing was refused. Errors where there is no memory.
-    pub fn to_message(&self, alloc: Global) -> Result<Vec<u8>, AllocError>
-        ensures { IfOk result (λ text. text.items ≡ found_text (found_of self.now)) }
+    pub fn to_message(&self, alloc: Global, extent: Extent) -> Result<Vec<u8>, AllocError>
+        ensures { IfOk result (λ text. text.items ≡ found_text extent (found_of self.now)) }
     {
         let mut account = Account::new(alloc);
-        self.tell(&mut account);
+        self.tell(extent, &mut account);
         account.end()
     }
 }

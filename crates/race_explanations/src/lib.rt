@@ -3,15 +3,19 @@
 //!
 //! [`explanation`] tells the entries of a run. Its contract says that its text tells each pair of lines that raced once, in the order
 //! of their first refusals, with what a witness of the refusal is and the spawn where its strand and the refused one part, as the crate
-//! `race_pairs` defines these; and the text is a function of these values, letter by letter, in `specs/`.
+//! `race_pairs` defines these; that pairs which part at spawns on one line are told together; and the text is a function of these values,
+//! letter by letter, in `specs/`.
 //! [`illegal_explanation`] tells why a request of a trace is illegal, by a reason that [`find_illegality`] finds in the history before it.
 #![tactic(auto)]
 
 mod account;
 mod advice;
+mod case;
 mod explanations;
+mod extent;
 mod finding;
 mod findings;
+mod group;
 mod illegal;
 mod merge;
 mod message;
@@ -22,7 +26,9 @@ mod title;
 mod words;
 
 pub use advice::line_on;
+pub use case::{Case, cases_of};
 pub use explanations::{explanation, trace_explanation};
+pub use extent::{Extent, most_pairs};
 pub use finding::{Finding, finding_of};
 pub use findings::Findings;
 pub use illegal::{
@@ -30,6 +36,7 @@ pub use illegal::{
     title_words,
 };
 pub use merge::join_finding;
+pub use message::help_of;
 pub use scene::{Origin, Scene};
 pub use settings::{program_scene, trace_scene};
 pub use title::display_names;

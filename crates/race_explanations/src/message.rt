@@ -1,19 +1,25 @@
 //! What is told of a pair of lines that raced.
 
-ghost use Rattle.std.specs.Prelude.{◌≡◌};
+ghost use Rattle.std.specs.Prelude.{◌≡◌, ◌++◌, IfOk};
+ghost use Rattle.std.specs.Option.{option_map};
 ghost use Rattle.race_explanations.specs.Accounts.{Adds};
 ghost use Rattle.race_explanations.specs.Scenes.{setting_of};
-ghost use Rattle.race_explanations.specs.Messages.{witness_text, earlier_text};
-ghost use Rattle.race_explanations.specs.Messages.{verdict_words, refused_text, advice_text, message};
+ghost use Rattle.race_explanations.specs.Advice.{help_note, sync_help_of, move_help_of};
+ghost use Rattle.race_explanations.specs.Messages.{witness_text, earlier_text, where_text, help_of, own_help_of};
+ghost use Rattle.race_explanations.specs.Messages.{verdict_words, refused_text, advice_text, message, case_text, member_message, member_text};
 
 use crate::account::Account;
-use crate::advice::{push_between, push_outstanding, push_parting, push_put};
+use crate::advice::{
+    line_on, move_help, push_between, push_move_note, push_opened, push_parted, push_put_note,
+    push_sync_note, put_words, sync_help,
+};
+use crate::case::Case;
 use crate::paths::{push_access, push_chain};
 use crate::scene::Scene;
 use crate::title::push_title;
 use crate::words::line_of;
-use race_pairs::{Encounter, Pair, Reason};
-use std::alloc::Global;
+use race_pairs::{Encounter, OpenSpawn, Pair, Parting, Reason};
+use std::alloc::{AllocError, Global};
 
 /// What is told of the refused access on its own line.
 fn verdict_words(reason: Reason) -> &'static str
@@ -65,7 +71,115 @@ pub(crate) fn push_refused(
     push_chain(account, scene, encounter.chain.as_slice());
 }
 
+/// Adds where the two strands of a race part, and of a view-read race which spawn is outstanding at one of them alone.
+fn push_where(account: &mut Account, scene: &Scene<'_, '_>, pair: &Pair, encounter: &Encounter)
+    ensures { Adds account.old (where_text pair.now.lines.reason (setting_of scene.now) pair.now encounter.now) account.new }
+{
+    let refused = encounter.refused.strand;
+    match pair.lines.reason {
+        Reason::Race { .. } => {
+            let onward = line_of(scene, encounter.onward.unwrap_or(0));
+            push_parted(account, scene, pair, refused, encounter.parting, onward);
+        }
+        Reason::ViewRead => {
+            push_opened(account, scene, pair, refused, encounter.outstanding);
+        },
+        Reason::Unset => {}
+    }
+}
+
+/// Adds what would order the two of one of several races that part at one spawn, where it is not told of all of them.
+fn push_own_help(account: &mut Account, scene: &Scene<'_, '_>, pair: &Pair, encounter: &Encounter)
+    ensures { Adds account.old (help_note (setting_of scene.now) (own_help_of pair.now.lines.reason (setting_of scene.now) pair.now encounter.now)) account.new }
+{
+    match pair.lines.reason {
+        Reason::Race { .. } => {}
+        Reason::ViewRead => {
+            let refused = encounter.refused.strand;
+            push_move_note(account, scene, pair, refused, encounter.outstanding);
+        },
+        Reason::Unset => push_put_note(account, scene),
+    }
+}
+
 /// Adds what would order the two.
+fn push_help(account: &mut Account, scene: &Scene<'_, '_>, pair: &Pair, encounter: &Encounter)
+    ensures { Adds account.old (help_note (setting_of scene.now) (help_of pair.now.lines.reason (setting_of scene.now) pair.now encounter.now)) account.new }
+{
+    match pair.lines.reason {
+        Reason::Race { .. } => {
+            let onward = line_of(scene, encounter.onward.unwrap_or(0));
+            push_sync_note(account, scene, onward, encounter.parting);
+        }
+        Reason::ViewRead => {
+            let refused = encounter.refused.strand;
+            push_move_note(account, scene, pair, refused, encounter.outstanding);
+        },
+        Reason::Unset => push_put_note(account, scene),
+    }
+}
+
+/// What would order two strands that part there, where they part.
+fn sync_help_of(
+    alloc: Global,
+    scene: &Scene<'_, '_>,
+    onward: u32,
+    parting: Option<Parting>,
+) -> Result<Option<Vec<u8>>, AllocError>
+    ensures { IfOk result (λ help. option_map (λ words. words.items) help ≡ sync_help_of (setting_of scene.now) onward parting) }
+{
+    match parting {
+        Some(parting) => {
+            let line = line_of(scene, parting.entry);
+            Ok(Some(sync_help(alloc, scene, line, onward)?))
+        }
+        None => Ok(None),
+    }
+}
+
+/// What makes a read the same in every run, where that spawn is outstanding.
+fn move_help_of(
+    alloc: Global,
+    scene: &Scene<'_, '_>,
+    pair: &Pair,
+    refused: u32,
+    spawn: Option<OpenSpawn>,
+) -> Result<Option<Vec<u8>>, AllocError>
+    ensures { IfOk result (λ help. option_map (λ words. words.items) help ≡ move_help_of (setting_of scene.now) pair.now refused spawn) }
+{
+    match spawn {
+        Some(spawn) => {
+            let at = line_on(pair, refused, spawn.parallel);
+            let line = line_of(scene, spawn.entry);
+            Ok(Some(move_help(alloc, scene, at, line)?))
+        }
+        None => Ok(None),
+    }
+}
+
+/// What would order the two accesses of a race, in a sentence without an end, where it is known. Errors where there is no memory.
+pub fn help_of(
+    alloc: Global,
+    scene: &Scene<'_, '_>,
+    pair: &Pair,
+    encounter: &Encounter,
+) -> Result<Option<Vec<u8>>, AllocError>
+    ensures { IfOk result (λ help. option_map (λ words. words.items) help ≡ help_of pair.now.lines.reason (setting_of scene.now) pair.now encounter.now) }
+{
+    match pair.lines.reason {
+        Reason::Race { .. } => {
+            let onward = line_of(scene, encounter.onward.unwrap_or(0));
+            sync_help_of(alloc, scene, onward, encounter.parting)
+        }
+        Reason::ViewRead => {
+            let refused = encounter.refused.strand;
+            move_help_of(alloc, scene, pair, refused, encounter.outstanding)
+        }
+        Reason::Unset => Ok(Some(put_words(alloc)?)),
+    }
+}
+
+/// Adds where the two part, and what would order them.
 pub(crate) fn push_advice(
     account: &mut Account,
     scene: &Scene<'_, '_>,
@@ -74,21 +188,12 @@ pub(crate) fn push_advice(
 )
     ensures { Adds account.old (advice_text pair.now.lines.reason (setting_of scene.now) pair.now encounter.now) account.new }
 {
-    let refused = encounter.refused.strand;
-    match pair.lines.reason {
-        Reason::Race { .. } => {
-            let onward = line_of(scene, encounter.onward.unwrap_or(0));
-            push_parting(account, scene, pair, refused, encounter.parting, onward);
-        }
-        Reason::ViewRead => {
-            push_outstanding(account, scene, pair, refused, encounter.outstanding);
-        },
-        Reason::Unset => push_put(account, scene),
-    }
+    push_where(account, scene, pair, encounter);
+    push_help(account, scene, pair, encounter);
 }
 
 /// Adds all that is told of a pair of lines.
-pub(crate) fn push_message(
+fn push_message(
     alloc: Global,
     account: &mut Account,
     scene: &Scene<'_, '_>,
@@ -103,4 +208,69 @@ pub(crate) fn push_message(
     push_refused(account, scene, pair, encounter);
     push_advice(account, scene, pair, encounter);
     account.push_words("\n");
+}
+
+/// Adds all that is told of a race.
+pub(crate) fn push_case(
+    alloc: Global,
+    account: &mut Account,
+    scene: &Scene<'_, '_>,
+    case: &Case<'_>,
+)
+    ensures { Adds account.old (case_text (setting_of scene.now) case.now) account.new }
+{
+    push_message(
+        alloc,
+        account,
+        scene,
+        &case.race.pair,
+        case.race.places.as_slice(),
+        &case.encounter,
+    );
+}
+
+/// Adds where one of several races that part at one spawn does so, and what is not told of all of them.
+fn push_own_advice(account: &mut Account, scene: &Scene<'_, '_>, pair: &Pair, encounter: &Encounter)
+    ensures { Adds account.old (where_text pair.now.lines.reason (setting_of scene.now) pair.now encounter.now ++
+        help_note (setting_of scene.now) (own_help_of pair.now.lines.reason (setting_of scene.now) pair.now encounter.now)) account.new }
+{
+    push_where(account, scene, pair, encounter);
+    push_own_help(account, scene, pair, encounter);
+}
+
+/// Adds all that is told of one of several pairs that part at one spawn.
+fn push_member_message(
+    alloc: Global,
+    account: &mut Account,
+    scene: &Scene<'_, '_>,
+    pair: &Pair,
+    places: &[u32],
+    encounter: &Encounter,
+)
+    ensures { Adds account.old (member_message (setting_of scene.now) pair.now places.now encounter.now) account.new }
+{
+    push_title(alloc, account, scene, pair, places);
+    push_earlier(account, scene, pair, encounter);
+    push_refused(account, scene, pair, encounter);
+    push_own_advice(account, scene, pair, encounter);
+    account.push_words("\n");
+}
+
+/// Adds all that is told of one of several races that part at one spawn.
+pub(crate) fn push_member(
+    alloc: Global,
+    account: &mut Account,
+    scene: &Scene<'_, '_>,
+    case: &Case<'_>,
+)
+    ensures { Adds account.old (member_text (setting_of scene.now) case.now) account.new }
+{
+    push_member_message(
+        alloc,
+        account,
+        scene,
+        &case.race.pair,
+        case.race.places.as_slice(),
+        &case.encounter,
+    );
 }

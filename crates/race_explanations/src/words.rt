@@ -1,16 +1,19 @@
 //! Words for what stands in a program and in a run of it.
 
 ghost use Rattle.std.specs.Prelude.{◌≡◌};
+ghost use Rattle.std.specs.Option.{option_map};
+ghost use Rattle.trace_notes.specs.Places.{place_parts};
 ghost use Rattle.program_text.specs.Programs.{contents};
 ghost use Rattle.race_pairs.specs.Refusals.{line_in};
 ghost use Rattle.race_explanations.specs.Scenes.{setting_of};
-ghost use Rattle.race_explanations.specs.Names.{function_at, side_word, way_word};
+ghost use Rattle.race_explanations.specs.Names.{function_at, noted_function, is_one_name, are_in_one_function, side_word, way_word};
 
-use crate::scene::Scene;
+use crate::scene::{Origin, Scene};
 use access_table::word;
 use program_text::Program;
 use race_pairs::{Side, Way, line_in};
 use std::alloc::{Allocator, Global};
+use trace_notes::Place;
 
 /// The name of the function of a program in which a line stands.
 pub fn function_in<A: Allocator>(program: &Program<A>, line: u32) -> &str
@@ -24,6 +27,41 @@ pub fn function_in<A: Allocator>(program: &Program<A>, line: u32) -> &str
         name = function.name.as_str();
     }
     name
+}
+
+/// The function in which a place of a trace stands, where its note says so.
+fn noted_function<'a>(place: Option<Place<'a>>) -> Option<&'a str>
+    ensures { option_map (λ name. name.now) result ≡ noted_function (option_map place_parts place.entry) }
+{
+    match place {
+        Some(place) => place.function,
+        None => None,
+    }
+}
+
+/// Whether the two are one name, or there is none of both.
+fn is_one_name(one: Option<&str>, other: Option<&str>) -> bool
+    ensures { result ≡ is_one_name (option_map (λ name. name.now) one.entry) (option_map (λ name. name.now) other.entry) }
+{
+    match (one, other) {
+        (Some(one), Some(other)) => one == other,
+        (None, None) => true,
+        _ => false,
+    }
+}
+
+/// Whether two lines stand in one function, as far as it is known.
+pub(crate) fn are_in_one_function(scene: &Scene<'_, '_>, line: u32, other: u32) -> bool
+    ensures { result ≡ are_in_one_function (setting_of scene.now).origin line other }
+{
+    match &scene.origin {
+        Origin::Program { program, .. } => function_in(program, line)
+            == function_in(program, other),
+        Origin::Trace { notes } => is_one_name(
+            noted_function(notes.place_of(line)),
+            noted_function(notes.place_of(other)),
+        ),
+    }
 }
 
 /// The line of the entry with this number.

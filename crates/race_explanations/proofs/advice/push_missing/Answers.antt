@@ -1,7 +1,5 @@
-use Rattle.race_explanations.proofs.Accounts.{two_adds, five_adds}
+use Rattle.race_explanations.proofs.Accounts.{two_adds}
 use Rattle.race_explanations.proofs.advice.push_missing.Goals as goal
 
 pub returns : goal.returns
-returns c =
-    five_adds _ _ _ _ _ _ _ _ _ _ _ c.begin_source_note.ensures c.push_words.ensures c.push_function.ensures
-    (two_adds _ _ _ _ _ c.push_words-2.ensures c.push_line.ensures) c.push_words-3.ensures
+returns c = two_adds _ _ _ _ _ c.push_sync_before.ensures c.push_words.ensures

@@ -4,4 +4,4 @@ use Rattle.race_explanations.proofs.findings.tell_left_out.Goals as goal
 
 pub returns : goal.returns
 returns c =
-    then_adds _ _ (ltb 20 c.args.count) _ _ (search rules) (three_adds _ _ _ _ _ _ _ c.push_words.ensures c.push_count.ensures c.push_words-2.ensures)
+    then_adds _ _ (ltb c.args.most c.args.count) _ _ (search rules) (three_adds _ _ _ _ _ _ _ c.push_words.ensures c.push_count.ensures c.push_words-2.ensures)

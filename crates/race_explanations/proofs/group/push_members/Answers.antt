@@ -1,0 +1,14 @@
+use Rattle.std.proofs.Common.{rules, arith}
+use Rattle.std.proofs.lemmas.Grind.{common_steps}
+use Rattle.race_explanations.specs.Scenes.{setting_of}
+use Rattle.race_explanations.specs.Groups.{member_at}
+use Rattle.race_explanations.proofs.Accounts.{none_adds, one_more}
+use Rattle.race_explanations.proofs.group.push_members.Goals as goal
+
+pub loop-place-init : goal.loop-place-init
+loop-place-init c = none_adds c.args.account.now
+
+pub loop-place-preserved : goal.loop-place-preserved
+loop-place-preserved c =
+    one_more (member_at (setting_of c.args.scene.now) c.args.cases.now) c.args.places.now c.loop-place.place-index _ _ _ _
+    (first_of (search rules, grind (arith, common_steps))) c.loop-place.invariant c.push_member_at.ensures

@@ -1,0 +1,387 @@
+//! What is told of races whose strands part at spawns on one line.
+
+ghost use Rattle.std.specs.Prelude.{◌≡◌, ◌++◌, None, false, IfOk, OnOk};
+ghost use Rattle.race_explanations.specs.Accounts.{Adds};
+ghost use Rattle.race_explanations.specs.Scenes.{setting_of};
+ghost use Rattle.race_explanations.specs.Groups.{alone_at, alone_text, member_at, members_text, course_at, courses_of, before, nearer, first_among, is_ordered, has_round, leaves_open};
+ghost use Rattle.race_explanations.specs.Groups.{pairs_words, beside_text, first_text, rounds_text, is_sure, order_words, sync_text, head_text, behind_text, many_text, text_at_line, group_text, groups_text};
+
+use crate::account::Account;
+use crate::advice::{push_function, push_rounds, push_sync};
+use crate::case::{Case, Course, course_of};
+use crate::message::{push_case, push_member};
+use crate::paths::push_line;
+use crate::scene::{Origin, Scene};
+use crate::words::are_in_one_function;
+use race_pairs::Group;
+use std::alloc::{AllocError, Global};
+
+/// What there are pairs of.
+pub(crate) fn pairs_words(scene: &Scene<'_, '_>) -> &'static str
+    ensures { result.now ≡ pairs_words (setting_of scene.now).origin }
+{
+    match &scene.origin {
+        Origin::Program { .. } => " of lines",
+        Origin::Trace { .. } => " of places",
+    }
+}
+
+/// Tells of the race at a place as of one that is alone.
+fn push_alone_at(
+    alloc: Global,
+    account: &mut Account,
+    scene: &Scene<'_, '_>,
+    cases: &[Case<'_>],
+    place: usize,
+)
+    ensures { Adds account.old (alone_at (setting_of scene.now) cases.now place) account.new }
+{
+    match cases.get(place) {
+        Some(case) => push_case(alloc, account, scene, case),
+        None => {}
+    }
+}
+
+/// Tells of races as of such that are alone.
+fn push_alone(
+    alloc: Global,
+    account: &mut Account,
+    scene: &Scene<'_, '_>,
+    cases: &[Case<'_>],
+    places: &[usize],
+)
+    ensures { Adds account.old (alone_text (setting_of scene.now) cases.now places.now) account.new }
+{
+    for place in places {
+        push_alone_at(alloc, account, scene, cases, *place);
+    }
+}
+
+/// Tells of the race at a place as of one of several that part at one spawn.
+fn push_member_at(
+    alloc: Global,
+    account: &mut Account,
+    scene: &Scene<'_, '_>,
+    cases: &[Case<'_>],
+    place: usize,
+)
+    ensures { Adds account.old (member_at (setting_of scene.now) cases.now place) account.new }
+{
+    match cases.get(place) {
+        Some(case) => push_member(alloc, account, scene, case),
+        None => {}
+    }
+}
+
+/// Tells of races as of several that part at one spawn.
+fn push_members(
+    alloc: Global,
+    account: &mut Account,
+    scene: &Scene<'_, '_>,
+    cases: &[Case<'_>],
+    places: &[usize],
+)
+    ensures { Adds account.old (members_text (setting_of scene.now) cases.now places.now) account.new }
+{
+    for place in places {
+        push_member_at(alloc, account, scene, cases, *place);
+    }
+}
+
+/// Adds the course of the race at a place.
+fn add_course(
+    scene: &Scene<'_, '_>,
+    cases: &[Case<'_>],
+    place: usize,
+    courses: &mut Vec<Course>,
+) -> Result<(), AllocError>
+    ensures { OnOk result (courses.new.items ≡ courses.old.items ++ course_at (setting_of scene.now) cases.now place) }
+{
+    match cases.get(place) {
+        Some(case) => {
+            courses.push(course_of(scene, case))?;
+            Ok(())
+        }
+        None => Ok(()),
+    }
+}
+
+/// The courses of races. Errors where there is no memory.
+fn courses_of(
+    alloc: Global,
+    scene: &Scene<'_, '_>,
+    cases: &[Case<'_>],
+    places: &[usize],
+) -> Result<Vec<Course>, AllocError>
+    ensures { IfOk result (λ courses. courses.items ≡ courses_of (setting_of scene.now) cases.now places.now) }
+{
+    let mut courses = Vec::new(alloc);
+    for place in places {
+        add_course(scene, cases, *place, &mut courses)?;
+    }
+    Ok(courses)
+}
+
+/// The one of the two whose spawner goes on to the lesser line, and the first where these are one.
+fn before(best: Option<Course>, course: Course) -> Course
+    ensures { result ≡ before best course }
+{
+    match best {
+        Some(best) => {
+            if course.line < best.line {
+                course
+            } else {
+                best
+            }
+        }
+        None => course,
+    }
+}
+
+/// The same of such whose spawner goes on to another line than that of the spawn.
+fn nearer(best: Option<Course>, course: Course) -> Option<Course>
+    ensures { result ≡ nearer best course }
+{
+    if course.is_round {
+        best
+    } else {
+        Some(before(best, course))
+    }
+}
+
+/// The first of those whose spawner goes on to the least line, which is another than that of the spawn.
+fn first_among(courses: &[Course]) -> Option<Course>
+    ensures { result ≡ first_among None courses.now }
+{
+    let mut best = None;
+    for course in courses {
+        best = nearer(best, *course);
+    }
+    best
+}
+
+/// Whether some spawner goes on to the line of the spawn.
+fn has_round(courses: &[Course]) -> bool
+    ensures { result ≡ has_round false courses.now }
+{
+    let mut found = false;
+    for course in courses {
+        found |= course.is_round;
+    }
+    found
+}
+
+/// Whether a sync before the line of the first one stands before where the other goes on too: on that line, or behind it in the same call.
+fn is_ordered(first: Course, course: Course) -> bool
+    ensures { result ≡ is_ordered first course }
+{
+    if course.line == first.line {
+        return true;
+    }
+    if course.spawn == first.spawn {
+        return !(course.onward < first.onward);
+    }
+    false
+}
+
+/// Whether some are not ordered by a sync before the line of the first one.
+fn leaves_open(first: Course, courses: &[Course]) -> bool
+    ensures { result ≡ leaves_open first false courses.now }
+{
+    let mut found = false;
+    for course in courses {
+        found |= !is_ordered(first, *course);
+    }
+    found
+}
+
+/// Whether a sync in the function that spawns, before the line of the first one, orders them all.
+fn is_sure(scene: &Scene<'_, '_>, line: u32, first: Course, courses: &[Course]) -> bool
+    ensures { result ≡ is_sure (setting_of scene.now) line first courses.now }
+{
+    are_in_one_function(scene, line, first.line) && !leaves_open(first, courses)
+}
+
+/// What a sync does.
+fn order_words(is_sure: bool) -> &'static str
+    ensures { result.now ≡ order_words is_sure }
+{
+    if is_sure {
+        " would order them\n"
+    } else {
+        " may order them\n"
+    }
+}
+
+/// Adds beside what runs what is spawned on a line.
+fn push_beside(account: &mut Account, scene: &Scene<'_, '_>, line: u32, first: Option<Course>)
+    ensures { Adds account.old (beside_text (setting_of scene.now) line first) account.new }
+{
+    match first {
+        Some(first) => {
+            account.push_words("what ");
+            push_function(account, scene, line);
+            account.push_words(" does from ");
+            push_line(account, scene, first.line);
+            account.push_words(" on\n");
+        }
+        None => account.push_words("what is spawned there again\n"),
+    }
+}
+
+/// Adds how many races part at one spawn, and what runs beside what.
+fn push_first_line(
+    account: &mut Account,
+    scene: &Scene<'_, '_>,
+    line: u32,
+    count: usize,
+    first: Option<Course>,
+)
+    ensures { Adds account.old (first_text (setting_of scene.now) line count first) account.new }
+{
+    account.push_count(count, "pair");
+    account.push_words(pairs_words(scene));
+    account.push_words(" part at one spawn: what is spawned at ");
+    push_line(account, scene, line);
+    account.push_words(" runs beside ");
+    push_beside(account, scene, line, first);
+}
+
+/// Adds what orders the rounds among races that part at one spawn.
+fn push_rounds_of(account: &mut Account, scene: &Scene<'_, '_>, courses: &[Course])
+    ensures { Adds account.old (rounds_text (setting_of scene.now) courses.now) account.new }
+{
+    if has_round(courses) {
+        push_rounds(account, scene);
+    }
+}
+
+/// Adds the sync that orders the others.
+fn push_sync_of(
+    account: &mut Account,
+    scene: &Scene<'_, '_>,
+    line: u32,
+    first: Option<Course>,
+    courses: &[Course],
+)
+    ensures { Adds account.old (sync_text (setting_of scene.now) line first courses.now) account.new }
+{
+    match first {
+        Some(first) => {
+            let does = order_words(is_sure(scene, line, first, courses));
+            push_sync(account, scene, line, first.line, does);
+        }
+        None => {}
+    }
+}
+
+/// Adds how many races part at one spawn, and what orders them.
+fn push_head(
+    account: &mut Account,
+    scene: &Scene<'_, '_>,
+    line: u32,
+    count: usize,
+    courses: &[Course],
+)
+    ensures { Adds account.old (head_text (setting_of scene.now) line count courses.now) account.new }
+{
+    let first = first_among(courses);
+    push_first_line(account, scene, line, count, first);
+    push_rounds_of(account, scene, courses);
+    push_sync_of(account, scene, line, first, courses);
+    account.push_words("\n");
+}
+
+/// Adds how many of the races that part at one spawn are not shown.
+fn push_behind(account: &mut Account, scene: &Scene<'_, '_>, most: usize, count: usize)
+    ensures { Adds account.old (behind_text (setting_of scene.now).origin most count) account.new }
+{
+    if count <= most {
+        return;
+    }
+    account.push_words("and ");
+    account.push_count(count - most, "more pair");
+    account.push_words(pairs_words(scene));
+    account.push_words(" that part there (--all shows them)\n\n");
+}
+
+/// Tells of several races that part at one spawn.
+fn push_many(
+    alloc: Global,
+    account: &mut Account,
+    scene: &Scene<'_, '_>,
+    cases: &[Case<'_>],
+    line: u32,
+    places: &[usize],
+    most: usize,
+)
+    ensures { Adds account.old (many_text (setting_of scene.now) most cases.now line places.now) account.new }
+{
+    let Ok(courses) = courses_of(alloc, scene, cases, places) else {
+        return account.fail();
+    };
+    push_head(account, scene, line, places.len(), courses.as_slice());
+    let (shown, _) = places.split_at(places.len().min(most));
+    push_members(alloc, account, scene, cases, shown);
+    push_behind(account, scene, most, places.len());
+}
+
+/// Tells of races that part at spawns on a line.
+fn push_at_line(
+    alloc: Global,
+    account: &mut Account,
+    scene: &Scene<'_, '_>,
+    cases: &[Case<'_>],
+    line: u32,
+    places: &[usize],
+    most: usize,
+)
+    ensures { Adds account.old (text_at_line (setting_of scene.now) most cases.now line places.now) account.new }
+{
+    if places.len() > 1 {
+        push_many(alloc, account, scene, cases, line, places, most);
+    } else {
+        push_alone(alloc, account, scene, cases, places);
+    }
+}
+
+/// Tells of a group of races.
+fn push_group(
+    alloc: Global,
+    account: &mut Account,
+    scene: &Scene<'_, '_>,
+    cases: &[Case<'_>],
+    group: &Group,
+    most: usize,
+)
+    ensures { Adds account.old (group_text (setting_of scene.now) most cases.now group.now) account.new }
+{
+    match group.spawn {
+        Some(line) => push_at_line(
+            alloc,
+            account,
+            scene,
+            cases,
+            line,
+            group.places.as_slice(),
+            most,
+        ),
+        None => push_alone(alloc, account, scene, cases, group.places.as_slice()),
+    }
+}
+
+/// Tells of groups of races. Of those that part at one spawn so many are shown at most.
+pub(crate) fn push_groups(
+    alloc: Global,
+    account: &mut Account,
+    scene: &Scene<'_, '_>,
+    cases: &[Case<'_>],
+    groups: &[Group],
+    most: usize,
+)
+    ensures { Adds account.old (groups_text (setting_of scene.now) most cases.now groups.now) account.new }
+{
+    for group in groups {
+        push_group(alloc, account, scene, cases, group, most);
+    }
+}
