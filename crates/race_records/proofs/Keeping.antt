@@ -7,6 +7,8 @@ use Rattle.race_pairs.specs.declared.race.Race.{Race}
 use Rattle.race_pairs.specs.declared.digest.Digest.{Digest}
 use Rattle.race_pairs.specs.Digests.{IsDigest}
 use Rattle.race_explanations.specs.declared.finding.Finding.{Finding}
+use Rattle.race_explanations.specs.declared.extent.Extent.{Extent}
+use Rattle.race_explanations.specs.Extents.{most_pairs}
 use Rattle.race_explanations.specs.Settings.{Setting}
 use Rattle.race_explanations.specs.Findings.{added_up, IsFinding}
 use Rattle.race_records.specs.Races.{RaceParts}
@@ -38,10 +40,10 @@ race_kept setting entries old one two races index d finding race below before fo
     (subst (λ (pair : Pair). IsFinding setting entries pair finding) at found) (subst (λ (pair : Pair). IsRace setting entries pair race) at is_race) is
 
 -- the first pairs of a trace
-pub pairs_added : (setting : Setting) (entries : List Entry) (old new : Recorded) (pairs front : List Pair) (count : ℕ) → ArePairs entries pairs →
-    front ≡ take 20 pairs → count ≡ length pairs → AddsKept setting entries old.kept front new.kept →
-    new ≡ record old { kept = new.kept } → AddsPairs setting entries old new count
-pairs_added setting entries old new pairs front count are is count_is adds rest = record {
+pub pairs_added : (setting : Setting) (entries : List Entry) (most : ℕ) (old new : Recorded) (pairs front : List Pair) (count : ℕ) → ArePairs entries pairs →
+    front ≡ take most pairs → count ≡ length pairs → AddsKept setting entries old.kept front new.kept →
+    new ≡ record old { kept = new.kept } → AddsPairs setting entries most old new count
+pairs_added setting entries most old new pairs front count are is count_is adds rest = record {
   pairs = pairs;
   are_pairs = are;
   count_is = count_is;
@@ -50,17 +52,19 @@ pairs_added setting entries old new pairs front count are is count_is adds rest 
 }
 
 -- a trace more
-pub trace_added : (file : List ℕ) (setting other : Setting) (entries : List Entry) (digest : Digest) (old mid new : Recorded) (count : ℕ) → setting ≡ other →
-    IsDigest entries digest → AddsPairs setting entries old mid count → new.kept ≡ mid.kept → new.untold ≡ mid.untold ++ untold_in file count →
+pub trace_added : (extent : Extent) (most : ℕ) (file : List ℕ) (setting other : Setting) (entries : List Entry) (digest : Digest) (old mid new : Recorded) (count : ℕ) → setting ≡ other →
+    IsDigest entries digest → most ≡ most_pairs extent → AddsPairs setting entries most old mid count → new.kept ≡ mid.kept →
+    new.untold ≡ mid.untold ++ untold_in file (most_pairs extent) count →
     new.refusals ≡ added_up mid.refusals digest.refusals → new.requests ≡ added_up mid.requests (length digest.lines.items) →
-    new.traces ≡ added_up mid.traces 1 → AddsTrace file other entries old new
-trace_added file setting other entries digest old mid new count same is found kept untold refusals requests traces =
-    let pairs : AddsPairs other entries old mid count = subst (λ (s : Setting). AddsPairs s entries old mid count) same found in
+    new.traces ≡ added_up mid.traces 1 → AddsTrace extent file other entries old new
+trace_added extent most file setting other entries digest old mid new count same is limit found kept untold refusals requests traces =
+    let pairs : AddsPairs other entries (most_pairs extent) old mid count =
+    subst (λ (m : ℕ). AddsPairs other entries m old mid count) limit (subst (λ (s : Setting). AddsPairs s entries most old mid count) same found) in
     let long : length digest.lines.items ≡ length entries = ap length is.lines ∙ length-map entries (λ (entry : Entry). entry.request.line) in record {
       pairs = pairs.pairs;
       are_pairs = pairs.are_pairs;
-      kept = subst (λ (k : Kept). AddsKept other entries old.kept (take 20 pairs.pairs) k) (sym kept) pairs.kept;
-      untold_is = untold ∙ ap (λ (r : Recorded). r.untold ++ untold_in file count) pairs.rest ∙ ap (λ n. old.untold ++ untold_in file n) pairs.count_is;
+      kept = subst (λ (k : Kept). AddsKept other entries old.kept (take (most_pairs extent) pairs.pairs) k) (sym kept) pairs.kept;
+      untold_is = untold ∙ ap (λ (r : Recorded). r.untold ++ untold_in file (most_pairs extent) count) pairs.rest ∙ ap (λ n. old.untold ++ untold_in file (most_pairs extent) n) pairs.count_is;
       refusals_are = refusals ∙ ap (λ (r : Recorded). added_up r.refusals digest.refusals) pairs.rest ∙ ap (λ n. added_up old.refusals n) is.refusals;
       requests_are = requests ∙ ap (λ (r : Recorded). added_up r.requests (length digest.lines.items)) pairs.rest ∙ ap (λ n. added_up old.requests n) long;
       traces_are = traces ∙ ap (λ (r : Recorded). added_up r.traces 1) pairs.rest;

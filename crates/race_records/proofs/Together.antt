@@ -6,6 +6,8 @@ use Rattle.serde_json.specs.Data.{Data, null}
 use Rattle.serde_json.specs.View.{view}
 use Rattle.serde_json.specs.declared.value.Value.{Value}
 use Rattle.race_explanations.specs.declared.finding.Finding.{Finding}
+use Rattle.race_explanations.specs.declared.extent.Extent.{Extent}
+use Rattle.race_explanations.specs.Extents.{most_pairs}
 use Rattle.race_explanations.proofs.Telling.{first_of_all}
 use Rattle.race_records.specs.declared.race.Race.{Race}
 use Rattle.race_records.specs.RaceViews.{race_parts}
@@ -27,20 +29,21 @@ first_races races front most is =
     ap (map race_parts) (is ∙ first_of_all races most) ∙ sym (take-map race_parts most races)
 
 -- the races that are told
-pub races_first : (findings some : List Finding) (races front : List Race) (begun told : List Data) →
-    some ≡ take (min (length findings) 20) findings → front ≡ take (min (length races) 20) races → begun ≡ [] →
-    told ≡ begun ++ races_told some (map race_parts front) → told ≡ races_told (take 20 findings) (take 20 (map race_parts races))
-races_first findings some races front begun told some_is front_is empty is =
-    is ∙ ap (λ (before : List Data). before ++ races_told some (map race_parts front)) empty ∙
-    ap₂ races_told (some_is ∙ first_of_all findings 20) (first_races races front 20 front_is)
+pub races_first : (most limit : ℕ) (findings some : List Finding) (races front : List Race) (begun told : List Data) →
+    most ≡ limit → some ≡ take (min (length findings) most) findings → front ≡ take (min (length races) most) races → begun ≡ [] →
+    told ≡ begun ++ races_told 1 some (map race_parts front) → told ≡ races_told 1 (take limit findings) (take limit (map race_parts races))
+races_first most limit findings some races front begun told limit_is some_is front_is empty is =
+    is ∙ ap (λ (before : List Data). before ++ races_told 1 some (map race_parts front)) empty ∙
+    ap₂ (races_told 1) (some_is ∙ first_of_all findings most) (first_races races front most front_is) ∙
+    ap (λ (m : ℕ). races_told 1 (take m findings) (take m (map race_parts races))) limit_is
 
 -- all of it
-pub told_together : (recorded : Recorded) (runs : List (List ℕ)) (summary : SummaryParts) (memory value : Data) (races untold : List Data) (warned : Warned) →
-    summary ≡ summary_recorded recorded → memory ≡ null → races ≡ races_told (take 20 recorded.kept.findings) (take 20 recorded.kept.races) →
+pub told_together : (extent : Extent) (recorded : Recorded) (runs : List (List ℕ)) (summary : SummaryParts) (memory value : Data) (races untold : List Data) (warned : Warned) →
+    summary ≡ summary_recorded recorded → memory ≡ null → races ≡ races_told 1 (take (most_pairs extent) recorded.kept.findings) (take (most_pairs extent) recorded.kept.races) →
     untold ≡ recorded.untold → warned ≡ none_warned → value ≡ document_told summary memory races runs untold warned →
-    value ≡ recorded_told recorded runs
-told_together recorded runs summary memory value races untold warned summary_is memory_is races_are untold_is none told =
-    let findings = races_told (take 20 recorded.kept.findings) (take 20 recorded.kept.races) in
+    value ≡ recorded_told extent recorded runs
+told_together extent recorded runs summary memory value races untold warned summary_is memory_is races_are untold_is none told =
+    let findings = races_told 1 (take (most_pairs extent) recorded.kept.findings) (take (most_pairs extent) recorded.kept.races) in
     told ∙ ap (document_told summary memory races runs untold) none ∙ ap (λ (s : SummaryParts). document_told s memory races runs untold none_warned) summary_is ∙
     ap (λ (m : Data). document_told (summary_recorded recorded) m races runs untold none_warned) memory_is ∙
     ap (λ (r : List Data). document_told (summary_recorded recorded) null r runs untold none_warned) races_are ∙

@@ -6,6 +6,7 @@ use Rattle.race_records.specs.Races.{RaceParts}
 abbrev pub race_parts : Race → RaceParts
 race_parts race = record {
   reason = race.reason;
+  spawn = race.spawn;
   help = view race.help;
   outstanding = view race.outstanding;
   parting = view race.parting;

@@ -1,17 +1,16 @@
 -- What is told of a pair of places that raced.
-use Rattle.std.specs.Prelude.{ℕ, ◌≡◌, List, [], ◌∷◌, ◌++◌, Some, codes, drop}
+use Rattle.std.specs.Prelude.{ℕ, suc, List, [], ◌∷◌, ◌++◌, Option, Some, None, codes, drop, flat_map, slice_get}
 use Rattle.serde_json.specs.Data.{Data, null, string, object, member, no_members}
 use Rattle.model_accesses.specs.Table.{spelling}
-use Rattle.model_histories.specs.declared.answer.Entry.{Entry}
-use Rattle.race_pairs.specs.Places.{ArePlaces}
-use Rattle.race_pairs.specs.Encounters.{IsEncounter}
 use Rattle.race_pairs.specs.declared.refusal.Reason.{Reason}
 use Rattle.race_pairs.specs.declared.refusal.Reason.TheVariants.{Race, ViewRead, Unset}
 use Rattle.race_pairs.specs.declared.race.Pair.{Pair}
+use Rattle.race_pairs.specs.declared.groups.Group.{Group}
 use Rattle.race_pairs.specs.declared.encounter.Encounter.{Encounter}
+use Rattle.race_explanations.specs.declared.case.Case.{Case}
 use Rattle.race_explanations.specs.Settings.{Setting}
 use Rattle.race_explanations.specs.Titles.{told_names}
-use Rattle.race_records.specs.Values.{text_told, count_told, list_told}
+use Rattle.race_records.specs.Values.{text_told, count_told, number_or_null, list_told}
 use Rattle.race_records.specs.Accesses.{access_told}
 use Rattle.race_records.specs.Advice.{help_told, parting_of, outstanding_of}
 
@@ -37,6 +36,7 @@ name_told spaced = text_told (drop 1 spaced)
 -- what is told of a pair but for the names of what it raced on, and how often
 pub record RaceParts : Type 0 where
   pub reason : Reason
+  pub spawn : Option ℕ
   pub help : Data
   pub outstanding : Data
   pub parting : Data
@@ -46,6 +46,7 @@ pub record RaceParts : Type 0 where
 abbrev pub parts_of : Setting → Pair → Encounter → RaceParts
 parts_of setting pair encounter = record {
   reason = pair.lines.reason;
+  spawn = pair.spawn;
   help = help_told pair.lines.reason setting pair encounter;
   outstanding = outstanding_of pair.lines.reason setting pair encounter;
   parting = parting_of pair.lines.reason setting pair encounter;
@@ -53,30 +54,42 @@ parts_of setting pair encounter = record {
   witness = witness_told pair.lines.reason setting pair encounter;
 }
 
--- what is told of a pair: the names of the cells or reducers on which it raced, each behind a space, and how often
-abbrev pub race_told : RaceParts → (names : List (List ℕ)) → (times : ℕ) → Data
-race_told parts names times =
-    object (member (codes "help") parts.help
+-- what is told of a pair: the names of the cells or reducers on which it raced, each behind a space, how often, and the number of its group
+abbrev pub race_told : RaceParts → (names : List (List ℕ)) → (times group : ℕ) → Data
+race_told parts names times group =
+    object (member (codes "group") (count_told group)
+    (member (codes "help") parts.help
     (member (codes "kind") (string (kind_word parts.reason))
     (member (codes "locations") (list_told name_told names)
     (member (codes "outstanding") parts.outstanding
     (member (codes "parting") parts.parting
     (member (codes "refused") parts.refused
     (member (codes "rule") (string (rule_word parts.reason))
+    (member (codes "spawn_line") (number_or_null parts.spawn)
     (member (codes "times") (count_told times)
-    (member (codes "witness") parts.witness no_members)))))))))
+    (member (codes "witness") parts.witness no_members)))))))))))
 
--- The value tells of the pair, with the cells or reducers on which it raced, what led to its first refusal and to the witness of that, and
--- where the two part.
-pub record Records (setting : Setting) (entries : List Entry) (pair : Pair) (told : Data) : Type 0 where
-  pub places : List ℕ
-  pub encounter : Encounter
-  pub are_places : ArePlaces entries pair.lines places
-  pub is_encounter : IsEncounter entries pair encounter
-  pub told_is : told ≡ race_told (parts_of setting pair encounter) (told_names setting pair.lines.reason places) pair.times
+-- what is told of a race in the group with this number
+abbrev pub pair_told : Setting → (group : ℕ) → Pair → (places : List ℕ) → Encounter → Data
+pair_told setting group pair places encounter =
+    race_told (parts_of setting pair encounter) (told_names setting pair.lines.reason places) pair.times group
 
--- The values tell of the pairs, in their order.
-pub data AllRecorded (setting : Setting) (entries : List Entry) : List Pair → List Data → Type 0 where
-  none : AllRecorded setting entries [] []
-  more : {pairs : List Pair} {told : List Data} (pair : Pair) (one : Data) → AllRecorded setting entries pairs told →
-      Records setting entries pair one → AllRecorded setting entries (pairs ++ pair ∷ []) (told ++ one ∷ [])
+abbrev pub case_told : Setting → (group : ℕ) → Case → Data
+case_told setting group case = pair_told setting group case.race.now.pair case.race.now.places.items case.encounter
+
+abbrev pub told_of : Setting → (group : ℕ) → Option Case → List Data
+told_of setting group (Some case) = case_told setting group case ∷ []
+told_of setting group None = []
+
+-- of the case at a place
+abbrev pub told_at : Setting → List Case → (group : ℕ) → ℕ → List Data
+told_at setting cases group place = told_of setting group (slice_get cases place)
+
+-- of the races of a group
+abbrev pub group_told : Setting → List Case → (group : ℕ) → (places : List ℕ) → List Data
+group_told setting cases group places = flat_map (told_at setting cases group) places
+
+-- of the races of groups with numbers from this one on
+abbrev pub groups_told : Setting → List Case → (group : ℕ) → List Group → List Data
+groups_told setting cases group [] = []
+groups_told setting cases group (one ∷ groups) = group_told setting cases group one.places.items ++ groups_told setting cases (suc group) groups

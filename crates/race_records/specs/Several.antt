@@ -9,6 +9,8 @@ use Rattle.race_pairs.specs.Encounters.{IsEncounter}
 use Rattle.race_pairs.specs.declared.race.Pair.{Pair}
 use Rattle.race_pairs.specs.declared.encounter.Encounter.{Encounter}
 use Rattle.race_explanations.specs.declared.finding.Finding.{Finding}
+use Rattle.race_explanations.specs.declared.extent.Extent.{Extent}
+use Rattle.race_explanations.specs.Extents.{most_pairs}
 use Rattle.race_explanations.specs.Settings.{Setting}
 use Rattle.race_explanations.specs.Findings.{added_up, with_finding, IsFinding}
 use Rattle.race_records.specs.declared.document.Outcome.{Outcome}
@@ -65,23 +67,23 @@ abbrev pub untold_told : (file : List ℕ) → (count : ℕ) → Data
 untold_told file count =
     object (member (codes "file") (text_told file) (member (codes "pairs") (count_told count) no_members))
 
-abbrev pub untold_in : (file : List ℕ) → (count : ℕ) → List Data
-untold_in file count = if nat_lt 20 count then untold_told file (count - 20) ∷ [] else []
+abbrev pub untold_in : (file : List ℕ) → (most count : ℕ) → List Data
+untold_in file most count = if nat_lt most count then untold_told file (count - most) ∷ [] else []
 
--- The first twenty of so many pairs were added, and nothing else has changed.
-pub record AddsPairs (setting : Setting) (entries : List Entry) (old new : Recorded) (count : ℕ) : Type 0 where
+-- The first of so many pairs were added, and nothing else has changed.
+pub record AddsPairs (setting : Setting) (entries : List Entry) (most : ℕ) (old new : Recorded) (count : ℕ) : Type 0 where
   pub pairs : List Pair
   pub are_pairs : ArePairs entries pairs
   pub count_is : count ≡ length pairs
-  pub kept : AddsKept setting entries old.kept (take 20 pairs) new.kept
+  pub kept : AddsKept setting entries old.kept (take most pairs) new.kept
   pub rest : new ≡ record old { kept = new.kept }
 
--- A trace was added: its first twenty pairs.
-pub record AddsTrace (file : List ℕ) (setting : Setting) (entries : List Entry) (old new : Recorded) : Type 0 where
+-- A trace was added: its first pairs.
+pub record AddsTrace (extent : Extent) (file : List ℕ) (setting : Setting) (entries : List Entry) (old new : Recorded) : Type 0 where
   pub pairs : List Pair
   pub are_pairs : ArePairs entries pairs
-  pub kept : AddsKept setting entries old.kept (take 20 pairs) new.kept
-  pub untold_is : new.untold ≡ old.untold ++ untold_in file (length pairs)
+  pub kept : AddsKept setting entries old.kept (take (most_pairs extent) pairs) new.kept
+  pub untold_is : new.untold ≡ old.untold ++ untold_in file (most_pairs extent) (length pairs)
   pub refusals_are : new.refusals ≡ added_up old.refusals (refusals_among entries)
   pub requests_are : new.requests ≡ added_up old.requests (length entries)
   pub traces_are : new.traces ≡ added_up old.traces 1
@@ -91,10 +93,11 @@ pub record AddsTrace (file : List ℕ) (setting : Setting) (entries : List Entry
 abbrev pub names_of : Finding → List (List ℕ)
 names_of finding = map (λ (name : Vec ℕ). name.items) finding.names.keys
 
--- the races, each with the names and the count of its finding
-abbrev pub races_told : List Finding → List RaceParts → List Data
-races_told (finding ∷ findings) (race ∷ races) = race_told race (names_of finding) finding.times ∷ races_told findings races
-races_told findings races = []
+-- the races, each with the names and the count of its finding, as groups with numbers from this one on
+abbrev pub races_told : (group : ℕ) → List Finding → List RaceParts → List Data
+races_told group (finding ∷ findings) (race ∷ races) =
+    race_told race (names_of finding) finding.times group ∷ races_told (added_up group 1) findings races
+races_told group findings races = []
 
 -- how many findings there are, where all are kept
 abbrev pub all_of : List Data → ℕ → Option ℕ
@@ -114,7 +117,9 @@ summary_recorded recorded = record {
   traces = recorded.traces;
 }
 
--- The first twenty races, how many there are, and how many refusals there were.
-abbrev pub recorded_told : Recorded → (runs : List (List ℕ)) → Data
-recorded_told recorded runs =
-    document_told (summary_recorded recorded) null (races_told (take 20 recorded.kept.findings) (take 20 recorded.kept.races)) runs recorded.untold none_warned
+-- The first races, how many there are, and how many refusals there were.
+abbrev pub recorded_told : Extent → Recorded → (runs : List (List ℕ)) → Data
+recorded_told extent recorded runs =
+    document_told (summary_recorded recorded) null
+    (races_told 1 (take (most_pairs extent) recorded.kept.findings) (take (most_pairs extent) recorded.kept.races)) runs recorded.untold
+    none_warned

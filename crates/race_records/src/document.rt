@@ -1,11 +1,10 @@
 //! What is told of a run or of a trace.
 
-ghost use Rattle.std.specs.Prelude.{◌≡◌, [], false, List, IfOk, length, map, string_bytes};
+ghost use Rattle.std.specs.Prelude.{◌≡◌, ◌++◌, ◌∷◌, [], false, List, IfOk, OnOk, map, string_bytes};
 ghost use Rattle.text_words.specs.Text.{lines};
 ghost use Rattle.model_histories.specs.declared.answer.Entry.{Entry};
 ghost use Rattle.race_pairs.specs.Known.{known_count};
-ghost use Rattle.race_pairs.specs.Digests.{IsDigest};
-ghost use Rattle.race_pairs.specs.Encounters.{AreRacesOf};
+ghost use Rattle.race_pairs.specs.Digests.{IsDigest, most_of};
 ghost use Rattle.program_text.specs.Programs.{contents};
 ghost use Rattle.trace_text.specs.Traces.{contents as trace_contents};
 ghost use Rattle.trace_notes.specs.Notes.{kept_runs};
@@ -13,19 +12,20 @@ ghost use Rattle.serde_json.specs.Data.{null};
 ghost use Rattle.serde_json.specs.View.{view};
 ghost use Rattle.race_explanations.specs.Scenes.{setting_of};
 ghost use Rattle.race_explanations.specs.Explained.{trace_setting};
-ghost use Rattle.race_records.specs.Races.{AllRecorded};
+ghost use Rattle.race_explanations.specs.Extents.{most_pairs};
+ghost use Rattle.race_records.specs.Races.{case_told, told_at, group_told, groups_told};
 ghost use Rattle.race_records.specs.Documents.{document_told, summary_of, RecordsEntries, RecordsRun, outcome_word};
 ghost use Rattle.race_records.specs.Warned.{none_warned};
 ghost use Rattle.race_records.specs.WarnedViews.{warned_parts};
 ghost use Rattle.race_records.specs.SummaryViews.{summary_parts};
 
 use crate::form::{RecordForm, record_text};
-use crate::race::pair_value;
+use crate::race::case_value;
 use crate::value::{size_or_null, texts_value};
 use crate::warning::{Warned, none_warned, warned_in};
 use program_text::Program;
-use race_explanations::{Scene, program_scene, trace_scene};
-use race_pairs::Digest;
+use race_explanations::{Case, Extent, Scene, cases_of, program_scene, trace_scene};
+use race_pairs::{Digest, Group, group_races};
 use serde_json::{Value, json};
 use source_quotes::Source;
 use std::alloc::{AllocError, Global};
@@ -95,19 +95,67 @@ pub(crate) fn document_value(
     })
 }
 
-/// What is told of pairs.
-fn pair_values(
+/// Adds what is told of a race in the group with this number.
+fn add_value(
     alloc: Global,
     scene: &Scene<'_, '_>,
-    races: &[race_pairs::Race],
+    case: &Case<'_>,
+    group: usize,
+    values: &mut Vec<Value>,
+) -> Result<(), AllocError>
+    ensures { OnOk result (map view values.new.items ≡ map view values.old.items ++ case_told (setting_of scene.now) group case.now ∷ []) }
+{
+    let value = case_value(alloc, scene, case, group)?;
+    Ok(values.push(value)?)
+}
+
+/// Adds what is told of the race at a place, in the group with this number.
+fn add_case(
+    alloc: Global,
+    scene: &Scene<'_, '_>,
+    cases: &[Case<'_>],
+    group: usize,
+    place: usize,
+    values: &mut Vec<Value>,
+) -> Result<(), AllocError>
+    ensures { OnOk result (map view values.new.items ≡ map view values.old.items ++ told_at (setting_of scene.now) cases.now group place) }
+{
+    match cases.get(place) {
+        Some(case) => add_value(alloc, scene, case, group, values),
+        None => Ok(()),
+    }
+}
+
+/// Adds what is told of the races of the group with this number.
+fn add_group(
+    alloc: Global,
+    scene: &Scene<'_, '_>,
+    cases: &[Case<'_>],
+    group: usize,
+    places: &[usize],
+    values: &mut Vec<Value>,
+) -> Result<(), AllocError>
+    ensures { OnOk result (map view values.new.items ≡ map view values.old.items ++ group_told (setting_of scene.now) cases.now group places.now) }
+{
+    for place in places {
+        add_case(alloc, scene, cases, group, *place, values)?;
+    }
+    Ok(())
+}
+
+/// What is told of the races of groups, which are numbered from 1 on.
+fn group_values(
+    alloc: Global,
+    scene: &Scene<'_, '_>,
+    cases: &[Case<'_>],
+    groups: &[Group],
 ) -> Result<Vec<Value>, AllocError>
-    requires { (entries : List Entry) × AreRacesOf entries scene.now.digest.now races.now }
-    ensures { IfOk result (λ values. (entries : List Entry) → AreRacesOf entries scene.now.digest.now races.now →
-        AllRecorded (setting_of scene.now) entries (map (λ race. race.pair) races.now) (map view values.items)) }
+    ensures { IfOk result (λ values. map view values.items ≡ groups_told (setting_of scene.now) cases.now 1 groups.now) }
 {
     let mut values = Vec::new(alloc);
-    for race in races {
-        values.push(pair_value(alloc, scene, race)?)?;
+    for (before, group) in groups.iter().enumerate() {
+        let places = group.places.as_slice();
+        add_group(alloc, scene, cases, before + 1, places, &mut values)?;
     }
     Ok(values)
 }
@@ -133,56 +181,75 @@ fn entries_record(
     scene: &Scene<'_, '_>,
     outcome: Outcome,
     traces: usize,
+    extent: Extent,
     memory: Value,
     recorded: &[String],
     warned: &Warned,
 ) -> Result<Vec<u8>, AllocError>
-    requires { (entries : List Entry) × IsDigest entries scene.now.digest.now }
+    requires digest { (entries : List Entry) × IsDigest entries scene.now.digest.now }
+    requires most { most_of scene.now.digest.now ≡ most_pairs extent }
     ensures { IfOk result (λ text. (entries : List Entry) → IsDigest entries scene.now.digest.now →
-        RecordsEntries form outcome traces (setting_of scene.now) entries (view memory) (map string_bytes recorded.now) (warned_parts warned.now) text.items) }
+        RecordsEntries form outcome traces extent (setting_of scene.now) entries (view memory) (map string_bytes recorded.now) (warned_parts warned.now) text.items) }
 {
-    let races = pair_values(alloc, scene, scene.digest.races())?;
+    let cases = cases_of(alloc, scene.digest)?;
+    let groups = group_races(alloc, scene.digest.races())?;
+    let races = group_values(alloc, scene, cases.as_slice(), groups.as_slice())?;
     let summary = summary_of(outcome, traces, scene.digest);
     let untold = Vec::new(alloc);
     let document = document_value(alloc, summary, memory, races, recorded, untold, warned)?;
     record_text(alloc, form, &document)
 }
 
-/// Tells in a form of the entries of a run of a program, of which this is the digest: all that
-/// [`explanation`](race_explanations::explanation) tells, with the final memory where it is known, and the warnings of the program. Errors where there is no memory.
+/// Tells in a form of the entries of a run of a program, of which this is the digest, which keeps as many pairs as the extent wants: all that
+/// [`explanation`](race_explanations::explanation) tells, and of each pair that the digest keeps, with the number of its group; with the final
+/// memory where it is known, and the warnings of the program. Errors where there is no memory.
 pub fn run_record<'s>(
     alloc: Global,
     form: RecordForm,
     outcome: Outcome,
+    extent: Extent,
     memory: Value,
     file: &'s str,
     text: &[u8],
     program: &'s Program<Global>,
     digest: &'s Digest,
 ) -> Result<Vec<u8>, AllocError>
-    requires { (entries : List Entry) × IsDigest entries digest.now }
+    requires digest { (entries : List Entry) × IsDigest entries digest.now }
+    requires most { most_of digest.now ≡ most_pairs extent }
     ensures { IfOk result (λ told. (entries : List Entry) → IsDigest entries digest.now →
-        RecordsRun form outcome file.now (lines text.now) (contents program.now) entries (view memory) told.items) }
+        RecordsRun form outcome extent file.now (lines text.now) (contents program.now) entries (view memory) told.items) }
 {
     let source = Source::new(alloc, text)?;
     let scene = program_scene(false, file, &source, program, digest);
     let warned = warned_in(alloc, file, &source, program)?;
-    entries_record(alloc, form, &scene, outcome, 0, memory, &[], &warned)
+    entries_record(
+        alloc,
+        form,
+        &scene,
+        outcome,
+        0,
+        extent,
+        memory,
+        &[],
+        &warned,
+    )
 }
 
-/// Tells in a form of the entries of a trace with these notes, of which this is the digest: all that
+/// Tells in a form of the entries of a trace with these notes, of which this is the digest, as [`run_record`] does of those of a run: all that
 /// [`trace_explanation`](race_explanations::trace_explanation) tells, and what was recorded. Errors where there is no memory.
 pub fn trace_record<'s>(
     alloc: Global,
     form: RecordForm,
     outcome: Outcome,
+    extent: Extent,
     notes: &'s Notes<Global>,
     trace: &'s Trace<Global>,
     digest: &'s Digest,
 ) -> Result<Vec<u8>, AllocError>
-    requires { (entries : List Entry) × IsDigest entries digest.now }
+    requires digest { (entries : List Entry) × IsDigest entries digest.now }
+    requires most { most_of digest.now ≡ most_pairs extent }
     ensures { IfOk result (λ told. (entries : List Entry) → IsDigest entries digest.now →
-        RecordsEntries form outcome 1 (trace_setting false notes.now (trace_contents trace.now).known entries) entries null (kept_runs notes.now) none_warned told.items) }
+        RecordsEntries form outcome 1 extent (trace_setting false notes.now (trace_contents trace.now).known entries) entries null (kept_runs notes.now) none_warned told.items) }
 {
     let scene = trace_scene(false, notes, trace, digest);
     entries_record(
@@ -191,6 +258,7 @@ pub fn trace_record<'s>(
         &scene,
         outcome,
         1,
+        extent,
         Value::Null,
         notes.runs(),
         &none_warned(alloc),

@@ -2,19 +2,17 @@
 
 ghost use Rattle.std.specs.Prelude.{◌≡◌, ℕ, List, IfOk, map, string_bytes};
 ghost use Rattle.std.specs.Global.{Vec};
-ghost use Rattle.model_histories.specs.declared.answer.Entry.{Entry};
-ghost use Rattle.race_pairs.specs.Encounters.{IsRaceOf};
 ghost use Rattle.serde_json.specs.View.{view};
 ghost use Rattle.race_explanations.specs.Scenes.{setting_of};
 ghost use Rattle.race_records.specs.Values.{list_told};
-ghost use Rattle.race_records.specs.Races.{rule_word, kind_word, witness_told, name_told, parts_of, race_told, Records};
+ghost use Rattle.race_records.specs.Races.{rule_word, kind_word, witness_told, name_told, parts_of, race_told, case_told};
 ghost use Rattle.race_records.specs.RaceViews.{race_parts};
 
 use crate::access::access_value;
 use crate::advice::{help_value, outstanding_of, parting_of};
-use crate::value::text_value;
+use crate::value::{count_or_null, text_value};
 use access_table::word;
-use race_explanations::{Scene, display_names};
+use race_explanations::{Case, Scene, display_names};
 use race_pairs::{Encounter, Pair, Reason};
 use serde_json::{Value, json};
 use std::alloc::{AllocError, Global};
@@ -23,6 +21,8 @@ use std::collections::BTreeSet;
 /// What is told of a pair but for the names of what it raced on, and how often.
 pub(crate) struct Race {
     pub(crate) reason: Reason,
+    /// The line of the spawn at which the two strands part.
+    pub(crate) spawn: Option<u32>,
     pub(crate) help: Value,
     pub(crate) outstanding: Value,
     pub(crate) parting: Value,
@@ -35,6 +35,7 @@ impl Drop for Race {
     fn drop(self) {
         let Race {
             reason: _,
+            spawn: _,
             help: _,
             outstanding: _,
             parting: _,
@@ -114,6 +115,7 @@ pub(crate) fn race_of(
     let witness = witness_value(alloc, scene, pair, encounter)?;
     Ok(Race {
         reason: pair.lines.reason,
+        spawn: pair.spawn,
         help,
         outstanding,
         parting,
@@ -141,18 +143,20 @@ fn names_value(alloc: Global, names: &BTreeSet<Vec<u8>>) -> Result<Value, AllocE
     Ok(Value::from(values))
 }
 
-/// All that is told of a pair, with the names of what it raced on, and how often.
+/// All that is told of a pair, with the names of what it raced on, how often, and the number of its group.
 pub(crate) fn race_value(
     alloc: Global,
     race: &Race,
     names: &BTreeSet<Vec<u8>>,
     times: usize,
+    group: usize,
 ) -> Result<Value, AllocError>
-    ensures { IfOk result (λ value. view value ≡ race_told (race_parts race.now) (map (λ (name : Vec ℕ). name.items) names.now.keys) times) }
+    ensures { IfOk result (λ value. view value ≡ race_told (race_parts race.now) (map (λ (name : Vec ℕ). name.items) names.now.keys) times group) }
 {
     let locations = names_value(alloc, names)?;
     let kind = kind_word(alloc, race.reason)?;
     json!(in alloc; {
+        "group": group,
         "help": &race.help,
         "kind": kind,
         "locations": locations,
@@ -160,24 +164,23 @@ pub(crate) fn race_value(
         "parting": &race.parting,
         "refused": &race.refused,
         "rule": rule_word(race.reason),
+        "spawn_line": count_or_null(race.spawn),
         "times": times,
         "witness": &race.witness
     })
 }
 
-/// What is told of a pair.
-pub(crate) fn pair_value(
+/// What is told of a race in the group with this number.
+pub(crate) fn case_value(
     alloc: Global,
     scene: &Scene<'_, '_>,
-    race: &race_pairs::Race,
+    case: &Case<'_>,
+    group: usize,
 ) -> Result<Value, AllocError>
-    requires { (entries : List Entry) × IsRaceOf entries scene.now.digest.now race.now }
-    ensures { IfOk result (λ value. (entries : List Entry) → IsRaceOf entries scene.now.digest.now race.now →
-        Records (setting_of scene.now) entries race.now.pair (view value)) }
+    ensures { IfOk result (λ value. view value ≡ case_told (setting_of scene.now) group case.now) }
 {
-    let encounter = Encounter::new(alloc, scene.digest, race)?;
-    let reason = race.pair.lines.reason;
-    let names = display_names(alloc, scene, reason, race.places.as_slice())?;
-    let told = race_of(alloc, scene, &race.pair, &encounter)?;
-    race_value(alloc, &told, &names, race.pair.times)
+    let pair = &case.race.pair;
+    let names = display_names(alloc, scene, pair.lines.reason, case.race.places.as_slice())?;
+    let told = race_of(alloc, scene, pair, &case.encounter)?;
+    race_value(alloc, &told, &names, pair.times, group)
 }

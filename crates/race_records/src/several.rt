@@ -2,12 +2,13 @@
 
 ghost use Rattle.std.specs.Prelude.{◌≡◌, ◌==◌, ◌++◌, false, List, IfOk, OnOk, length, map, string_bytes};
 ghost use Rattle.model_histories.specs.declared.answer.Entry.{Entry};
-ghost use Rattle.race_pairs.specs.Digests.{IsDigest};
+ghost use Rattle.race_pairs.specs.Digests.{IsDigest, most_of};
 ghost use Rattle.race_pairs.specs.Encounters.{IsRaceOf, AreRacesOf};
 ghost use Rattle.trace_text.specs.Traces.{contents as trace_contents};
 ghost use Rattle.serde_json.specs.View.{view};
 ghost use Rattle.race_explanations.specs.Scenes.{setting_of};
 ghost use Rattle.race_explanations.specs.Explained.{trace_setting};
+ghost use Rattle.race_explanations.specs.Extents.{most_pairs};
 ghost use Rattle.race_explanations.specs.Findings.{IsOfTrace, with_finding};
 ghost use Rattle.race_records.specs.Values.{IsTextOf};
 ghost use Rattle.race_records.specs.Forms.{in_form};
@@ -21,8 +22,10 @@ use crate::form::{RecordForm, record_text};
 use crate::race::{Race, race_of, race_value};
 use crate::value::text_value;
 use crate::warning::none_warned;
-use race_explanations::{Finding, Scene, finding_of, join_finding, trace_scene};
-use race_pairs::{Digest, Encounter, PAIRS};
+use race_explanations::{
+    Extent, Finding, Scene, finding_of, join_finding, most_pairs, trace_scene,
+};
+use race_pairs::{Digest, Encounter};
 use serde_json::{Value, json};
 use std::alloc::{AllocError, Global};
 use trace_notes::Notes;
@@ -116,26 +119,28 @@ fn push_untold(
     alloc: Global,
     untold: &mut Vec<Value>,
     file: &str,
+    most: usize,
     count: usize,
 ) -> Result<(), AllocError>
-    ensures { OnOk result (map view untold.new.items ≡ map view untold.old.items ++ untold_in file.now count) }
+    ensures { OnOk result (map view untold.new.items ≡ map view untold.old.items ++ untold_in file.now most count) }
 {
-    if count <= PAIRS {
+    if count <= most {
         return Ok(());
     }
     let name = text_value(alloc, file.as_bytes())?;
-    let value = json!(in alloc; {"file": name, "pairs": count - PAIRS})?;
+    let value = json!(in alloc; {"file": name, "pairs": count - most})?;
     Ok(untold.push(value)?)
 }
 
-/// Adds races, each with the names and the count of its finding.
+/// Adds races, each with the names and the count of its finding, as groups with numbers from this one on.
 fn push_races(
     alloc: Global,
     values: &mut Vec<Value>,
     findings: &[Finding],
     races: &[Race],
+    group: usize,
 ) -> Result<(), AllocError>
-    ensures { OnOk result (map view values.new.items ≡ map view values.old.items ++ races_told findings.now (map race_parts races.now)) }
+    ensures { OnOk result (map view values.new.items ≡ map view values.old.items ++ races_told group findings.now (map race_parts races.now)) }
 {
     let [finding, findings @ ..] = findings else {
         return Ok(());
@@ -143,8 +148,8 @@ fn push_races(
     let [race, races @ ..] = races else {
         return Ok(());
     };
-    values.push(race_value(alloc, race, &finding.names, finding.times)?)?;
-    push_races(alloc, values, findings, races)
+    values.push(race_value(alloc, race, &finding.names, finding.times, group)?)?;
+    push_races(alloc, values, findings, races, group.saturating_add(1))
 }
 
 /// How several traces came out.
@@ -195,7 +200,7 @@ impl Records {
         requires digest { (entries : List Entry) × IsDigest entries scene.now.digest.now }
         requires trace { IsOfTrace (setting_of scene.now).origin }
         ensures { IfOk result (λ count. (entries : List Entry) → IsDigest entries scene.now.digest.now →
-            AddsPairs (setting_of scene.now) entries (recorded_of self.old) (recorded_of self.new) count) }
+            AddsPairs (setting_of scene.now) entries (most_of scene.now.digest.now) (recorded_of self.old) (recorded_of self.new) count) }
     {
         keep_all(
             alloc,
@@ -207,23 +212,25 @@ impl Records {
         Ok(scene.digest.pair_count())
     }
 
-    /// Adds what is found in a trace, of whose entries this is the digest: its first twenty pairs of places, joined as
-    /// [`Findings::add`](race_explanations::Findings::add) joins them. Errors where there is no memory.
+    /// Adds what is found in a trace, of whose entries this is the digest: as many of its first pairs of places as the digest keeps, which is what
+    /// the extent wants, joined as [`Findings::add`](race_explanations::Findings::add) joins them. Errors where there is no memory.
     pub fn add<'s>(
         &mut self,
         alloc: Global,
+        extent: Extent,
         file: &str,
         notes: &'s Notes<Global>,
         trace: &'s Trace<Global>,
         digest: &'s Digest,
     ) -> Result<(), AllocError>
-        requires { (entries : List Entry) × IsDigest entries digest.now }
+        requires digest { (entries : List Entry) × IsDigest entries digest.now }
+        requires most { most_of digest.now ≡ most_pairs extent }
         ensures { OnOk result ((entries : List Entry) → IsDigest entries digest.now →
-            AddsTrace file.now (trace_setting false notes.now (trace_contents trace.now).known entries) entries (recorded_of self.old) (recorded_of self.new)) }
+            AddsTrace extent file.now (trace_setting false notes.now (trace_contents trace.now).known entries) entries (recorded_of self.old) (recorded_of self.new)) }
     {
         let scene = trace_scene(false, notes, trace, digest);
         let count = self.add_pairs(alloc, &scene)?;
-        push_untold(alloc, &mut self.untold, file, count)?;
+        push_untold(alloc, &mut self.untold, file, most_pairs(extent), count)?;
         self.refusals = self.refusals.saturating_add(digest.refusals);
         self.requests = self.requests.saturating_add(digest.lines.len());
         self.traces = self.traces.saturating_add(1);
@@ -251,16 +258,17 @@ impl Records {
     }
 
     /// What is told of all traces, as one value.
-    fn document(&self, alloc: Global, runs: &[String]) -> Result<Value, AllocError>
-        ensures { IfOk result (λ value. view value ≡ recorded_told (recorded_of self.now) (map string_bytes runs.now)) }
+    fn document(&self, alloc: Global, extent: Extent, runs: &[String]) -> Result<Value, AllocError>
+        ensures { IfOk result (λ value. view value ≡ recorded_told extent (recorded_of self.now) (map string_bytes runs.now)) }
     {
+        let most = most_pairs(extent);
         let (findings, _) = self
             .findings
             .as_slice()
-            .split_at(self.findings.len().min(PAIRS));
-        let (first, _) = self.races.as_slice().split_at(self.races.len().min(PAIRS));
+            .split_at(self.findings.len().min(most));
+        let (first, _) = self.races.as_slice().split_at(self.races.len().min(most));
         let mut races = Vec::new(alloc);
-        push_races(alloc, &mut races, findings, first)?;
+        push_races(alloc, &mut races, findings, first, 1)?;
         let untold = copy_of(alloc, self.untold.as_slice())?;
         document_value(
             alloc,
@@ -273,17 +281,18 @@ impl Records {
         )
     }
 
-    /// What is told of all traces in a form: each of the first twenty pairs, with the counts of all that a person is told alike, and what
+    /// What is told of all traces in a form: each of the first pairs, with the counts of all that a person is told alike, and what
     /// these runs recorded. Errors where there is no memory.
     pub fn record(
         &self,
         alloc: Global,
         form: RecordForm,
+        extent: Extent,
         runs: &[String],
     ) -> Result<Vec<u8>, AllocError>
-        ensures { IfOk result (λ text. IsTextOf (in_form form (recorded_told (recorded_of self.now) (map string_bytes runs.now))) text.items) }
+        ensures { IfOk result (λ text. IsTextOf (in_form form (recorded_told extent (recorded_of self.now) (map string_bytes runs.now))) text.items) }
     {
-        let document = self.document(alloc, runs)?;
+        let document = self.document(alloc, extent, runs)?;
         record_text(alloc, form, &document)
     }
 }

@@ -28,10 +28,12 @@ result_told rule message place related properties times =
 -- what a race has that no other member of a result tells
 abbrev pub race_properties : Data → Data
 race_properties race =
-    object (member (codes "kind") (string (words_at (codes "kind") race))
+    object (member (codes "group") (count_told (count_at (codes "group") race))
+    (member (codes "kind") (string (words_at (codes "kind") race))
     (member (codes "locations") (member_at (codes "locations") race)
     (member (codes "refusedFurther") (count_told (access_at (codes "refused") race).further)
-    (member (codes "witnessFurther") (count_told (access_at (codes "witness") race).further) no_members))))
+    (member (codes "spawnLine") (member_at (codes "spawn_line") race)
+    (member (codes "witnessFurther") (count_told (access_at (codes "witness") race).further) no_members))))))
 
 abbrev pub race_result : Data → Data
 race_result race =

@@ -45,10 +45,13 @@ fn race_properties(alloc: Global, race: &Value) -> Result<Value, AllocError>
     ensures { IfOk result (λ value. view value ≡ race_properties (view race.now)) }
 {
     let locations = member_at(alloc, race, "locations")?;
+    let spawn_line = member_at(alloc, race, "spawn_line")?;
     json!(in alloc; {
+        "group": count_at(race, "group"),
         "kind": words_at(race, "kind"),
         "locations": locations,
         "refusedFurther": access_at(race, "refused").further,
+        "spawnLine": spawn_line,
         "witnessFurther": access_at(race, "witness").further
     })
 }

@@ -1,10 +1,9 @@
-use Rattle.std.proofs.Common.{rules, List, length, map, sym, ap, subst, ◌∙◌, string_bytes}
-use Rattle.std.specs.List.{All}
+use Rattle.std.proofs.Common.{rules, List, map, sym, ap, ap₂, subst, ◌∙◌, string_bytes, take}
 use Rattle.std.proofs.lemmas.Result.{IfOk-weaker}
 use Rattle.serde_json.specs.View.{view}
 use Rattle.model_histories.specs.declared.answer.Entry.{Entry}
 use Rattle.race_pairs.specs.declared.race.Race.{Race}
-use Rattle.race_pairs.specs.Kept.{IsRace}
+use Rattle.race_pairs.specs.Groups.{AreGroups}
 use Rattle.race_pairs.specs.Digests.{IsDigest}
 use Rattle.race_pairs.proofs.Knowing.{knows_count}
 use Rattle.race_pairs.proofs.Digesting.{races_now}
@@ -12,28 +11,30 @@ use Rattle.race_explanations.specs.Scenes.{setting_of}
 use Rattle.race_records.specs.Values.{IsTextOf}
 use Rattle.race_records.specs.Forms.{in_form}
 use Rattle.race_records.specs.WarnedViews.{warned_parts}
+use Rattle.race_records.specs.Races.{groups_told}
 use Rattle.race_records.specs.Documents.{summary_of, RecordsEntries}
 use Rattle.race_records.specs.SummaryViews.{summary_parts}
 use Rattle.race_records.proofs.Recording.{entries_recorded}
 use Rattle.race_records.proofs.document.entries_record.Goals as goal
 
-pub pair_values-requires : goal.pair_values-requires
-pair_values-requires c =
-    let entries = c.requires.0 in
-    (entries, (c.requires.1, subst (All (IsRace entries (length entries))) (sym c.races.ensures) (races_now entries c.args.scene.now.digest.now c.requires.1).are.each))
-
 pub returns : goal.returns
 returns c =
     let digest = c.args.scene.now.digest.now in
+    let setting = setting_of c.args.scene.now in
+    let cases = c.in_ok-cases.cases.items in
+    let groups = c.in_ok-groups.groups.items in
     IfOk-weaker c.record_text.result (λ text. IsTextOf (in_form c.args.form (view c.in_ok-document.document)) text.items)
-    (λ text. (entries : List Entry) → IsDigest entries digest → RecordsEntries c.args.form c.args.outcome c.args.traces (setting_of c.args.scene.now) entries
+    (λ text. (entries : List Entry) → IsDigest entries digest → RecordsEntries c.args.form c.args.outcome c.args.traces c.args.extent setting entries
     (view c.args.memory) (map string_bytes c.args.recorded.now) (warned_parts c.args.warned.now) text.items)
     (λ text is entries d.
     let kept = races_now entries digest d in
-    let r = kept.are in
-    let counted = knows_count digest.races.known kept.lines kept.knows ∙ r.counted in
-    entries_recorded c.args.form c.args.outcome c.args.traces (setting_of c.args.scene.now) entries _ _ r.pairs (map (λ (race : Race). race.pair) c.races.result.now)
-    _ (map view c.new-untold.result.items) (warned_parts c.args.warned.now) (summary_parts c.summary_of-summary.result) _ _ r.are_pairs (ap (map (λ (race : Race). race.pair)) c.races.ensures ∙ r.first)
-    (c.in_ok-races.ensures entries (d, subst (All (IsRace entries (length entries))) (sym c.races.ensures) r.each)) (search rules)
+    let counted = knows_count digest.races.known kept.pairs kept.knows in
+    entries_recorded c.args.form c.args.outcome c.args.traces c.args.extent setting entries _ _ kept.pairs digest.races.list.items cases groups
+    _ (map view c.new-untold.result.items) (warned_parts c.args.warned.now) (summary_parts c.summary_of-summary.result) _ _ kept.are.are_pairs
+    (kept.are.first ∙ ap (λ most. take most kept.pairs) c.requires.most)
+    (c.in_ok-cases.ensures entries d)
+    (subst (λ (some : List Race). AreGroups some groups) c.races.ensures c.in_ok-groups.ensures)
+    (c.in_ok-races.ensures ∙ ap₂ (λ some these. groups_told setting some 1 these) c.as_slice.ensures.value c.as_slice-2.ensures.value)
+    (search rules)
     (c.summary_of-summary.ensures entries d ∙ ap (summary_of c.args.outcome c.args.traces entries) counted) c.in_ok-document.ensures is)
     c.record_text.ensures

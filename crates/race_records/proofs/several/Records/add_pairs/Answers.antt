@@ -2,6 +2,7 @@ use Rattle.std.proofs.Common.{rules, length, map, sym, ap, subst, ◌∙◌}
 use Rattle.std.specs.List.{All}
 use Rattle.race_pairs.specs.declared.race.Race.{Race}
 use Rattle.race_pairs.specs.Kept.{IsRace}
+use Rattle.race_pairs.specs.Digests.{most_of}
 use Rattle.race_pairs.proofs.Knowing.{knows_count}
 use Rattle.race_pairs.proofs.Digesting.{races_now}
 use Rattle.race_explanations.specs.Scenes.{setting_of}
@@ -20,6 +21,6 @@ pub returns : goal.returns
 returns c = λ entries d.
     let kept = races_now entries c.args.scene.now.digest.now d in
     let r = kept.are in
-    pairs_added (setting_of c.args.scene.now) entries (recorded_of c.args.self.now) _ r.pairs (map (λ (race : Race). race.pair) c.races.result.now) _ r.are_pairs
-    (ap (map (λ (race : Race). race.pair)) c.races.ensures ∙ r.first) (c.pair_count.ensures ∙ (knows_count c.args.scene.now.digest.now.races.known kept.lines kept.knows ∙ r.counted))
+    pairs_added (setting_of c.args.scene.now) entries (most_of c.args.scene.now.digest.now) (recorded_of c.args.self.now) _ kept.pairs (map (λ (race : Race). race.pair) c.races.result.now) _ r.are_pairs
+    (ap (map (λ (race : Race). race.pair)) c.races.ensures ∙ r.first) (c.pair_count.ensures ∙ knows_count c.args.scene.now.digest.now.races.known kept.pairs kept.knows)
     (c.in_ok-keep_all.ensures entries (d, subst (All (IsRace entries (length entries))) (sym c.races.ensures) r.each)) (search rules)
