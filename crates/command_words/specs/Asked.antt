@@ -125,16 +125,19 @@ IsAsked command rows (Trace file workers limit) =
 IsAsked command rows (Record file workers limit trace) =
     (command ≡ codes "run") × IsName (codes "file") rows (string_bytes file) × IsWorkers rows workers × IsLimit rows limit
     × IsName (codes "trace") rows (string_bytes trace) × IsOut (string_bytes file) (string_bytes trace)
-IsAsked command rows (Explain file workers is_serial limit color format) =
+IsAsked command rows (Explain file workers is_serial limit color format is_all) =
     (command ≡ codes "explain") × (all_of (codes "file") rows ≡ Some (string_bytes file ∷ [])) × (string_bytes file ≢ input_word)
     × IsWorkers rows workers × IsSerial rows is_serial × IsLimit rows limit × IsColor rows color × IsFormat rows format
-IsAsked command rows (ExplainInput workers is_serial limit color format) =
+    × (is_all ≡ has_flag (codes "all") rows)
+IsAsked command rows (ExplainInput workers is_serial limit color format is_all) =
     (command ≡ codes "explain") × (all_of (codes "file") rows ≡ Some (input_word ∷ []))
     × IsWorkers rows workers × IsSerial rows is_serial × IsLimit rows limit × IsColor rows color × IsFormat rows format
-IsAsked command rows (ExplainTraces files color format) =
+    × (is_all ≡ has_flag (codes "all") rows)
+IsAsked command rows (ExplainTraces files color format is_all) =
     (command ≡ codes "explain") × (all_of (codes "file") rows ≡ Some (map string_bytes files.items)) × (1 < length files.items)
     × All (λ file. string_bytes file ≢ input_word) files.items × IsColor rows color × IsFormat rows format × (first_of (codes "workers") rows ≡ None)
     × (first_of (codes "limit") rows ≡ None) × (has_flag (codes "serial") rows ≡ false)
+    × (is_all ≡ has_flag (codes "all") rows)
 IsAsked command rows (Replay file trace) =
     (command ≡ codes "replay") × IsName (codes "file") rows (string_bytes file) × IsName (codes "trace") rows (string_bytes trace)
     × (string_bytes file ≡ input_word → string_bytes trace ≢ input_word)

@@ -51,7 +51,7 @@ run = command (codes "run")
 abbrev pub explain : Shape
 explain = command (codes "explain")
     (several (codes "file") ∷ option (codes "workers") ∷ flag (codes "serial") ∷ option (codes "limit") ∷ option (codes "color") ∷
-    option (codes "format") ∷ [])
+    option (codes "format") ∷ flag (codes "all") ∷ [])
 
 abbrev pub replay : Shape
 replay = command (codes "replay") (wanted (codes "file") ∷ wanted (codes "trace") ∷ [])

@@ -154,6 +154,11 @@ fn explain<'a>(alloc: Global) -> Result<Command<'a>, AllocError>
         "FORM",
         "The form of the explanation: text, json or sarif [default: text]",
     );
+    let all = flag(
+        alloc,
+        "all",
+        "Tell of every pair of lines that raced: at most 20 else, and 3 of those that part at one spawn",
+    );
     command(alloc, "explain", help::EXPLAIN, help::LANGUAGE)
         .long_about(help::EXPLANATION)
         .arg(file)?
@@ -161,7 +166,8 @@ fn explain<'a>(alloc: Global) -> Result<Command<'a>, AllocError>
         .arg(serial)?
         .arg(limit_option(alloc))?
         .arg(color)?
-        .arg(format)
+        .arg(format)?
+        .arg(all)
 }
 
 fn replay<'a>(alloc: Global) -> Result<Command<'a>, AllocError>

@@ -187,8 +187,9 @@ For example:
 
     1 refusal at 1 pair of lines, among 8 requests
 
-Each pair of lines is told once, of more than 20 pairs the first 20. Of a run in which nothing was refused it says so, and
-that no schedule has a race, and then the memory, a cell a line. Where the limit ends the run it tells the races until then.
+Each pair of lines is told once, of more than 20 pairs the first 20. Pairs that part at one spawn are told together, with
+what would order them all, and three of them are shown; `--all` shows every pair. Of a run in which nothing was refused it
+says so, and that no schedule has a race, and then the memory, a cell a line. Where the limit ends the run it tells the races until then.
 Of a text with faults it shows each faulty line, and what is wanted there; of a trace also its first illegal request.
 Before all else it warns of a register with the name of a memory or reducer, of a function that is never reached, of a
 reducer that is read and never put, and of an index past its array; the exit status is the same.

@@ -106,7 +106,8 @@ pub enum Job {
         limit: u32,
         trace: String,
     },
-    /// To run the program in this file by so many workers, with this limit on the entries of its history, and to tell of the run in this form.
+    /// To run the program in this file by so many workers, with this limit on the entries of its history, and to tell of the run in this form: of all pairs
+    /// that raced, or of the first.
     Explain {
         file: String,
         workers: usize,
@@ -114,6 +115,7 @@ pub enum Job {
         limit: u32,
         color: Color,
         format: Format,
+        is_all: bool,
     },
     /// To do so with what standard input gives.
     ExplainInput {
@@ -122,12 +124,14 @@ pub enum Job {
         limit: u32,
         color: Color,
         format: Format,
+        is_all: bool,
     },
     /// To judge the traces in these files, and to tell of them together in this form.
     ExplainTraces {
         files: Vec<String>,
         color: Color,
         format: Format,
+        is_all: bool,
     },
     /// To replay the trace in the second file as a run of the program in the first.
     Replay {
@@ -174,6 +178,7 @@ impl Drop for Job {
                 limit: _,
                 color: _,
                 format: _,
+                is_all: _,
             } => {}
             Job::ExplainInput {
                 workers: _,
@@ -181,11 +186,13 @@ impl Drop for Job {
                 limit: _,
                 color: _,
                 format: _,
+                is_all: _,
             } => {}
             Job::ExplainTraces {
                 files: _,
                 color: _,
                 format: _,
+                is_all: _,
             } => {}
             Job::Replay { file: _, trace: _ } => {}
             Job::Draw {
@@ -452,6 +459,7 @@ fn explain_one(alloc: Global, matches: &ArgMatches<'_>, name: &str) -> Result<Jo
     let is_serial = is_serial(alloc, matches)?;
     let color = color_of(alloc, matches)?;
     let format = format_of(alloc, matches)?;
+    let is_all = has_flag(matches, "all");
     if name == INPUT {
         return Ok(Job::ExplainInput {
             workers,
@@ -459,6 +467,7 @@ fn explain_one(alloc: Global, matches: &ArgMatches<'_>, name: &str) -> Result<Jo
             limit,
             color,
             format,
+            is_all,
         });
     }
     let file = String::from_str(alloc, name)?;
@@ -469,6 +478,7 @@ fn explain_one(alloc: Global, matches: &ArgMatches<'_>, name: &str) -> Result<Jo
         limit,
         color,
         format,
+        is_all,
     })
 }
 
@@ -525,10 +535,12 @@ fn explain_several(alloc: Global, matches: &ArgMatches<'_>, names: &[&str]) -> R
     let files = several_files(alloc, names)?;
     let color = color_of(alloc, matches)?;
     let format = format_of(alloc, matches)?;
+    let is_all = has_flag(matches, "all");
     Ok(Job::ExplainTraces {
         files,
         color,
         format,
+        is_all,
     })
 }
 

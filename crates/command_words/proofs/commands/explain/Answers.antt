@@ -13,4 +13,5 @@ returns c =
     let three = argument_more _ _ _ _ _ two c.flag-serial.ensures c.in_ok-arg-3.ensures in
     let four = argument_more _ _ _ _ _ three c.limit_option.ensures c.in_ok-arg-4.ensures in
     let five = argument_more _ _ _ _ _ four c.option-color.ensures c.in_ok-arg-5.ensures in
-    IfOk-weaker c.arg-6.result _ (IsCommand (leaf explain)) (λ command adds. argument_more _ _ _ _ _ five c.option-format.ensures adds) c.arg-6.ensures
+    let six = argument_more _ _ _ _ _ five c.option-format.ensures c.in_ok-arg-6.ensures in
+    IfOk-weaker c.arg-7.result _ (IsCommand (leaf explain)) (λ command adds. argument_more _ _ _ _ _ six c.flag-all.ensures adds) c.arg-7.ensures
