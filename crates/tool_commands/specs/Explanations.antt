@@ -37,6 +37,7 @@ use Rattle.tool_commands.specs.declared.explain.Rendering.TheVariants.{Text, Rec
 use Rattle.fault_lists.specs.Messages.{TellsFaults}
 use Rattle.program_warnings.specs.Messages.{TellsWarnings}
 use Rattle.source_quotes.specs.Quotes.{counted}
+use Rattle.race_explanations.specs.declared.extent.Extent.{Extent}
 use Rattle.race_explanations.specs.Explained.{IsExplanation, IsTraceExplanation, trace_setting}
 use Rattle.race_explanations.specs.declared.illegal.Illegality.{Illegality}
 use Rattle.race_explanations.specs.Illegal.{HasReason, illegal_text}
@@ -55,10 +56,11 @@ use Rattle.tool_commands.specs.declared.ask.Stop.{Stop}
 use Rattle.tool_commands.specs.Replays.{AnswersAll, StopsAt, StopsGate}
 use Rattle.tool_commands.specs.Sorts.{is_program_text}
 
--- how it is told: whether words are painted, in which form, and by which name the text's file is called
+-- how it is told: whether words are painted, in which form, how much of races, and by which name the text's file is called
 pub record Manner : Type 0 where
   pub is_painted : Bool
   pub rendering : Rendering
+  pub extent : Extent
   pub file : List ℕ
 
 -- ---- texts
@@ -86,19 +88,19 @@ cut_text limit = (cut_words ++ decimal limit) ++ cut_behind
 abbrev pub TellsClean : Rendering → Manner → (text : List ℕ) → Contents → List Entry → (memory told : List ℕ) → Type 0
 TellsClean Text manner text program entries memory told = told ≡ clean_text program memory
 TellsClean (Record form) manner text program entries memory told =
-    RecordsRun form CleanEnding manner.file (lines text) program entries (memory_told program.known.mems memory) told
+    RecordsRun form CleanEnding manner.extent manner.file (lines text) program entries (memory_told program.known.mems memory) told
 
 -- where something was refused
 abbrev pub TellsRaces : Rendering → Manner → (text : List ℕ) → Contents → List Entry → (told : List ℕ) → Type 0
-TellsRaces Text manner text program entries told = IsExplanation manner.is_painted manner.file (lines text) program entries told
-TellsRaces (Record form) manner text program entries told = RecordsRun form RacedEnding manner.file (lines text) program entries null told
+TellsRaces Text manner text program entries told = IsExplanation manner.is_painted manner.extent manner.file (lines text) program entries told
+TellsRaces (Record form) manner text program entries told = RecordsRun form RacedEnding manner.extent manner.file (lines text) program entries null told
 
 -- where the limit ended the run: the races until then, and that it is no whole run
 abbrev pub TellsCut : Rendering → Manner → (text : List ℕ) → Contents → List Entry → (told : List ℕ) → Type 0
 TellsCut Text manner text program entries told =
-    (explanation : List ℕ) × (_ : IsExplanation manner.is_painted manner.file (lines text) program entries explanation) ×
+    (explanation : List ℕ) × (_ : IsExplanation manner.is_painted manner.extent manner.file (lines text) program entries explanation) ×
     (told ≡ explanation ++ cut_text (length entries))
-TellsCut (Record form) manner text program entries told = RecordsRun form UnfinishedEnding manner.file (lines text) program entries null told
+TellsCut (Record form) manner text program entries told = RecordsRun form UnfinishedEnding manner.extent manner.file (lines text) program entries null told
 
 -- the faults of the text that can be told apart, the first of which is this one
 abbrev pub TellsFaulty : Rendering → Manner → Meant → (text : List ℕ) → Fault → (told : List ℕ) → Type 0
@@ -209,19 +211,19 @@ judged_text count = codes "judged: " ++ counted count (codes "request") ++ codes
 abbrev pub TellsEntries : Manner → Notes Global → TraceContents → List Entry → (told : List ℕ) → Type 0
 TellsEntries manner notes trace entries told =
     (IsClean (reverse entries) × (told ≡ clean_trace_words ++ judged_text (length entries))) ⊎
-    ((IsClean (reverse entries) → ⊥) × IsTraceExplanation manner.is_painted notes trace.known entries told)
+    ((IsClean (reverse entries) → ⊥) × IsTraceExplanation manner.is_painted manner.extent notes trace.known entries told)
 
 -- The text tells in the form of the trace, and what was recorded.
-abbrev pub RecordsTrace : RecordForm → Notes Global → TraceContents → List Entry → (told : List ℕ) → Type 0
-RecordsTrace form notes trace entries told =
-    RecordsEntries form (ending_of (refusal_status entries)) 1 (trace_setting false notes trace.known entries) entries null (kept_runs notes)
+abbrev pub RecordsTrace : RecordForm → Extent → Notes Global → TraceContents → List Entry → (told : List ℕ) → Type 0
+RecordsTrace form extent notes trace entries told =
+    RecordsEntries form (ending_of (refusal_status entries)) 1 extent (trace_setting false notes trace.known entries) entries null (kept_runs notes)
     none_warned told
 
 -- The trace is told, and what was recorded.
 abbrev pub TellsTrace : Rendering → Manner → Notes Global → TraceContents → List Entry → (told : List ℕ) → Type 0
 TellsTrace Text manner notes trace entries told =
     (verdict : List ℕ) × (_ : TellsEntries manner notes trace entries verdict) × (told ≡ verdict ++ recorded_text notes)
-TellsTrace (Record form) manner notes trace entries told = RecordsTrace form notes trace entries told
+TellsTrace (Record form) manner notes trace entries told = RecordsTrace form manner.extent notes trace entries told
 
 -- A gate answered each request of the trace that the text means, and its entries are told by the notes of that very text. Where nothing was
 -- refused, that speaks for each order in which the strands can come.

@@ -20,6 +20,8 @@ use Rattle.tool_commands.specs.declared.explain.Rendering.TheVariants.{Text as T
 use Rattle.race_records.specs.declared.form.RecordForm.TheVariants.{Json as AsJson, Sarif as AsSarif}
 use Rattle.dag_drawing.specs.declared.form.Form.{Form}
 use Rattle.dag_drawing.specs.declared.form.Form.TheVariants.{Dot as InDot, Svg as InSvg}
+use Rattle.race_explanations.specs.declared.extent.Extent.{Extent}
+use Rattle.race_explanations.specs.declared.extent.Extent.TheVariants.{First, All}
 use Rattle.tool_commands.specs.Explanations.{Manner, IsExplained, HasExplanationCause}
 use Rattle.tool_commands.specs.Drawings.{IsDrawn, HasDrawingCause}
 use Rattle.tool_commands.specs.Elided.{IsElided, HasElisionCause}
@@ -44,6 +46,11 @@ rendering_of Text = TextTold
 rendering_of Json = RecordTold AsJson
 rendering_of Sarif = RecordTold AsSarif
 
+-- how much is told of races, as the words of the command line name it
+abbrev pub extent_of : (is_all : Bool) → Extent
+extent_of true = All
+extent_of false = First
+
 -- whether words are painted, as these words ask for: on a terminal, of which nothing is said here, always, or never
 abbrev pub IsPaintedBy : Color → Bool → Type 0
 IsPaintedBy Auto is_painted = Unit {0}
@@ -51,8 +58,9 @@ IsPaintedBy Always is_painted = is_painted ≡ true
 IsPaintedBy Never is_painted = is_painted ≡ false
 
 -- it is told by the name of the file, in this form
-abbrev pub IsMannerOf : (file : List ℕ) → Color → Format → Manner → Type 0
-IsMannerOf file color format manner = (manner.file ≡ file) × IsPaintedBy color manner.is_painted × (manner.rendering ≡ rendering_of format)
+abbrev pub IsMannerOf : (file : List ℕ) → Color → Format → (is_all : Bool) → Manner → Type 0
+IsMannerOf file color format is_all manner =
+    (manner.file ≡ file) × IsPaintedBy color manner.is_painted × (manner.rendering ≡ rendering_of format) × (manner.extent ≡ extent_of is_all)
 
 -- what standard input is called where a file's name would stand
 abbrev pub input_name : List ℕ
@@ -92,14 +100,14 @@ IsPerformed sources (Trace file workers limit) wrote writes status = (behind : O
     IsTraceWritten (reading (named sources (string_bytes file)) behind) wrote writes limit status
 IsPerformed sources (Record file workers limit trace) wrote writes status = (behind : Option (List ℕ)) ×
     IsRan (reading (sources.file (string_bytes file)) behind) wrote writes limit status
-IsPerformed sources (Explain file workers is_serial limit color format) wrote writes status = (behind : Option (List ℕ)) × (manner : Manner) ×
-    IsMannerOf (string_bytes file) color format manner ×
+IsPerformed sources (Explain file workers is_serial limit color format is_all) wrote writes status = (behind : Option (List ℕ)) × (manner : Manner) ×
+    IsMannerOf (string_bytes file) color format is_all manner ×
     IsExplained manner (reading (sources.file (string_bytes file)) behind) wrote writes limit status
-IsPerformed sources (ExplainInput workers is_serial limit color format) wrote writes status = (behind : Option (List ℕ)) × (manner : Manner) ×
-    IsMannerOf input_name color format manner ×
+IsPerformed sources (ExplainInput workers is_serial limit color format is_all) wrote writes status = (behind : Option (List ℕ)) × (manner : Manner) ×
+    IsMannerOf input_name color format is_all manner ×
     IsExplained manner (reading sources.input behind) wrote writes limit status
-IsPerformed sources (ExplainTraces files color format) wrote writes status = (is_painted : Bool) × IsPaintedBy color is_painted ×
-    AreExplained is_painted (rendering_of format) sources.file (map string_bytes files.items) wrote writes status
+IsPerformed sources (ExplainTraces files color format is_all) wrote writes status = (is_painted : Bool) × IsPaintedBy color is_painted ×
+    AreExplained is_painted (extent_of is_all) (rendering_of format) sources.file (map string_bytes files.items) wrote writes status
 IsPerformed sources (Replay file trace) wrote writes status = (program_behind : Option (List ℕ)) × (trace_behind : Option (List ℕ)) ×
     IsReplayed (reading (named sources (string_bytes file)) program_behind)
     (reading (replayed sources (string_bytes file) (string_bytes trace)) trace_behind)
@@ -121,14 +129,14 @@ HasJobCause sources (Trace file workers limit) wrote writes fault = (behind : Op
 HasJobCause sources (Record file workers limit trace) wrote writes fault =
     (behind : Option (List ℕ)) × (traced : Option (List ℕ)) × (traces : Option (List ℕ)) ×
     HasTracedCause (reading (sources.file (string_bytes file)) behind) traced traces wrote writes limit fault
-HasJobCause sources (Explain file workers is_serial limit color format) wrote writes fault = (behind : Option (List ℕ)) × (manner : Manner) ×
-    IsMannerOf (string_bytes file) color format manner ×
+HasJobCause sources (Explain file workers is_serial limit color format is_all) wrote writes fault = (behind : Option (List ℕ)) × (manner : Manner) ×
+    IsMannerOf (string_bytes file) color format is_all manner ×
     HasExplanationCause manner (reading (sources.file (string_bytes file)) behind) wrote writes limit fault
-HasJobCause sources (ExplainInput workers is_serial limit color format) wrote writes fault = (behind : Option (List ℕ)) × (manner : Manner) ×
-    IsMannerOf input_name color format manner ×
+HasJobCause sources (ExplainInput workers is_serial limit color format is_all) wrote writes fault = (behind : Option (List ℕ)) × (manner : Manner) ×
+    IsMannerOf input_name color format is_all manner ×
     HasExplanationCause manner (reading sources.input behind) wrote writes limit fault
-HasJobCause sources (ExplainTraces files color format) wrote writes fault = (is_painted : Bool) × IsPaintedBy color is_painted ×
-    HasSeveralCause is_painted (rendering_of format) sources.file (map string_bytes files.items) wrote writes fault
+HasJobCause sources (ExplainTraces files color format is_all) wrote writes fault = (is_painted : Bool) × IsPaintedBy color is_painted ×
+    HasSeveralCause is_painted (extent_of is_all) (rendering_of format) sources.file (map string_bytes files.items) wrote writes fault
 HasJobCause sources (Replay file trace) wrote writes fault = (program_behind : Option (List ℕ)) × (trace_behind : Option (List ℕ)) ×
     HasReplayCause (reading (named sources (string_bytes file)) program_behind)
     (reading (replayed sources (string_bytes file) (string_bytes trace)) trace_behind)
@@ -167,8 +175,8 @@ LacksFile lacks (Elide file limit) = lacks_named lacks (string_bytes file)
 LacksFile lacks (Run file workers limit) = lacks_named lacks (string_bytes file)
 LacksFile lacks (Trace file workers limit) = lacks_named lacks (string_bytes file)
 LacksFile lacks (Record file workers limit trace) = lacks (string_bytes file)
-LacksFile lacks (Explain file workers is_serial limit color format) = lacks (string_bytes file)
-LacksFile lacks (ExplainTraces files color format) = lacks_first lacks (map string_bytes files.items)
+LacksFile lacks (Explain file workers is_serial limit color format is_all) = lacks (string_bytes file)
+LacksFile lacks (ExplainTraces files color format is_all) = lacks_first lacks (map string_bytes files.items)
 LacksFile lacks (Replay file trace) =
     lacks_named lacks (string_bytes file) ⊎ lacks_replayed lacks (string_bytes file) (string_bytes trace)
 LacksFile lacks (Draw file language) = lacks_named lacks (string_bytes file)
@@ -179,8 +187,8 @@ abbrev pub IsAlone : Job → Type 0
 IsAlone (Run file workers limit) = ⊥
 IsAlone (Trace file workers limit) = ⊥
 IsAlone (Record file workers limit trace) = ⊥
-IsAlone (Explain file workers is_serial limit color format) = ⊥
-IsAlone (ExplainInput workers is_serial limit color format) = ⊥
+IsAlone (Explain file workers is_serial limit color format is_all) = ⊥
+IsAlone (ExplainInput workers is_serial limit color format is_all) = ⊥
 IsAlone job = Unit {0}
 
 -- the exit status of the process: that of the job, or that of the fault

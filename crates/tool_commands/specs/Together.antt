@@ -13,6 +13,7 @@ use Rattle.model_histories.specs.declared.answer.Entry.{Entry}
 use Rattle.model_histories.specs.Extensions.{IsClean}
 use Rattle.model_histories.specs.States.{GateState}
 use Rattle.law_traces.specs.CleanTraces.{SpeaksForOrders}
+use Rattle.race_explanations.specs.declared.extent.Extent.{Extent}
 use Rattle.race_explanations.specs.Explained.{trace_setting}
 use Rattle.race_explanations.specs.Findings.{Found, found_of, nothing_found, AddsTrace, found_text}
 use Rattle.race_records.specs.Values.{IsTextOf}
@@ -52,26 +53,26 @@ with_runs runs [] = runs
 with_runs runs (run ∷ more) = with_runs (with_run runs run) more
 
 -- what a person is told of them
-abbrev pub together_text : Together → List ℕ
-together_text together = found_text together.found ++ flat_map recorded_line together.runs
+abbrev pub together_text : Extent → Together → List ℕ
+together_text extent together = found_text extent together.found ++ flat_map recorded_line together.runs
 
 -- 1 where something was refused
 abbrev pub together_status : Together → ℕ
 together_status together = if together.found.refusals == 0 && together.records.refusals == 0 then 0 else 1
 
 -- what is told of them in each form
-abbrev pub TellsTogether : Rendering → Together → (told : List ℕ) → Type 0
-TellsTogether Text together told = told ≡ together_text together
-TellsTogether (Record form) together told = IsTextOf (in_form form (recorded_told together.records together.runs)) told
+abbrev pub TellsTogether : Rendering → Extent → Together → (told : List ℕ) → Type 0
+TellsTogether Text extent together told = told ≡ together_text extent together
+TellsTogether (Record form) extent together told = IsTextOf (in_form form (recorded_told extent together.records together.runs)) told
 
 -- ---- one more
 
 -- What is found in a trace is added to what is told in this form, and nothing to the other.
 abbrev pub AddsFound : Rendering → Manner → Notes Global → TraceContents → List Entry → (old new : Together) → Type 0
 AddsFound Text manner notes trace entries old new =
-    AddsTrace manner.file (trace_setting manner.is_painted notes trace.known entries) entries old.found new.found × (new.records ≡ old.records)
+    AddsTrace manner.extent manner.file (trace_setting manner.is_painted notes trace.known entries) entries old.found new.found × (new.records ≡ old.records)
 AddsFound (Record form) manner notes trace entries old new =
-    RecordsMore manner.file (trace_setting false notes trace.known entries) entries old.records new.records × (new.found ≡ old.found)
+    RecordsMore manner.extent manner.file (trace_setting false notes trace.known entries) entries old.records new.records × (new.found ≡ old.found)
 
 -- The text means a trace, a gate answered each request of it, and what is found in it is added, by the notes of that very text. Where
 -- nothing was refused, that speaks for each order in which the strands can come.

@@ -20,7 +20,8 @@ ghost use Rattle.tool_commands.specs.Explanations.{TellsClean, TellsRaces, Tells
 ghost use Rattle.fault_lists.specs.FaultLists.{HasFault};
 ghost use Rattle.model_histories.specs.declared.answer.Entry.{Entry as AnyEntry};
 ghost use Rattle.model_races.specs.Judged.{IsJudged};
-ghost use Rattle.race_pairs.specs.Digests.{IsDigest};
+ghost use Rattle.race_pairs.specs.Digests.{IsDigest, most_of};
+ghost use Rattle.race_explanations.specs.Extents.{most_pairs};
 ghost use Rattle.tool_commands.specs.Explanations.{TellsEnd, IsBehindWarnings, status_of_end, ExplainsAs, Explains, IsUntold, StopsTelling, IsExplained, HasExplanationCause};
 
 use crate::elide::push_memory;
@@ -35,7 +36,7 @@ use fault_lists::{Fault, faults_message};
 use locked_replay::{RunFault, Whole};
 use program_text::Program;
 use program_warnings::program_warnings;
-use race_explanations::explanation;
+use race_explanations::{Extent, explanation, most_pairs};
 use race_gate::{Entry, ShortGate};
 use race_pairs::Digest;
 use race_records::{Outcome as Ending, RecordForm, faults_record, run_record};
@@ -66,6 +67,8 @@ pub struct Manner<'a> {
     pub is_painted: bool,
     /// The form of what is told.
     pub rendering: Rendering,
+    /// How much is told of races.
+    pub extent: Extent,
     /// The name of the program's file.
     pub file: &'a str,
 }
@@ -75,7 +78,7 @@ impl<'a> Model for Manner<'a> {
 
     ghost Value = { SpecManner };
 
-    ghost view = { λ manner. record { is_painted = manner.is_painted; rendering = manner.rendering; file = manner.file.now } };
+    ghost view = { λ manner. record { is_painted = manner.is_painted; rendering = manner.rendering; extent = manner.extent; file = manner.file.now } };
 }
 
 /// How a run that is told ended.
@@ -153,11 +156,12 @@ fn clean_record(
     ensures { IfOk result (λ told. TellsClean (Rendering.Record form) manner.now text.now (contents program.now) whole.now.entries.items whole.now.memory.items told.items) }
 {
     let memory = memory_value(alloc, program.mems.as_slice(), whole.memory.as_slice())?;
-    let digest = digest_of_run(alloc, &whole.entries)?;
+    let digest = digest_of_run(alloc, &whole.entries, most_pairs(manner.extent))?;
     run_record(
         alloc,
         form,
         Ending::Clean,
+        manner.extent,
         memory,
         manner.file,
         text,
@@ -192,7 +196,8 @@ fn races_told(
     program: &Program<Global>,
     digest: &Digest,
 ) -> Result<Vec<u8>, AllocError>
-    requires { (entries : List AnyEntry) × IsDigest entries digest.now }
+    requires digest { (entries : List AnyEntry) × IsDigest entries digest.now }
+    requires most { most_of digest.now ≡ most_pairs manner.now.extent }
     ensures { IfOk result (λ told. (entries : List AnyEntry) → IsDigest entries digest.now →
         TellsRaces manner.now.rendering manner.now text.now (contents program.now) entries told.items) }
 {
@@ -200,6 +205,7 @@ fn races_told(
         Rendering::Text => explanation(
             alloc,
             manner.is_painted,
+            manner.extent,
             manner.file,
             text,
             program,
@@ -209,6 +215,7 @@ fn races_told(
             alloc,
             form,
             Ending::Raced,
+            manner.extent,
             Value::Null,
             manner.file,
             text,
@@ -246,7 +253,7 @@ fn explain_whole(
         let told = explain_clean(alloc, manner, text, program, whole)?;
         return Ok((told, End::Clean));
     }
-    let digest = digest_of_run(alloc, &whole.entries)?;
+    let digest = digest_of_run(alloc, &whole.entries, most_pairs(manner.extent))?;
     let told = races_told(alloc, manner, text, program, &digest)?;
     Ok((told, End::Raced))
 }
@@ -259,11 +266,20 @@ fn cut_text_told(
     program: &Program<Global>,
     digest: &Digest,
 ) -> Result<Vec<u8>, AllocError>
-    requires { (entries : List AnyEntry) × IsDigest entries digest.now }
+    requires digest { (entries : List AnyEntry) × IsDigest entries digest.now }
+    requires most { most_of digest.now ≡ most_pairs manner.now.extent }
     ensures { IfOk result (λ told. (entries : List AnyEntry) → IsDigest entries digest.now →
         TellsCut Rendering.Text manner.now text.now (contents program.now) entries told.items) }
 {
-    let mut told = explanation(alloc, manner.is_painted, manner.file, text, program, digest)?;
+    let mut told = explanation(
+        alloc,
+        manner.is_painted,
+        manner.extent,
+        manner.file,
+        text,
+        program,
+        digest,
+    )?;
     push_cut(&mut told, digest.lines.len())?;
     Ok(told)
 }
@@ -276,7 +292,8 @@ fn limit_told(
     program: &Program<Global>,
     digest: &Digest,
 ) -> Result<Vec<u8>, AllocError>
-    requires { (entries : List AnyEntry) × IsDigest entries digest.now }
+    requires digest { (entries : List AnyEntry) × IsDigest entries digest.now }
+    requires most { most_of digest.now ≡ most_pairs manner.now.extent }
     ensures { IfOk result (λ told. (entries : List AnyEntry) → IsDigest entries digest.now →
         TellsCut manner.now.rendering manner.now text.now (contents program.now) entries told.items) }
 {
@@ -286,6 +303,7 @@ fn limit_told(
             alloc,
             form,
             Ending::Unfinished,
+            manner.extent,
             Value::Null,
             manner.file,
             text,
@@ -309,7 +327,7 @@ fn explain_unfinished(
     requires limit { limit ≤ most_entries }
     ensures { IfOk result (λ told. TellsEnd manner.now text.now (contents program.now) limit told.0.items told.1) }
 {
-    let digest = Digest::of(alloc, entries)?;
+    let digest = Digest::of(alloc, entries, most_pairs(manner.extent))?;
     let told = limit_told(alloc, manner, text, program, &digest)?;
     if refusal_status(entries) == 0 {
         return Ok((told, End::Cut));
@@ -470,8 +488,9 @@ fn told_of<D: Door + Sync, R: Threads + Wait + Sync>(
 }
 
 /// Reads a program to its end, runs it by so many workers as [`run_text`](crate::run::run_text) does, or by one that runs each child
-/// before what follows its spawn, and tells a person of the run, in lines of text: each pair of lines that raced, with both lines, the
-/// spawns and calls that led there, the spawn where the two part, and what would order them. Where nothing was refused it tells that this
+/// before what follows its spawn, and tells a person of the run, in lines of text: each pair of lines that raced, in groups of those that
+/// part at spawns on one line, with both lines, the spawns and calls that led there, the spawn where the two part, and what would order
+/// them: of all pairs, or of the first. Where nothing was refused it tells that this
 /// is so for every schedule, and the memory. Before all this it tells the warnings of the program, as [`program_warnings`] does. Where the
 /// limit ended the run it tells the races until then, and that it is no whole run. A text whose first word behind its declarations is not
 /// `func` is a trace: its requests are judged in their order, and the pairs that raced are told by its notes, or the first illegal request.

@@ -6,7 +6,8 @@ ghost use Rattle.trace_text.specs.Traces.{contents as trace_contents};
 ghost use Rattle.trace_text.specs.Grammar.{TextMeans as TraceMeans};
 ghost use Rattle.trace_notes.specs.Notes.{AreNotes, kept_runs};
 ghost use Rattle.model_histories.specs.declared.answer.Entry.{Entry};
-ghost use Rattle.race_pairs.specs.Digests.{IsDigest};
+ghost use Rattle.race_pairs.specs.Digests.{IsDigest, most_of};
+ghost use Rattle.race_explanations.specs.Extents.{most_pairs};
 ghost use Rattle.tool_commands.specs.Outcomes.{refusal_status};
 ghost use Rattle.tool_commands.specs.Cleanness.{IsAllClean};
 ghost use Rattle.tool_commands.specs.Digested.{IsDigested};
@@ -22,7 +23,9 @@ use crate::replay::fault_of_request;
 use command_streams::CliFault;
 use fault_lists::Fault;
 use memchr::memchr;
-use race_explanations::{Illegality, find_illegality, illegal_explanation, trace_explanation};
+use race_explanations::{
+    Extent, Illegality, find_illegality, illegal_explanation, most_pairs, trace_explanation,
+};
 use race_gate::Gate;
 use race_pairs::Digest;
 use race_records::{Outcome as Ending, RecordForm, illegal_record, trace_record};
@@ -60,14 +63,22 @@ fn explain_entries(
     trace: &Trace<Global>,
     digest: &Digest,
 ) -> Result<Vec<u8>, AllocError>
-    requires { (entries : List Entry) × IsDigest entries digest.now }
+    requires digest { (entries : List Entry) × IsDigest entries digest.now }
+    requires most { most_of digest.now ≡ most_pairs manner.now.extent }
     ensures { IfOk result (λ told. (entries : List Entry) → IsDigest entries digest.now →
         TellsEntries manner.now notes.now (trace_contents trace.now) entries told.items) }
 {
     if digest.refusals == 0 {
         return explain_clean(alloc, digest.lines.len());
     }
-    trace_explanation(alloc, manner.is_painted, notes, trace, digest)
+    trace_explanation(
+        alloc,
+        manner.is_painted,
+        manner.extent,
+        notes,
+        trace,
+        digest,
+    )
 }
 
 /// Adds what was recorded by one note.
@@ -100,18 +111,21 @@ fn ending_of(status: u8) -> Ending
 fn entries_record(
     alloc: Global,
     form: RecordForm,
+    extent: Extent,
     notes: &Notes<Global>,
     trace: &Trace<Global>,
     digest: &Digest,
 ) -> Result<Vec<u8>, AllocError>
-    requires { (entries : List Entry) × IsDigest entries digest.now }
+    requires digest { (entries : List Entry) × IsDigest entries digest.now }
+    requires most { most_of digest.now ≡ most_pairs extent }
     ensures { IfOk result (λ told. (entries : List Entry) → IsDigest entries digest.now →
-        RecordsTrace form notes.now (trace_contents trace.now) entries told.items) }
+        RecordsTrace form extent notes.now (trace_contents trace.now) entries told.items) }
 {
     trace_record(
         alloc,
         form,
         ending_of(status_of(digest)),
+        extent,
         notes,
         trace,
         digest,
@@ -199,7 +213,8 @@ fn verdict_text(
     trace: &Trace<Global>,
     digest: &Digest,
 ) -> Result<Vec<u8>, AllocError>
-    requires { (entries : List Entry) × IsDigest entries digest.now }
+    requires digest { (entries : List Entry) × IsDigest entries digest.now }
+    requires most { most_of digest.now ≡ most_pairs manner.now.extent }
     ensures { IfOk result (λ told. (entries : List Entry) → IsDigest entries digest.now →
         TellsTrace Rendering.Text manner.now notes.now (trace_contents trace.now) entries told.items) }
 {
@@ -216,13 +231,16 @@ fn verdict_told(
     trace: &Trace<Global>,
     digest: &Digest,
 ) -> Result<Vec<u8>, AllocError>
-    requires { (entries : List Entry) × IsDigest entries digest.now }
+    requires digest { (entries : List Entry) × IsDigest entries digest.now }
+    requires most { most_of digest.now ≡ most_pairs manner.now.extent }
     ensures { IfOk result (λ told. (entries : List Entry) → IsDigest entries digest.now →
         TellsTrace manner.now.rendering manner.now notes.now (trace_contents trace.now) entries told.items) }
 {
     match manner.rendering {
         Rendering::Text => verdict_text(alloc, manner, notes, trace, digest),
-        Rendering::Record(form) => entries_record(alloc, form, notes, trace, digest),
+        Rendering::Record(form) => {
+            entries_record(alloc, form, manner.extent, notes, trace, digest)
+        }
     }
 }
 
@@ -236,6 +254,7 @@ fn explain_judged(
 ) -> Result<(Vec<u8>, u8), AllocError>
     requires means { TraceMeans text.now (trace_contents trace.now) }
     requires digested { IsDigested (trace_contents trace.now) digest.now }
+    requires most { most_of digest.now ≡ most_pairs manner.now.extent }
     ensures { IfOk result (λ told. IsTraceTold manner.now text.now told.0.items told.1) }
 {
     let notes = notes_of(alloc, text)?;
@@ -243,17 +262,19 @@ fn explain_judged(
     Ok((told, status_of(digest)))
 }
 
-/// The digest of the entries of a gate that answered all requests of a trace.
+/// The digest of the entries of a gate that answered all requests of a trace, which keeps so many pairs.
 pub(crate) fn digest_of_gate(
     alloc: Global,
     trace: &Trace<Global>,
     gate: &Gate<Global>,
+    most: usize,
 ) -> Result<Digest, AllocError>
     requires { AnswersAll (trace_contents trace.now) gate.now }
-    ensures { IfOk result (IsDigested (trace_contents trace.now)) }
+    ensures digested { IfOk result (IsDigested (trace_contents trace.now)) }
+    ensures most { IfOk result (λ digest. most_of digest ≡ most) }
 {
     let _trace = trace;
-    Digest::of(alloc, gate.history())
+    Digest::of(alloc, gate.history(), most)
 }
 
 /// What a person is told of a trace that a text means, in which nothing is refused among so many requests.
@@ -288,7 +309,7 @@ fn explain_history(
     let (gate, stop) = ask_all(alloc, trace)?;
     match stop {
         None => {
-            let digest = digest_of_gate(alloc, trace, &gate)?;
+            let digest = digest_of_gate(alloc, trace, &gate, most_pairs(manner.extent))?;
             Ok(explain_judged(alloc, manner, text, trace, &digest)?)
         }
         Some(stop) => {
@@ -309,7 +330,7 @@ fn digest_told(
     ensures ok { IfOk result (λ told. IsTraceTold manner.now text.now told.0.items told.1 ⊎ IsUnjudgedTold manner.now text.now told.0.items told.1) }
     ensures fault { IfErr result (λ fault. (fault ≡ CliFault.Memory) ⊎ StopsGate (trace_contents trace.now) fault) }
 {
-    match digest_of_trace(alloc, trace)? {
+    match digest_of_trace(alloc, trace, most_pairs(manner.extent))? {
         Some(digest) => Ok(explain_judged(alloc, manner, text, trace, &digest)?),
         None => explain_history(alloc, manner, text, trace),
     }

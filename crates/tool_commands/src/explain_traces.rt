@@ -13,7 +13,8 @@ ghost use Rattle.tool_commands.specs.Replays.{StopsGate};
 ghost use Rattle.tool_commands.specs.Explanations.{IsUntoldTrace, recorded_line};
 ghost use Rattle.tool_commands.specs.Together.{together_of, none_together, with_run, with_runs, together_text, together_status, AddsFound, TellsTogether};
 ghost use Rattle.model_histories.specs.declared.answer.Entry.{Entry};
-ghost use Rattle.race_pairs.specs.Digests.{IsDigest};
+ghost use Rattle.race_pairs.specs.Digests.{IsDigest, most_of};
+ghost use Rattle.race_explanations.specs.Extents.{most_pairs};
 ghost use Rattle.tool_commands.specs.Together.{AddsText, TakesText, TakesReading, StopsTaking};
 
 use crate::ask::ask_all;
@@ -22,7 +23,7 @@ use crate::explain_trace::{digest_of_gate, explain_stop, notes_of, push_run};
 use crate::judged::digest_of_trace;
 use command_streams::{CliFault, Watched, read_text};
 use fault_lists::Fault;
-use race_explanations::Findings;
+use race_explanations::{Extent, Findings, most_pairs};
 use race_pairs::Digest;
 use race_records::Records;
 use source_quotes::Meant;
@@ -123,7 +124,8 @@ impl Traces {
         trace: &Trace<Global>,
         digest: &Digest,
     ) -> Result<(), AllocError>
-        requires { (entries : List Entry) × IsDigest entries digest.now }
+        requires digest { (entries : List Entry) × IsDigest entries digest.now }
+        requires most { most_of digest.now ≡ most_pairs manner.now.extent }
         ensures found { OnOk result ((entries : List Entry) → IsDigest entries digest.now →
             AddsFound manner.now.rendering manner.now notes.now (trace_contents trace.now) entries (together_of self.old) (together_of self.new)) }
         ensures runs { (together_of self.new).runs ≡ (together_of self.old).runs }
@@ -132,12 +134,15 @@ impl Traces {
             Rendering::Text => self.findings.add(
                 alloc,
                 manner.is_painted,
+                manner.extent,
                 manner.file,
                 notes,
                 trace,
                 digest,
             ),
-            Rendering::Record(_) => self.records.add(alloc, manner.file, notes, trace, digest),
+            Rendering::Record(_) => self
+                .records
+                .add(alloc, manner.extent, manner.file, notes, trace, digest),
         }
     }
 
@@ -152,6 +157,7 @@ impl Traces {
     ) -> Result<(), AllocError>
         requires means { TraceMeans text.now (trace_contents trace.now) }
         requires digested { IsDigested (trace_contents trace.now) digest.now }
+        requires most { most_of digest.now ≡ most_pairs manner.now.extent }
         ensures { OnOk result (AddsText manner.now text.now (together_of self.old) (together_of self.new)) }
     {
         let notes = notes_of(alloc, text)?;
@@ -175,7 +181,7 @@ impl Traces {
         let (gate, stop) = ask_all(alloc, trace)?;
         match stop {
             None => {
-                let digest = digest_of_gate(alloc, trace, &gate)?;
+                let digest = digest_of_gate(alloc, trace, &gate, most_pairs(manner.extent))?;
                 self.add(alloc, manner, text, trace, &digest)?;
                 Ok(None)
             }
@@ -195,7 +201,7 @@ impl Traces {
         ensures ok { IfOk result (TakesText manner.now text.now (together_of self.old) (together_of self.new)) }
         ensures fault { IfErr result (λ fault. (fault ≡ CliFault.Memory) ⊎ StopsGate (trace_contents trace.now) fault) }
     {
-        match digest_of_trace(alloc, trace)? {
+        match digest_of_trace(alloc, trace, most_pairs(manner.extent))? {
             Some(digest) => {
                 self.add(alloc, manner, text, trace, &digest)?;
                 Ok(None)
@@ -260,21 +266,29 @@ impl Traces {
     }
 
     /// What a person is told of the traces together.
-    fn text_told(&self, alloc: Global) -> Result<Vec<u8>, AllocError>
-        ensures { IfOk result (λ told. told.items ≡ together_text (together_of self.now)) }
+    fn text_told(&self, alloc: Global, extent: Extent) -> Result<Vec<u8>, AllocError>
+        ensures { IfOk result (λ told. told.items ≡ together_text extent (together_of self.now)) }
     {
-        let mut told = self.findings.to_message(alloc)?;
+        let mut told = self.findings.to_message(alloc, extent)?;
         push_kept(&mut told, self.runs.as_slice())?;
         Ok(told)
     }
 
     /// What is told of the traces together: each pair of places that raced, or that nothing was refused, and what was recorded.
-    pub fn to_message(&self, alloc: Global, rendering: Rendering) -> Result<Vec<u8>, AllocError>
-        ensures { IfOk result (λ told. TellsTogether rendering (together_of self.now) told.items) }
+    pub fn to_message(
+        &self,
+        alloc: Global,
+        extent: Extent,
+        rendering: Rendering,
+    ) -> Result<Vec<u8>, AllocError>
+        ensures { IfOk result (λ told. TellsTogether rendering extent (together_of self.now) told.items) }
     {
         match rendering {
-            Rendering::Text => self.text_told(alloc),
-            Rendering::Record(form) => self.records.record(alloc, form, self.runs.as_slice()),
+            Rendering::Text => self.text_told(alloc, extent),
+            Rendering::Record(form) => {
+                self.records
+                    .record(alloc, form, extent, self.runs.as_slice())
+            }
         }
     }
 }

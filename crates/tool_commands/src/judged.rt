@@ -5,7 +5,7 @@ ghost use Rattle.trace_text.specs.Traces.{contents as trace_contents};
 ghost use Rattle.model_histories.specs.Shapes.{Shape, most_entries};
 ghost use Rattle.model_races.specs.Judged.{IsJudged};
 ghost use Rattle.packed_history.specs.Entries.{entry_of as entry_spec};
-ghost use Rattle.race_pairs.specs.Digests.{IsDigest, is_of_own_lines};
+ghost use Rattle.race_pairs.specs.Digests.{IsDigest, is_of_own_lines, most_of};
 ghost use Rattle.tool_commands.specs.Digested.{IsDigested};
 
 use command_streams::MOST_ENTRIES;
@@ -42,7 +42,8 @@ fn grow_digest(
     mut digest: Digest,
 ) -> Result<Option<Digest>, AllocError>
     requires { IsDigest [] digest }
-    ensures { IfOk result (λ found. IfSome found (IsDigested (trace_contents trace.now))) }
+    ensures digested { IfOk result (λ found. IfSome found (IsDigested (trace_contents trace.now))) }
+    ensures most { IfOk result (λ found. IfSome found (λ grown. most_of grown ≡ most_of digest)) }
 {
     let shape = trace.shape(alloc)?;
     let mut core = Core::new(alloc, &shape, MOST_ENTRIES)?;
@@ -62,28 +63,36 @@ fn grow_digest(
     Ok(Some(digest))
 }
 
-/// The digest of the entries of a trace, where a gate answers all its requests. None says nothing. Errors where there is no memory.
+/// The digest of the entries of a trace, which keeps so many pairs, where a gate answers all its requests. None says nothing. Errors where
+/// there is no memory.
 pub(crate) fn digest_of_trace(
     alloc: Global,
     trace: &Trace<Global>,
+    most: usize,
 ) -> Result<Option<Digest>, AllocError>
-    ensures { IfOk result (λ found. IfSome found (IsDigested (trace_contents trace.now))) }
+    ensures digested { IfOk result (λ found. IfSome found (IsDigested (trace_contents trace.now))) }
+    ensures most { IfOk result (λ found. IfSome found (λ digest. most_of digest ≡ most)) }
 {
     let count = trace.lines.len();
-    let own = grow_digest(alloc, trace, Digest::with_own_lines(alloc, count)?)?;
+    let own = grow_digest(alloc, trace, Digest::with_own_lines(alloc, count, most)?)?;
     if own.is_some() {
         return Ok(own);
     }
-    grow_digest(alloc, trace, Digest::new(alloc, count)?)
+    grow_digest(alloc, trace, Digest::new(alloc, count, most)?)
 }
 
-/// The digest of entries of a run. Errors where there is no memory.
-pub(crate) fn digest_of_run(alloc: Global, entries: &Entries) -> Result<Digest, AllocError>
+/// The digest of entries of a run, which keeps so many pairs. Errors where there is no memory.
+pub(crate) fn digest_of_run(
+    alloc: Global,
+    entries: &Entries,
+    most: usize,
+) -> Result<Digest, AllocError>
     requires judged { (shape : Shape) × IsJudged shape (reverse entries.now.items) }
     requires few { length entries.now.items ≤ most_entries }
-    ensures { IfOk result (IsDigest entries.now.items) }
+    ensures digest { IfOk result (IsDigest entries.now.items) }
+    ensures most { IfOk result (λ digest. most_of digest ≡ most) }
 {
-    let mut digest = Digest::new(alloc, entries.len())?;
+    let mut digest = Digest::new(alloc, entries.len(), most)?;
     for at in 0..entries.len() {
         digest.add(entries.get(at))?;
     }

@@ -52,6 +52,7 @@ pub use explain::{End, Manner, Rendering, explain_text};
 pub use explain_traces::Traces;
 pub use judge_command::{judge_stream, status_of};
 pub use performing::{exit_of, perform, perform_alone};
+pub use race_explanations::Extent;
 pub use race_records::RecordForm;
 pub use replay::replay_text;
 pub use run::{Door, OpenDoor, run_text};

@@ -7,7 +7,7 @@ ghost use Rattle.std.specs.Io.KnownBytes.{Appends};
 ghost use Rattle.command_words.specs.Jobs.{IsInRange};
 ghost use Rattle.command_streams.specs.Streams.{StopsWriting};
 ghost use Rattle.command_streams.specs.Watched.{held, has_failed, is_delivered};
-ghost use Rattle.tool_commands.specs.Performed.{form_of, rendering_of, IsPerformed, IsPaintedBy, HasJobCause, IsRecorded};
+ghost use Rattle.tool_commands.specs.Performed.{form_of, rendering_of, extent_of, IsPerformed, IsPaintedBy, HasJobCause, IsRecorded};
 ghost use Rattle.tool_commands.specs.Performed.{IsRecordedFirst, BarsTrace, LacksFile, IsAlone, status_of_answer};
 
 use crate::draw::draw_text;
@@ -22,6 +22,7 @@ use command_streams::{CliFault, Host, Watched, write_text};
 use command_words::{Color, Format, INPUT, Job, Language};
 use dag_drawing::Form;
 use judge_command::judge_stream;
+use race_explanations::Extent;
 use race_records::RecordForm;
 use std::alloc::Global;
 use std::io::Write;
@@ -208,6 +209,13 @@ fn is_painted<H: Host>(host: &Watched<H>, color: Color) -> bool
     }
 }
 
+/// How much is told of races.
+fn extent_of(is_all: bool) -> Extent
+    ensures { result ≡ extent_of is_all }
+{
+    if is_all { Extent::All } else { Extent::First }
+}
+
 /// Runs the program in a file by so many workers, and explains the run.
 fn explain_file<H: Host, W: Write, R: Threads + Wait + Sync>(
     threads: &R,
@@ -219,26 +227,28 @@ fn explain_file<H: Host, W: Write, R: Threads + Wait + Sync>(
     limit: u32,
     color: Color,
     format: Format,
+    is_all: bool,
     output: &mut Watched<W>,
 ) -> Result<u8, CliFault>
     requires host { has_failed host.old ≡ false }
     requires writer { has_failed output.old ≡ false }
     requires workers { (0 < workers) × (workers ≤ 64) }
     requires limit { limit ≤ most_entries }
-    ensures done { IfOk result (IsPerformed (H.sources (held host.old)) (Job.Explain file.now workers is_serial limit color format)
+    ensures done { IfOk result (IsPerformed (H.sources (held host.old)) (Job.Explain file.now workers is_serial limit color format is_all)
         (W.contents (held output.old)) (W.contents (held output.new))) }
-    ensures fault { IfErr result (HasJobCause (H.sources (held host.old)) (Job.Explain file.now workers is_serial limit color format)
+    ensures fault { IfErr result (HasJobCause (H.sources (held host.old)) (Job.Explain file.now workers is_serial limit color format is_all)
         (W.contents (held output.old)) (W.contents (held output.new))) }
     ensures delivered { OnOk result (is_delivered output.new ≡ true) }
     ensures read_failed { IsErrOf result CliFault.Read ↔ IsTrue (has_failed host.new) }
     ensures write_failed { IsErrOf result CliFault.Write ↔ IsTrue (has_failed output.new) }
     ensures unwritten { IfErr result (λ fault. fault ≢ CliFault.Write → output.new ≡ output.old) }
-    ensures lacking { LacksFile (H.lacks (held host.old)) (Job.Explain file.now workers is_serial limit color format) → IsErrOf result CliFault.Read }
+    ensures lacking { LacksFile (H.lacks (held host.old)) (Job.Explain file.now workers is_serial limit color format is_all) → IsErrOf result CliFault.Read }
 {
     let mut program = host.open(file.as_str())?;
     let manner = Manner {
         is_painted: is_painted(host, color),
         rendering: rendering_of(format),
+        extent: extent_of(is_all),
         file: file.as_str(),
     };
     let answer = explain_text(
@@ -266,15 +276,16 @@ fn explain_input<H: Host, W: Write, R: Threads + Wait + Sync>(
     limit: u32,
     color: Color,
     format: Format,
+    is_all: bool,
     output: &mut Watched<W>,
 ) -> Result<u8, CliFault>
     requires host { has_failed host.old ≡ false }
     requires writer { has_failed output.old ≡ false }
     requires workers { (0 < workers) × (workers ≤ 64) }
     requires limit { limit ≤ most_entries }
-    ensures done { IfOk result (IsPerformed (H.sources (held host.old)) (Job.ExplainInput workers is_serial limit color format)
+    ensures done { IfOk result (IsPerformed (H.sources (held host.old)) (Job.ExplainInput workers is_serial limit color format is_all)
         (W.contents (held output.old)) (W.contents (held output.new))) }
-    ensures fault { IfErr result (HasJobCause (H.sources (held host.old)) (Job.ExplainInput workers is_serial limit color format)
+    ensures fault { IfErr result (HasJobCause (H.sources (held host.old)) (Job.ExplainInput workers is_serial limit color format is_all)
         (W.contents (held output.old)) (W.contents (held output.new))) }
     ensures delivered { OnOk result (is_delivered output.new ≡ true) }
     ensures read_failed { IsErrOf result CliFault.Read ↔ IsTrue (has_failed host.new) }
@@ -284,6 +295,7 @@ fn explain_input<H: Host, W: Write, R: Threads + Wait + Sync>(
     let manner = Manner {
         is_painted: is_painted(host, color),
         rendering: rendering_of(format),
+        extent: extent_of(is_all),
         file: INPUT_NAME,
     };
     let mut input = host.input();
@@ -301,26 +313,28 @@ fn explain_traces<H: Host, W: Write>(
     files: &Vec<String>,
     color: Color,
     format: Format,
+    is_all: bool,
     output: &mut Watched<W>,
 ) -> Result<u8, CliFault>
     requires host { has_failed host.old ≡ false }
     requires writer { has_failed output.old ≡ false }
-    ensures done { IfOk result (IsPerformed (H.sources (held host.old)) (Job.ExplainTraces files.now color format)
+    ensures done { IfOk result (IsPerformed (H.sources (held host.old)) (Job.ExplainTraces files.now color format is_all)
         (W.contents (held output.old)) (W.contents (held output.new))) }
-    ensures fault { IfErr result (HasJobCause (H.sources (held host.old)) (Job.ExplainTraces files.now color format)
+    ensures fault { IfErr result (HasJobCause (H.sources (held host.old)) (Job.ExplainTraces files.now color format is_all)
         (W.contents (held output.old)) (W.contents (held output.new))) }
     ensures status { IfOk result (λ status. status ≤ 4) }
     ensures delivered { OnOk result (is_delivered output.new ≡ true) }
     ensures read_failed { IsErrOf result CliFault.Read ↔ IsTrue (has_failed host.new) }
     ensures write_failed { IsErrOf result CliFault.Write ↔ IsTrue (has_failed output.new) }
     ensures unwritten { IfErr result (λ fault. fault ≢ CliFault.Write → output.new ≡ output.old) }
-    ensures lacking { LacksFile (H.lacks (held host.old)) (Job.ExplainTraces files.now color format) → IsErrOf result CliFault.Read }
+    ensures lacking { LacksFile (H.lacks (held host.old)) (Job.ExplainTraces files.now color format is_all) → IsErrOf result CliFault.Read }
 {
     let is_painted = is_painted(host, color);
     explain_files(
         alloc,
         host,
         is_painted,
+        extent_of(is_all),
         rendering_of(format),
         files.as_slice(),
         output,
@@ -500,7 +514,8 @@ pub fn perform_alone<H: Host, W: Write>(
             files,
             color,
             format,
-        } => explain_traces(alloc, host, files, *color, *format, output),
+            is_all,
+        } => explain_traces(alloc, host, files, *color, *format, *is_all, output),
         Job::Run { .. }
         | Job::Trace { .. }
         | Job::Record { .. }
@@ -569,8 +584,10 @@ pub fn perform<H: Host, W: Write, R: Threads + Wait + Sync>(
             limit,
             color,
             format,
+            is_all,
         } => explain_file(
-            threads, alloc, host, file, *workers, *is_serial, *limit, *color, *format, output,
+            threads, alloc, host, file, *workers, *is_serial, *limit, *color, *format, *is_all,
+            output,
         ),
         Job::ExplainInput {
             workers,
@@ -578,8 +595,9 @@ pub fn perform<H: Host, W: Write, R: Threads + Wait + Sync>(
             limit,
             color,
             format,
+            is_all,
         } => explain_input(
-            threads, alloc, host, *workers, *is_serial, *limit, *color, *format, output,
+            threads, alloc, host, *workers, *is_serial, *limit, *color, *format, *is_all, output,
         ),
         job => perform_alone(alloc, host, job, output),
     }

@@ -11,6 +11,7 @@ ghost use Rattle.tool_commands.specs.Performed.{lacks_first};
 use crate::explain::{Manner, Rendering};
 use crate::explain_traces::Traces;
 use command_streams::{CliFault, Host, Watched, write_text};
+use race_explanations::Extent;
 use std::alloc::Global;
 use std::io::Write;
 
@@ -43,12 +44,13 @@ fn explain_texts<H: Host>(
     alloc: Global,
     host: &mut Watched<H>,
     is_painted: bool,
+    extent: Extent,
     rendering: Rendering,
     files: &[String],
 ) -> Result<(Vec<u8>, u8), CliFault>
     requires { has_failed host.old ≡ false }
-    ensures ok { IfOk result (λ told. TellsSeveral is_painted rendering (H.sources (held host.old)).file (map string_bytes files.now) told.0.items told.1) }
-    ensures fault { IfErr result (StopsSeveral is_painted rendering (H.sources (held host.old)).file (map string_bytes files.now)) }
+    ensures ok { IfOk result (λ told. TellsSeveral is_painted extent rendering (H.sources (held host.old)).file (map string_bytes files.now) told.0.items told.1) }
+    ensures fault { IfErr result (StopsSeveral is_painted extent rendering (H.sources (held host.old)).file (map string_bytes files.now)) }
     ensures read_failed { IsErrOf result CliFault.Read ↔ IsTrue (has_failed host.new) }
     ensures not_write { IsErrOf result CliFault.Write → ⊥ }
     ensures lacking { lacks_first (H.lacks (held host.old)) (map string_bytes files.now) → IsErrOf result CliFault.Read }
@@ -57,6 +59,7 @@ fn explain_texts<H: Host>(
     for file in files {
         let manner = Manner {
             is_painted,
+            extent,
             rendering,
             file: file.as_str(),
         };
@@ -64,7 +67,10 @@ fn explain_texts<H: Host>(
             return Ok((told, 2));
         }
     }
-    Ok((traces.to_message(alloc, rendering)?, traces.status()))
+    Ok((
+        traces.to_message(alloc, extent, rendering)?,
+        traces.status(),
+    ))
 }
 
 /// Explains the traces in some files together.
@@ -72,15 +78,16 @@ pub(crate) fn explain_files<H: Host, W: Write>(
     alloc: Global,
     host: &mut Watched<H>,
     is_painted: bool,
+    extent: Extent,
     rendering: Rendering,
     files: &[String],
     output: &mut Watched<W>,
 ) -> Result<u8, CliFault>
     requires host { has_failed host.old ≡ false }
     requires writer { has_failed output.old ≡ false }
-    ensures done { IfOk result (AreExplained is_painted rendering (H.sources (held host.old)).file (map string_bytes files.now)
+    ensures done { IfOk result (AreExplained is_painted extent rendering (H.sources (held host.old)).file (map string_bytes files.now)
         (W.contents (held output.old)) (W.contents (held output.new))) }
-    ensures fault { IfErr result (HasSeveralCause is_painted rendering (H.sources (held host.old)).file (map string_bytes files.now)
+    ensures fault { IfErr result (HasSeveralCause is_painted extent rendering (H.sources (held host.old)).file (map string_bytes files.now)
         (W.contents (held output.old)) (W.contents (held output.new))) }
     ensures status { IfOk result (λ status. status ≤ 2) }
     ensures delivered { OnOk result (is_delivered output.new ≡ true) }
@@ -89,7 +96,7 @@ pub(crate) fn explain_files<H: Host, W: Write>(
     ensures unwritten { IfErr result (λ fault. fault ≢ CliFault.Write → output.new ≡ output.old) }
     ensures lacking { lacks_first (H.lacks (held host.old)) (map string_bytes files.now) → IsErrOf result CliFault.Read }
 {
-    let (told, status) = explain_texts(alloc, host, is_painted, rendering, files)?;
+    let (told, status) = explain_texts(alloc, host, is_painted, extent, rendering, files)?;
     write_text(output, told.as_slice())?;
     Ok(status)
 }

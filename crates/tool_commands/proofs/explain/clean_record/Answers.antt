@@ -10,16 +10,16 @@ use Rattle.tool_commands.specs.Memories.{memory_told}
 use Rattle.tool_commands.specs.Explanations.{Manner}
 use Rattle.tool_commands.proofs.explain.clean_record.Goals as goal
 
-pub run_record-requires : goal.run_record-requires
-run_record-requires c = (c.args.whole.now.entries.items, c.in_ok-digest.ensures)
+pub run_record-requires-clause-digest : goal.run_record-requires-clause-digest
+run_record-requires-clause-digest c = (c.args.whole.now.entries.items, c.in_ok-digest.ensures.digest)
 
 pub returns : goal.returns
 returns c =
     let entries = c.args.whole.now.entries.items in
     let program = contents c.args.program.now in
     IfOk-weaker c.run_record.result _ _
-    (λ told records. subst (λ (memory : Data). RecordsRun c.args.form Clean c.args.manner.now.file (lines c.args.text.now) program entries memory told.items)
+    (λ told records. subst (λ (memory : Data). RecordsRun c.args.form Clean c.args.manner.now.extent c.args.manner.now.file (lines c.args.text.now) program entries memory told.items)
     (c.in_ok-memory.ensures ∙ ap₂ memory_told c.as_slice.ensures c.as_slice-2.ensures.value)
-    (subst (λ (manner : Manner). RecordsRun c.args.form Clean manner.file (lines c.args.text.now) program entries
-    (view c.in_ok-memory.memory) told.items) c.manner.view_is (records entries c.in_ok-digest.ensures)))
+    (subst (λ (manner : Manner). RecordsRun c.args.form Clean manner.extent manner.file (lines c.args.text.now) program entries
+    (view c.in_ok-memory.memory) told.items) c.manner.view_is (records entries c.in_ok-digest.ensures.digest)))
     c.run_record.ensures

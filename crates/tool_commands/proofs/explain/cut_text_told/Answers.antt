@@ -12,7 +12,7 @@ returns c = λ entries is.
     let told = c.in_ok-told.told.items in
     let counted : c.len.result ≡ length c.args.digest.now.lines.items = search rules in (
       told,
-      subst (λ (manner : Manner). IsExplanation manner.is_painted manner.file (lines c.args.text.now) (contents c.args.program.now) entries told)
+      subst (λ (manner : Manner). IsExplanation manner.is_painted manner.extent manner.file (lines c.args.text.now) (contents c.args.program.now) entries told)
           c.manner.view_is (c.in_ok-told.ensures entries is),
       c.in_ok-push_cut.ensures ∙
           ap (λ n. told ++ cut_text n) (counted ∙ (ap length is.lines ∙ length-map entries (λ (entry : Entry). entry.request.line))),

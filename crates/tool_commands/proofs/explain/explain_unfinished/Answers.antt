@@ -6,8 +6,8 @@ use Rattle.tool_commands.proofs.explain.explain_unfinished.Goals as goal
 pub of-requires-clause-judged : goal.of-requires-clause-judged
 of-requires-clause-judged c = (shape_in c.args.program.now, c.requires.run.0.run.judged)
 
-pub limit_told-requires : goal.limit_told-requires
-limit_told-requires c = (c.args.entries.now, c.in_ok-digest.ensures)
+pub limit_told-requires-clause-digest : goal.limit_told-requires-clause-digest
+limit_told-requires-clause-digest c = (c.args.entries.now, c.in_ok-digest.ensures.0)
 
 pub returns-then-refusal_status-eq0 : goal.returns-then-refusal_status-eq0
 returns-then-refusal_status-eq0 c = record {
@@ -15,7 +15,7 @@ returns-then-refusal_status-eq0 c = record {
   run = c.requires.run.0;
   full = c.requires.full;
   unfinished = c.requires.run.1;
-  explains = c.in_ok-told.ensures c.args.entries.now c.in_ok-digest.ensures;
+  explains = c.in_ok-told.ensures c.args.entries.now c.in_ok-digest.ensures.0;
   refused_is = sym c.if-refusal_status-eq0.true ∙ c.refusal_status.ensures;
 }
 
@@ -25,6 +25,6 @@ returns c = record {
   run = c.requires.run.0;
   full = c.requires.full;
   unfinished = c.requires.run.1;
-  explains = c.in_ok-told.ensures c.args.entries.now c.in_ok-digest.ensures;
+  explains = c.in_ok-told.ensures c.args.entries.now c.in_ok-digest.ensures.0;
   refused_is = some_refused c.args.entries.now (λ none. c.if-refusal_status-eq0.false (c.refusal_status.ensures ∙ none));
 }

@@ -21,8 +21,8 @@ explain_clean-requires-clause-judged c = (shape_in c.args.program.now, c.require
 pub digest_of_run-requires-clause-judged : goal.digest_of_run-requires-clause-judged
 digest_of_run-requires-clause-judged c = (shape_in c.args.program.now, c.requires.run.0.run.judged)
 
-pub races_told-requires : goal.races_told-requires
-races_told-requires c = (c.args.whole.now.entries.items, c.in_ok-digest.ensures)
+pub races_told-requires-clause-digest : goal.races_told-requires-clause-digest
+races_told-requires-clause-digest c = (c.args.whole.now.entries.items, c.in_ok-digest.ensures.digest)
 
 pub returns : goal.returns
 returns c = record {
@@ -30,5 +30,5 @@ returns c = record {
   run = c.requires.run;
   within = c.requires.within;
   raced = search rules;
-  explains = c.in_ok-told-2.ensures c.args.whole.now.entries.items c.in_ok-digest.ensures;
+  explains = c.in_ok-told-2.ensures c.args.whole.now.entries.items c.in_ok-digest.ensures.digest;
 }

@@ -2,7 +2,7 @@ use Rattle.std.proofs.Common.{◌≡◌, length, reverse, sym, ap, ◌∙◌, su
 use Rattle.std.proofs.lemmas.List.{length-reverse, reverse-reverse}
 use Rattle.std.proofs.lemmas.Result.{IfOk-weaker}
 use Rattle.trace_text.specs.Traces.{contents as trace_contents}
-use Rattle.race_pairs.specs.Digests.{IsDigest}
+use Rattle.race_pairs.specs.Digests.{IsDigest, most_of}
 use Rattle.model_histories.specs.Shapes.{most_entries}
 use Rattle.model_races.specs.Judged.{IsJudged}
 use Rattle.tool_commands.specs.Digested.{IsDigested}
@@ -18,11 +18,16 @@ of-requires-clause-few c =
     let within = c.history.ensures.within in
     let long = ap length (sym c.history.ensures.entries) ∙ length-reverse c.history.result.now in omega (arith, kept, within, long)
 
-pub returns : goal.returns
-returns c =
-    IfOk-weaker c.of.result (IsDigest c.history.result.now) (IsDigested (trace_contents c.args.trace.now))
+pub returns-clause-digested : goal.returns-clause-digested
+returns-clause-digested c =
+    IfOk-weaker c.of.result (λ digest. IsDigest c.history.result.now digest × (most_of digest ≡ c.args.most)) (IsDigested (trace_contents c.args.trace.now))
     (λ digest is. record {
       gate = c.args.gate.now;
       answers = c.requires;
-      digest_is = subst (λ entries. IsDigest entries digest) (sym (reverse-reverse c.history.result.now) ∙ ap reverse c.history.ensures.entries) is;
+      digest_is = subst (λ entries. IsDigest entries digest) (sym (reverse-reverse c.history.result.now) ∙ ap reverse c.history.ensures.entries) is.0;
     }) c.of.ensures
+
+pub returns-clause-most : goal.returns-clause-most
+returns-clause-most c =
+    IfOk-weaker c.of.result (λ digest. IsDigest c.history.result.now digest × (most_of digest ≡ c.args.most)) (λ digest. most_of digest ≡ c.args.most)
+    (λ digest is. is.1) c.of.ensures

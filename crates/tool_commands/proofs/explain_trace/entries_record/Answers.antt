@@ -14,7 +14,7 @@ pub returns : goal.returns
 returns c =
     let notes = c.args.notes.now in
     IfOk-weaker c.trace_record.result _ _
-    (λ told records entries is. subst (λ (ending : Ending). RecordsEntries c.args.form ending 1
+    (λ told records entries is. subst (λ (ending : Ending). RecordsEntries c.args.form ending 1 c.args.extent
     (trace_setting false notes (trace_contents c.args.trace.now).known entries) entries null (kept_runs notes) none_warned told.items)
     (c.ending_of.ensures ∙ ap ending_of (c.status_of.ensures entries is)) (records entries is))
     c.trace_record.ensures

@@ -25,7 +25,7 @@ returns c =
       (λ clean. (
           let one = digest_raced entries c.args.digest.now digest_is (let some = c.if-digest-eq0.false in omega arith) in
           let zero = status_clean entries clean in omega (arith, one, zero))),
-      subst (λ (manner : Manner). IsTraceExplanation manner.is_painted c.args.notes.now (trace_contents c.args.trace.now).known entries told.items)
+      subst (λ (manner : Manner). IsTraceExplanation manner.is_painted manner.extent c.args.notes.now (trace_contents c.args.trace.now).known entries told.items)
           c.manner.view_is (is entries digest_is),
     ))
     c.trace_explanation.ensures

@@ -4,8 +4,8 @@ use Rattle.trace_text.specs.Traces.{contents as trace_contents}
 use Rattle.law_traces.proofs.CleanTraces.{clean_trace_law}
 use Rattle.tool_commands.proofs.explain_trace.explain_judged.Goals as goal
 
-pub verdict_told-requires : goal.verdict_told-requires
-verdict_told-requires c = (reverse c.requires.digested.gate.history, c.requires.digested.digest_is)
+pub verdict_told-requires-clause-digest : goal.verdict_told-requires-clause-digest
+verdict_told-requires-clause-digest c = (reverse c.requires.digested.gate.history, c.requires.digested.digest_is)
 
 pub returns : goal.returns
 returns c =

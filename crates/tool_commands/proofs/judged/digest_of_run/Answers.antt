@@ -27,4 +27,5 @@ loop-at-preserved c =
           (shared_next c.loop-at.digest (take at entries) c.get.result c.loop-at.invariant.shared
           (subst (IsNext (take at entries)) same (next_at c.requires.judged.0 entries c.requires.judged.1 c.requires.few at c.get.result (search rules))))));
       shared = c.in_ok-add.ensures.own ∙ c.loop-at.invariant.shared;
+      kept = c.in_ok-add.ensures.most ∙ c.loop-at.invariant.kept;
     }

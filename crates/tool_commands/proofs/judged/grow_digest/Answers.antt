@@ -1,4 +1,4 @@
-use Rattle.std.proofs.Common.{rules, reverse, subst}
+use Rattle.std.proofs.Common.{rules, reverse, subst, refl, ◌∙◌}
 use Rattle.trace_text.specs.Traces.{contents}
 use Rattle.model_histories.specs.declared.reply.Reply.{Reply}
 use Rattle.model_histories.specs.Replies.{Judges}
@@ -10,6 +10,7 @@ use Rattle.tool_commands.proofs.judged.grow_digest.Goals as goal
 pub loop-line-init : goal.loop-line-init
 loop-line-init c = rw c.make_room.ensures (record {
   digested = digested_at_first (shape_of c.in_ok-shape.shape) c.in_ok-core.core c.args.digest c.in_ok-core.ensures c.requires;
+  kept = refl;
   whole = search rules;
 })
 
@@ -33,11 +34,15 @@ loop-line-preserved c =
           c.in-Done.receipt c.entry_of.result was.digested
           next.0 (subst (λ (reply : Reply). Judges gate c.in-Some.line.request reply next.0) c.in-Done.is next.1) next.2 c.entry_of.ensures
           (c.may_follow.ensures (search rules)) c.in_ok-add-in-Done.ensures.own c.in_ok-add-in-Done.ensures.next;
+      kept = c.in_ok-add-in-Done.ensures.most ∙ was.kept;
       whole = taken_more _ c.loop-line.yielded _ _ _ was.whole c.in-Some.ensures.steps;
     }
 
-pub returns : goal.returns
-returns c =
+pub returns-clause-digested : goal.returns-clause-digested
+returns-clause-digested c =
     let was = c.loop-line.invariant in
     all_digested (contents c.args.trace.now) c.loop-line.yielded _ _ _ _ was.digested (taken_all _ _ _ was.whole (search rules))
     (λ j. record { cells = c.in_ok-shape.ensures.cells j; monoids = c.in_ok-shape.ensures.monoids j })
+
+pub returns-clause-most : goal.returns-clause-most
+returns-clause-most c = c.loop-line.invariant.kept

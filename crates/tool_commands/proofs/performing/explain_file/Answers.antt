@@ -7,5 +7,5 @@ use Rattle.tool_commands.proofs.performing.explain_file.Goals as goal
 pub returns-in_err-program-clause-fault : goal.returns-in_err-program-clause-fault
 returns-in_err-program-clause-fault g c =
     let gone = err_from_is_err_and c.from_residual.result c.from_residual.ensures.1 in
-    rw (gone.1, gone.2) (unread ((g.H.Host.sources (held c.args.host.now)).file (string_bytes c.args.file.now)) (string_bytes c.args.file.now) c.args.color c.args.format _ _
+    rw (gone.1, gone.2) (unread ((g.H.Host.sources (held c.args.host.now)).file (string_bytes c.args.file.now)) (string_bytes c.args.file.now) c.args.color c.args.format c.args.is_all _ _
     c.args.limit c.in_err-program.field-0.0 c.in_err-program.ensures.fault)

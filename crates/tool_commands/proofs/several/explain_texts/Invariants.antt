@@ -9,6 +9,6 @@ use Rattle.tool_commands.proofs.several.explain_texts.Given as goal
 -- those so far are taken, the host is as it was, and none of them is a first one that can't be opened
 abbrev pub invariant-loop-file : goal.invariant-loop-file
 invariant-loop-file g l =
-    AreTaken l.is_painted l.rendering (g.H.Host.sources (held l.initial.host)).file (map string_bytes (take l.file-index l.files)) (together_of l.traces) ×
+    AreTaken l.is_painted l.extent l.rendering (g.H.Host.sources (held l.initial.host)).file (map string_bytes (take l.file-index l.files)) (together_of l.traces) ×
     (has_failed l.host ≡ false) × (held l.host ≡ held l.initial.host) ×
     (lacks_first (g.H.Host.lacks (held l.initial.host)) (map string_bytes (take l.file-index l.files)) → ⊥)

@@ -4,8 +4,8 @@ use Rattle.trace_text.specs.Traces.{contents as trace_contents}
 use Rattle.law_traces.proofs.CleanTraces.{clean_trace_law}
 use Rattle.tool_commands.proofs.explain_traces.Traces.add.Goals as goal
 
-pub add_entries-requires : goal.add_entries-requires
-add_entries-requires c = (reverse c.requires.digested.gate.history, c.requires.digested.digest_is)
+pub add_entries-requires-clause-digest : goal.add_entries-requires-clause-digest
+add_entries-requires-clause-digest c = (reverse c.requires.digested.gate.history, c.requires.digested.digest_is)
 
 pub returns : goal.returns
 returns c =
