@@ -8,6 +8,7 @@ mod drawings;
 mod elisions;
 mod explanations;
 mod failures;
+mod groups;
 mod hosts;
 mod logs;
 mod many;
@@ -28,8 +29,8 @@ use std::process::Abort;
 use std::sync::Wait;
 use std::thread::Threads;
 use tool_commands::{
-    CliFault, Form, Manner, OpenDoor, RecordForm, Rendering, Watched, draw_text, elide_text,
-    explain_text, judge_stream, replay_text, run_text, write_run_trace,
+    CliFault, Extent, Form, Manner, OpenDoor, RecordForm, Rendering, Watched, draw_text,
+    elide_text, explain_text, judge_stream, replay_text, run_text, write_run_trace,
 };
 
 const MOST: u32 = 1_000_000;
@@ -47,7 +48,9 @@ enum Command<'a> {
     Trace(usize, u32),
     /// The same, told to a person.
     Explain(usize, u32),
-    /// The same of a run in the serial order, with this limit.
+    /// The same of all pairs that raced.
+    ExplainAll(usize, u32),
+    /// The same of the first pairs of a run in the serial order, with this limit.
     ExplainSerially(u32),
     /// The same, told to a program as JSON.
     ExplainAsJson(u32),
@@ -64,8 +67,8 @@ enum Command<'a> {
 }
 
 use Command::{
-    Draw, Elide, Explain, ExplainAsJson, ExplainAsSarif, ExplainSerially, Follow, Judge, Picture,
-    Replay, Run, Trace,
+    Draw, Elide, Explain, ExplainAll, ExplainAsJson, ExplainAsSarif, ExplainSerially, Follow,
+    Judge, Picture, Replay, Run, Trace,
 };
 
 /// A limit that commands take.
@@ -127,6 +130,7 @@ fn explained<P: Read, R: Abort + Threads + Wait + Sync>(
     workers: usize,
     is_serial: bool,
     rendering: Rendering,
+    extent: Extent,
     output: &mut Watched<Filling>,
     limit: u32,
 ) -> Result<u8, CliFault>
@@ -137,6 +141,7 @@ fn explained<P: Read, R: Abort + Threads + Wait + Sync>(
     let manner = Manner {
         is_painted: false,
         rendering,
+        extent,
         file: "p.cilk",
     };
     explain_text(
@@ -180,12 +185,36 @@ fn answered<P: Read, R: Abort + Threads + Wait + Sync>(
                 workers,
                 false,
                 Rendering::Text,
+                Extent::First,
+                output,
+                limit,
+            )
+        }
+        ExplainAll(workers, limit) => {
+            explained(
+                rt,
+                alloc,
+                input,
+                workers,
+                false,
+                Rendering::Text,
+                Extent::All,
                 output,
                 limit,
             )
         }
         ExplainSerially(limit) => {
-            explained(rt, alloc, input, 1, true, Rendering::Text, output, limit)
+            explained(
+                rt,
+                alloc,
+                input,
+                1,
+                true,
+                Rendering::Text,
+                Extent::First,
+                output,
+                limit,
+            )
         }
         ExplainAsJson(limit) => {
             explained(
@@ -195,6 +224,7 @@ fn answered<P: Read, R: Abort + Threads + Wait + Sync>(
                 1,
                 true,
                 Rendering::Record(RecordForm::Json),
+                Extent::First,
                 output,
                 limit,
             )
@@ -207,6 +237,7 @@ fn answered<P: Read, R: Abort + Threads + Wait + Sync>(
                 1,
                 true,
                 Rendering::Record(RecordForm::Sarif),
+                Extent::First,
                 output,
                 limit,
             )

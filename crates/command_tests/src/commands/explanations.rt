@@ -205,7 +205,11 @@ const OPEN_TRACE_TOLD: &str = "error: this function has an open block
 pub(super) const ALIKE_TRACE: &str =
     "cilk 1\nmem a 2\nmem x\n#of a[*] best, 4 bytes\nspawn 0 @5\nwrite 1 a[0] 7 @9\nwrite 1 a[1] 7 @9\nwrite 1 x 7 @8\nread 2 a[0] @6\nread 2 a[1] @6\nread 2 x @6\n";
 
-const ALIKE_TRACE_TOLD: &str = "race: write-read on best, 4 bytes, 2 times
+const ALIKE_TRACE_TOLD: &str =
+    "2 pairs of places part at one spawn: what is spawned at line 5 runs beside what the spawner does from line 6 on
+   = help: a `sync` in the spawner before line 6 would order them
+
+race: write-read on best, 4 bytes, 2 times
   --> line 9
    = this write
    = spawned at line 5
@@ -213,7 +217,6 @@ const ALIKE_TRACE_TOLD: &str = "race: write-read on best, 4 bytes, 2 times
    = this read, may run before it or after it
   --> line 5
    = here they part: what is spawned comes to line 9, while the spawner goes on to line 6
-   = help: a `sync` in the spawner before line 6 would order them
 
 race: write-read on x, 1 time
   --> line 8
@@ -223,7 +226,6 @@ race: write-read on x, 1 time
    = this read, may run before it or after it
   --> line 5
    = here they part: what is spawned comes to line 8, while the spawner goes on to line 6
-   = help: a `sync` in the spawner before line 6 would order them
 
 3 refusals at 2 pairs of places, among 7 requests
 ";

@@ -1,6 +1,6 @@
 //! A trace in which more pairs of places race than are told.
 
-use super::Command::Explain;
+use super::Command::{Explain, ExplainAll};
 use super::Wanted::Text;
 use super::{Case, check_all};
 
@@ -8,8 +8,12 @@ use super::{Case, check_all};
 const MANY_TRACE: &str =
     "cilk 1\nmem x\nspawn 0\nwrite 1 x 7\nread 2 x\nread 2 x\nread 2 x\nread 2 x\nread 2 x\nread 2 x\nread 2 x\nread 2 x\nread 2 x\nread 2 x\nread 2 x\nread 2 x\nread 2 x\nread 2 x\nread 2 x\nread 2 x\nread 2 x\nread 2 x\nread 2 x\nread 2 x\nread 2 x\nread 2 x\nread 2 x\nread 2 x\nread 2 x\n";
 
-/// The first twenty pairs, and how many more there are.
-const MANY_TRACE_TOLD: &str = "race: write-read on x, 1 time
+/// Three of the first twenty pairs, which part at one spawn, and how many more there are.
+const MANY_TRACE_TOLD: &str =
+    "20 pairs of places part at one spawn: what is spawned at line 3 runs beside what the spawner does from line 5 on
+   = help: a `sync` in the spawner before line 5 would order them
+
+race: write-read on x, 1 time
   --> line 4
    = this write
    = spawned at line 3
@@ -17,7 +21,6 @@ const MANY_TRACE_TOLD: &str = "race: write-read on x, 1 time
    = this read, may run before it or after it
   --> line 3
    = here they part: what is spawned comes to line 4, while the spawner goes on to line 5
-   = help: a `sync` in the spawner before line 5 would order them
 
 race: write-read on x, 1 time
   --> line 4
@@ -27,7 +30,6 @@ race: write-read on x, 1 time
    = this read, may run before it or after it
   --> line 3
    = here they part: what is spawned comes to line 4, while the spawner goes on to line 6
-   = help: a `sync` in the spawner before line 6 would order them
 
 race: write-read on x, 1 time
   --> line 4
@@ -37,7 +39,44 @@ race: write-read on x, 1 time
    = this read, may run before it or after it
   --> line 3
    = here they part: what is spawned comes to line 4, while the spawner goes on to line 7
-   = help: a `sync` in the spawner before line 7 would order them
+
+and 17 more pairs of places that part there (--all shows them)
+
+and 5 more pairs of places
+25 refusals at 25 pairs of places, among 27 requests
+";
+
+/// All pairs.
+const ALL_TRACE_TOLD: &str =
+    "25 pairs of places part at one spawn: what is spawned at line 3 runs beside what the spawner does from line 5 on
+   = help: a `sync` in the spawner before line 5 would order them
+
+race: write-read on x, 1 time
+  --> line 4
+   = this write
+   = spawned at line 3
+  --> line 5
+   = this read, may run before it or after it
+  --> line 3
+   = here they part: what is spawned comes to line 4, while the spawner goes on to line 5
+
+race: write-read on x, 1 time
+  --> line 4
+   = this write
+   = spawned at line 3
+  --> line 6
+   = this read, may run before it or after it
+  --> line 3
+   = here they part: what is spawned comes to line 4, while the spawner goes on to line 6
+
+race: write-read on x, 1 time
+  --> line 4
+   = this write
+   = spawned at line 3
+  --> line 7
+   = this read, may run before it or after it
+  --> line 3
+   = here they part: what is spawned comes to line 4, while the spawner goes on to line 7
 
 race: write-read on x, 1 time
   --> line 4
@@ -47,7 +86,6 @@ race: write-read on x, 1 time
    = this read, may run before it or after it
   --> line 3
    = here they part: what is spawned comes to line 4, while the spawner goes on to line 8
-   = help: a `sync` in the spawner before line 8 would order them
 
 race: write-read on x, 1 time
   --> line 4
@@ -57,7 +95,6 @@ race: write-read on x, 1 time
    = this read, may run before it or after it
   --> line 3
    = here they part: what is spawned comes to line 4, while the spawner goes on to line 9
-   = help: a `sync` in the spawner before line 9 would order them
 
 race: write-read on x, 1 time
   --> line 4
@@ -67,7 +104,6 @@ race: write-read on x, 1 time
    = this read, may run before it or after it
   --> line 3
    = here they part: what is spawned comes to line 4, while the spawner goes on to line 10
-   = help: a `sync` in the spawner before line 10 would order them
 
 race: write-read on x, 1 time
   --> line 4
@@ -77,7 +113,6 @@ race: write-read on x, 1 time
    = this read, may run before it or after it
   --> line 3
    = here they part: what is spawned comes to line 4, while the spawner goes on to line 11
-   = help: a `sync` in the spawner before line 11 would order them
 
 race: write-read on x, 1 time
   --> line 4
@@ -87,7 +122,6 @@ race: write-read on x, 1 time
    = this read, may run before it or after it
   --> line 3
    = here they part: what is spawned comes to line 4, while the spawner goes on to line 12
-   = help: a `sync` in the spawner before line 12 would order them
 
 race: write-read on x, 1 time
   --> line 4
@@ -97,7 +131,6 @@ race: write-read on x, 1 time
    = this read, may run before it or after it
   --> line 3
    = here they part: what is spawned comes to line 4, while the spawner goes on to line 13
-   = help: a `sync` in the spawner before line 13 would order them
 
 race: write-read on x, 1 time
   --> line 4
@@ -107,7 +140,6 @@ race: write-read on x, 1 time
    = this read, may run before it or after it
   --> line 3
    = here they part: what is spawned comes to line 4, while the spawner goes on to line 14
-   = help: a `sync` in the spawner before line 14 would order them
 
 race: write-read on x, 1 time
   --> line 4
@@ -117,7 +149,6 @@ race: write-read on x, 1 time
    = this read, may run before it or after it
   --> line 3
    = here they part: what is spawned comes to line 4, while the spawner goes on to line 15
-   = help: a `sync` in the spawner before line 15 would order them
 
 race: write-read on x, 1 time
   --> line 4
@@ -127,7 +158,6 @@ race: write-read on x, 1 time
    = this read, may run before it or after it
   --> line 3
    = here they part: what is spawned comes to line 4, while the spawner goes on to line 16
-   = help: a `sync` in the spawner before line 16 would order them
 
 race: write-read on x, 1 time
   --> line 4
@@ -137,7 +167,6 @@ race: write-read on x, 1 time
    = this read, may run before it or after it
   --> line 3
    = here they part: what is spawned comes to line 4, while the spawner goes on to line 17
-   = help: a `sync` in the spawner before line 17 would order them
 
 race: write-read on x, 1 time
   --> line 4
@@ -147,7 +176,6 @@ race: write-read on x, 1 time
    = this read, may run before it or after it
   --> line 3
    = here they part: what is spawned comes to line 4, while the spawner goes on to line 18
-   = help: a `sync` in the spawner before line 18 would order them
 
 race: write-read on x, 1 time
   --> line 4
@@ -157,7 +185,6 @@ race: write-read on x, 1 time
    = this read, may run before it or after it
   --> line 3
    = here they part: what is spawned comes to line 4, while the spawner goes on to line 19
-   = help: a `sync` in the spawner before line 19 would order them
 
 race: write-read on x, 1 time
   --> line 4
@@ -167,7 +194,6 @@ race: write-read on x, 1 time
    = this read, may run before it or after it
   --> line 3
    = here they part: what is spawned comes to line 4, while the spawner goes on to line 20
-   = help: a `sync` in the spawner before line 20 would order them
 
 race: write-read on x, 1 time
   --> line 4
@@ -177,7 +203,6 @@ race: write-read on x, 1 time
    = this read, may run before it or after it
   --> line 3
    = here they part: what is spawned comes to line 4, while the spawner goes on to line 21
-   = help: a `sync` in the spawner before line 21 would order them
 
 race: write-read on x, 1 time
   --> line 4
@@ -187,7 +212,6 @@ race: write-read on x, 1 time
    = this read, may run before it or after it
   --> line 3
    = here they part: what is spawned comes to line 4, while the spawner goes on to line 22
-   = help: a `sync` in the spawner before line 22 would order them
 
 race: write-read on x, 1 time
   --> line 4
@@ -197,7 +221,6 @@ race: write-read on x, 1 time
    = this read, may run before it or after it
   --> line 3
    = here they part: what is spawned comes to line 4, while the spawner goes on to line 23
-   = help: a `sync` in the spawner before line 23 would order them
 
 race: write-read on x, 1 time
   --> line 4
@@ -207,14 +230,60 @@ race: write-read on x, 1 time
    = this read, may run before it or after it
   --> line 3
    = here they part: what is spawned comes to line 4, while the spawner goes on to line 24
-   = help: a `sync` in the spawner before line 24 would order them
 
-and 5 more pairs of places
+race: write-read on x, 1 time
+  --> line 4
+   = this write
+   = spawned at line 3
+  --> line 25
+   = this read, may run before it or after it
+  --> line 3
+   = here they part: what is spawned comes to line 4, while the spawner goes on to line 25
+
+race: write-read on x, 1 time
+  --> line 4
+   = this write
+   = spawned at line 3
+  --> line 26
+   = this read, may run before it or after it
+  --> line 3
+   = here they part: what is spawned comes to line 4, while the spawner goes on to line 26
+
+race: write-read on x, 1 time
+  --> line 4
+   = this write
+   = spawned at line 3
+  --> line 27
+   = this read, may run before it or after it
+  --> line 3
+   = here they part: what is spawned comes to line 4, while the spawner goes on to line 27
+
+race: write-read on x, 1 time
+  --> line 4
+   = this write
+   = spawned at line 3
+  --> line 28
+   = this read, may run before it or after it
+  --> line 3
+   = here they part: what is spawned comes to line 4, while the spawner goes on to line 28
+
+race: write-read on x, 1 time
+  --> line 4
+   = this write
+   = spawned at line 3
+  --> line 29
+   = this read, may run before it or after it
+  --> line 3
+   = here they part: what is spawned comes to line 4, while the spawner goes on to line 29
+
 25 refusals at 25 pairs of places, among 27 requests
 ";
 
 #[test]
 fn more_than_twenty_pairs(rt: HostRuntime) {
-    const CASES: &[Case<'static>] = &[(Explain(2, 713), MANY_TRACE, Text(1, MANY_TRACE_TOLD))];
+    const CASES: &[Case<'static>] = &[
+        (Explain(2, 713), MANY_TRACE, Text(1, MANY_TRACE_TOLD)),
+        (ExplainAll(2, 713), MANY_TRACE, Text(1, ALL_TRACE_TOLD)),
+    ];
     check_all(&rt, rt.alloc(), CASES);
 }

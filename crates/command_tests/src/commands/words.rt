@@ -162,68 +162,86 @@ const LINES: &[(&str, Asks<'static>)] = &[
     (
         "explain f",
         Does(
-            "Explain { file: \"f\", workers: 2, is_serial: false, limit: 1000000, color: Auto, format: Text }",
+            "Explain { file: \"f\", workers: 2, is_serial: false, limit: 1000000, color: Auto, format: Text, is_all: false }",
         ),
     ),
     (
         "explain f --color always --workers 8",
         Does(
-            "Explain { file: \"f\", workers: 8, is_serial: false, limit: 1000000, color: Always, format: Text }",
+            "Explain { file: \"f\", workers: 8, is_serial: false, limit: 1000000, color: Always, format: Text, is_all: false }",
         ),
     ),
     (
         "explain --color=never f --limit 5",
         Does(
-            "Explain { file: \"f\", workers: 2, is_serial: false, limit: 5, color: Never, format: Text }",
+            "Explain { file: \"f\", workers: 2, is_serial: false, limit: 5, color: Never, format: Text, is_all: false }",
         ),
     ),
     (
         "explain - --workers 8",
         Does(
-            "ExplainInput { workers: 8, is_serial: false, limit: 1000000, color: Auto, format: Text }",
+            "ExplainInput { workers: 8, is_serial: false, limit: 1000000, color: Auto, format: Text, is_all: false }",
         ),
     ),
     (
         "explain f g h --color never",
-        Does("ExplainTraces { files: [\"f\", \"g\", \"h\"], color: Never, format: Text }"),
+        Does(
+            "ExplainTraces { files: [\"f\", \"g\", \"h\"], color: Never, format: Text, is_all: false }",
+        ),
     ),
     (
         "explain --color always f g",
-        Does("ExplainTraces { files: [\"f\", \"g\"], color: Always, format: Text }"),
+        Does("ExplainTraces { files: [\"f\", \"g\"], color: Always, format: Text, is_all: false }"),
     ),
     (
         "explain --serial f",
         Does(
-            "Explain { file: \"f\", workers: 2, is_serial: true, limit: 1000000, color: Auto, format: Text }",
+            "Explain { file: \"f\", workers: 2, is_serial: true, limit: 1000000, color: Auto, format: Text, is_all: false }",
         ),
     ),
     (
         "explain --format json f",
         Does(
-            "Explain { file: \"f\", workers: 2, is_serial: false, limit: 1000000, color: Auto, format: Json }",
+            "Explain { file: \"f\", workers: 2, is_serial: false, limit: 1000000, color: Auto, format: Json, is_all: false }",
         ),
     ),
     (
         "explain - --format=json",
         Does(
-            "ExplainInput { workers: 2, is_serial: false, limit: 1000000, color: Auto, format: Json }",
+            "ExplainInput { workers: 2, is_serial: false, limit: 1000000, color: Auto, format: Json, is_all: false }",
         ),
     ),
     (
         "explain f --format sarif",
         Does(
-            "Explain { file: \"f\", workers: 2, is_serial: false, limit: 1000000, color: Auto, format: Sarif }",
+            "Explain { file: \"f\", workers: 2, is_serial: false, limit: 1000000, color: Auto, format: Sarif, is_all: false }",
         ),
     ),
     (
         "explain f g --format json",
-        Does("ExplainTraces { files: [\"f\", \"g\"], color: Auto, format: Json }"),
+        Does("ExplainTraces { files: [\"f\", \"g\"], color: Auto, format: Json, is_all: false }"),
     ),
     (
         "explain f --format text",
         Does(
-            "Explain { file: \"f\", workers: 2, is_serial: false, limit: 1000000, color: Auto, format: Text }",
+            "Explain { file: \"f\", workers: 2, is_serial: false, limit: 1000000, color: Auto, format: Text, is_all: false }",
         ),
+    ),
+    (
+        "explain f --all",
+        Does(
+            "Explain { file: \"f\", workers: 2, is_serial: false, limit: 1000000, color: Auto, format: Text, is_all: true }",
+        ),
+    ),
+    (
+        "explain --all - --serial",
+        Does(
+            "ExplainInput { workers: 2, is_serial: true, limit: 1000000, color: Auto, format: Text, is_all: true }",
+        ),
+    ),
+    (
+        "explain f g --all",
+        Does("ExplainTraces { files: [\"f\", \"g\"], color: Auto, format: Text, is_all: true }"),
     ),
     ("replay f g", Does("Replay { file: \"f\", trace: \"g\" }")),
     ("draw g", Does("Draw { file: \"g\", language: Dot }")),

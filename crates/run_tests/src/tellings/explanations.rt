@@ -4,7 +4,7 @@ use super::asked::{Deed, answers};
 use super::texts::is_text;
 use Act::{Call, Get, Put, Return, Spawn, Sync, Write};
 use program_text::Program;
-use race_explanations::explanation;
+use race_explanations::{Extent, explanation, most_pairs};
 use race_gate::Gate;
 use race_pairs::Digest;
 use std::alloc::{AllocError, Global};
@@ -24,9 +24,17 @@ fn is_told(
     if entries.len() > 1_000_000 {
         return Err(AllocError);
     }
-    let digest = Digest::of(alloc, entries)?;
+    let digest = Digest::of(alloc, entries, most_pairs(Extent::First))?;
     let bytes = text.as_bytes();
-    let told = explanation(alloc, false, "p.cilk", bytes, program, &digest)?;
+    let told = explanation(
+        alloc,
+        false,
+        Extent::First,
+        "p.cilk",
+        bytes,
+        program,
+        &digest,
+    )?;
     is_text(rt, told.as_slice(), wanted);
     Ok(())
 }

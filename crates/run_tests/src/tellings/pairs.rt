@@ -4,11 +4,14 @@ ghost use Rattle.std.specs.Prelude.{List, IfSome};
 ghost use Rattle.model_histories.specs.declared.answer.Entry.{Entry};
 ghost use Rattle.race_pairs.specs.Digests.{IsDigest};
 
-use super::asked::{Deed, asked};
+use super::asked::{Deed, answers, asked};
+use super::openings::gate_of;
 use Act::{Call, Get, Put, Read, Return, Spawn, Write};
 use model_accesses::Kind;
 use race_gate::Gate;
-use race_pairs::{Digest, Encounter, Lines, Link, Pair, Race, Reason, Way, line_in};
+use race_pairs::{
+    Digest, Encounter, Group, Lines, Link, PAIRS, Pair, Race, Reason, Way, group_races, line_in,
+};
 use std::alloc::Global;
 use text_words::{Act, Monoid};
 
@@ -17,15 +20,17 @@ const WRITES: Reason = Reason::Race {
     refused: Kind::Write,
 };
 
-/// A pair of lines: what they raced by, the line refused and that of its witness, the first refusal and its witness, and how often.
+/// A pair of lines: what they raced by, the line refused and that of its witness, that of the spawn at which the strands part, the first
+/// refusal and its witness, and how often.
 macro_rules! pair {
-    ($reason:expr, ($line:literal, $witness_line:literal), ($first:literal, $witness:literal), $times:literal) => {
+    ($reason:expr, ($line:literal, $witness_line:literal), $spawn:expr, ($first:literal, $witness:literal), $times:literal) => {
         Pair {
             lines: Lines {
                 reason: $reason,
                 line: $line,
                 witness_line: $witness_line,
             },
+            spawn: $spawn,
             first: $first,
             witness: $witness,
             times: $times,
@@ -41,7 +46,7 @@ fn digest_of(alloc: Global, gate: &Gate<Global>) -> Option<Digest>
     if entries.len() > 1_000_000 {
         return None;
     }
-    Digest::of(alloc, entries).ok()
+    Digest::of(alloc, entries, PAIRS).ok()
 }
 
 /// Whether the races of a digest are of these pairs.
@@ -186,11 +191,28 @@ const CASES: &[Case<'static>] = &[
             (2, 8, Read(0)),
         ],
         &[
-            pair!(WRITES, (7, 5), (4, 2), 2),
-            pair!(WRITES, (7, 6), (5, 3), 1),
-            pair!(READ_BEHIND_WRITE, (8, 5), (7, 2), 1),
+            pair!(WRITES, (7, 5), Some(1), (4, 2), 2),
+            pair!(WRITES, (7, 6), Some(1), (5, 3), 1),
+            pair!(READ_BEHIND_WRITE, (8, 5), Some(1), (7, 2), 1),
         ],
         Told::Nothing,
+    ),
+    // The same two lines race at two spawns: these are two pairs.
+    (
+        &[
+            (0, 1, Spawn),
+            (1, 5, Write(0, 1)),
+            (2, 3, Spawn),
+            (4, 5, Write(1, 1)),
+            (5, 7, Write(0, 2)),
+            (5, 7, Write(1, 2)),
+            (5, 7, Write(0, 3)),
+        ],
+        &[
+            pair!(WRITES, (7, 5), Some(1), (5, 2), 2),
+            pair!(WRITES, (7, 5), Some(3), (6, 4), 1),
+        ],
+        Told::Places(&[1]),
     ),
     // One pair on two cells, of which the second raced first and twice.
     (
@@ -202,7 +224,7 @@ const CASES: &[Case<'static>] = &[
             (2, 7, Write(0, 2)),
             (2, 7, Write(1, 3)),
         ],
-        &[pair!(WRITES, (7, 5), (4, 3), 3)],
+        &[pair!(WRITES, (7, 5), Some(1), (4, 3), 3)],
         Told::Places(&[1, 0]),
     ),
     // A get before any put, and a get behind a spawn that is outstanding. All is done by the root function, which nothing encloses.
@@ -214,8 +236,8 @@ const CASES: &[Case<'static>] = &[
             (2, 4, Get(0)),
         ],
         &[
-            pair!(Reason::Unset, (1, 0), (1, 0), 1),
-            pair!(Reason::ViewRead, (4, 2), (4, 2), 1),
+            pair!(Reason::Unset, (1, 0), None, (1, 0), 1),
+            pair!(Reason::ViewRead, (4, 2), None, (4, 2), 1),
         ],
         Told::Met(Known {
             chain: &[],
@@ -236,7 +258,7 @@ const CASES: &[Case<'static>] = &[
             (2, 3, Call),
             (2, 12, Write(0, 2)),
         ],
-        &[pair!(WRITES, (12, 9), (7, 4), 1)],
+        &[pair!(WRITES, (12, 9), Some(2), (7, 4), 1)],
         Told::Met(Known {
             chain: &[called!(6), called!(1)],
             witness_chain: &[called!(3), spawned!(2), called!(1)],
@@ -248,7 +270,7 @@ const CASES: &[Case<'static>] = &[
     // The witness is on the side that goes on, and nothing that the spawn's function called encloses it.
     (
         &[(0, 1, Spawn), (2, 4, Write(0, 1)), (1, 5, Write(0, 2))],
-        &[pair!(WRITES, (5, 4), (3, 2), 1)],
+        &[pair!(WRITES, (5, 4), Some(1), (3, 2), 1)],
         Told::Met(Known {
             chain: &[spawned!(1)],
             witness_chain: &[],
@@ -264,6 +286,61 @@ fn lines_that_raced(rt: HostRuntime) {
     for (deeds, pairs, told) in CASES {
         assert!(rt; is_found(rt.alloc(), deeds, pairs, told));
     }
+}
+
+/// The groups of a digest's races: the line of the spawn, and the indices of the races.
+type Grouped<'a> = (Option<u32>, &'a [usize]);
+
+/// Whether these are the groups.
+fn are_groups(groups: &[Group], wanted: &[Grouped<'_>]) -> bool {
+    if groups.len() != wanted.len() {
+        return false;
+    }
+    for (at, group) in groups.iter().enumerate() {
+        let (spawn, places) = wanted[at];
+        if group.spawn != spawn || group.places.as_slice() != places {
+            return false;
+        }
+    }
+    true
+}
+
+/// Whether the races of what a gate was asked for have these groups.
+fn is_grouped(alloc: Global, deeds: &[Deed], wanted: &[Grouped<'_>]) -> bool {
+    let Some(gate) = asked(alloc, 2, &[Monoid::Sum], deeds) else {
+        return false;
+    };
+    let Some(digest) = digest_of(alloc, &gate) else {
+        return false;
+    };
+    match group_races(alloc, digest.races()) {
+        Ok(groups) => are_groups(&groups, wanted),
+        Err(_) => false,
+    }
+}
+
+#[test]
+fn groups_of_races(rt: HostRuntime) {
+    // The races of two spawns, those of the outer one first and last, between them two of no spawn.
+    const DEEDS: &[Deed] = &[
+        (0, 1, Spawn),
+        (1, 5, Write(0, 1)),
+        (2, 2, Get(0)),
+        (2, 3, Spawn),
+        (4, 6, Write(1, 1)),
+        (5, 7, Write(0, 2)),
+        (5, 8, Write(1, 2)),
+        (5, 9, Get(0)),
+        (5, 9, Write(0, 3)),
+    ];
+    const WANTED: &[Grouped<'static>] = &[
+        (None, &[0]),
+        (Some(1), &[1, 4]),
+        (Some(3), &[2]),
+        (None, &[3]),
+    ];
+    assert!(rt; is_grouped(rt.alloc(), DEEDS, WANTED));
+    assert!(rt; is_grouped(rt.alloc(), &[(0, 1, Spawn), (1, 5, Write(0, 1))], &[]));
 }
 
 /// The lines of a history, with those before the first and behind the last.
@@ -347,6 +424,7 @@ fn has_first(digest: &Digest) -> bool {
                 line: *line,
                 witness_line: 1,
             },
+            spawn: Some(1),
             first: place + 3,
             witness: 2,
             times: if place == 1 { 2 } else { 1 },
@@ -367,4 +445,54 @@ fn more_than_twenty_pairs(rt: HostRuntime) {
         None => None,
     };
     assert!(rt; matches!(&digest, Some(digest) if has_first(digest)));
+}
+
+/// How many spawns there are one behind another.
+const DEPTH: u32 = 100_000;
+
+/// The deeds of a chain of spawns: the first child writes a cell, and the strand behind the last spawn writes it so often.
+fn judge_chain(gate: &mut Gate<Global>, often: u32) -> bool {
+    let mut strand = 0;
+    for at in 0..DEPTH {
+        if !answers(gate, &[(strand, at + 1, Spawn)]) {
+            return false;
+        }
+        if at == 0 && !answers(gate, &[(1, 5, Write(0, 1))]) {
+            return false;
+        }
+        strand = if at == 0 { 2 } else { 2 * at + 3 };
+    }
+    for _ in 0..often {
+        if !answers(gate, &[(strand, 7, Write(0, 2))]) {
+            return false;
+        }
+    }
+    true
+}
+
+/// Whether the first child and the last strand of a chain are told as one pair.
+fn tells_chain(alloc: Global) -> bool {
+    let Ok(mut gate) = gate_of(alloc, 1, &[]) else {
+        return false;
+    };
+    if !judge_chain(&mut gate, DEPTH) {
+        return false;
+    }
+    let Some(digest) = digest_of(alloc, &gate) else {
+        return false;
+    };
+    match digest.races().first() {
+        Some(race) => {
+            race.pair.spawn == Some(1)
+                && race.pair.times == DEPTH as usize
+                && digest.pair_count() == 1
+        }
+        None => false,
+    }
+}
+
+// Each of the refusals lies as deep as the chain, so climbs from spawner to spawner would take hours.
+#[test]
+fn long_chain(rt: HostRuntime) {
+    assert!(rt; tells_chain(rt.alloc()));
 }
