@@ -15,7 +15,7 @@ _cilkcheck() {
         judge) options='--limit -h --help' kinds=trace ;;
         run) options='--workers --limit --trace -h --help' kinds=cilk ;;
         explain)
-            options='--workers --serial --limit --color --format -h --help' kinds='cilk|trace'
+            options='--workers --serial --limit --color --format --all -h --help' kinds='cilk|trace'
             # behind the first file stand traces
             for ((i = 0; i < place; i++)); do kinds+=' trace'; done
             ;;

@@ -17,6 +17,7 @@ complete -c cilkcheck -n '__fish_seen_subcommand_from run' -l trace -r -F -d 'Wr
 complete -c cilkcheck -n '__fish_seen_subcommand_from explain' -l serial -d 'Run each child before what follows its spawn'
 complete -c cilkcheck -n '__fish_seen_subcommand_from explain' -l color -x -a 'auto always never' -d 'When to color'
 complete -c cilkcheck -n '__fish_seen_subcommand_from explain' -l format -x -a 'text json sarif' -d 'The form of the explanation'
+complete -c cilkcheck -n '__fish_seen_subcommand_from explain' -l all -d 'Explain every pair that raced'
 complete -c cilkcheck -n '__fish_seen_subcommand_from draw' -l svg -d 'Write a picture as SVG'
 complete -c cilkcheck -n '__fish_seen_subcommand_from help' -a 'judge elide run explain replay draw'
 complete -c cilkcheck -n '__fish_seen_subcommand_from elide run explain replay' -k -a '(__fish_complete_suffix .cilk)'
