@@ -166,7 +166,7 @@ fn answered<P: Read, R: Abort + Threads + Wait + Sync>(
         }
         Run(workers, limit) => {
             let (workers, limit) = (manned(rt, workers), limited(rt, limit));
-            run_text(rt, alloc, input, workers, &OpenDoor, output, limit)
+            run_text(rt, alloc, alloc, input, workers, &OpenDoor, output, limit)
         }
         Trace(workers, limit) => {
             let (workers, limit) = (manned(rt, workers), limited(rt, limit));

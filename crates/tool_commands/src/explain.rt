@@ -364,7 +364,7 @@ fn explain_run<D: Door + Sync, R: Threads + Wait + Sync>(
     let ran = if is_serial {
         serial_run(alloc, program, limit)
     } else {
-        some_run::<Brand, D, R>(rt, alloc, program, workers, door, limit, Blank::new(PARTS))
+        some_run::<Brand, Global, D, R>(rt, alloc, program, workers, door, limit, Blank::new(PARTS))
     };
     let cut = match ran {
         Ok(whole) => return Ok(explain_whole(alloc, manner, text, program, &whole, limit)?),

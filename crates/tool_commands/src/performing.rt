@@ -138,6 +138,7 @@ fn run_file<H: Host, W: Write, R: Threads + Wait + Sync>(
     let answer = run_text(
         threads,
         alloc,
+        alloc,
         &mut program,
         workers,
         &OpenDoor,

@@ -50,7 +50,7 @@ pub fn trace_run<D: Door + Sync, R: Threads + Wait + Sync>(
     ensures ok { IfOk result (λ told. TellsTraced (contents program.now) limit told.line.items told.trace.items told.status) }
     ensures fault { IfErr result (IsRunFault (contents program.now) limit) }
 {
-    let whole = match whole_run::<Brand, D, R>(
+    let whole = match whole_run::<Brand, Global, D, R>(
         rt,
         alloc,
         program,
@@ -201,7 +201,7 @@ fn run_and_trace<D: Door + Sync, R: Threads + Wait + Sync>(
     ensures ok { IfOk result (λ told. TellsTrace (contents program.now) limit told.0.items told.1) }
     ensures fault { IfErr result (IsRunFault (contents program.now) limit) }
 {
-    let whole = match whole_run::<Brand, D, R>(
+    let whole = match whole_run::<Brand, Global, D, R>(
         rt,
         alloc,
         program,
