@@ -49,7 +49,7 @@ pieces_joined (byte ∷ bytes) rest =
 pub whole_none : AreWholeLines []
 whole_none rest = refl
 
-whole_to_feed : (text : List ℕ) → AreWholeLines (text ++ 10 ∷ [])
+pub whole_to_feed : (text : List ℕ) → AreWholeLines (text ++ 10 ∷ [])
 whole_to_feed text rest =
     ap lines (append_assoc text (10 ∷ []) rest)
     ∙ ap (map strip_carriage_return) (pieces_joined text rest)

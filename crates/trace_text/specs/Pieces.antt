@@ -5,6 +5,8 @@ use Rattle.text_words.specs.Limits.{most_lines}
 use Rattle.trace_text.specs.declared.pieces.BegunTrace.{BegunTrace}
 use Rattle.trace_text.specs.Grammar.{TextMeans}
 use Rattle.trace_text.specs.Drafts.{so_far}
+use Rattle.trace_text.specs.Printing.{requests_text}
+use Rattle.text_words.specs.declared.value.TraceLine.{TraceLine}
 
 -- What stands behind them begins a line of its own.
 abbrev pub AreWholeLines : List ℕ → Type 0
@@ -17,3 +19,17 @@ pub record IsBegun {A : Type 0} (done : List ℕ) (begun : BegunTrace A) : Type 
   pub count : begun.at ≡ length (lines done)
   pub few : begun.at ≤ most_lines
   pub some : begun.draft.lines ≢ []
+
+-- These whole lines were read behind: they are the plain lines of the requests that there are more then.
+pub record TakesPlain {A : Type 0} (old : BegunTrace A) (front : List ℕ) (new : BegunTrace A) : Type 0 where
+  pub begun : (done : List ℕ) → IsBegun done old → IsBegun (done ++ front) new
+  pub known : new.draft.names ≡ old.draft.names
+  pub requests : List TraceLine
+  pub added : new.draft.lines ≡ old.draft.lines ++ requests
+  pub plain : front ≡ requests_text old.draft.names requests
+
+-- The text begins with such lines, and the rest stands behind them.
+pub record TakesFront {A : Type 0} (old : BegunTrace A) (text rest : List ℕ) (new : BegunTrace A) : Type 0 where
+  pub front : List ℕ
+  pub split : text ≡ front ++ rest
+  pub takes : TakesPlain old front new

@@ -1,6 +1,6 @@
 //! A trace from its text.
 
-ghost use Rattle.std.specs.Prelude.{◌≡◌, ◌≢◌, ◌<◌, ◌≤◌, ◌+◌, ◌∷◌, ℕ, List, [], length, codes, IsTrue, IfOk, map, IsNone, MatchOption, MatchResult};
+ghost use Rattle.std.specs.Prelude.{◌≡◌, ◌≢◌, ◌<◌, ◌≤◌, ◌+◌, ◌∷◌, ℕ, List, [], length, codes, IsTrue, IfOk, OnErr, map, IsNone, MatchOption, MatchResult};
 ghost use Rattle.std.specs.Option.{IfSome};
 ghost use Rattle.std.specs.List.{All};
 ghost use Rattle.model_accesses.specs.Limits.{most_cells};
@@ -18,7 +18,7 @@ ghost use Rattle.trace_text.specs.Lines.{HasKeyword, IsControl};
 ghost use Rattle.trace_text.specs.declared.keyword.Keyword.TheVariants.{Access};
 ghost use Rattle.trace_text.specs.Plain.{BeginsRequest};
 ghost use Rattle.trace_text.specs.Drafts.{so_far, AddsItem, IsRoomFault, IsLineFault, IsHeaderFault};
-ghost use Rattle.trace_text.specs.Drafts.{IsLinesFault, IsBodyFault, IsTextFault, IsTaken, IsStopped, Goes, SaysSo};
+ghost use Rattle.trace_text.specs.Drafts.{IsLinesFault, IsBodyFault, IsTextFault, IsTaken, IsStopped, GoesPlain, SaysSo};
 
 use crate::keyword::{keyword_for, keyword_word};
 use crate::line::{Item, act_of, read_line, request_on};
@@ -108,7 +108,8 @@ impl<'a, A: Allocator + Copy> Draft<'a, A> {
     /// Adds a request.
     #[inline(always)]
     fn ask(&mut self, at: u32, line: TraceLine) -> Result<(), TextFault>
-        ensures { MatchResult result
+        ensures unchanged { OnErr result (so_far self.new.names self.new.lines ≡ so_far self.old.names self.old.lines) }
+        ensures asked { MatchResult result
             (λ _. AddsItem at (so_far self.old.names self.old.lines) (Asked line) (so_far self.new.names self.new.lines))
             (IsRoomFault at (so_far self.old.names self.old.lines) (Asked line)) }
     {
@@ -207,7 +208,7 @@ impl<'a, A: Allocator + Copy> Draft<'a, A> {
         bytes: &'b [u8],
     ) -> Option<(&'b [u8], Option<TextFault>)>
         ensures asked { IfSome result (λ r. (text : List ℕ) → BeginsRequest self.old.names text strand act bytes.now →
-            Goes at (so_far self.old.names self.old.lines) text r.0.now r.1 (so_far self.new.names self.new.lines)) }
+            GoesPlain at (so_far self.old.names self.old.lines) text r.0.now r.1 (so_far self.new.names self.new.lines)) }
         ensures unchanged { IsNone result → self.new ≡ self.old }
     {
         let Some((mark, rest)) = mark(bytes) else {
@@ -229,7 +230,7 @@ impl<'a, A: Allocator + Copy> Draft<'a, A> {
         text: &'b [u8],
     ) -> Option<(&'b [u8], Option<TextFault>)>
         requires { IsControl act }
-        ensures taken { IfSome result (λ r. Goes at (so_far self.old.names self.old.lines) text.now r.0.now r.1 (so_far self.new.names self.new.lines)) }
+        ensures taken { IfSome result (λ r. GoesPlain at (so_far self.old.names self.old.lines) text.now r.0.now r.1 (so_far self.new.names self.new.lines)) }
         ensures unchanged { IsNone result → self.new ≡ self.old }
     {
         let Some(rest) = behind_word(keyword_word(keyword_for(act)).as_bytes(), text) else {
@@ -250,7 +251,7 @@ impl<'a, A: Allocator + Copy> Draft<'a, A> {
         text: &'b [u8],
     ) -> Option<(&'b [u8], Option<TextFault>)>
         requires { HasKeyword self.old.names.version (Access kind) }
-        ensures taken { IfSome result (λ r. Goes at (so_far self.old.names self.old.lines) text.now r.0.now r.1 (so_far self.new.names self.new.lines)) }
+        ensures taken { IfSome result (λ r. GoesPlain at (so_far self.old.names self.old.lines) text.now r.0.now r.1 (so_far self.new.names self.new.lines)) }
         ensures unchanged { IsNone result → self.new ≡ self.old }
     {
         let Some(rest) = behind_word(word(kind).as_bytes(), text) else {
@@ -270,7 +271,7 @@ impl<'a, A: Allocator + Copy> Draft<'a, A> {
 
     /// The spawn, by a function without a hint, as for each keyword: so each has code of its own, which knows its case.
     fn take_spawn<'b>(&mut self, at: u32, text: &'b [u8]) -> Option<(&'b [u8], Option<TextFault>)>
-        ensures taken { IfSome result (λ r. Goes at (so_far self.old.names self.old.lines) text.now r.0.now r.1 (so_far self.new.names self.new.lines)) }
+        ensures taken { IfSome result (λ r. GoesPlain at (so_far self.old.names self.old.lines) text.now r.0.now r.1 (so_far self.new.names self.new.lines)) }
         ensures unchanged { IsNone result → self.new ≡ self.old }
     {
         self.take_control(at, Act::Spawn, text)
@@ -278,7 +279,7 @@ impl<'a, A: Allocator + Copy> Draft<'a, A> {
 
     /// The same of a sync.
     fn take_sync<'b>(&mut self, at: u32, text: &'b [u8]) -> Option<(&'b [u8], Option<TextFault>)>
-        ensures taken { IfSome result (λ r. Goes at (so_far self.old.names self.old.lines) text.now r.0.now r.1 (so_far self.new.names self.new.lines)) }
+        ensures taken { IfSome result (λ r. GoesPlain at (so_far self.old.names self.old.lines) text.now r.0.now r.1 (so_far self.new.names self.new.lines)) }
         ensures unchanged { IsNone result → self.new ≡ self.old }
     {
         self.take_control(at, Act::Sync, text)
@@ -286,7 +287,7 @@ impl<'a, A: Allocator + Copy> Draft<'a, A> {
 
     /// The same of a call.
     fn take_call<'b>(&mut self, at: u32, text: &'b [u8]) -> Option<(&'b [u8], Option<TextFault>)>
-        ensures taken { IfSome result (λ r. Goes at (so_far self.old.names self.old.lines) text.now r.0.now r.1 (so_far self.new.names self.new.lines)) }
+        ensures taken { IfSome result (λ r. GoesPlain at (so_far self.old.names self.old.lines) text.now r.0.now r.1 (so_far self.new.names self.new.lines)) }
         ensures unchanged { IsNone result → self.new ≡ self.old }
     {
         self.take_control(at, Act::Call, text)
@@ -294,7 +295,7 @@ impl<'a, A: Allocator + Copy> Draft<'a, A> {
 
     /// The same of a return.
     fn take_return<'b>(&mut self, at: u32, text: &'b [u8]) -> Option<(&'b [u8], Option<TextFault>)>
-        ensures taken { IfSome result (λ r. Goes at (so_far self.old.names self.old.lines) text.now r.0.now r.1 (so_far self.new.names self.new.lines)) }
+        ensures taken { IfSome result (λ r. GoesPlain at (so_far self.old.names self.old.lines) text.now r.0.now r.1 (so_far self.new.names self.new.lines)) }
         ensures unchanged { IsNone result → self.new ≡ self.old }
     {
         self.take_control(at, Act::Return, text)
@@ -302,7 +303,7 @@ impl<'a, A: Allocator + Copy> Draft<'a, A> {
 
     /// The same of a read.
     fn take_read<'b>(&mut self, at: u32, text: &'b [u8]) -> Option<(&'b [u8], Option<TextFault>)>
-        ensures taken { IfSome result (λ r. Goes at (so_far self.old.names self.old.lines) text.now r.0.now r.1 (so_far self.new.names self.new.lines)) }
+        ensures taken { IfSome result (λ r. GoesPlain at (so_far self.old.names self.old.lines) text.now r.0.now r.1 (so_far self.new.names self.new.lines)) }
         ensures unchanged { IsNone result → self.new ≡ self.old }
     {
         self.take_access(at, Kind::Read, text)
@@ -310,7 +311,7 @@ impl<'a, A: Allocator + Copy> Draft<'a, A> {
 
     /// The same of a write.
     fn take_write<'b>(&mut self, at: u32, text: &'b [u8]) -> Option<(&'b [u8], Option<TextFault>)>
-        ensures taken { IfSome result (λ r. Goes at (so_far self.old.names self.old.lines) text.now r.0.now r.1 (so_far self.new.names self.new.lines)) }
+        ensures taken { IfSome result (λ r. GoesPlain at (so_far self.old.names self.old.lines) text.now r.0.now r.1 (so_far self.new.names self.new.lines)) }
         ensures unchanged { IsNone result → self.new ≡ self.old }
     {
         self.take_access(at, Kind::Write, text)
@@ -318,7 +319,7 @@ impl<'a, A: Allocator + Copy> Draft<'a, A> {
 
     /// The same of a bump, which version 2 alone has.
     fn take_bump<'b>(&mut self, at: u32, text: &'b [u8]) -> Option<(&'b [u8], Option<TextFault>)>
-        ensures taken { IfSome result (λ r. Goes at (so_far self.old.names self.old.lines) text.now r.0.now r.1 (so_far self.new.names self.new.lines)) }
+        ensures taken { IfSome result (λ r. GoesPlain at (so_far self.old.names self.old.lines) text.now r.0.now r.1 (so_far self.new.names self.new.lines)) }
         ensures unchanged { IsNone result → self.new ≡ self.old }
     {
         let Version::Two = self.names.version() else {
@@ -329,7 +330,7 @@ impl<'a, A: Allocator + Copy> Draft<'a, A> {
 
     /// The same of an update.
     fn take_update<'b>(&mut self, at: u32, text: &'b [u8]) -> Option<(&'b [u8], Option<TextFault>)>
-        ensures taken { IfSome result (λ r. Goes at (so_far self.old.names self.old.lines) text.now r.0.now r.1 (so_far self.new.names self.new.lines)) }
+        ensures taken { IfSome result (λ r. GoesPlain at (so_far self.old.names self.old.lines) text.now r.0.now r.1 (so_far self.new.names self.new.lines)) }
         ensures unchanged { IsNone result → self.new ≡ self.old }
     {
         self.take_access(at, Kind::Update, text)
@@ -337,7 +338,7 @@ impl<'a, A: Allocator + Copy> Draft<'a, A> {
 
     /// The same of a put.
     fn take_put<'b>(&mut self, at: u32, text: &'b [u8]) -> Option<(&'b [u8], Option<TextFault>)>
-        ensures taken { IfSome result (λ r. Goes at (so_far self.old.names self.old.lines) text.now r.0.now r.1 (so_far self.new.names self.new.lines)) }
+        ensures taken { IfSome result (λ r. GoesPlain at (so_far self.old.names self.old.lines) text.now r.0.now r.1 (so_far self.new.names self.new.lines)) }
         ensures unchanged { IsNone result → self.new ≡ self.old }
     {
         self.take_access(at, Kind::Put, text)
@@ -345,7 +346,7 @@ impl<'a, A: Allocator + Copy> Draft<'a, A> {
 
     /// The same of a get.
     fn take_get<'b>(&mut self, at: u32, text: &'b [u8]) -> Option<(&'b [u8], Option<TextFault>)>
-        ensures taken { IfSome result (λ r. Goes at (so_far self.old.names self.old.lines) text.now r.0.now r.1 (so_far self.new.names self.new.lines)) }
+        ensures taken { IfSome result (λ r. GoesPlain at (so_far self.old.names self.old.lines) text.now r.0.now r.1 (so_far self.new.names self.new.lines)) }
         ensures unchanged { IsNone result → self.new ≡ self.old }
     {
         self.take_access(at, Kind::Get, text)
@@ -353,9 +354,13 @@ impl<'a, A: Allocator + Copy> Draft<'a, A> {
 
     /// The same of any request, whose keyword the first bytes tell. So it is told here, and nowhere below.
     #[inline(always)]
-    fn take_plain<'b>(&mut self, at: u32, text: &'b [u8]) -> Option<(&'b [u8], Option<TextFault>)>
+    pub(crate) fn take_plain<'b>(
+        &mut self,
+        at: u32,
+        text: &'b [u8],
+    ) -> Option<(&'b [u8], Option<TextFault>)>
         requires { 0 < length text.now }
-        ensures taken { IfSome result (λ r. Goes at (so_far self.old.names self.old.lines) text.now r.0.now r.1 (so_far self.new.names self.new.lines)) }
+        ensures taken { IfSome result (λ r. GoesPlain at (so_far self.old.names self.old.lines) text.now r.0.now r.1 (so_far self.new.names self.new.lines)) }
         ensures unchanged { IsNone result → self.new ≡ self.old }
     {
         match text[0] {
