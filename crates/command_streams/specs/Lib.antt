@@ -6,3 +6,4 @@ pub mod Readings
 pub mod LineBuffers
 pub mod Tellings
 pub mod ElisionText
+pub mod KeptTexts

@@ -9,6 +9,7 @@
 
 mod fault;
 mod host;
+mod kept;
 mod limit;
 mod line_buffer;
 mod streams;
@@ -16,6 +17,7 @@ mod watched;
 
 pub use fault::CliFault;
 pub use host::Host;
+pub use kept::{KeptText, PlainText, read_kept};
 pub use limit::MOST_ENTRIES;
 pub use line_buffer::LineBuffer;
 pub use streams::{deliver, parse_trace, read_text, read_trace, write_bytes, write_text};

@@ -14,6 +14,7 @@ ghost use Rattle.run_replay.specs.Replays.{IsUnfinishedRun};
 ghost use Rattle.command_streams.specs.Watched.{held, has_failed, is_delivered, calls_of, IsCalledAtMost};
 ghost use Rattle.command_streams.specs.Streams.{most_reads};
 ghost use Rattle.command_streams.specs.Readings.{reading};
+ghost use Rattle.command_streams.specs.KeptTexts.{IsKept};
 ghost use Rattle.tool_commands.specs.Runs.{IsRunFault, WantsMore};
 ghost use Rattle.tool_commands.specs.Explanations.{Manner as SpecManner, clean_words, clean_text, cut_words, cut_behind, cut_text};
 ghost use Rattle.tool_commands.specs.Explanations.{TellsClean, TellsRaces, TellsCut, TellsFaulty};
@@ -30,7 +31,7 @@ use crate::memory::memory_value;
 use crate::outcome::{Outcome, outcome_of, refusal_status};
 use crate::run::{Door, PARTS, fault_of, serial_run, some_run};
 use crate::sort::is_program;
-use command_streams::{CliFault, Watched, read_text, write_text};
+use command_streams::{CliFault, KeptText, Watched, read_kept, write_text};
 use fault_lists::{Fault, faults_message};
 use locked_replay::{RunFault, Whole};
 use program_text::Program;
@@ -451,7 +452,7 @@ fn told_of<D: Door + Sync, R: Threads + Wait + Sync>(
     rt: &R,
     alloc: Global,
     manner: &Manner<'_>,
-    text: &[u8],
+    source: &KeptText<Global>,
     workers: usize,
     is_serial: bool,
     door: &D,
@@ -459,13 +460,21 @@ fn told_of<D: Door + Sync, R: Threads + Wait + Sync>(
 ) -> Result<(Vec<u8>, u8), CliFault>
     requires workers { (0 < workers) × (workers ≤ 64) }
     requires limit { limit ≤ most_entries }
-    ensures ok { IfOk result (λ told. Explains manner.now text.now limit told.0.items told.1) }
-    ensures fault { IfErr result (StopsTelling text.now limit) }
+    ensures ok { IfOk result (λ told. (text : List ℕ) → IsKept source.now text → Explains manner.now text limit told.0.items told.1) }
+    ensures fault { IfErr result (λ fault. (text : List ℕ) → IsKept source.now text → StopsTelling text limit fault) }
 {
-    if is_program(text) {
-        explain_program_text(rt, alloc, manner, text, workers, is_serial, door, limit)
-    } else {
-        explain_trace_text(alloc, manner, text)
+    match source {
+        KeptText::Whole(text) if is_program(text.as_slice()) => explain_program_text(
+            rt,
+            alloc,
+            manner,
+            text.as_slice(),
+            workers,
+            is_serial,
+            door,
+            limit,
+        ),
+        _ => explain_trace_text(alloc, manner, source),
     }
 }
 
@@ -508,17 +517,8 @@ pub fn explain_text<D: Door + Sync, P: Read, W: Write, R: Threads + Wait + Sync>
     ensures reads { IsCalledAtMost most_reads (calls_of program.old) (calls_of program.new) }
     ensures unwritten { IfErr result (λ fault. fault ≢ CliFault.Write → output.new ≡ output.old) }
 {
-    let text = read_text(alloc, program)?;
-    let (told, status) = told_of(
-        rt,
-        alloc,
-        manner,
-        text.as_slice(),
-        workers,
-        is_serial,
-        door,
-        limit,
-    )?;
+    let text = read_kept(alloc, program)?;
+    let (told, status) = told_of(rt, alloc, manner, &text, workers, is_serial, door, limit)?;
     write_text(output, told.as_slice())?;
     Ok(status)
 }

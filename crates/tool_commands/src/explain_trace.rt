@@ -7,6 +7,7 @@ ghost use Rattle.trace_text.specs.Grammar.{TextMeans as TraceMeans};
 ghost use Rattle.trace_notes.specs.Notes.{AreNotes, kept_runs};
 ghost use Rattle.model_histories.specs.declared.answer.Entry.{Entry};
 ghost use Rattle.race_pairs.specs.Digests.{IsDigest};
+ghost use Rattle.command_streams.specs.KeptTexts.{IsKept};
 ghost use Rattle.tool_commands.specs.Outcomes.{refusal_status};
 ghost use Rattle.tool_commands.specs.Cleanness.{IsAllClean};
 ghost use Rattle.tool_commands.specs.Digested.{IsDigested};
@@ -19,7 +20,7 @@ use crate::clean::clean_count;
 use crate::explain::{Manner, Rendering, faults_told};
 use crate::judged::digest_of_trace;
 use crate::replay::fault_of_request;
-use command_streams::CliFault;
+use command_streams::{CliFault, KeptText};
 use fault_lists::Fault;
 use memchr::memchr;
 use race_explanations::{Illegality, find_illegality, illegal_explanation, trace_explanation};
@@ -140,6 +141,19 @@ pub(crate) fn notes_of<A: Allocator + Copy>(alloc: A, text: &[u8]) -> Result<Not
     Ok(notes)
 }
 
+/// The notes of a text that is kept. Plain lines of requests have none.
+pub(crate) fn notes_of_kept(
+    alloc: Global,
+    source: &KeptText<Global>,
+) -> Result<Notes<Global>, AllocError>
+    ensures { IfOk result (λ notes. (text : List ℕ) → IsKept source.now text → AreNotes (lines text) notes) }
+{
+    match source {
+        KeptText::Whole(text) => notes_of(alloc, text.as_slice()),
+        KeptText::Plain(kept) => notes_of(alloc, kept.head.as_slice()),
+    }
+}
+
 /// What is told of an illegal request.
 fn illegal_told(
     alloc: Global,
@@ -191,6 +205,29 @@ pub(crate) fn explain_stop(
     }
 }
 
+/// The same of a text that is kept.
+pub(crate) fn explain_stop_kept(
+    alloc: Global,
+    manner: &Manner<'_>,
+    source: &KeptText<Global>,
+    trace: &Trace<Global>,
+    gate: &Gate<Global>,
+    stop: Stop,
+) -> Result<Vec<u8>, CliFault>
+    requires means { (text : List ℕ) × IsKept source.now text × TraceMeans text (trace_contents trace.now) }
+    requires stops { StopsAt (trace_contents trace.now) gate.now stop }
+    ensures ok { IfOk result (λ told. (text : List ℕ) → IsKept source.now text → TraceMeans text (trace_contents trace.now) → IsIllegalTold manner.now text told.items 2) }
+    ensures fault { IfErr result (λ fault. (fault ≡ CliFault.Memory) ⊎ StopsGate (trace_contents trace.now) fault) }
+{
+    match source {
+        KeptText::Whole(text) => explain_stop(alloc, manner, text.as_slice(), trace, gate, stop),
+        KeptText::Plain(kept) => {
+            let text = kept.to_text(alloc)?;
+            explain_stop(alloc, manner, text.as_slice(), trace, gate, stop)
+        }
+    }
+}
+
 /// What a person is told of the entries of a trace, and what was recorded.
 fn verdict_text(
     alloc: Global,
@@ -230,15 +267,15 @@ fn verdict_told(
 fn explain_judged(
     alloc: Global,
     manner: &Manner<'_>,
-    text: &[u8],
+    source: &KeptText<Global>,
     trace: &Trace<Global>,
     digest: &Digest,
 ) -> Result<(Vec<u8>, u8), AllocError>
-    requires means { TraceMeans text.now (trace_contents trace.now) }
+    requires means { (text : List ℕ) × IsKept source.now text × TraceMeans text (trace_contents trace.now) }
     requires digested { IsDigested (trace_contents trace.now) digest.now }
-    ensures { IfOk result (λ told. IsTraceTold manner.now text.now told.0.items told.1) }
+    ensures { IfOk result (λ told. (text : List ℕ) → IsKept source.now text → TraceMeans text (trace_contents trace.now) → IsTraceTold manner.now text told.0.items told.1) }
 {
-    let notes = notes_of(alloc, text)?;
+    let notes = notes_of_kept(alloc, source)?;
     let told = verdict_told(alloc, manner, &notes, trace, digest)?;
     Ok((told, status_of(digest)))
 }
@@ -259,16 +296,16 @@ pub(crate) fn digest_of_gate(
 /// What a person is told of a trace that a text means, in which nothing is refused among so many requests.
 fn explain_clean_trace(
     alloc: Global,
-    text: &[u8],
+    source: &KeptText<Global>,
     trace: &Trace<Global>,
     count: usize,
 ) -> Result<Vec<u8>, AllocError>
-    requires means { TraceMeans text.now (trace_contents trace.now) }
+    requires means { (text : List ℕ) × IsKept source.now text × TraceMeans text (trace_contents trace.now) }
     requires clean { IsAllClean (trace_contents trace.now) count }
-    ensures { IfOk result (λ told. (manner : SpecManner) → manner.rendering ≡ Rendering.Text → IsTraceTold manner text.now told.items 0) }
+    ensures { IfOk result (λ told. (text : List ℕ) → IsKept source.now text → TraceMeans text (trace_contents trace.now) → (manner : SpecManner) → manner.rendering ≡ Rendering.Text → IsTraceTold manner text told.items 0) }
 {
     let _trace = trace;
-    let notes = notes_of(alloc, text)?;
+    let notes = notes_of_kept(alloc, source)?;
     let mut told = explain_clean(alloc, count)?;
     push_recorded(&mut told, &notes)?;
     Ok(told)
@@ -278,21 +315,21 @@ fn explain_clean_trace(
 fn explain_history(
     alloc: Global,
     manner: &Manner<'_>,
-    text: &[u8],
+    source: &KeptText<Global>,
     trace: &Trace<Global>,
 ) -> Result<(Vec<u8>, u8), CliFault>
-    requires { TraceMeans text.now (trace_contents trace.now) }
-    ensures ok { IfOk result (λ told. IsTraceTold manner.now text.now told.0.items told.1 ⊎ IsUnjudgedTold manner.now text.now told.0.items told.1) }
+    requires { (text : List ℕ) × IsKept source.now text × TraceMeans text (trace_contents trace.now) }
+    ensures ok { IfOk result (λ told. (text : List ℕ) → IsKept source.now text → TraceMeans text (trace_contents trace.now) → IsTraceTold manner.now text told.0.items told.1 ⊎ IsUnjudgedTold manner.now text told.0.items told.1) }
     ensures fault { IfErr result (λ fault. (fault ≡ CliFault.Memory) ⊎ StopsGate (trace_contents trace.now) fault) }
 {
     let (gate, stop) = ask_all(alloc, trace)?;
     match stop {
         None => {
             let digest = digest_of_gate(alloc, trace, &gate)?;
-            Ok(explain_judged(alloc, manner, text, trace, &digest)?)
+            Ok(explain_judged(alloc, manner, source, trace, &digest)?)
         }
         Some(stop) => {
-            let told = explain_stop(alloc, manner, text, trace, &gate, stop)?;
+            let told = explain_stop_kept(alloc, manner, source, trace, &gate, stop)?;
             Ok((told, 2))
         }
     }
@@ -302,16 +339,16 @@ fn explain_history(
 fn digest_told(
     alloc: Global,
     manner: &Manner<'_>,
-    text: &[u8],
+    source: &KeptText<Global>,
     trace: &Trace<Global>,
 ) -> Result<(Vec<u8>, u8), CliFault>
-    requires { TraceMeans text.now (trace_contents trace.now) }
-    ensures ok { IfOk result (λ told. IsTraceTold manner.now text.now told.0.items told.1 ⊎ IsUnjudgedTold manner.now text.now told.0.items told.1) }
+    requires { (text : List ℕ) × IsKept source.now text × TraceMeans text (trace_contents trace.now) }
+    ensures ok { IfOk result (λ told. (text : List ℕ) → IsKept source.now text → TraceMeans text (trace_contents trace.now) → IsTraceTold manner.now text told.0.items told.1 ⊎ IsUnjudgedTold manner.now text told.0.items told.1) }
     ensures fault { IfErr result (λ fault. (fault ≡ CliFault.Memory) ⊎ StopsGate (trace_contents trace.now) fault) }
 {
     match digest_of_trace(alloc, trace)? {
-        Some(digest) => Ok(explain_judged(alloc, manner, text, trace, &digest)?),
-        None => explain_history(alloc, manner, text, trace),
+        Some(digest) => Ok(explain_judged(alloc, manner, source, trace, &digest)?),
+        None => explain_history(alloc, manner, source, trace),
     }
 }
 
@@ -320,20 +357,20 @@ fn digest_told(
 fn trace_text_by(
     alloc: Global,
     manner: &Manner<'_>,
-    text: &[u8],
+    source: &KeptText<Global>,
     trace: &Trace<Global>,
 ) -> Result<(Vec<u8>, u8), CliFault>
-    requires means { TraceMeans text.now (trace_contents trace.now) }
+    requires means { (text : List ℕ) × IsKept source.now text × TraceMeans text (trace_contents trace.now) }
     requires rendering { manner.now.rendering ≡ Rendering.Text }
-    ensures ok { IfOk result (λ told. IsTraceTold manner.now text.now told.0.items told.1 ⊎ IsUnjudgedTold manner.now text.now told.0.items told.1) }
+    ensures ok { IfOk result (λ told. (text : List ℕ) → IsKept source.now text → TraceMeans text (trace_contents trace.now) → IsTraceTold manner.now text told.0.items told.1 ⊎ IsUnjudgedTold manner.now text told.0.items told.1) }
     ensures fault { IfErr result (λ fault. (fault ≡ CliFault.Memory) ⊎ StopsGate (trace_contents trace.now) fault) }
 {
     match clean_count(alloc, trace)? {
         Some(count) => {
-            let told = explain_clean_trace(alloc, text, trace, count)?;
+            let told = explain_clean_trace(alloc, source, trace, count)?;
             Ok((told, 0))
         }
-        None => digest_told(alloc, manner, text, trace),
+        None => digest_told(alloc, manner, source, trace),
     }
 }
 
@@ -341,16 +378,16 @@ fn trace_text_by(
 fn explain_trace(
     alloc: Global,
     manner: &Manner<'_>,
-    text: &[u8],
+    source: &KeptText<Global>,
     trace: &Trace<Global>,
 ) -> Result<(Vec<u8>, u8), CliFault>
-    requires { TraceMeans text.now (trace_contents trace.now) }
-    ensures ok { IfOk result (λ told. IsTraceTold manner.now text.now told.0.items told.1 ⊎ IsUnjudgedTold manner.now text.now told.0.items told.1) }
+    requires { (text : List ℕ) × IsKept source.now text × TraceMeans text (trace_contents trace.now) }
+    ensures ok { IfOk result (λ told. (text : List ℕ) → IsKept source.now text → TraceMeans text (trace_contents trace.now) → IsTraceTold manner.now text told.0.items told.1 ⊎ IsUnjudgedTold manner.now text told.0.items told.1) }
     ensures fault { IfErr result (λ fault. (fault ≡ CliFault.Memory) ⊎ StopsGate (trace_contents trace.now) fault) }
 {
     match manner.rendering {
-        Rendering::Text => trace_text_by(alloc, manner, text, trace),
-        Rendering::Record(_) => digest_told(alloc, manner, text, trace),
+        Rendering::Text => trace_text_by(alloc, manner, source, trace),
+        Rendering::Record(_) => digest_told(alloc, manner, source, trace),
     }
 }
 
@@ -359,13 +396,17 @@ fn explain_trace(
 pub(crate) fn explain_trace_text(
     alloc: Global,
     manner: &Manner<'_>,
-    text: &[u8],
+    source: &KeptText<Global>,
 ) -> Result<(Vec<u8>, u8), CliFault>
-    ensures ok { IfOk result (λ told. IsTraceTold manner.now text.now told.0.items told.1 ⊎ IsUnjudgedTold manner.now text.now told.0.items told.1) }
-    ensures fault { IfErr result (λ fault. (fault ≡ CliFault.Memory) ⊎ IsUntoldTrace text.now fault) }
+    ensures ok { IfOk result (λ told. (text : List ℕ) → IsKept source.now text → IsTraceTold manner.now text told.0.items told.1 ⊎ IsUnjudgedTold manner.now text told.0.items told.1) }
+    ensures fault { IfErr result (λ fault. (text : List ℕ) → IsKept source.now text → (fault ≡ CliFault.Memory) ⊎ IsUntoldTrace text fault) }
 {
+    let text = match source {
+        KeptText::Whole(text) => text.as_slice(),
+        KeptText::Plain(kept) => return explain_trace(alloc, manner, source, &kept.trace),
+    };
     match Trace::parse(alloc, text) {
-        Ok(trace) => explain_trace(alloc, manner, text, &trace),
+        Ok(trace) => explain_trace(alloc, manner, source, &trace),
         Err(TextFault::Memory) => Err(CliFault::Memory),
         Err(TextFault::At { line, why }) => {
             let told = faults_told(alloc, manner, text, Meant::Trace, Fault { line, why })?;

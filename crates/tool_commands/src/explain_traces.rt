@@ -8,6 +8,7 @@ ghost use Rattle.trace_text.specs.Grammar.{TextMeans as TraceMeans};
 ghost use Rattle.trace_notes.specs.Notes.{kept_runs};
 ghost use Rattle.command_streams.specs.Watched.{held, has_failed};
 ghost use Rattle.command_streams.specs.Readings.{reading};
+ghost use Rattle.command_streams.specs.KeptTexts.{IsKept};
 ghost use Rattle.tool_commands.specs.Digested.{IsDigested};
 ghost use Rattle.tool_commands.specs.Replays.{StopsGate};
 ghost use Rattle.tool_commands.specs.Explanations.{IsUntoldTrace, recorded_line};
@@ -18,9 +19,9 @@ ghost use Rattle.tool_commands.specs.Together.{AddsText, TakesText, TakesReading
 
 use crate::ask::ask_all;
 use crate::explain::{Manner, Rendering, faults_told};
-use crate::explain_trace::{digest_of_gate, explain_stop, notes_of, push_run};
+use crate::explain_trace::{digest_of_gate, explain_stop_kept, notes_of_kept, push_run};
 use crate::judged::digest_of_trace;
-use command_streams::{CliFault, Watched, read_text};
+use command_streams::{CliFault, KeptText, Watched, read_kept};
 use fault_lists::Fault;
 use race_explanations::Findings;
 use race_pairs::Digest;
@@ -146,15 +147,15 @@ impl Traces {
         &mut self,
         alloc: Global,
         manner: &Manner<'_>,
-        text: &[u8],
+        source: &KeptText<Global>,
         trace: &Trace<Global>,
         digest: &Digest,
     ) -> Result<(), AllocError>
-        requires means { TraceMeans text.now (trace_contents trace.now) }
+        requires means { (text : List ℕ) × IsKept source.now text × TraceMeans text (trace_contents trace.now) }
         requires digested { IsDigested (trace_contents trace.now) digest.now }
-        ensures { OnOk result (AddsText manner.now text.now (together_of self.old) (together_of self.new)) }
+        ensures { OnOk result ((text : List ℕ) → IsKept source.now text → TraceMeans text (trace_contents trace.now) → AddsText manner.now text (together_of self.old) (together_of self.new)) }
     {
-        let notes = notes_of(alloc, text)?;
+        let notes = notes_of_kept(alloc, source)?;
         self.add_entries(alloc, manner, &notes, trace, digest)?;
         keep_runs(alloc, &mut self.runs, &notes)?;
         Ok(())
@@ -165,21 +166,21 @@ impl Traces {
         &mut self,
         alloc: Global,
         manner: &Manner<'_>,
-        text: &[u8],
+        source: &KeptText<Global>,
         trace: &Trace<Global>,
     ) -> Result<Option<Vec<u8>>, CliFault>
-        requires { TraceMeans text.now (trace_contents trace.now) }
-        ensures ok { IfOk result (TakesText manner.now text.now (together_of self.old) (together_of self.new)) }
+        requires { (text : List ℕ) × IsKept source.now text × TraceMeans text (trace_contents trace.now) }
+        ensures ok { IfOk result (λ told. (text : List ℕ) → IsKept source.now text → TraceMeans text (trace_contents trace.now) → TakesText manner.now text (together_of self.old) (together_of self.new) told) }
         ensures fault { IfErr result (λ fault. (fault ≡ CliFault.Memory) ⊎ StopsGate (trace_contents trace.now) fault) }
     {
         let (gate, stop) = ask_all(alloc, trace)?;
         match stop {
             None => {
                 let digest = digest_of_gate(alloc, trace, &gate)?;
-                self.add(alloc, manner, text, trace, &digest)?;
+                self.add(alloc, manner, source, trace, &digest)?;
                 Ok(None)
             }
-            Some(stop) => Ok(Some(explain_stop(alloc, manner, text, trace, &gate, stop)?)),
+            Some(stop) => Ok(Some(explain_stop_kept(alloc, manner, source, trace, &gate, stop)?)),
         }
     }
 
@@ -188,19 +189,19 @@ impl Traces {
         &mut self,
         alloc: Global,
         manner: &Manner<'_>,
-        text: &[u8],
+        source: &KeptText<Global>,
         trace: &Trace<Global>,
     ) -> Result<Option<Vec<u8>>, CliFault>
-        requires { TraceMeans text.now (trace_contents trace.now) }
-        ensures ok { IfOk result (TakesText manner.now text.now (together_of self.old) (together_of self.new)) }
+        requires { (text : List ℕ) × IsKept source.now text × TraceMeans text (trace_contents trace.now) }
+        ensures ok { IfOk result (λ told. (text : List ℕ) → IsKept source.now text → TraceMeans text (trace_contents trace.now) → TakesText manner.now text (together_of self.old) (together_of self.new) told) }
         ensures fault { IfErr result (λ fault. (fault ≡ CliFault.Memory) ⊎ StopsGate (trace_contents trace.now) fault) }
     {
         match digest_of_trace(alloc, trace)? {
             Some(digest) => {
-                self.add(alloc, manner, text, trace, &digest)?;
+                self.add(alloc, manner, source, trace, &digest)?;
                 Ok(None)
             }
-            None => self.take_history(alloc, manner, text, trace),
+            None => self.take_history(alloc, manner, source, trace),
         }
     }
 
@@ -209,13 +210,17 @@ impl Traces {
         &mut self,
         alloc: Global,
         manner: &Manner<'_>,
-        text: &[u8],
+        source: &KeptText<Global>,
     ) -> Result<Option<Vec<u8>>, CliFault>
-        ensures ok { IfOk result (TakesText manner.now text.now (together_of self.old) (together_of self.new)) }
-        ensures fault { IfErr result (λ fault. (fault ≡ CliFault.Memory) ⊎ IsUntoldTrace text.now fault) }
+        ensures ok { IfOk result (λ told. (text : List ℕ) → IsKept source.now text → TakesText manner.now text (together_of self.old) (together_of self.new) told) }
+        ensures fault { IfErr result (λ fault. (text : List ℕ) → IsKept source.now text → (fault ≡ CliFault.Memory) ⊎ IsUntoldTrace text fault) }
     {
+        let text = match source {
+            KeptText::Whole(text) => text.as_slice(),
+            KeptText::Plain(kept) => return self.take_trace(alloc, manner, source, &kept.trace),
+        };
         match Trace::parse(alloc, text) {
-            Ok(trace) => self.take_trace(alloc, manner, text, &trace),
+            Ok(trace) => self.take_trace(alloc, manner, source, &trace),
             Err(TextFault::Memory) => Err(CliFault::Memory),
             Err(TextFault::At { line, why }) => Ok(Some(faults_told(
                 alloc,
@@ -244,8 +249,8 @@ impl Traces {
         ensures read_failed { IsErrOf result CliFault.Read ↔ IsTrue (has_failed trace.new) }
         ensures not_write { IsErrOf result CliFault.Write → ⊥ }
     {
-        let text = read_text(alloc, trace)?;
-        self.take_text(alloc, manner, text.as_slice())
+        let text = read_kept(alloc, trace)?;
+        self.take_text(alloc, manner, &text)
     }
 
     /// The exit status: 0 where nothing was refused, else 1.
