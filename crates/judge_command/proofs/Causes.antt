@@ -7,7 +7,7 @@ use Rattle.model_histories.specs.declared.reply.Reply.{Reply}
 use Rattle.verdict_lines.specs.VerdictText.{verdict_text}
 use Rattle.command_streams.specs.declared.fault.CliFault.{CliFault}
 use Rattle.command_streams.specs.declared.fault.CliFault.TheVariants.{Read, Write, TooLong, Trace, Memory}
-use Rattle.judge_command.specs.declared.judge.Verdicts.{Verdicts}
+use Rattle.judge_command.specs.declared.by_kind.Verdicts.{Verdicts}
 use Rattle.judge_command.specs.Statuses.{status_of_replies}
 use Rattle.command_streams.specs.Streams.{AreReplies, AnswersText, IsMeant, IsAnswered, HasCause, StopsTrace, StopsWriting, StopsAnswer}
 use Rattle.judge_command.specs.StatusFlags.{Tells, TellsTrace}

@@ -16,7 +16,7 @@ use Rattle.race_gate.proofs.Lists.{JudgesAll-more}
 use Rattle.verdict_lines.specs.VerdictText.{HasWords, line_of_reply, verdict_text}
 use Rattle.verdict_lines.proofs.GateWords.{replies_have_words}
 use Rattle.judge_command.specs.declared.status.StatusFlags.{StatusFlags}
-use Rattle.judge_command.specs.declared.judge.Verdicts.{Verdicts}
+use Rattle.judge_command.specs.declared.by_kind.Verdicts.{Verdicts}
 use Rattle.command_streams.specs.Streams.{declared_shape, requests_of}
 use Rattle.judge_command.specs.Statuses.{is_memory, is_limit, is_illegal, is_refusal}
 use Rattle.judge_command.specs.StatusFlags.{HasMet, HasJudged, Tells, TellsTrace}

@@ -9,7 +9,7 @@ use Rattle.race_gate.specs.Cores.{CoreState, IsCoreOf}
 use Rattle.model_histories.specs.Replies.{JudgesAll}
 use Rattle.verdict_lines.specs.VerdictText.{verdict_text}
 use Rattle.judge_command.specs.declared.status.StatusFlags.{StatusFlags}
-use Rattle.judge_command.specs.declared.judge.Verdicts.{Verdicts}
+use Rattle.judge_command.specs.declared.by_kind.Verdicts.{Verdicts}
 use Rattle.command_streams.specs.Tellings.{IsTold}
 use Rattle.judge_command.specs.Statuses.{is_memory, is_limit, is_illegal, is_refusal}
 use Rattle.command_streams.specs.Streams.{AreReplies}

@@ -6,6 +6,7 @@
 //! where the device has failed, and nothing is written then. [`status_of`] is the status of replies by itself.
 #![tactic(auto)]
 
+mod by_kind;
 mod judge;
 mod status;
 

@@ -13,6 +13,7 @@
 //! halving.
 #![tactic(auto)]
 
+mod by_keyword;
 mod cell;
 mod keyword;
 mod laws;

@@ -6,7 +6,7 @@ use Rattle.race_gate.specs.Shapes.{shape_of}
 use Rattle.command_streams.proofs.Telling.{none_told}
 use Rattle.judge_command.proofs.Meeting.{judged_more, told_trace, has_words, judged_and_told}
 use Rattle.command_streams.proofs.TakenLines.{taken_more, taken_all}
-use Rattle.judge_command.proofs.judge.judge.Goals as goal
+use Rattle.judge_command.proofs.by_kind.judge.Goals as goal
 
 pub loop-line-init : goal.loop-line-init
 loop-line-init g c = rw c.make_room.ensures (record {

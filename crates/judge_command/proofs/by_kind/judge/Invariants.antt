@@ -5,7 +5,7 @@ use Rattle.race_gate.specs.Shapes.{shape_of}
 use Rattle.model_histories.specs.States.{opening}
 use Rattle.command_streams.specs.Watched.{held, has_failed}
 use Rattle.judge_command.specs.StatusFlags.{HasJudged}
-use Rattle.judge_command.proofs.judge.judge.Given as goal
+use Rattle.judge_command.proofs.by_kind.judge.Given as goal
 
 -- the requests so far were judged, and their replies are told
 abbrev pub invariant-loop-line : goal.invariant-loop-line

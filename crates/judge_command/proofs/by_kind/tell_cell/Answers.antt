@@ -1,7 +1,7 @@
 use Rattle.std.proofs.Common.{refl}
 use Rattle.model_histories.specs.declared.reply.Reply.TheVariants.{Done, Illegal}
 use Rattle.judge_command.proofs.Meeting.{has_words, judged_and_told}
-use Rattle.judge_command.proofs.judge.tell_cell.Goals as goal
+use Rattle.judge_command.proofs.by_kind.tell_cell.Goals as goal
 
 pub answer_cell-receipt-requires-clause-faultless : goal.answer_cell-receipt-requires-clause-faultless
 answer_cell-receipt-requires-clause-faultless g c = (c.requires.core.0, c.requires.core.1, c.in-Ok.ensures.fault c.requires.core.0 c.requires.core.1)

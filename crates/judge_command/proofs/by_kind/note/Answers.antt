@@ -3,7 +3,7 @@ use Rattle.verdict_lines.specs.VerdictText.{verdict_text}
 use Rattle.command_streams.specs.Watched.{held, has_failed}
 use Rattle.command_streams.specs.Tellings.{IsTold}
 use Rattle.judge_command.proofs.Meeting.{lines_more}
-use Rattle.judge_command.proofs.judge.note.Goals as goal
+use Rattle.judge_command.proofs.by_kind.note.Goals as goal
 
 pub returns : goal.returns
 returns g c wrote replies tells = record {

@@ -1,7 +1,7 @@
 use Rattle.std.proofs.Common.{refl}
 use Rattle.model_histories.specs.declared.reply.Reply.TheVariants.{Done, Illegal}
 use Rattle.judge_command.proofs.Meeting.{has_words, judged_and_told}
-use Rattle.judge_command.proofs.judge.tell_reducer.Goals as goal
+use Rattle.judge_command.proofs.by_kind.tell_reducer.Goals as goal
 
 pub answer_reducer-requires-clause-faultless : goal.answer_reducer-requires-clause-faultless
 answer_reducer-requires-clause-faultless g c = (c.requires.core.0, c.requires.core.1, c.in-Ok.ensures.fault c.requires.core.0 c.requires.core.1)
