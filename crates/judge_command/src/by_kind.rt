@@ -1,7 +1,7 @@
 //! Judging the requests of a trace, with code of its own for each kind of act.
 //!
-//! The loop of [`judge`] does what this does, and takes 3 to 9 % less of the command's time, since it is known which replies there may be
-//! where their lines are put:
+//! The loop of [`judge`] does what this does, and is faster (`bench/judge` measures it), since it is known which replies there may be where
+//! their lines are put:
 //!
 //! ```text
 //! for line in trace.lines.iter() {

@@ -1,4 +1,4 @@
-//! Races grouped by the spawn at which their strands part.
+//! Races grouped by the line of the spawn at which their strands part.
 
 ghost use Rattle.std.specs.Prelude.{◌≡◌, ◌<◌, suc, eqb, List, Some, IfOk, OnOk, length};
 ghost use Rattle.std.specs.HashMap.{get};
@@ -9,7 +9,7 @@ use crate::race::Race;
 use std::alloc::{AllocError, Global};
 use std::collections::HashMap;
 
-/// Races whose strands part at one spawn, or one race for itself.
+/// Races whose strands part at spawns on one line, or one race for itself.
 #[derive(Drop)]
 pub struct Group {
     /// The line of the spawn. None where the strands of its one race part at none.
