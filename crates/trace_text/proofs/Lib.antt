@@ -20,3 +20,5 @@ pub mod Printed
 pub mod Readings
 pub mod Totality
 pub mod WholeLines
+pub mod PlainPieces
+pub mod Passing

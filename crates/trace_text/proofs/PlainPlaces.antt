@@ -14,7 +14,7 @@ use Rattle.text_words.specs.declared.value.Mem.{Mem}
 use Rattle.text_words.specs.declared.value.Reducer.{Reducer}
 use Rattle.model_reducers.specs.declared.monoid.Monoid.{Monoid}
 use Rattle.model_reducers.specs.declared.monoid.Monoid.TheVariants.{Sum, Min, Max, Last, Digits}
-use Rattle.text_words.specs.Text.{words, IsTextLine, IsName}
+use Rattle.text_words.specs.Text.{words, IsTextLine, IsName, IsNumber}
 use Rattle.text_words.specs.Limits.{max_strand, max_value}
 use Rattle.text_words.specs.Values.{Known, monoid_spelling}
 use Rattle.text_words.specs.Names.{CellMeans, SingleMeans, ElementMeans, memory_named, reducer_named, element_word, IsFresh}
@@ -149,6 +149,15 @@ element_plain mems name index cell numbered m =
       m.4.2,
     )
 
+-- an index without leading zeros, in brackets behind the name, is the cell's name
+pub element_named : (mems : List Mem) (name index : List ℕ) (cell i : ℕ) → IsTrue (is_numbered 0 mems) → ElementMeans mems name index cell
+    → IsNumber index i → decimal i ≡ index → name_of_cell mems cell ≡ element_word name index
+unfolding element_plain
+element_named mems name index cell i numbered m number plain =
+    let e = element_plain mems name index cell numbered m in
+    let same : e.0 ≡ i = m.4.0.2 ∙ sym number.2 in
+    e.1 ∙ ap (λ (n : ℕ). element_word name (decimal n)) same ∙ ap (element_word name) plain
+
 pub brackets : (name digits : List ℕ) → IsPlain name → IsPlain digits → IsPlain (element_word name digits)
 brackets name digits n d =
     let all : AllByRecursion (λ byte. IsTrue (is_word_byte byte)) (name ++ 91 ∷ (digits ++ 93 ∷ [])) =
@@ -192,7 +201,7 @@ module _ (known : Known) (numbered : IsTrue (is_numbered 0 known.mems)) (some : 
       let e = element_plain known.mems m.0 m.1 cell numbered m.3 in
       (inr (m.0, decimal e.0, e.1, e.2), subst IsPlain (sym e.1) (brackets m.0 (decimal e.0) (name_plain m.0 m.3.0) (decimal_plain e.0 e.3)))
 
-  reducer_plain : (word : List ℕ) (number : ℕ) → reducer_named known.reducers word ≡ Some number → name_of_reducer known.reducers number ≡ word
+  pub reducer_plain : (word : List ℕ) (number : ℕ) → reducer_named known.reducers word ≡ Some number → name_of_reducer known.reducers number ≡ word
   reducer_plain word number e =
       ap (λ (n : ℕ). get_or (map (λ (r : Reducer). r.name) known.reducers) n []) (let d : number ≡ number - 0 = omega arith in d) ∙ reducer_at_by known.reducers word 0 number e
 

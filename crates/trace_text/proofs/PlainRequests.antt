@@ -19,12 +19,12 @@ use Rattle.trace_text.specs.declared.keyword.Keyword.{Keyword}
 use Rattle.trace_text.specs.declared.keyword.Keyword.TheVariants.{Access}
 use Rattle.trace_text.specs.Items.{place_of, access_of}
 use Rattle.trace_text.specs.Lines.{Place, Number, Cell, ReducerName, Mark, wanted, optional, Value, OfNumber, Says, asks, operands, if_there, a_strand, a_value, spelling, HasKeyword, IsControl}
-use Rattle.trace_text.specs.Printing.{behind_space, spaced}
-use Rattle.trace_text.specs.Plain.{ArePlain, HasNumber, HasNext, HasValue, HasIndex, HasEnd, HasPlaces, HasRequest, BeginsRequest}
+use Rattle.trace_text.specs.Printing.{behind_space, spaced, plain_words, plain_line}
+use Rattle.trace_text.specs.Plain.{IsSettled, ArePlain, HasNumber, HasNext, HasValue, HasIndex, HasEnd, HasPlaces, BeginsRequest}
 use Rattle.trace_text.proofs.CellWords.{flat}
 use Rattle.trace_text.proofs.NamedWords.{element_means, array_end}
 use Rattle.trace_text.proofs.PlainWords.{digits_plain, name_plain, words_spaced, text_spaced}
-use Rattle.trace_text.proofs.PlainPlaces.{brackets, spelling_plain}
+use Rattle.trace_text.proofs.PlainPlaces.{brackets, spelling_plain, single_plain, element_named, reducer_plain}
 
 -- ---- bytes
 
@@ -46,7 +46,7 @@ behind_two (c ∷ d ∷ bytes) a b some first second =
 pub next_number : (known : Known) (bytes rest : List ℕ) (low high n : ℕ) → 1 ≤ length bytes → slice_index_or bytes 0 0 ≡ 32
     → HasNumber (take (length bytes - 1) (drop 1 bytes)) n rest → low ≤ n → n ≤ high → HasNext known (Number low high) bytes (OfNumber n) rest
 next_number known bytes rest low high n some space has l h =
-    (take (length bytes - 1) (drop 1 bytes), behind_byte bytes 32 some space, (has.0, has.1, (has.2.0, digits_plain has.0 has.2.1), (has.2, l, h)))
+    (take (length bytes - 1) (drop 1 bytes), behind_byte bytes 32 some space, (has.0, has.1, (has.2.0, digits_plain has.0 has.2.1), (has.2, l, h), λ settled. has.4))
 
 -- ---- ends of lines
 
@@ -59,6 +59,7 @@ ends_plain known bytes some feed = record {
   plain = tt;
   in_places = refl;
   mean = tt;
+  exact = λ settled. refl;
 }
 
 pub ends_marked : (known : Known) (bytes behind : List ℕ) (n : ℕ) → 2 ≤ length bytes → slice_index_or bytes 0 0 ≡ 32 → slice_index_or bytes 1 0 ≡ 64
@@ -76,6 +77,7 @@ ends_marked known bytes behind n some space at has l h more feed =
       plain = ((omega arith, (refl, digits_plain digits has.2.1)), tt);
       in_places = refl;
       mean = ((digits, refl, (has.2, l, h)), tt);
+      exact = λ settled. ap (λ (ds : List ℕ). (64 ∷ ds) ∷ []) has.4;
     }
 
 -- one more word before the end
@@ -92,6 +94,8 @@ next_end known place places last bytes rest behind value values next end =
       plain = (next.2.2, end.plain);
       in_places = ap (option_map (λ ps. (place, word) ∷ ps)) end.in_places;
       mean = (next.2.3, end.mean);
+      exact = λ settled.
+          ap (λ (w : List ℕ). w ∷ plain_words known places last values) (next.2.4 settled) ∙ ap (λ (ws : List (List ℕ)). word ∷ ws) (end.exact settled);
     }
 
 pub one_place : (known : Known) (place : Place) (bytes rest : List ℕ) (value : Value) → HasNext known place bytes value rest
@@ -151,7 +155,13 @@ module _ (known : Known) (bytes name rest : List ℕ) (next : IsNextName bytes n
   next_single cell e = (
     take (length bytes - 1) (drop 1 bytes),
     behind_byte bytes 32 next.some next.space,
-    (name, next.split, name_plain name next.is_name, inl (single_named known name cell next.is_name e)),
+    (
+      name,
+      next.split,
+      name_plain name next.is_name,
+      inl (single_named known name cell next.is_name e),
+      λ settled. single_plain known.mems name cell settled.0 settled.1 (single_named known name cell next.is_name e),
+    ),
   )
 
   pub next_reducer : (number : ℕ) → Some (Reducer number) ≡ named known name → HasNext known ReducerName bytes (OfNumber number) rest
@@ -163,6 +173,8 @@ module _ (known : Known) (bytes name rest : List ℕ) (next : IsNextName bytes n
       next.split,
       name_plain name next.is_name,
       (next.is_name, reducer_named_by (memory_named known.mems name) (reducer_named known.reducers name) number e),
+      λ settled. reducer_plain known settled.0 settled.1 name number
+          (reducer_named_by (memory_named known.mems name) (reducer_named known.reducers name) number e),
     ),
   )
 
@@ -183,6 +195,7 @@ module _ (known : Known) (bytes name rest : List ℕ) (next : IsNextName bytes n
           next.split ∙ whole,
           brackets name digits (name_plain name next.is_name) (has.3.0, digits_plain digits has.3.1),
           inr (name, digits, refl, subst (λ (n : ℕ). ElementMeans known.mems name digits n) (sym has.5) means),
+          λ settled. element_named known.mems name digits cell i settled.0 (subst (λ (n : ℕ). ElementMeans known.mems name digits n) (sym has.5) means) has.3 has.6,
         ),
       )
     where
@@ -207,12 +220,14 @@ mark_optional (act.Get reducer) = refl
 line_says : (known : Known) (keyword : Keyword) (bytes behind rest : List ℕ) (values : List Value) → HasKeyword known.version keyword
     → bytes ≡ spelling keyword ++ behind → HasEnd known (wanted keyword) (optional keyword) behind values rest
     → (line : List ℕ) × (bytes ≡ line ++ 10 ∷ rest) × IsTextLine line × Says known (words line) keyword values
+    × (IsSettled known → plain_line known keyword values ≡ line)
 line_says known keyword bytes behind rest values has split end =
     let plain : ArePlain (spelling keyword ∷ end.ws) = (spelling_plain keyword, end.plain) in (
       spaced (spelling keyword ∷ end.ws),
       split ∙ (ap (λ (b : List ℕ). spelling keyword ++ b) end.split ∙ sym (append_assoc (spelling keyword) (behind_space end.ws) (10 ∷ rest))),
       text_spaced (spelling keyword ∷ end.ws) plain,
       (end.pairs, (end.ws, words_spaced (spelling keyword) end.ws plain, has, end.in_places), end.mean),
+      λ settled. ap (λ (ws : List (List ℕ)). spaced (spelling keyword ∷ ws)) (end.exact settled),
     )
 
 -- a keyword, and words in the places that it wants, are a request
@@ -226,7 +241,7 @@ begins_request known act strand bytes behind rest has split places mark after en
     let whole : HasEnd known (wanted (asks act)) (optional (asks act)) behind values after =
     subst (λ (o : Option Place). HasEnd known (wanted (asks act)) o behind values after) (sym (mark_optional act)) marked in
     let line = line_says known (asks act) bytes behind after values has split whole in
-    (line.0, line.1, line.2, λ at. (mark, line.3, refl, refl, refl))
+    (line.0, line.1, line.2, (λ at. (mark, line.3, refl, refl, refl)), line.4)
 
 -- the same of a request without operands
 pub begins_control : (known : Known) (a : Act) (strand : ℕ) (bytes behind rest : List ℕ) → IsControl a

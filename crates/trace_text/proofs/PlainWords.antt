@@ -110,7 +110,7 @@ lines_ended (line ∷ ls) h =
 
 -- ---- numbers and names
 
-own_digits : IsNumeralModel (λ ds. all_ascii_digits ds ≡ true) (digits_value 10)
+pub own_digits : IsNumeralModel (λ ds. all_ascii_digits ds ≡ true) (digits_value 10)
 own_digits = numerals_by_value _ tells_all_ascii_digits
 
 digit_is_word : (byte : ℕ) → IsTrue (is_ascii_digit byte) → IsTrue (is_word_byte byte)

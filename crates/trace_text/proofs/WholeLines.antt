@@ -49,7 +49,7 @@ pieces_joined (byte ∷ bytes) rest =
 pub whole_none : AreWholeLines []
 whole_none rest = refl
 
-whole_to_feed : (text : List ℕ) → AreWholeLines (text ++ 10 ∷ [])
+pub whole_to_feed : (text : List ℕ) → AreWholeLines (text ++ 10 ∷ [])
 whole_to_feed text rest =
     ap lines (append_assoc text (10 ∷ []) rest)
     ∙ ap (map strip_carriage_return) (pieces_joined text rest)
@@ -73,7 +73,7 @@ whole_to text end some within feed =
 
 -- ---- lines behind lines
 
-means_joined : (at from : ℕ) (before between contents : Contents) (front behind : List (List ℕ)) → from ≡ at + length front
+pub means_joined : (at from : ℕ) (before between contents : Contents) (front behind : List (List ℕ)) → from ≡ at + length front
     → LinesMean at before front between → LinesMean from between behind contents → LinesMean at before (front ++ behind) contents
 means_joined at from before between contents [] behind e m n =
     let here : from ≡ at = omega (arith, e) in
@@ -81,7 +81,7 @@ means_joined at from before between contents [] behind e m n =
 means_joined at from before between contents (line ∷ front) behind e m n =
     (m.0, m.1, means_joined (at + 1) from (extended at before m.0) between contents front behind (omega (arith, e)) m.2 n)
 
-faults_joined : (at from : ℕ) (before between : Contents) (front behind : List (List ℕ)) (bad : ℕ) (cause : Cause) → from ≡ at + length front
+pub faults_joined : (at from : ℕ) (before between : Contents) (front behind : List (List ℕ)) (bad : ℕ) (cause : Cause) → from ≡ at + length front
     → LinesMean at before front between → LinesFault from between behind bad cause → LinesFault at before (front ++ behind) bad cause
 faults_joined at from before between [] behind bad cause e m f =
     let here : from ≡ at = omega (arith, e) in

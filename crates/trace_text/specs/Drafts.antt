@@ -1,5 +1,5 @@
 -- What was read so far, and what one more line makes of it.
-use Rattle.std.specs.Prelude.{◌≡◌, ℕ, ◌<◌, ◌≤◌, ◌⊎◌, Option, MatchOption, List, ◌∷◌, length}
+use Rattle.std.specs.Prelude.{◌≡◌, ℕ, ◌<◌, ◌≤◌, ◌⊎◌, List, [], ◌∷◌, ◌++◌, length}
 use Rattle.text_words.specs.declared.fault.Cause.{Cause}
 use Rattle.text_words.specs.declared.fault.Cause.TheVariants.{BadNesting, TooMany}
 use Rattle.text_words.specs.declared.fault.TextFault.{TextFault}
@@ -11,6 +11,8 @@ use Rattle.text_words.specs.Limits.{most_lines}
 use Rattle.text_words.specs.Values.{Known, Contents}
 use Rattle.trace_text.specs.Grammar.{Item, ItemMeans, IsInOrder, HasRoom, LineMeans, extended, nothing}
 use Rattle.text_words.specs.Causes.{IsLowest}
+use Rattle.trace_text.specs.Plain.{IsSettled}
+use Rattle.trace_text.specs.Printing.{entry_text, OfRequest}
 use Rattle.trace_text.specs.Faults.{LineFault, HeaderFault, LinesFault, TextFaults}
 
 abbrev pub so_far : Known → List TraceLine → Contents
@@ -50,9 +52,14 @@ IsTaken at before text rest next =
 abbrev pub IsStopped : ℕ → Contents → List ℕ → TextFault → Type 0
 IsStopped at before text fault = (line : List ℕ) × (rest : List ℕ) × (lines text ≡ line ∷ lines rest) × IsLineFault at before line fault
 
--- The first line of the text is taken, or this is its fault.
-abbrev pub Goes : ℕ → Contents → List ℕ → List ℕ → Option TextFault → Contents → Type 0
-Goes at before text rest fault next = MatchOption fault (IsTaken at before text rest next) (IsStopped at before text)
+-- The first line of the text is one request, and it is taken: where the names are settled, it is the plain line of that request.
+pub record IsTold (at : ℕ) (before : Contents) (text rest : List ℕ) (next : Contents) : Type 0 where
+  pub front : List ℕ
+  pub split : text ≡ front ++ 10 ∷ rest
+  pub taken : IsTaken at before text rest next
+  pub line : TraceLine
+  pub added : next ≡ so_far before.known (before.lines ++ line ∷ [])
+  pub exact : IsSettled before.known → front ≡ entry_text before.known (OfRequest line)
 
 abbrev pub IsHeaderFault : List ℕ → TextFault → Type 0
 IsHeaderFault line fault = IsFaultOf (IsLowest (HeaderFault line)) 1 fault

@@ -111,6 +111,10 @@ abbrev pub NoOtherMeaning : Type 0
 NoOtherMeaning =
     (text : List ℕ) (contents other : Contents) → TextMeans text contents → TextMeans (plain_text contents) other → other ≡ contents
 
+-- The plain lines of requests, one directly behind the other.
+abbrev pub requests_text : Known → List TraceLine → List ℕ
+requests_text known requests = flat_map (λ line. entry_text known (OfRequest line) ++ 10 ∷ []) requests
+
 -- ---- what is printed so far
 
 abbrev pub text_from : Known → ℕ → List Entry → List ℕ

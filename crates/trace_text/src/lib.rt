@@ -8,11 +8,12 @@
 //! [`meaning_excludes_fault`] say that each list of bytes has one meaning or one fault, and not both. [`Trace::print`] gives the plain
 //! text, which means the trace and, by these laws, no other; [`plain_meaning`] says the same over the definitions alone.
 //! [`BegunTrace`] reads a text in pieces: at the end the trace is what all the pieces mean together, and a fault is the first of all,
-//! whatever stands behind it. A [`Trace`] keeps that some text means it, that its cells are numbered without a gap, and that its requests
-//! name cells and reducers that there are. [`Trace::shape`] and [`cell_name`] are exact, and [`memory_at`] finds the memory of a cell by
-//! halving.
+//! whatever stands behind it; what it takes by [`BegunTrace::take_plain`], [`Trace::print_requests`] prints as it stood. A [`Trace`]
+//! keeps that some text means it, that its cells are numbered without a gap, and that its requests name cells and reducers that there
+//! are. [`Trace::shape`] and [`cell_name`] are exact, and [`memory_at`] finds the memory of a cell by halving.
 #![tactic(auto)]
 
+mod by_keyword;
 mod cell;
 mod keyword;
 mod laws;

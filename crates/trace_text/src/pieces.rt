@@ -3,9 +3,9 @@
 ghost use Rattle.std.specs.Prelude.{◌≡◌, ◌≤◌, ◌++◌, ℕ, List, take, length, MatchResult};
 ghost use Rattle.std.specs.Option.{IfSome};
 ghost use Rattle.trace_text.specs.Grammar.{TextMeans};
-ghost use Rattle.trace_text.specs.Drafts.{IsTextFault};
+ghost use Rattle.trace_text.specs.Drafts.{IsTextFault, so_far};
 ghost use Rattle.trace_text.specs.Traces.{contents};
-ghost use Rattle.trace_text.specs.Pieces.{AreWholeLines, IsBegun};
+ghost use Rattle.trace_text.specs.Pieces.{AreWholeLines, IsBegun, TakesFront};
 
 use crate::trace::{Draft, Trace, read_whole};
 use std::alloc::Allocator;
@@ -79,6 +79,33 @@ impl<'a, A: Allocator + Copy> BegunTrace<'a, A> {
             }
             Err(fault) => Err(fault),
         }
+    }
+
+    /// Reads the requests in plain form at the head of what stands behind those lines that were read, up to the first line of another form or
+    /// the first that has no room. It gives what stands behind them. Their lines are those that [`Trace::print_requests`] prints.
+    pub fn take_plain<'b>(&mut self, text: &'b [u8]) -> &'b [u8]
+        requires { (done : List ℕ) × IsBegun done self.old }
+        ensures { TakesFront self.old text.now result.now self.new }
+    {
+        let (rest, last) = self.draft.take_plain_lines(self.at, text);
+        self.at = last;
+        rest
+    }
+
+    /// How many requests were read.
+    pub fn request_count(&self) -> usize
+        ensures { result ≡ length self.now.draft.lines }
+    {
+        self.draft.lines.len()
+    }
+
+    /// The trace of the lines that were read.
+    pub fn into_trace(self) -> Trace<A>
+        requires { (done : List ℕ) × IsBegun done self }
+        ensures { contents result ≡ so_far self.entry.draft.names self.entry.draft.lines }
+    {
+        let BegunTrace { draft, at: _ } = self;
+        Trace::of_draft(draft)
     }
 
     /// The trace of a text that ends with these bytes, or the first fault of that text.

@@ -1,8 +1,8 @@
-//! Requests in plain form, read by bytes: single spaces between words, no comment, and a line feed at the end.
+//! Requests in plain form, read by bytes: single spaces between words, no leading zeros, no comment, and a line feed at the end.
 //!
 //! None says nothing here: the line may still be a request, and is read in the general way.
 
-ghost use Rattle.std.specs.Prelude.{◌≡◌, ◌++◌, ◌+◌, ◌≤◌, [], Some, length};
+ghost use Rattle.std.specs.Prelude.{◌≡◌, ◌⊎◌, ◌++◌, ◌+◌, ◌≤◌, [], Some, true, get_or, length};
 ghost use Rattle.std.specs.Option.{IfSome};
 ghost use Rattle.model_accesses.specs.Limits.{most_cells};
 ghost use Rattle.text_words.specs.Values.{Known};
@@ -45,7 +45,16 @@ fn digit_of(byte: u8) -> u64
 /// So many digits are a number of 64 bits, whichever they are.
 const DIGITS: usize = 19;
 
-/// The number that digits among the first `most` bytes stand for, and what stands behind these digits.
+/// Whether so many digits at the head of the bytes begin with a zero that they need not have.
+#[inline(always)]
+fn is_padded(bytes: &[u8], count: usize) -> bool
+    requires { count ≤ length bytes.now }
+    ensures { (result ≡ true) ⊎ (get_or bytes.now 0 0 ≡ 48 → count ≤ 1) }
+{
+    count > 1 && bytes[0] == b'0'
+}
+
+/// The number that digits among the first `most` bytes stand for, without leading zeros, and what stands behind these digits.
 #[inline(always)]
 fn number_within(bytes: &[u8], most: usize) -> Option<(u64, &[u8])>
     requires within { most ≤ length bytes.now }
@@ -62,7 +71,7 @@ fn number_within(bytes: &[u8], most: usize) -> Option<(u64, &[u8])>
         value = value * 10 + digit;
         length += 1;
     }
-    if length == 0 {
+    if length == 0 || is_padded(bytes, length) {
         return None;
     }
     let (_, rest) = bytes.split_at(length);

@@ -1,19 +1,20 @@
 //! A trace as text.
 
 ghost use Rattle.std.specs.Prelude.{◌≡◌, ◌++◌, ◌∷◌, ◌+◌, ◌-◌, ◌<◌, ◌≤◌, ℕ, [], List, OnOk};
-ghost use Rattle.std.specs.Prelude.{IfOk, IsTrue, replicate, string_bytes, codes, cond, map};
+ghost use Rattle.std.specs.Prelude.{IfOk, IsTrue, drop, replicate, string_bytes, codes, cond, map};
 ghost use Rattle.std.specs.Fmt.{decimal};
+ghost use Rattle.packed_trace.specs.Lines.{lines_left};
 ghost use Rattle.text_words.specs.declared.value.Version.{Version as SpecVersion};
 ghost use Rattle.text_words.specs.declared.value.Reducer.{Reducer};
 ghost use Rattle.text_words.specs.Values.{Known, version_spelling};
 ghost use Rattle.trace_text.specs.Shapes.{is_numbered, name_of_cell};
 ghost use Rattle.trace_text.specs.Printing.{Entry, OfMemory, OfReducer, OfRequest, declarations, entry_text, name_of_reducer};
-ghost use Rattle.trace_text.specs.Printing.{spaced, operand_text, known_of, text_from, PrintsEntry, StartsPast, TakesReducers};
+ghost use Rattle.trace_text.specs.Printing.{spaced, operand_text, known_of, text_from, requests_text, PrintsEntry, StartsPast, TakesReducers};
 
 use crate::cell::{memory_at, put_name};
 use crate::keyword::{keyword_for, keyword_word};
 use crate::trace::Trace;
-use packed_trace::TraceLines;
+use packed_trace::{Iter, TraceLines};
 use std::alloc::{AllocError, Allocator};
 use std::fmt::Write;
 use text_words::{Act, Mem, Reducer, TraceLine, Version, monoid_word, version_word};
@@ -307,6 +308,38 @@ fn put_requests<A: Allocator, B: Allocator>(
     Ok(())
 }
 
+/// The requests behind the first so many.
+fn behind_first<'a>(lines: Iter<'a>, count: usize) -> Iter<'a>
+    ensures { lines_left result ≡ drop count (lines_left lines.entry) }
+{
+    let mut rest = lines;
+    let mut passed = 0;
+    while passed < count {
+        let _ = rest.next();
+        passed += 1;
+    }
+    rest
+}
+
+/// Appends the plain lines of requests, without a blank line between them.
+fn put_plain_lines<A: Allocator>(
+    out: &mut String<A>,
+    mems: &[Mem],
+    reducers: &[Reducer],
+    lines: Iter<'_>,
+) -> Result<(), AllocError>
+    requires numbered { IsTrue (is_numbered 0 mems.now) }
+    ensures { (version : SpecVersion) →
+        OnOk result (string_bytes out.new
+        ≡ string_bytes out.old ++ requests_text (known_of version mems.now reducers.now) (lines_left lines.entry)) }
+{
+    for line in lines {
+        put_request(out, mems, reducers, &line)?;
+        out.push_str("\n")?;
+    }
+    Ok(())
+}
+
 /// Appends the first line.
 fn put_header<A: Allocator>(out: &mut String<A>, version: Version) -> Result<(), AllocError>
     ensures { OnOk result (string_bytes out.new
@@ -320,7 +353,7 @@ fn put_header<A: Allocator>(out: &mut String<A>, version: Version) -> Result<(),
 impl<A: Allocator> Trace<A> {
     ghost use Rattle.trace_text.specs.Grammar.{TextMeans};
     ghost use Rattle.trace_text.specs.Traces.{contents};
-    ghost use Rattle.trace_text.specs.Printing.{plain_text};
+    ghost use Rattle.trace_text.specs.Printing.{plain_text, requests_text};
 
     /// Appends the plain text.
     fn put_text<B: Allocator>(&self, out: &mut String<B>) -> Result<(), AllocError>
@@ -331,6 +364,27 @@ impl<A: Allocator> Trace<A> {
         put_header(out, self.version)?;
         let at = put_declarations(out, mems, reducers)?;
         put_requests(out, at, mems, reducers, &self.lines)
+    }
+
+    /// The plain lines of the requests behind the first so many, without a blank line between them.
+    pub fn print_requests<B: Allocator>(
+        &self,
+        alloc: B,
+        count: usize,
+    ) -> Result<Vec<u8, B>, AllocError>
+        ensures { IfOk result (λ text. text.items ≡ requests_text (contents self.now).known (drop count (contents self.now).lines)) }
+    {
+        let mut out = String::new(alloc);
+        let rest = behind_first(self.lines.iter(), count);
+        match put_plain_lines(
+            &mut out,
+            self.mems.as_slice(),
+            self.reducers.as_slice(),
+            rest,
+        ) {
+            Ok(()) => Ok(out.into_bytes()),
+            Err(error) => Err(error),
+        }
     }
 
     /// The plain text of the trace, which means this trace and no other: each item stands on its own line, with blank lines between

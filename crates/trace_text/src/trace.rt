@@ -1,7 +1,6 @@
 //! A trace from its text.
 
-ghost use Rattle.std.specs.Prelude.{◌≡◌, ◌≢◌, ◌<◌, ◌≤◌, ◌+◌, ◌∷◌, ℕ, List, [], length, codes, IsTrue, IfOk, map, IsNone, MatchOption, MatchResult};
-ghost use Rattle.std.specs.Option.{IfSome};
+ghost use Rattle.std.specs.Prelude.{◌≡◌, ◌≢◌, ◌<◌, ◌≤◌, ◌+◌, ◌∷◌, ℕ, List, [], length, codes, IsTrue, IfOk, OnErr, map, MatchOption, MatchResult};
 ghost use Rattle.std.specs.List.{All};
 ghost use Rattle.model_accesses.specs.Limits.{most_cells};
 ghost use Rattle.model_reducers.specs.Limits.{most_reducers};
@@ -14,21 +13,15 @@ ghost use Rattle.text_words.specs.Values.{version_spelling};
 ghost use Rattle.trace_text.specs.Grammar.{Declared, Reduces, Asked, ItemMeans};
 ghost use Rattle.trace_text.specs.Grammar.{LinesMean, TextMeans, nothing, IsHeader};
 ghost use Rattle.trace_text.specs.Items.{item_of};
-ghost use Rattle.trace_text.specs.Lines.{HasKeyword, IsControl};
-ghost use Rattle.trace_text.specs.declared.keyword.Keyword.TheVariants.{Access};
-ghost use Rattle.trace_text.specs.Plain.{BeginsRequest};
 ghost use Rattle.trace_text.specs.Drafts.{so_far, AddsItem, IsRoomFault, IsLineFault, IsHeaderFault};
-ghost use Rattle.trace_text.specs.Drafts.{IsLinesFault, IsBodyFault, IsTextFault, IsTaken, IsStopped, Goes, SaysSo};
+ghost use Rattle.trace_text.specs.Drafts.{IsLinesFault, IsBodyFault, IsTextFault, IsTaken, IsStopped, SaysSo};
 
-use crate::keyword::{keyword_for, keyword_word};
-use crate::line::{Item, act_of, read_line, request_on};
+use crate::line::{Item, read_line};
 use crate::place::CELLS;
-use crate::plain::{behind_word, mark, place, strand, value_for};
-use access_table::{Kind, word};
 use packed_trace::TraceLines;
 use std::alloc::{AllocError, Allocator};
 use text_words::{
-    Act, Cause, Mem, Mems, Monoid, Monoids, Names, Reducer, Reducers, Shape, TextFault, TraceLine,
+    Cause, Mem, Mems, Monoid, Monoids, Names, Reducer, Reducers, Shape, TextFault, TraceLine,
     Version, Words, as_text, split_line, without_return,
 };
 
@@ -43,12 +36,18 @@ pub const REDUCERS: usize = 256;
 pub(crate) struct Draft<'a, A: Allocator> {
     pub(crate) names: Names<'a, A>,
     pub(crate) lines: TraceLines<A>,
+    /// Whether there was no memory for the request at which the last reading of plain lines ended, so that it is not asked for again.
+    pub(crate) lacks_memory: bool,
 }
 
 /// Written out, so that what lets it go calls one function.
 impl<'a, A: Allocator> Drop for Draft<'a, A> {
     fn drop(self) {
-        let Draft { names: _, lines: _ } = self;
+        let Draft {
+            names: _,
+            lines: _,
+            lacks_memory: _,
+        } = self;
     }
 }
 
@@ -63,7 +62,11 @@ impl<'a, A: Allocator + Copy> Draft<'a, A> {
     fn into_parts(self) -> (Names<'a, A>, TraceLines<A>)
         ensures { (result.0 ≡ self.entry.names) × (result.1 ≡ self.entry.lines) }
     {
-        let Draft { names, lines } = self;
+        let Draft {
+            names,
+            lines,
+            lacks_memory: _,
+        } = self;
         (names, lines)
     }
 
@@ -107,8 +110,9 @@ impl<'a, A: Allocator + Copy> Draft<'a, A> {
 
     /// Adds a request.
     #[inline(always)]
-    fn ask(&mut self, at: u32, line: TraceLine) -> Result<(), TextFault>
-        ensures { MatchResult result
+    pub(crate) fn ask(&mut self, at: u32, line: TraceLine) -> Result<(), TextFault>
+        ensures unchanged { OnErr result (so_far self.new.names self.new.lines ≡ so_far self.old.names self.old.lines) }
+        ensures asked { MatchResult result
             (λ _. AddsItem at (so_far self.old.names self.old.lines) (Asked line) (so_far self.new.names self.new.lines))
             (IsRoomFault at (so_far self.old.names self.old.lines) (Asked line)) }
     {
@@ -196,183 +200,6 @@ impl<'a, A: Allocator + Copy> Draft<'a, A> {
         }
     }
 
-    /// Adds a request in plain form, of which the mark and the line feed are left, and gives what stands behind its line, or the fault of
-    /// the line too. None, which changes nothing, where the line does not end in plain form.
-    #[inline(always)]
-    fn ask_plain<'b>(
-        &mut self,
-        at: u32,
-        strand: u32,
-        act: Act,
-        bytes: &'b [u8],
-    ) -> Option<(&'b [u8], Option<TextFault>)>
-        ensures asked { IfSome result (λ r. (text : List ℕ) → BeginsRequest self.old.names text strand act bytes.now →
-            Goes at (so_far self.old.names self.old.lines) text r.0.now r.1 (so_far self.new.names self.new.lines)) }
-        ensures unchanged { IsNone result → self.new ≡ self.old }
-    {
-        let Some((mark, rest)) = mark(bytes) else {
-            return None;
-        };
-        match self.ask(at, request_on(at, strand, act, mark)) {
-            Ok(()) => Some((rest, None)),
-            Err(fault) => Some((rest, Some(fault))),
-        }
-    }
-
-    /// Adds the request without operands that the first line of the text is, and gives what stands behind the line, or its fault too. None,
-    /// which changes nothing, where the line is no such request in plain form.
-    #[inline(always)]
-    fn take_control<'b>(
-        &mut self,
-        at: u32,
-        act: Act,
-        text: &'b [u8],
-    ) -> Option<(&'b [u8], Option<TextFault>)>
-        requires { IsControl act }
-        ensures taken { IfSome result (λ r. Goes at (so_far self.old.names self.old.lines) text.now r.0.now r.1 (so_far self.new.names self.new.lines)) }
-        ensures unchanged { IsNone result → self.new ≡ self.old }
-    {
-        let Some(rest) = behind_word(keyword_word(keyword_for(act)).as_bytes(), text) else {
-            return None;
-        };
-        let Some((strand, rest)) = strand(rest) else {
-            return None;
-        };
-        self.ask_plain(at, strand, act, rest)
-    }
-
-    /// The same of an access.
-    #[inline(always)]
-    fn take_access<'b>(
-        &mut self,
-        at: u32,
-        kind: Kind,
-        text: &'b [u8],
-    ) -> Option<(&'b [u8], Option<TextFault>)>
-        requires { HasKeyword self.old.names.version (Access kind) }
-        ensures taken { IfSome result (λ r. Goes at (so_far self.old.names self.old.lines) text.now r.0.now r.1 (so_far self.new.names self.new.lines)) }
-        ensures unchanged { IsNone result → self.new ≡ self.old }
-    {
-        let Some(rest) = behind_word(word(kind).as_bytes(), text) else {
-            return None;
-        };
-        let Some((strand, rest)) = strand(rest) else {
-            return None;
-        };
-        let Some((place, rest)) = place(kind, &self.names, rest) else {
-            return None;
-        };
-        let Some((value, rest)) = value_for(kind, rest) else {
-            return None;
-        };
-        self.ask_plain(at, strand, act_of(kind, place, value), rest)
-    }
-
-    /// The spawn, by a function without a hint, as for each keyword: so each has code of its own, which knows its case.
-    fn take_spawn<'b>(&mut self, at: u32, text: &'b [u8]) -> Option<(&'b [u8], Option<TextFault>)>
-        ensures taken { IfSome result (λ r. Goes at (so_far self.old.names self.old.lines) text.now r.0.now r.1 (so_far self.new.names self.new.lines)) }
-        ensures unchanged { IsNone result → self.new ≡ self.old }
-    {
-        self.take_control(at, Act::Spawn, text)
-    }
-
-    /// The same of a sync.
-    fn take_sync<'b>(&mut self, at: u32, text: &'b [u8]) -> Option<(&'b [u8], Option<TextFault>)>
-        ensures taken { IfSome result (λ r. Goes at (so_far self.old.names self.old.lines) text.now r.0.now r.1 (so_far self.new.names self.new.lines)) }
-        ensures unchanged { IsNone result → self.new ≡ self.old }
-    {
-        self.take_control(at, Act::Sync, text)
-    }
-
-    /// The same of a call.
-    fn take_call<'b>(&mut self, at: u32, text: &'b [u8]) -> Option<(&'b [u8], Option<TextFault>)>
-        ensures taken { IfSome result (λ r. Goes at (so_far self.old.names self.old.lines) text.now r.0.now r.1 (so_far self.new.names self.new.lines)) }
-        ensures unchanged { IsNone result → self.new ≡ self.old }
-    {
-        self.take_control(at, Act::Call, text)
-    }
-
-    /// The same of a return.
-    fn take_return<'b>(&mut self, at: u32, text: &'b [u8]) -> Option<(&'b [u8], Option<TextFault>)>
-        ensures taken { IfSome result (λ r. Goes at (so_far self.old.names self.old.lines) text.now r.0.now r.1 (so_far self.new.names self.new.lines)) }
-        ensures unchanged { IsNone result → self.new ≡ self.old }
-    {
-        self.take_control(at, Act::Return, text)
-    }
-
-    /// The same of a read.
-    fn take_read<'b>(&mut self, at: u32, text: &'b [u8]) -> Option<(&'b [u8], Option<TextFault>)>
-        ensures taken { IfSome result (λ r. Goes at (so_far self.old.names self.old.lines) text.now r.0.now r.1 (so_far self.new.names self.new.lines)) }
-        ensures unchanged { IsNone result → self.new ≡ self.old }
-    {
-        self.take_access(at, Kind::Read, text)
-    }
-
-    /// The same of a write.
-    fn take_write<'b>(&mut self, at: u32, text: &'b [u8]) -> Option<(&'b [u8], Option<TextFault>)>
-        ensures taken { IfSome result (λ r. Goes at (so_far self.old.names self.old.lines) text.now r.0.now r.1 (so_far self.new.names self.new.lines)) }
-        ensures unchanged { IsNone result → self.new ≡ self.old }
-    {
-        self.take_access(at, Kind::Write, text)
-    }
-
-    /// The same of a bump, which version 2 alone has.
-    fn take_bump<'b>(&mut self, at: u32, text: &'b [u8]) -> Option<(&'b [u8], Option<TextFault>)>
-        ensures taken { IfSome result (λ r. Goes at (so_far self.old.names self.old.lines) text.now r.0.now r.1 (so_far self.new.names self.new.lines)) }
-        ensures unchanged { IsNone result → self.new ≡ self.old }
-    {
-        let Version::Two = self.names.version() else {
-            return None;
-        };
-        self.take_access(at, Kind::Bump, text)
-    }
-
-    /// The same of an update.
-    fn take_update<'b>(&mut self, at: u32, text: &'b [u8]) -> Option<(&'b [u8], Option<TextFault>)>
-        ensures taken { IfSome result (λ r. Goes at (so_far self.old.names self.old.lines) text.now r.0.now r.1 (so_far self.new.names self.new.lines)) }
-        ensures unchanged { IsNone result → self.new ≡ self.old }
-    {
-        self.take_access(at, Kind::Update, text)
-    }
-
-    /// The same of a put.
-    fn take_put<'b>(&mut self, at: u32, text: &'b [u8]) -> Option<(&'b [u8], Option<TextFault>)>
-        ensures taken { IfSome result (λ r. Goes at (so_far self.old.names self.old.lines) text.now r.0.now r.1 (so_far self.new.names self.new.lines)) }
-        ensures unchanged { IsNone result → self.new ≡ self.old }
-    {
-        self.take_access(at, Kind::Put, text)
-    }
-
-    /// The same of a get.
-    fn take_get<'b>(&mut self, at: u32, text: &'b [u8]) -> Option<(&'b [u8], Option<TextFault>)>
-        ensures taken { IfSome result (λ r. Goes at (so_far self.old.names self.old.lines) text.now r.0.now r.1 (so_far self.new.names self.new.lines)) }
-        ensures unchanged { IsNone result → self.new ≡ self.old }
-    {
-        self.take_access(at, Kind::Get, text)
-    }
-
-    /// The same of any request, whose keyword the first bytes tell. So it is told here, and nowhere below.
-    #[inline(always)]
-    fn take_plain<'b>(&mut self, at: u32, text: &'b [u8]) -> Option<(&'b [u8], Option<TextFault>)>
-        requires { 0 < length text.now }
-        ensures taken { IfSome result (λ r. Goes at (so_far self.old.names self.old.lines) text.now r.0.now r.1 (so_far self.new.names self.new.lines)) }
-        ensures unchanged { IsNone result → self.new ≡ self.old }
-    {
-        match text[0] {
-            b's' if text.len() > 1 && text[1] == b'p' => self.take_spawn(at, text),
-            b's' => self.take_sync(at, text),
-            b'c' => self.take_call(at, text),
-            b'r' if text.len() > 2 && text[2] == b'a' => self.take_read(at, text),
-            b'r' => self.take_return(at, text),
-            b'w' => self.take_write(at, text),
-            b'b' => self.take_bump(at, text),
-            b'u' => self.take_update(at, text),
-            b'p' => self.take_put(at, text),
-            b'g' => self.take_get(at, text),
-            _ => None,
-        }
-    }
-
     /// The same behind a request, where a name that the line declares need not last.
     #[inline(never)]
     fn take_other<'b>(&mut self, at: u32, text: &'b [u8]) -> (&'b [u8], Option<TextFault>)
@@ -393,22 +220,6 @@ impl<'a, A: Allocator + Copy> Draft<'a, A> {
         }
     }
 
-    /// The same, sooner where the line is a request in plain form.
-    #[inline(always)]
-    fn take_next<'b>(&mut self, at: u32, text: &'b [u8]) -> (&'b [u8], Option<TextFault>)
-        requires text { 0 < length text.now }
-        requires some { self.old.lines ≢ [] }
-        ensures { MatchOption result.1
-            (IsTaken at (so_far self.old.names self.old.lines) text.now result.0.now (so_far self.new.names self.new.lines))
-            (IsStopped at (so_far self.old.names self.old.lines) text.now) }
-    {
-        if let Some((rest, fault)) = self.take_plain(at, text) {
-            return (rest, fault);
-        }
-        let (rest, fault) = self.take_other(at, text);
-        (rest, fault)
-    }
-
     /// Reads the lines of a text that stands behind a request and the line with the number `at`. It gives the number of the last line.
     pub(crate) fn take_lines(&mut self, at: u32, text: &[u8]) -> Result<u32, TextFault>
         requires few { at ≤ most_lines }
@@ -421,12 +232,20 @@ impl<'a, A: Allocator + Copy> Draft<'a, A> {
         let mut rest = text;
         let mut last = at;
         while !rest.is_empty() {
-            last += 1;
-            let (after, fault) = self.take_next(last, rest);
-            if let Some(fault) = fault {
-                return Err(fault);
+            let (behind, number) = self.take_plain_lines(last, rest);
+            if self.lacks_memory {
+                return Err(TextFault::Memory);
             }
-            rest = after;
+            last = number;
+            rest = behind;
+            if !rest.is_empty() {
+                last += 1;
+                let (after, fault) = self.take_other(last, rest);
+                if let Some(fault) = fault {
+                    return Err(fault);
+                }
+                rest = after;
+            }
         }
         Ok(last)
     }
@@ -502,6 +321,7 @@ fn read_body<'a, A: Allocator + Copy>(
     let mut draft = Draft {
         names: Names::new(alloc, version),
         lines: TraceLines::new(alloc),
+        lacks_memory: false,
     };
     match draft.take_body(text) {
         Ok(last) => Ok((draft, last)),

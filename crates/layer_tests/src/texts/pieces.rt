@@ -67,8 +67,60 @@ fn check_pieces(rt: &impl Abort, alloc: Global, cases: &[Piece]) {
     }
 }
 
+/// The plain lines of the requests at the head of a piece behind a head of two requests, as they are printed, and how many bytes stand
+/// behind them. None where memory was refused.
+fn plain_lines(alloc: Global, piece: &[u8]) -> Option<(Vec<u8>, usize)> {
+    let Ok(Some((mut begun, _))) = BegunTrace::begin(alloc, b"cilk 1\nmem x\nspawn 0\nsync 0\n")
+    else {
+        return None;
+    };
+    let count = begun.request_count();
+    let rest = begun.take_plain(piece).len();
+    let lines = begun.into_trace().print_requests(alloc, count).ok()?;
+    Some((lines, rest))
+}
+
+/// A piece, and the plain lines at its head.
+type PlainPiece = (&'static [u8], &'static [u8]);
+
+const PLAIN: &[PlainPiece] = &[
+    (
+        b"read 0 x @7\nwrite 0 x 10\nwri",
+        b"read 0 x @7\nwrite 0 x 10\n",
+    ),
+    (b"sync 0\n\nsync 0\n", b"sync 0\n"),
+    (b"read 0 x\nread 0 x\r\n", b"read 0 x\n"),
+    (b"write 0 x 007\n", b""),
+    (b"read 00 x\n", b""),
+    (b"read 0  x\n", b""),
+    (b"read 0 x # a\n", b""),
+    (b"read 0 x", b""),
+    (b"read 0 y\n", b""),
+];
+
+/// Plain lines are printed as they stand, and the first line of another form ends them.
+fn check_plain(rt: &impl Abort, alloc: Global, cases: &[PlainPiece]) {
+    for (piece, wanted) in cases {
+        let Some((lines, rest)) = plain_lines(alloc, piece) else {
+            rt.abort();
+        };
+        equal(rt, piece, &(lines.as_slice() == *wanted), &true);
+        equal(
+            rt,
+            piece,
+            &rest.checked_add(wanted.len()),
+            &Some(piece.len()),
+        );
+    }
+}
+
 #[test]
 fn heads_and_pieces(rt: HostRuntime) {
     check_heads(&rt, rt.alloc(), HEADS);
     check_pieces(&rt, rt.alloc(), PIECES);
+}
+
+#[test]
+fn plain_pieces(rt: HostRuntime) {
+    check_plain(&rt, rt.alloc(), PLAIN);
 }

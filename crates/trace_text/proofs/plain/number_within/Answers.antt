@@ -1,5 +1,6 @@
-use Rattle.std.proofs.Common.{◌≤◌, ◌+◌, arith}
-use Rattle.trace_text.proofs.HeadDigits.{one_more_digit, room_for_digit}
+use Rattle.std.proofs.Common.{◌≡◌, ◌≤◌, ◌<◌, ◌+◌, ◌++◌, ◌∙◌, ℕ, List, take, length, ap, sym, arith}
+use Rattle.std.proofs.lemmas.List.{take-append-drop, length-take-le}
+use Rattle.trace_text.proofs.HeadDigits.{one_more_digit, room_for_digit, plain_digits, not_padded, value_bound}
 use Rattle.trace_text.proofs.plain.number_within.Goals as goal
 
 pub overflow_mul-value : goal.overflow_mul-value
@@ -20,3 +21,21 @@ loop-length-preserved c =
     (omega (arith, read)) (omega (arith, read)) (omega (arith, read)) in
     let more : c.loop-length.length + 1 ≤ c.args.most = omega arith in
     (more, step.0, step.1, step.2)
+
+pub returns : goal.returns
+returns c =
+    let bytes = c.args.bytes.now in
+    let at = c.loop-length.length in
+    let was = c.loop-length.invariant in
+    let some : 0 < at = omega arith in
+    let within : at ≤ length bytes = omega arith in
+    let front : bytes ≡ take at bytes ++ c.split_at.result.1.now =
+    sym (ap (λ (rest : List ℕ). take at bytes ++ rest) c.split_at.ensures.back ∙ take-append-drop at bytes) in
+    let count : length (take at bytes) ≡ at = length-take-le at bytes within in
+    let room = value_bound c.loop-length.value at was.3 (omega arith) in (
+      take at bytes,
+      front,
+      (omega (arith, count, some), was.1, was.2),
+      room,
+      plain_digits bytes at c.loop-length.value some within (omega arith) was.1 was.2 was.3 (not_padded c.is_padded.result bytes at c.if-is_padded.false c.is_padded.ensures),
+    )
