@@ -144,6 +144,7 @@ fn check_case<R: Abort + Threads + Wait + Sync>(
     match run_text(
         rt,
         alloc,
+        alloc,
         &mut program,
         workers,
         &door,
@@ -175,6 +176,7 @@ fn a_run_whose_gate_is_turned_round_is_told(rt: HostRuntime) -> Result<(), Fail>
     let door = PrankDoor::new(Prank::Turns);
     let status = run_text(
         &rt,
+        rt.alloc(),
         rt.alloc(),
         &mut program,
         8,

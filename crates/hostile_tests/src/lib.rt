@@ -29,6 +29,8 @@ pub mod refusing;
 #[cfg(test)]
 mod rounds;
 #[cfg(test)]
+mod run_growths;
+#[cfg(test)]
 mod schedules;
 #[cfg(test)]
 mod texts;

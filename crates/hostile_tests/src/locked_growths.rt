@@ -19,7 +19,7 @@ use std::sync::ledger::{Blank, Ledger};
 use text_words::Request;
 
 /// A heap of which one growth is refused.
-type Heap = Refusing<Global>;
+pub type Heap = Refusing<Global>;
 
 /// A call of which a growth is refused.
 #[derive(Clone, Copy, Debug)]
@@ -30,9 +30,11 @@ enum Call {
 
 /// What is found of a call: whether a growth was refused, and whether the call answered Memory.
 #[derive(Clone, Copy)]
-struct Found {
-    was_refused: bool,
-    is_told: bool,
+pub struct Found {
+    /// Whether a growth was refused.
+    pub was_refused: bool,
+    /// Whether the call answered Memory.
+    pub is_told: bool,
 }
 
 /// Asks on the seat, and keeps the receipt. Whether there was memory; where there was none, nothing was asked.
@@ -143,7 +145,7 @@ fn found_of<R: Wait>(rt: &R, alloc: Global, call: Call, number: u64) -> Option<F
 }
 
 /// Where the growths of a call have no end.
-const ENDLESS: u64 = 10_000;
+pub const ENDLESS: u64 = 10_000;
 
 /// Refuses the call's first growth, its second, and so on until none is refused. How many refusals it told, or behind how many growths
 /// something was not as it is to be. Each refusal is told while requests are asked. What is gathered releases memory on the way, for which

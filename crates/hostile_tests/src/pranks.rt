@@ -4,6 +4,7 @@ ghost use Rattle.std.specs.Prelude.{◌≡◌, ◌+◌, MatchResult};
 
 use locked_replay::{Ask, LockedGate, Seat};
 use race_gate::{GateFault, Receipt};
+use std::alloc::Allocator;
 use std::sync::Wait;
 use std::sync::atomic::{AtomicU64, Ordering};
 use std::sync::ledger::Ledger;
@@ -63,9 +64,9 @@ fn starves(prank: Prank, number: u64) -> bool {
 }
 
 /// What is done before a request, and what the gate is asked then.
-fn asked_of<L: Ledger, R: Wait>(
+fn asked_of<L: Ledger, A: Allocator + Clone, R: Wait>(
     rt: &R,
-    locked: &LockedGate<L>,
+    locked: &LockedGate<L, A>,
     prank: Prank,
     number: u64,
     request: Request,
@@ -100,9 +101,9 @@ fn given(prank: Prank, number: u64, receipt: Receipt) -> Receipt {
 }
 
 /// Asks a gate so that a prank is played. The count is of the requests before.
-fn played<L: Ledger, R: Wait>(
+fn played<L: Ledger, A: Allocator + Clone, R: Wait>(
     rt: &R,
-    locked: &LockedGate<L>,
+    locked: &LockedGate<L, A>,
     prank: Prank,
     count: &AtomicU64,
     seat: &mut Seat<L>,
@@ -157,10 +158,10 @@ impl PrankDoor {
 impl Door for PrankDoor {
     fn before<R: Wait>(&self, _rt: &R, _strand: u32) {}
 
-    fn let_in<L: Ledger, R: Wait>(
+    fn let_in<L: Ledger, A: Allocator + Clone, R: Wait>(
         &self,
         rt: &R,
-        locked: &LockedGate<L>,
+        locked: &LockedGate<L, A>,
         seat: &mut Seat<L>,
         request: Request,
     ) -> Result<Receipt, GateFault> {

@@ -1,13 +1,13 @@
-//! A heap of which one growth is refused.
+//! A heap of which one growth is refused. Threads may share it.
 
 use std::alloc::{AllocError, Allocator};
-use std::cell::Cell;
+use std::sync::atomic::{AtomicU64, Ordering};
 
 /// Passes each growth on to the heap within, but for the one that is refused.
 pub struct Refusing<B: Allocator> {
     inner: B,
     /// How many growths there are to the one that is refused, with that one; 0 where none is refused any more.
-    left: Cell<u64>,
+    left: AtomicU64,
 }
 
 impl<B: Allocator> Refusing<B> {
@@ -15,18 +15,18 @@ impl<B: Allocator> Refusing<B> {
     pub fn new(inner: B) -> Refusing<B> {
         Refusing {
             inner,
-            left: Cell::new(0),
+            left: AtomicU64::new(0),
         }
     }
 
     /// Refuses the growth of this number, counted from 1 from now on.
     pub fn refuse(&self, number: u64) {
-        self.left.set(number);
+        self.left.store(number, Ordering::SeqCst);
     }
 
     /// Whether the growth that was to be refused has been.
     pub fn has_refused(&self) -> bool {
-        self.left.get() == 0
+        self.left.load(Ordering::SeqCst) == 0
     }
 }
 
@@ -37,10 +37,11 @@ impl<B: Allocator> Drop for Refusing<B> {
 }
 
 /// Counts a growth, and says whether it is the one that is refused.
-fn is_refused(left: &Cell<u64>) -> bool {
-    let growth = left.get();
-    left.set(growth.saturating_sub(1));
-    growth == 1
+fn is_refused(left: &AtomicU64) -> bool {
+    let seen = left.fetch_update(Ordering::SeqCst, Ordering::SeqCst, |growth| {
+        growth.checked_sub(1)
+    });
+    matches!(seen, Ok(1))
 }
 
 unsafe impl<B: Allocator> Allocator for Refusing<B> {

@@ -17,9 +17,9 @@ use steal_workers::run;
 const PARTS: u64 = 64;
 
 /// A gate of the program, which was asked nothing.
-pub fn gate_for<A: Allocator + Copy>(
+pub fn gate_for<A: Allocator + Copy, B: Allocator>(
     alloc: A,
-    program: &Program<A>,
+    program: &Program<B>,
 ) -> Result<ShortGate<A>, AllocError>
     ensures { IfOk result (λ gate. gate.history ≡ []) }
 {

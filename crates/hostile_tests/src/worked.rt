@@ -4,6 +4,10 @@
 pub const FIB: &[u8] =
     b"cilk 1\nmem x\nreducer h sum\nfunc main z\n  put h 0\n  call fib 10\n  get r h\n  write x r\nend\nfunc fib n\n  let t = n < 2\n  if t\n    update h n\n  else\n    let a = n - 1\n    let b = n - 2\n    spawn fib a\n    call fib b\n    sync\n  end\nend\n";
 
+/// The fifth one, in 65 requests.
+pub const SMALL_FIB: &[u8] =
+    b"cilk 1\nmem x\nreducer h sum\nfunc main z\n  put h 0\n  call fib 5\n  get r h\n  write x r\nend\nfunc fib n\n  let t = n < 2\n  if t\n    update h n\n  else\n    let a = n - 1\n    let b = n - 2\n    spawn fib a\n    call fib b\n    sync\n  end\nend\n";
+
 /// Updates by a child and by its spawner, of which the spawner's is the last, in 11 requests.
 pub const LASTS: &[u8] =
     b"cilk 1\nmem x\nreducer h last\nfunc main z\nput h 0\nspawn f 2\nupdate h 3\nsync\nget r h\nwrite x r\nend\nfunc f v\nupdate h v\nend\n";

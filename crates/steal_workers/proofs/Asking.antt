@@ -18,7 +18,7 @@ on_ok (Err fault) P holds = tt
 -- room for a call says nothing of what was said
 pub roomy : (functions : List Code) (function argument : ℕ) (history : List Exchange) (frame : FrameState) (room : Bool) → IsAfter functions function argument history frame
     → IsAfter functions function argument history (record frame { has_room = room })
-roomy functions function argument history frame room after = record { goes_on = after.goes_on; joins = after.joins }
+roomy functions function argument history frame room after = record { goes_on = after.goes_on; joins = after.joins; comes = after.comes }
 
 -- where the answer is one at a join, the receipts end at a join
 pub ends_at_join : (result : Result NextStep RunFault) (receipts before : List Receipt) (receipt : Receipt) → receipts ≡ before ++ receipt ∷ [] → IfOk result (λ going. IsAtJoin going → MeetsJoin receipt.answer)

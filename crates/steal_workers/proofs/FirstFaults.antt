@@ -24,7 +24,7 @@ none_refused true faults first = refl
 none_refused false faults first = absurd (omega (arith, All-head (λ fault. 6 ≤ rank_or_last fault) (Some Memory) faults first.1))
 
 -- what is first of some workers' faults, as they were looked at, is first of theirs
-pub first_known : {L : Type 0} (all : Bool) (workers seen : List (Worker L)) (refused first known : Option RunFault) → seen ≡ workers → refused ≡ refused_thread all → first ≡ known
+pub first_known : {L A : Type 0} (all : Bool) (workers seen : List (Worker L A)) (refused first known : Option RunFault) → seen ≡ workers → refused ≡ refused_thread all → first ≡ known
     → IsFirstOf (refused ∷ faults_of seen) first → IsFirstOf (refused_thread all ∷ faults_of workers) known
 first_known all workers seen refused first known same told is before =
     subst (IsFirstOf (refused_thread all ∷ faults_of workers)) is

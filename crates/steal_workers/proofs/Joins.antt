@@ -39,7 +39,7 @@ one_more f xs made y e place d within before here =
     cc (more, there)
 
 -- one more worker leads to all deques
-pub lead_more : (owns owns' : List Deque) (others others' others'' : List (List Deque)) (deques : List Deque) (place : ℕ) → owns' ≡ owns → others'' ≡ set others' place deques → others' ≡ others → deques ≡ owns
+pub lead_more : {A : Type 0} (owns owns' : List (Deque A)) (others others' others'' : List (List (Deque A))) (deques : List (Deque A)) (place : ℕ) → owns' ≡ owns → others'' ≡ set others' place deques → others' ≡ others → deques ≡ owns
     → place < length others' → AllLeadTo owns (take place others) → AllLeadTo owns' (take (place + 1) others'')
 lead_more owns owns' others others' others'' deques place same made kept leads within before =
     let old : AllLeadTo owns (take place others') = subst (λ all. AllLeadTo owns (take place all)) (sym kept) before in
@@ -48,5 +48,5 @@ lead_more owns owns' others others' others'' deques place same made kept leads w
     subst (λ all. AllLeadTo all (take (place + 1) others'')) (sym same) at
 
 -- the same workers lead to the same deques
-pub lead_same : (owns owns' : List Deque) (others others' : List (List Deque)) → owns' ≡ owns → others' ≡ others → AllLeadTo owns others → AllLeadTo owns' others'
+pub lead_same : {A : Type 0} (owns owns' : List (Deque A)) (others others' : List (List (Deque A))) → owns' ≡ owns → others' ≡ others → AllLeadTo owns others → AllLeadTo owns' others'
 lead_same owns owns' others others' own other leads = subst (λ ds. AllLeadTo ds others') (sym own) (subst (AllLeadTo owns) (sym other) leads)

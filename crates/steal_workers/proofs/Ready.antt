@@ -1,6 +1,6 @@
 -- Workers that begin, and that have come back.
 use Rattle.std.proofs.Common.{◌≡◌, ◌<◌, ◌+◌, ℕ, Bool, true, List, Result, Ok, Err, [], ◌∷◌, length, get_or, map, set, sym, subst, ap, arith, ◌∙◌}
-use Rattle.std.specs.Prelude.{All, OnOk, IfOk, vec_len}
+use Rattle.std.specs.Prelude.{All, OnOk, IfOk, Vec, vec_len}
 use Rattle.locked_replay.specs.declared.fault.RunFault.{RunFault}
 use Rattle.locked_replay.specs.Logs.{all_receipts, all_asked}
 use Rattle.std.specs.List.{sum_by}
@@ -8,7 +8,6 @@ use Rattle.std.proofs.lemmas.List.{length-map, map-set, get_or-map}
 use Rattle.std.proofs.lemmas.List.Elements.{All-head, All-tail}
 use Rattle.std.proofs.lemmas.Simd.{map-map}
 use Rattle.locked_replay.specs.declared.worker.WorkerLog.{WorkerLog}
-use Rattle.std.specs.Global.{Global, Vec}
 use Rattle.packed_history.specs.Lists.{Listed}
 use Rattle.std.specs.List.{list_any}
 use Rattle.steal_workers.specs.declared.pass_log.PassLog.{PassLog}
@@ -27,9 +26,9 @@ pub root_lies : (views : List PassLog) (d : PassLog) → 0 < length views → Al
 root_lies [] d some idle = absurd (omega (arith, some))
 root_lies (v ∷ vs) d some idle = (vs, ap (λ u. pushing 0 u ∷ vs) (All-head (λ v. v ≡ pass_log [] []) v vs idle), All-tail (λ v. v ≡ pass_log [] []) v vs idle)
 
-module _ {L : Type 0} where
+module _ {L A : Type 0} where
   -- so it is where the first of some ready workers begins
-  pub root_begun : (workers : List (Worker L)) (here new : Worker L) → IsReady workers → here ≡ get_or workers 0 here → own_view new.ends ≡ pushing 0 (own_view here.ends) → HaveRoot (own_hands (set workers 0 new))
+  pub root_begun : (workers : List (Worker L A)) (here new : Worker L A) → IsReady workers → here ≡ get_or workers 0 here → own_view new.ends ≡ pushing 0 (own_view here.ends) → HaveRoot (own_hands (set workers 0 new))
   root_begun workers here new is value pushed =
       let hands = own_hands workers in
       let some : 0 < length hands = omega (arith, length-map workers (λ worker. own_view worker.ends), is.0) in
@@ -38,7 +37,7 @@ module _ {L : Type 0} where
       subst HaveRoot (sym after) (root_lies hands (own_view here.ends) some is.2)
 
   -- workers that were given the ends of all deques are ready
-  pub ready : (workers : List (Worker L)) (all : List WorkerDeques) → map (λ w. w.ends) workers ≡ all → 0 < length all → AllLeadTo (map own_deque all) (map deques_of all) → All (λ v. v ≡ pass_log [] []) (map own_view all) → IsReady workers
+  pub ready : (workers : List (Worker L A)) (all : List (WorkerDeques A)) → map (λ w. w.ends) workers ≡ all → 0 < length all → AllLeadTo (map own_deque all) (map deques_of all) → All (λ v. v ≡ pass_log [] []) (map own_view all) → IsReady workers
   ready workers all given some lead idle =
       let owns : map own_deque all ≡ owns_of (stations_of workers) = ap (map own_deque) (sym given) ∙ map-map own_deque (λ w. w.ends) workers ∙ sym (map-map (λ s. s.own) station_of workers) in
       let others : map deques_of all ≡ others_of (stations_of workers) = ap (map deques_of) (sym given) ∙ map-map deques_of (λ w. w.ends) workers ∙ sym (map-map (λ s. s.others) station_of workers) in
@@ -49,25 +48,25 @@ module _ {L : Type 0} where
       )
 
   -- as many come back, and they had asked as much before
-  pub same_many : (workers back : List (Worker L)) → stations_of back ≡ stations_of workers → length back ≡ length workers
+  pub same_many : (workers back : List (Worker L A)) → stations_of back ≡ stations_of workers → length back ≡ length workers
   same_many workers back same = omega (arith, ap length same, length-map workers station_of, length-map back station_of)
 
-  pub as_many : (result : Result (Vec (WorkerLog L Global)) RunFault) (all : Bool) (back workers : ℕ) → OnOk result (all ≡ true) → (all ≡ true → back ≡ workers) → IfOk result (λ logs. vec_len logs ≡ back) → IfOk result (λ logs. vec_len logs ≡ workers)
+  pub as_many : (result : Result (Vec (WorkerLog L A) A) RunFault) (all : Bool) (back workers : ℕ) → OnOk result (all ≡ true) → (all ≡ true → back ≡ workers) → IfOk result (λ logs. vec_len logs ≡ back) → IfOk result (λ logs. vec_len logs ≡ workers)
   as_many (Ok logs) all back workers is same each = each ∙ same is
   as_many (Err fault) all back workers is same each = tt
 
-  pub same_before : (workers back : List (Worker L)) → stations_of back ≡ stations_of workers → sum_by (λ w. w.before) back ≡ sum_by (λ w. w.before) workers
+  pub same_before : (workers back : List (Worker L A)) → stations_of back ≡ stations_of workers → sum_by (λ w. w.before) back ≡ sum_by (λ w. w.before) workers
   same_before workers back same = sym (sum_by-map (λ s. s.before) station_of back) ∙ ap (sum_by (λ s. s.before)) same ∙ sum_by-map (λ s. s.before) station_of workers
 
   -- what was asked is counted from what the workers had asked before
-  pub counted_as : (result : Result (Vec (WorkerLog L Global)) RunFault) (all : Bool) (back workers : List (Worker L)) → OnOk result (all ≡ true) → (all ≡ true → stations_of back ≡ stations_of workers)
+  pub counted_as : (result : Result (Vec (WorkerLog L A) A) RunFault) (all : Bool) (back workers : List (Worker L A)) → OnOk result (all ≡ true) → (all ≡ true → stations_of back ≡ stations_of workers)
       → IfOk result (λ logs. all_asked logs.items ≡ sum_by (λ w. w.before) back + length (all_receipts logs.items))
       → IfOk result (λ logs. all_asked logs.items ≡ sum_by (λ w. w.before) workers + length (all_receipts logs.items))
   counted_as (Ok logs) all back workers is same counted = counted ∙ ap (λ before. before + length (all_receipts logs.items)) (same_before workers back (same is))
   counted_as (Err fault) all back workers is same counted = tt
 
   -- the run's end is seen in the logs as in the workers
-  pub same_end : (workers : List (Worker L)) (logs : List (WorkerLog L Global)) → map (λ log. log.receipts) logs ≡ map (λ worker. worker.receipts) workers → some_finished logs ≡ saw_end workers
+  pub same_end : (workers : List (Worker L A)) (logs : List (WorkerLog L A)) → map (λ log. log.receipts) logs ≡ map (λ worker. worker.receipts) workers → some_finished logs ≡ saw_end workers
   same_end workers logs same =
       let ended : Listed → Bool = λ receipts. list_any (λ receipt. finishes receipt.answer) receipts.items in
       sym (list_any-map ended (λ log. log.receipts) logs) ∙ ap (list_any ended) same ∙ list_any-map ended (λ worker. worker.receipts) workers

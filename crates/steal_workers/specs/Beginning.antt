@@ -10,12 +10,12 @@ use Rattle.steal_workers.specs.Workers.{stations_of, owns_of, others_of}
 abbrev pub HaveRoot : List PassLog → Type 0
 HaveRoot views = (rest : List PassLog) × (views ≡ pass_log (0 ∷ []) [] ∷ rest) × All (λ v. v ≡ pass_log [] []) rest
 
-module _ {L : Type 0} where
-  abbrev pub own_hands : List (Worker L) → List PassLog
+module _ {L A : Type 0} where
+  abbrev pub own_hands : List (Worker L A) → List PassLog
   own_hands = map (λ worker. own_view worker.ends)
 
   -- they are some, each reaches the deques of all, and nothing was pushed yet
-  abbrev pub IsReady : List (Worker L) → Type 0
+  abbrev pub IsReady : List (Worker L A) → Type 0
   IsReady workers =
       (0 < length workers)
       × AllLeadTo (owns_of (stations_of workers)) (others_of (stations_of workers))

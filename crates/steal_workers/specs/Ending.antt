@@ -1,7 +1,6 @@
 -- What a run answers, by the workers that it hired and those that came back.
-use Rattle.std.specs.Prelude.{◌≡◌, ◌⊎◌, ◌<◌, ℕ, Bool, true, false, List, [], ◌∷◌, length, map, All, Option, Some, None, Result, Err, IsOkAnd}
+use Rattle.std.specs.Prelude.{◌≡◌, ◌⊎◌, ◌<◌, ℕ, Bool, true, false, List, [], ◌∷◌, length, map, All, Option, Some, None, Result, Err, IsOkAnd, Vec}
 use Rattle.std.specs.List.{sum_by, list_any}
-use Rattle.std.specs.Global.{Global, Vec}
 use Rattle.locked_replay.specs.declared.fault.RunFault.{RunFault}
 use Rattle.locked_replay.specs.declared.fault.RunFault.TheVariants.{Strange, Memory}
 use Rattle.locked_replay.specs.declared.worker.WorkerLog.{WorkerLog}
@@ -11,27 +10,27 @@ use Rattle.steal_workers.specs.Workers.{stations_of, TornAtJoin}
 use Rattle.steal_workers.specs.Beginning.{own_hands, HaveRoot, IsReady}
 use Rattle.steal_workers.specs.Finishing.{finishes}
 
-module _ {L : Type 0} where
-  abbrev pub faults_of : List (Worker L) → List (Option RunFault)
+module _ {L A : Type 0} where
+  abbrev pub faults_of : List (Worker L A) → List (Option RunFault)
   faults_of = map (λ worker. worker.fault)
 
   -- whether a worker saw the run's end
-  abbrev pub saw_end : List (Worker L) → Bool
+  abbrev pub saw_end : List (Worker L A) → Bool
   saw_end = list_any (λ worker. list_any (λ receipt. finishes receipt.answer) worker.receipts.items)
 
   -- the logs hold the receipts of these workers, in their order
-  abbrev pub AreLogsOf : List (Worker L) → List (WorkerLog L Global) → Type 0
+  abbrev pub AreLogsOf : List (Worker L A) → List (WorkerLog L A) → Type 0
   AreLogsOf workers logs = map (λ log. log.receipts) logs ≡ map (λ worker. worker.receipts) workers
 
   -- what a run answers by the first fault that was met, and by whether its end was seen: what the workers brought, where there was none and
   -- it was
-  abbrev pub Tells : Option RunFault → Bool → List (Worker L) → Result (Vec (WorkerLog L Global)) RunFault → Type 0
+  abbrev pub Tells : Option RunFault → Bool → List (Worker L A) → Result (Vec (WorkerLog L A) A) RunFault → Type 0
   Tells (Some fault) ended workers result = result ≡ Err fault
   Tells None true workers result = IsOkAnd result (λ logs. AreLogsOf workers logs.items)
   Tells None false workers result = result ≡ Err Strange
 
   -- whether all threads could be started, and how the workers came back, decide what a run answers
-  abbrev pub IsTold : Bool → List (Worker L) → Result (Vec (WorkerLog L Global)) RunFault → Type 0
+  abbrev pub IsTold : Bool → List (Worker L A) → Result (Vec (WorkerLog L A) A) RunFault → Type 0
   IsTold all workers result =
       (first : Option RunFault) × IsFirstOf (refused_thread all ∷ faults_of workers) first × Tells first (saw_end workers) workers result
 
@@ -41,10 +40,10 @@ AreSomeOf xs [] = xs ≡ []
 AreSomeOf xs (y ∷ ys) = AreSomeOf xs ys ⊎ ((rest : List _) × (xs ≡ y ∷ rest) × AreSomeOf rest ys)
 
 -- what comes of workers that were hired
-pub record Ended {L : Type 0} (hired : List (Worker L)) (result : Result (Vec (WorkerLog L Global)) RunFault) : Type 0 where
+pub record Ended {L A : Type 0} (hired : List (Worker L A)) (result : Result (Vec (WorkerLog L A) A) RunFault) : Type 0 where
   -- the workers as their threads were to begin, those that came back, and whether all threads could be started
-  pub began : List (Worker L)
-  pub back : List (Worker L)
+  pub began : List (Worker L A)
+  pub back : List (Worker L A)
   pub all : Bool
   -- the task of the program's begin lies on the first worker's deque
   pub stations : stations_of began ≡ stations_of hired
@@ -59,12 +58,12 @@ pub record Ended {L : Type 0} (hired : List (Worker L)) (result : Result (Vec (W
   pub told : IsTold all back result
 
 -- what a run answers whose workers were hired: want of memory before any of them began, or what comes of them
-abbrev pub IsEnded : {L : Type 0} → List (Worker L) → Result (Vec (WorkerLog L Global)) RunFault → Type 0
+abbrev pub IsEnded : {L A : Type 0} → List (Worker L A) → Result (Vec (WorkerLog L A) A) RunFault → Type 0
 IsEnded hired result = (result ≡ Err Memory) ⊎ Ended hired result
 
 -- what a run answers: want of memory before any worker began, or what comes of so many workers, on whose seats so much had been asked
 -- before
-abbrev pub IsAnswered : {L : Type 0} → (workers asked : ℕ) → Result (Vec (WorkerLog L Global)) RunFault → Type 0
-IsAnswered {L} workers asked result =
+abbrev pub IsAnswered : {L A : Type 0} → (workers asked : ℕ) → Result (Vec (WorkerLog L A) A) RunFault → Type 0
+IsAnswered {L} {A} workers asked result =
     (result ≡ Err Memory)
-    ⊎ ((hired : List (Worker L)) × (length hired ≡ workers) × (sum_by (λ w. w.before) hired ≡ asked) × IsReady hired × Ended hired result)
+    ⊎ ((hired : List (Worker L A)) × (length hired ≡ workers) × (sum_by (λ w. w.before) hired ≡ asked) × IsReady hired × Ended hired result)

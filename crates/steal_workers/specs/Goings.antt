@@ -23,7 +23,7 @@ GoesOn _ join before after result = (result ≡ Ok Ahead) × (after ≡ before)
 
 -- What goes on in place of a task that was handed out: one that waits at its join where the last child has ended already, and where the
 -- last child ends the one that has come to the join already.
-abbrev pub HandsOut : NextStep → Task → Result (Option Task) RunFault → Type 0
+abbrev pub HandsOut : {A : Type 0} → NextStep → Task A → Result (Option (Task A)) RunFault → Type 0
 HandsOut Ahead task result = IsOkAnd result (λ next. IsSomeAnd next (IsOn task.strand task))
 HandsOut (Parks join) task result = IfOk result (λ next. IfSome next (IsOn join task))
 HandsOut (Wakes join) task result = IfOk result (λ next. IfSome next (λ woken. woken.strand ≡ join))

@@ -20,7 +20,7 @@ taking strand v = pass_log v.pushed (v.taken ++ strand ∷ [])
 abbrev pub joined : PassLog → PassLog → PassLog
 joined v w = pass_log (v.pushed ++ w.pushed) (v.taken ++ w.taken)
 
-abbrev pub strands_of : List Task → List ℕ
+abbrev pub strands_of : {A : Type 0} → List (Task A) → List ℕ
 strands_of = map (λ t. t.strand)
 
 -- how often x stands in the list
@@ -28,5 +28,5 @@ abbrev pub times : ℕ → List ℕ → ℕ
 times x = count_by (λ y. y == x)
 
 -- each strand was pushed as often as it was taken and stands in the deque
-abbrev pub Balanced : List Task → List PassLog → Type 0
+abbrev pub Balanced : {A : Type 0} → List (Task A) → List PassLog → Type 0
 Balanced tasks views = (x : ℕ) → sum_by (λ v. times x v.pushed) views ≡ sum_by (λ v. times x v.taken) views + times x (strands_of tasks)

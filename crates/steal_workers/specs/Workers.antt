@@ -24,20 +24,20 @@ abbrev pub EndsAtJoin : List Receipt → Type 0
 EndsAtJoin receipts = (before : List Receipt) × (receipt : Receipt) × (receipts ≡ before ++ receipt ∷ []) × MeetsJoin receipt.answer
 
 -- what a worker began with: how much was asked on its seat, its place, and the deques of its ends
-pub record Station : Type 0 where
+pub record Station (A : Type 0) : Type 0 where
   pub before : ℕ
   pub place : ℕ
-  pub own : Deque
-  pub others : List Deque
+  pub own : Deque A
+  pub others : List (Deque A)
 
-abbrev pub owns_of : List Station → List Deque
+abbrev pub owns_of : {A : Type 0} → List (Station A) → List (Deque A)
 owns_of = map (λ station. station.own)
 
-abbrev pub others_of : List Station → List (List Deque)
+abbrev pub others_of : {A : Type 0} → List (Station A) → List (List (Deque A))
 others_of = map (λ station. station.others)
 
-module _ {L : Type 0} where
-  abbrev pub station_of : Worker L → Station
+module _ {L A : Type 0} where
+  abbrev pub station_of : Worker L A → Station A
   station_of worker = record {
     before = worker.before;
     place = worker.ends.place;
@@ -45,17 +45,17 @@ module _ {L : Type 0} where
     others = deques_of worker.ends;
   }
 
-  abbrev pub stations_of : List (Worker L) → List Station
+  abbrev pub stations_of : List (Worker L A) → List (Station A)
   stations_of = map station_of
 
   -- room for what so many workers bring back
-  abbrev pub HasRoom : ℕ → Room L → Type 0
+  abbrev pub HasRoom : ℕ → Room L A → Type 0
   HasRoom workers room =
       (vec_len room.logs ≡ 0) × (vec_len room.owners ≡ 0) × (vec_len room.passes ≡ 0)
       × (workers ≤ vec_capacity room.logs) × (workers ≤ vec_capacity room.owners) × (workers ≤ vec_capacity room.passes)
 
   -- a join that was met twice shows in what the worker was told last
-  abbrev pub TornAtJoin : Worker L → Type 0
+  abbrev pub TornAtJoin : Worker L A → Type 0
   TornAtJoin worker = worker.fault ≡ Some Torn → EndsAtJoin worker.receipts.items
 
 -- At Ok a receipt of that request was kept, with the answer. At Err nothing was kept, and the gate's fault or want of memory is told; or
@@ -68,7 +68,7 @@ KeepsReceipt request before after (Err fault) =
     ⊎ ((fault ≡ Strange) × ((receipt : Receipt) × (after ≡ before ++ receipt ∷ []) × (receipt.request ≢ request)))
 
 -- the only request that the function of a task can go on with
-abbrev pub IsWanted : Task → Request → Type 0
+abbrev pub IsWanted : {A : Type 0} → Task A → Request → Type 0
 IsWanted task request =
     (function argument : ℕ) (history : List Exchange) (x : Exchange)
     → IsAfter task.program.now.functions function argument history task.frame.value
@@ -76,7 +76,7 @@ IsWanted task request =
     → (x.act ≡ request.act) × (x.line ≡ request.line)
 
 -- a receipt was kept of what the task asks next, on its strand
-abbrev pub AsksFor : Task → List Receipt → List Receipt → Type 0
+abbrev pub AsksFor : {A : Type 0} → Task A → List Receipt → List Receipt → Type 0
 AsksFor task before after =
     (receipt : Receipt) × (after ≡ before ++ receipt ∷ []) × (receipt.request.strand ≡ task.strand) × IsWanted task receipt.request
 

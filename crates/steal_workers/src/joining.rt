@@ -11,17 +11,17 @@ use crate::pass_log::Owner;
 use crate::steal_handle::StealHandle;
 use crate::worker::Worker;
 use locked_replay::WorkerLog;
-use std::alloc::{AllocError, Global};
+use std::alloc::{AllocError, Allocator, Global};
 use std::sync::ledger::Ledger;
 
 /// Room for what the workers bring back. It is made before the first of them begins, so that their end takes no memory.
-pub struct Room<'p, L: Ledger> {
-    logs: Vec<WorkerLog<L>>,
-    owners: Vec<Owner<'p>>,
-    passes: Vec<Vec<StealHandle<'p>>>,
+pub struct Room<'p, L: Ledger, A: Allocator = Global> {
+    logs: Vec<WorkerLog<L, A>, A>,
+    owners: Vec<Owner<'p, A>, A>,
+    passes: Vec<Vec<StealHandle<'p, A>, A>, A>,
 }
 
-impl<'p, L: Ledger> Drop for Room<'p, L> {
+impl<'p, L: Ledger, A: Allocator> Drop for Room<'p, L, A> {
     fn drop(self) {
         let Room {
             logs: _,
@@ -31,9 +31,9 @@ impl<'p, L: Ledger> Drop for Room<'p, L> {
     }
 }
 
-impl<'p, L: Ledger> Room<'p, L> {
+impl<'p, L: Ledger, A: Allocator + Copy> Room<'p, L, A> {
     /// Room for so many workers.
-    pub fn new(alloc: Global, workers: usize) -> Result<Room<'p, L>, AllocError>
+    pub fn new(alloc: A, workers: usize) -> Result<Room<'p, L, A>, AllocError>
         ensures { IfOk result (HasRoom workers) }
     {
         Ok(Room {
@@ -44,7 +44,7 @@ impl<'p, L: Ledger> Room<'p, L> {
     }
 
     /// The logs of the workers. All passes of each deque go back to its owner, which then knows all that was pushed there and taken.
-    pub fn settle(self, workers: Vec<Worker<'p, L>>) -> Vec<WorkerLog<L>>
+    pub fn settle(self, workers: Vec<Worker<'p, L, A>, A>) -> Vec<WorkerLog<L, A>, A>
         requires room { HasRoom (vec_len workers) self }
         requires reach { AllLeadTo (owns_of (stations_of workers.items)) (others_of (stations_of workers.items)) }
         ensures workers { vec_len result ≡ vec_len workers.entry }
@@ -69,7 +69,10 @@ impl<'p, L: Ledger> Room<'p, L> {
 }
 
 /// All passes go back to the owners of their deques.
-fn join_all<'p>(owners: Vec<Owner<'p>>, passes: Vec<Vec<StealHandle<'p>>>) -> Vec<Owner<'p>>
+fn join_all<'p, A: Allocator>(
+    owners: Vec<Owner<'p, A>, A>,
+    passes: Vec<Vec<StealHandle<'p, A>, A>, A>,
+) -> Vec<Owner<'p, A>, A>
     requires { AllLeadTo (map worker_deque owners.items) (map (λ reaches. map deque_of reaches.items) passes.items) }
     ensures { map worker_view result.items ≡ joined_all (map worker_view owners.entry.items) (map views_of passes.entry.items) }
 {
@@ -81,7 +84,10 @@ fn join_all<'p>(owners: Vec<Owner<'p>>, passes: Vec<Vec<StealHandle<'p>>>) -> Ve
 }
 
 /// A worker's passes go back to the owners of their deques.
-fn join_each<'p>(owners: &mut Vec<Owner<'p>>, reaches: Vec<StealHandle<'p>>)
+fn join_each<'p, A: Allocator>(
+    owners: &mut Vec<Owner<'p, A>, A>,
+    reaches: Vec<StealHandle<'p, A>, A>,
+)
     requires { map deque_of reaches.items ≡ map worker_deque owners.old.items }
     ensures deques { map worker_deque owners.new.items ≡ map worker_deque owners.old.items }
     ensures views { map worker_view owners.new.items ≡ joined_each (map worker_view owners.old.items) (views_of reaches.entry) }

@@ -7,7 +7,7 @@ ghost use Rattle.steal_workers.specs.Tasks.{IsOn};
 
 use crate::task::Task;
 use slab::Slab;
-use std::alloc::{AllocError, Global};
+use std::alloc::{AllocError, Allocator, Global};
 use std::sync::atomic::{AtomicU64, Ordering};
 use std::sync::{Mutex, Wait};
 use std::time::Duration;
@@ -47,13 +47,13 @@ enum Mark {
 
 /// A task, and the join for which it waits.
 #[derive(Drop)]
-struct Waiting<'p> {
+struct Waiting<'p, A: Allocator> {
     join: u32,
-    task: Task<'p>,
+    task: Task<'p, A>,
 }
 
 /// Whether the task of this join waits in this slot.
-fn holds<'p>(waiting: &Slab<Waiting<'p>>, slot: u32, join: u32) -> bool
+fn holds<'p, A: Allocator>(waiting: &Slab<Waiting<'p, A>, A>, slot: u32, join: u32) -> bool
     ensures { result ≡ is_some (task_in (get waiting.now slot) join) }
 {
     match waiting.get(slot as usize) {
@@ -63,7 +63,11 @@ fn holds<'p>(waiting: &Slab<Waiting<'p>>, slot: u32, join: u32) -> bool
 }
 
 /// The task of this join, where it waits in this slot.
-fn take_waiting<'p>(waiting: &mut Slab<Waiting<'p>>, slot: u32, join: u32) -> Option<Task<'p>>
+fn take_waiting<'p, A: Allocator>(
+    waiting: &mut Slab<Waiting<'p, A>, A>,
+    slot: u32,
+    join: u32,
+) -> Option<Task<'p, A>>
     ensures task { result ≡ task_in (get waiting.old slot) join }
     ensures others { OthersStay waiting.old waiting.new join }
 {
@@ -81,12 +85,12 @@ fn take_waiting<'p>(waiting: &mut Slab<Waiting<'p>>, slot: u32, join: u32) -> Op
 
 /// What lies under the lock: a mark for each join up to some, and the tasks that wait.
 #[derive(Drop)]
-struct JoinTable<'p> {
-    marks: Vec<Mark>,
-    waiting: Slab<Waiting<'p>>,
+struct JoinTable<'p, A: Allocator> {
+    marks: Vec<Mark, A>,
+    waiting: Slab<Waiting<'p, A>, A>,
 }
 
-impl<'p> JoinTable<'p> {
+impl<'p, A: Allocator> JoinTable<'p, A> {
     /// Sees that there is a mark for this join.
     fn reserve_mark(&mut self, join: u32) -> Result<(), AllocError>
         ensures ok { OnOk result (join < length self.new.marks.items) }
@@ -101,7 +105,7 @@ impl<'p> JoinTable<'p> {
     }
 
     /// Keeps a task for this join, for which nothing came yet.
-    fn keep(&mut self, join: u32, task: Task<'p>) -> Result<Option<Task<'p>>, LotFault>
+    fn keep(&mut self, join: u32, task: Task<'p, A>) -> Result<Option<Task<'p, A>>, LotFault>
         requires reached { join < length self.old.marks.items }
         requires nothing { place_at self.old.marks.items self.old.waiting join ≡ None }
         ensures parks { Parks join task.entry None result (place_at self.new.marks.items self.new.waiting join) }
@@ -117,7 +121,7 @@ impl<'p> JoinTable<'p> {
         Ok(None)
     }
 
-    fn park(&mut self, join: u32, task: Task<'p>) -> Result<Option<Task<'p>>, LotFault>
+    fn park(&mut self, join: u32, task: Task<'p, A>) -> Result<Option<Task<'p, A>>, LotFault>
         ensures parks { Parks join task.entry (place_at self.old.marks.items self.old.waiting join) result
             (place_at self.new.marks.items self.new.waiting join) }
         ensures others { (other : ℕ) → other ≢ join →
@@ -143,7 +147,7 @@ impl<'p> JoinTable<'p> {
         }
     }
 
-    fn wake(&mut self, join: u32) -> Result<Option<Task<'p>>, LotFault>
+    fn wake(&mut self, join: u32) -> Result<Option<Task<'p, A>>, LotFault>
         ensures wakes { Wakes join (place_at self.old.marks.items self.old.waiting join) result
             (place_at self.new.marks.items self.new.waiting join) }
         ensures others { (other : ℕ) → other ≢ join →
@@ -174,15 +178,15 @@ impl<'p> JoinTable<'p> {
 
 /// The tasks that wait for their joins, and whether the run is over. Any thread may call it.
 #[derive(Drop)]
-pub struct Lot<'p> {
-    places: Mutex<JoinTable<'p>>,
+pub struct Lot<'p, A: Allocator = Global> {
+    places: Mutex<JoinTable<'p, A>>,
     /// 1 once the lot is closed, 0 before.
     closed: AtomicU64,
 }
 
-impl<'p> Lot<'p> {
+impl<'p, A: Allocator + Copy> Lot<'p, A> {
     /// An empty lot, which is not closed.
-    pub fn new(alloc: Global) -> Lot<'p> {
+    pub fn new(alloc: A) -> Lot<'p, A> {
         Lot {
             places: Mutex::new(JoinTable {
                 marks: Vec::new(alloc),
@@ -191,22 +195,24 @@ impl<'p> Lot<'p> {
             closed: AtomicU64::new(0),
         }
     }
+}
 
+impl<'p, A: Allocator> Lot<'p, A> {
     /// A task comes for a join. Where the join was woken before, the task is handed back, with the join as its strand; otherwise it stays.
     /// An `Err` drops it.
     pub fn park<R: Wait>(
         &self,
         rt: &R,
         join: u32,
-        task: Task<'p>,
-    ) -> Result<Option<Task<'p>>, LotFault>
+        task: Task<'p, A>,
+    ) -> Result<Option<Task<'p, A>>, LotFault>
         ensures { IfOk result (λ out. IfSome out (IsOn join task.entry)) }
     {
         self.places.lock(rt).park(join, task)
     }
 
     /// The last child of a join ends. Where the join's task came before, it is handed out, with the join as its strand.
-    pub fn wake<R: Wait>(&self, rt: &R, join: u32) -> Result<Option<Task<'p>>, LotFault>
+    pub fn wake<R: Wait>(&self, rt: &R, join: u32) -> Result<Option<Task<'p, A>>, LotFault>
         ensures { IfOk result (λ out. IfSome out (λ t. t.strand ≡ join)) }
     {
         self.places.lock(rt).wake(join)

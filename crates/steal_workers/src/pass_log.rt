@@ -6,7 +6,7 @@ ghost use Rattle.steal_workers.specs.PassLogs.{pass_log, strands_of, Balanced};
 use crate::task::Task;
 use crossbeam_deque::protocol::{Join, Outcome, Protocol, Split};
 use crossbeam_deque::{Pass, Stealer, Worker};
-use std::alloc::Global;
+use std::alloc::Allocator;
 use std::collections::LinkedList;
 
 /// The strands that a pass has pushed, and those that it has taken. No value of it is made.
@@ -20,7 +20,7 @@ pub struct PassLog {
 /// The rule of a deque.
 pub struct Lossless;
 
-impl<'p> Protocol<Task<'p>, PassLog> for Lossless {
+impl<'p, A: Allocator> Protocol<Task<'p, A>, PassLog> for Lossless {
     ghost holds = { Balanced };
 
     ghost first = { pass_log [] [] };
@@ -49,22 +49,22 @@ impl Join<PassLog> for Merged {
 /// Tasks were pushed.
 pub struct Pushed;
 
-impl<'p> Outcome<Task<'p>, PassLog> for Pushed {
+impl<'p, A: Allocator> Outcome<Task<'p, A>, PassLog> for Pushed {
     ghost then = { λ v xs w. w ≡ pass_log (v.pushed ++ strands_of xs) v.taken };
 }
 
 /// Tasks were taken.
 pub struct Taken;
 
-impl<'p> Outcome<Task<'p>, PassLog> for Taken {
+impl<'p, A: Allocator> Outcome<Task<'p, A>, PassLog> for Taken {
     ghost then = { λ v xs w. w ≡ pass_log v.pushed (v.taken ++ strands_of xs) };
 }
 
 /// A worker's own end of its deque.
-pub type Owner<'p> = Worker<Task<'p>, Global, PassLog, Lossless>;
+pub type Owner<'p, A> = Worker<Task<'p, A>, A, PassLog, Lossless>;
 
 /// The end of a deque at which the others steal.
-pub type Thief<'p> = Stealer<Task<'p>, Global, PassLog, Lossless>;
+pub type Thief<'p, A> = Stealer<Task<'p, A>, A, PassLog, Lossless>;
 
 /// What a worker knows of a deque of another's.
-pub type DequePass<'p> = Pass<Task<'p>, PassLog>;
+pub type DequePass<'p, A> = Pass<Task<'p, A>, PassLog, A>;

@@ -20,7 +20,7 @@ use locked_replay::{Ask, RunFault, Seat, WorkerLog};
 use packed_history::Receipts;
 use program_text::Program;
 use race_gate::{Answer, Receipt};
-use std::alloc::{AllocError, Global};
+use std::alloc::{AllocError, Allocator, Global};
 use std::snapshot::Snapshot;
 use std::sync::Wait;
 use std::sync::ledger::Ledger;
@@ -28,27 +28,27 @@ use std::thread;
 use std::thread::{Promise, PromisedHandle, Scope, Threads};
 
 /// A worker as it was before its thread began.
-struct IdleWorker<'p, L: Ledger>(Snapshot<Worker<'p, L>>);
+struct IdleWorker<'p, L: Ledger, A: Allocator>(Snapshot<Worker<'p, L, A>>);
 
-impl<'p, L: Ledger> Drop for IdleWorker<'p, L> {
+impl<'p, L: Ledger, A: Allocator> Drop for IdleWorker<'p, L, A> {
     fn drop(self) {
         let IdleWorker(_) = self;
     }
 }
 
-impl<'p, L: Ledger> Promise<Worker<'p, L>> for IdleWorker<'p, L> {
+impl<'p, L: Ledger, A: Allocator> Promise<Worker<'p, L, A>> for IdleWorker<'p, L, A> {
     ghost kept_by = { λ hired worker. (station_of worker ≡ station_of hired.0.value) × TornAtJoin worker };
 }
 
 /// A worker that runs.
-type Running<'p, L> = PromisedHandle<Worker<'p, L>, IdleWorker<'p, L>>;
+type Running<'p, L, A> = PromisedHandle<Worker<'p, L, A>, IdleWorker<'p, L, A>>;
 
 /// The workers. The last of them has the given seat, and each other one a part of it.
-fn hire<'p, L: Ledger>(
-    alloc: Global,
-    ends: Vec<WorkerDeques<'p>>,
+fn hire<'p, L: Ledger, A: Allocator + Copy>(
+    alloc: A,
+    ends: Vec<WorkerDeques<'p, A>, A>,
     mut seat: Seat<L>,
-) -> Result<Vec<Worker<'p, L>>, AllocError>
+) -> Result<Vec<Worker<'p, L, A>, A>, AllocError>
     requires workers { 0 < vec_len ends }
     requires parts { vec_len ends ≤ seat.parts }
     requires lead { AllLeadTo (map own_deque ends.items) (map deques_of ends.items) }
@@ -67,11 +67,11 @@ fn hire<'p, L: Ledger>(
 }
 
 /// A worker for each of these ends, on a part of the seat.
-fn hire_each<'p, L: Ledger>(
-    alloc: Global,
-    ends: Vec<WorkerDeques<'p>>,
+fn hire_each<'p, L: Ledger, A: Allocator + Copy>(
+    alloc: A,
+    ends: Vec<WorkerDeques<'p, A>, A>,
     seat: &mut Seat<L>,
-) -> Result<Vec<Worker<'p, L>>, AllocError>
+) -> Result<Vec<Worker<'p, L, A>, A>, AllocError>
     requires { vec_len ends < seat.old.parts }
     ensures ends { IfOk result (λ hired. map (λ w. w.ends) hired.items ≡ ends.entry.items) }
     ensures before { IfOk result (λ hired. sum_by (λ w. w.before) hired.items ≡ 0) }
@@ -90,7 +90,7 @@ fn is_finishing(receipt: Receipt) -> bool
     matches!(receipt.answer, Answer::Finished)
 }
 
-fn has_finished(receipts: &Receipts) -> bool
+fn has_finished<A: Allocator>(receipts: &Receipts<A>) -> bool
     ensures { result ≡ list_any (λ receipt. finishes receipt.answer) receipts.now.items }
 {
     for at in 0..receipts.len() {
@@ -102,7 +102,7 @@ fn has_finished(receipts: &Receipts) -> bool
 }
 
 /// Whether the last receipt is that of the run's end.
-fn is_finished_last(receipts: &Receipts) -> bool
+fn is_finished_last<A: Allocator>(receipts: &Receipts<A>) -> bool
     ensures { result ≡ true → list_any (λ receipt. finishes receipt.answer) receipts.now.items ≡ true }
 {
     let count = receipts.len();
@@ -113,7 +113,7 @@ fn is_finished_last(receipts: &Receipts) -> bool
 }
 
 /// Whether some log ends with the receipt of the run's end, as that of the worker does that saw it.
-fn is_some_log_finished_last<L: Ledger>(logs: &[WorkerLog<L>]) -> bool
+fn is_some_log_finished_last<L: Ledger, A: Allocator>(logs: &[WorkerLog<L, A>]) -> bool
     ensures { result ≡ true → some_finished logs.now ≡ true }
 {
     for log in logs {
@@ -125,7 +125,7 @@ fn is_some_log_finished_last<L: Ledger>(logs: &[WorkerLog<L>]) -> bool
 }
 
 /// Whether some receipt is that of the run's end. The ends of the logs are looked at first.
-fn is_some_log_finished<L: Ledger>(logs: &[WorkerLog<L>]) -> bool
+fn is_some_log_finished<L: Ledger, A: Allocator>(logs: &[WorkerLog<L, A>]) -> bool
     ensures { result ≡ some_finished logs.now }
 {
     if is_some_log_finished_last(logs) {
@@ -140,16 +140,17 @@ fn start<
     'p: 's,
     E,
     L: Ledger + Send + Sync + 's,
+    A: Allocator + Copy + Send + Sync + 's,
     G: Ask<L> + Sync + 's,
     R: Threads + Wait + Sync + 's,
 >(
     rt: &'s R,
-    alloc: Global,
+    alloc: A,
     scope: &Scope<'s, E>,
-    hired: Vec<Worker<'p, L>>,
+    hired: Vec<Worker<'p, L, A>, A>,
     gate: &'s G,
-    lot: &'s Lot<'p>,
-) -> Result<(Vec<Running<'p, L>>, bool), AllocError>
+    lot: &'s Lot<'p, A>,
+) -> Result<(Vec<Running<'p, L, A>, A>, bool), AllocError>
     requires { HaveRoot (own_hands hired.items) }
     ensures hired { IfOk result (λ r. r.1 ≡ true → map (λ h. h.promise.0.value) r.0.items ≡ hired.entry.items) }
     ensures some { IfOk result (λ r. AreSomeOf (map (λ h. h.promise.0.value) r.0.items) hired.entry.items) }
@@ -178,17 +179,18 @@ fn run_workers<
     'p: 's,
     E,
     L: Ledger + Send + Sync + 's,
+    A: Allocator + Copy + Send + Sync + 's,
     G: Ask<L> + Sync + 's,
     R: Threads + Wait + Sync + 's,
 >(
     rt: &'s R,
-    alloc: Global,
+    alloc: A,
     scope: &Scope<'s, E>,
     program: &'p Program<Global>,
-    mut hired: Vec<Worker<'p, L>>,
+    mut hired: Vec<Worker<'p, L, A>, A>,
     gate: &'s G,
-    lot: &'s Lot<'p>,
-) -> Result<Vec<WorkerLog<L>>, RunFault>
+    lot: &'s Lot<'p, A>,
+) -> Result<Vec<WorkerLog<L, A>, A>, RunFault>
     requires { IsReady hired.items }
     ensures one_each { IfOk result (λ logs. vec_len logs ≡ vec_len hired.entry) }
     ensures counted { IfOk result (λ logs.
@@ -204,11 +206,11 @@ fn run_workers<
 }
 
 /// Waits for the workers, which come back in their order.
-fn join_workers<'p, L: Ledger, R: Threads>(
+fn join_workers<'p, L: Ledger, A: Allocator, R: Threads>(
     rt: &R,
-    running: Vec<Running<'p, L>>,
-    mut back: Vec<Worker<'p, L>>,
-) -> Vec<Worker<'p, L>>
+    running: Vec<Running<'p, L, A>, A>,
+    mut back: Vec<Worker<'p, L, A>, A>,
+) -> Vec<Worker<'p, L, A>, A>
     requires room { vec_len back + vec_len running ≤ vec_capacity back }
     requires empty { vec_len back ≡ 0 }
     ensures stations { stations_of result.items ≡ stations_of (map (λ h. h.promise.0.value) running.entry.items) }
@@ -221,9 +223,9 @@ fn join_workers<'p, L: Ledger, R: Threads>(
 }
 
 /// The first of the workers' faults, or of this one.
-fn first_fault<'p, L: Ledger>(
+fn first_fault<'p, L: Ledger, A: Allocator>(
     refused: Option<RunFault>,
-    workers: &[Worker<'p, L>],
+    workers: &[Worker<'p, L, A>],
 ) -> Option<RunFault>
     ensures { IsFirstOf (refused ∷ faults_of workers.now) result }
 {
@@ -236,11 +238,11 @@ fn first_fault<'p, L: Ledger>(
 
 /// What a run answers whose workers came back so: the first of their faults, where one met any or a thread could not be started, and
 /// otherwise their logs, where one of them saw the run's end.
-fn collect_logs<'p, L: Ledger>(
-    workers: Vec<Worker<'p, L>>,
+fn collect_logs<'p, L: Ledger, A: Allocator + Copy>(
+    workers: Vec<Worker<'p, L, A>, A>,
     all: bool,
-    room: Room<'p, L>,
-) -> Result<Vec<WorkerLog<L>>, RunFault>
+    room: Room<'p, L, A>,
+) -> Result<Vec<WorkerLog<L, A>, A>, RunFault>
     requires ready { all ≡ true →
         HasRoom (vec_len workers) room × AllLeadTo (owns_of (stations_of workers.items)) (others_of (stations_of workers.items)) }
     ensures told { IsTold all workers.entry.items result }
@@ -261,18 +263,59 @@ fn collect_logs<'p, L: Ledger>(
     }
 }
 
+/// What a run by these workers answers. It is apart from [`run`], since no closure gets a proof that captures a reference to a local of its
+/// function whose type names the lifetime of another capture.
+fn run_in_scope<
+    'p,
+    L: Ledger + Send + Sync,
+    A: Allocator + Copy + Send + Sync,
+    G: Ask<L> + Sync,
+    R: Threads + Wait + Sync,
+>(
+    rt: &R,
+    alloc: A,
+    program: &'p Program<Global>,
+    hired: Vec<Worker<'p, L, A>, A>,
+    gate: &G,
+    lot: &Lot<'p, A>,
+) -> Result<Vec<WorkerLog<L, A>, A>, RunFault>
+    requires { IsReady hired.items }
+    ensures one_each { IfOk result (λ logs. vec_len logs ≡ vec_len hired.entry) }
+    ensures counted { IfOk result (λ logs.
+        all_asked logs.items ≡ sum_by (λ w. w.before) hired.entry.items + length (all_receipts logs.items)) }
+    ensures finished { IfOk result (λ logs. some_finished logs.items ≡ true) }
+    ensures ended { IsEnded hired.entry.items result }
+{
+    thread::scope(
+        thread::scope_env(),
+        rt,
+        move |scope| -> Result<Vec<WorkerLog<L, A>, A>, RunFault>
+            requires { IsReady hired.items }
+            ensures logs { IfOk result (λ logs. (vec_len logs ≡ vec_len hired.entry)
+                × (all_asked logs.items ≡ sum_by (λ w. w.before) hired.entry.items + length (all_receipts logs.items))
+                × (some_finished logs.items ≡ true)) }
+            ensures ended { IsEnded hired.entry.items result }
+        { run_workers(rt, alloc, scope, program, hired, gate, lot) },
+    )
+}
+
 /// Runs the program by so many workers, which ask the gate on parts of the seat. At Ok the run came to its end, and there is one log for
 /// each worker, with what it brought back. Otherwise the answer is Limit, Torn, Strange or Memory, the first of these that a worker met,
 /// and Stopped where none met another; a thread that can't be started counts as a worker that met Memory. It is Memory too where there is
 /// none before a worker begins, and Strange where no worker met a fault and none saw the run's end.
-pub fn run<L: Ledger + Send + Sync, G: Ask<L> + Sync, R: Threads + Wait + Sync>(
+pub fn run<
+    L: Ledger + Send + Sync,
+    A: Allocator + Copy + Send + Sync,
+    G: Ask<L> + Sync,
+    R: Threads + Wait + Sync,
+>(
     rt: &R,
-    alloc: Global,
+    alloc: A,
     program: &Program<Global>,
     workers: usize,
     gate: &G,
     seat: Seat<L>,
-) -> Result<Vec<WorkerLog<L>>, RunFault>
+) -> Result<Vec<WorkerLog<L, A>, A>, RunFault>
     requires workers { (0 < workers) × (workers ≤ 64) }
     requires parts { workers ≤ seat.parts }
     ensures one_each { IfOk result (λ logs. vec_len logs ≡ workers) }
@@ -282,16 +325,5 @@ pub fn run<L: Ledger + Send + Sync, G: Ask<L> + Sync, R: Threads + Wait + Sync>(
 {
     let hired = hire(alloc, make_worker_deques(alloc, workers)?, seat)?;
     let lot = Lot::new(alloc);
-    let shared = &lot;
-    thread::scope(
-        thread::scope_env(),
-        rt,
-        move |scope| -> Result<Vec<WorkerLog<L>>, RunFault>
-            requires { IsReady hired.items }
-            ensures logs { IfOk result (λ logs. (vec_len logs ≡ vec_len hired.entry)
-                × (all_asked logs.items ≡ sum_by (λ w. w.before) hired.entry.items + length (all_receipts logs.items))
-                × (some_finished logs.items ≡ true)) }
-            ensures ended { IsEnded hired.entry.items result }
-        { run_workers(rt, alloc, scope, program, hired, gate, shared) },
-    )
+    run_in_scope(rt, alloc, program, hired, gate, &lot)
 }

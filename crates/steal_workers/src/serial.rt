@@ -9,17 +9,20 @@ use function_steps::Target;
 use locked_replay::RunFault;
 use program_text::Program;
 use race_gate::{Answer, ShortGate};
-use std::alloc::Global;
+use std::alloc::{Allocator, Global};
 use text_words::Request;
 
 /// The most requests that a gate answers.
 const MOST_REQUESTS: u32 = 1_000_000;
 
 /// Tasks that wait for the child that they spawned last, the innermost at the end.
-type Waiting<'p> = Vec<Task<'p>>;
+type Waiting<'p, A> = Vec<Task<'p, A>, A>;
 
 /// Asks the gate what a task asks next. The task's frame takes the answer, which is given with the function that was spawned.
-fn ask_next(gate: &mut ShortGate, task: &mut Task<'_>) -> Result<(Answer, Option<Target>), RunFault>
+fn ask_next<A: Allocator + Clone>(
+    gate: &mut ShortGate<A>,
+    task: &mut Task<'_, A>,
+) -> Result<(Answer, Option<Target>), RunFault>
     ensures target { IfOk result (λ asked. IfSome asked.1 (λ target. target.function < length task.old.program.now.functions)) }
     ensures program { task.new.program ≡ task.old.program }
 {
@@ -47,15 +50,15 @@ fn ask_next(gate: &mut ShortGate, task: &mut Task<'_>) -> Result<(Answer, Option
 }
 
 /// The task of a child on its strand. The spawner waits for its return, to go on on the next strand.
-fn enter_child<'p>(
-    alloc: Global,
-    waiting: &mut Waiting<'p>,
-    spare: &mut Spare,
-    spawner: Task<'p>,
+fn enter_child<'p, A: Allocator + Copy>(
+    alloc: A,
+    waiting: &mut Waiting<'p, A>,
+    spare: &mut Spare<A>,
+    spawner: Task<'p, A>,
     child: u32,
     next: u32,
     target: Option<Target>,
-) -> Result<Task<'p>, RunFault>
+) -> Result<Task<'p, A>, RunFault>
     requires { IfSome target (λ target. target.function < length spawner.program.now.functions) }
 {
     let Some(target) = target else {
@@ -68,14 +71,14 @@ fn enter_child<'p>(
 }
 
 /// What goes on behind an answer: the task, the child that it spawned, or what waited for its return; and None at the end of the run.
-fn next_task<'p>(
-    alloc: Global,
-    waiting: &mut Waiting<'p>,
-    spare: &mut Spare,
-    task: Task<'p>,
+fn next_task<'p, A: Allocator + Copy>(
+    alloc: A,
+    waiting: &mut Waiting<'p, A>,
+    spare: &mut Spare<A>,
+    task: Task<'p, A>,
     answer: Answer,
     target: Option<Target>,
-) -> Result<Option<Task<'p>>, RunFault>
+) -> Result<Option<Task<'p, A>>, RunFault>
     requires { IfSome target (λ target. target.function < length task.program.now.functions) }
 {
     match answer {
@@ -105,10 +108,10 @@ fn next_task<'p>(
 
 /// Runs a program to its end by asking this gate, each child before what follows its spawn. The gate is to be of the program and to have
 /// answered nothing. Errors where the gate does not answer, where it has answers that no frame takes, and where there is no memory.
-pub fn run_serially(
-    alloc: Global,
+pub fn run_serially<A: Allocator + Copy>(
+    alloc: A,
     program: &Program<Global>,
-    gate: &mut ShortGate,
+    gate: &mut ShortGate<A>,
 ) -> Result<(), RunFault> {
     let mut spare = Vec::new(alloc);
     let mut waiting = Vec::new(alloc);

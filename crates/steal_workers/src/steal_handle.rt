@@ -7,26 +7,26 @@ ghost use Rattle.steal_workers.specs.PassLogs.{pass_log, joined, taking};
 use crate::pass_log::{DequePass, Merged, NewPass, Owner, Taken, Thief};
 use crate::task::Task;
 use crossbeam_deque::Steal;
-use std::alloc::AllocError;
+use std::alloc::{AllocError, Allocator};
 
 /// The end of a deque at which a worker steals, with its pass of that deque.
-pub(crate) struct StealHandle<'p> {
-    thief: Thief<'p>,
-    hold: DequePass<'p>,
+pub(crate) struct StealHandle<'p, A: Allocator> {
+    thief: Thief<'p, A>,
+    hold: DequePass<'p, A>,
     ghost of: { IsPassOf (stealer_deque thief) hold },
 }
 
-impl<'p> Drop for StealHandle<'p> {
+impl<'p, A: Allocator> Drop for StealHandle<'p, A> {
     fn drop(self) {
         let StealHandle { thief: _, hold: _ } = self;
     }
 }
 
-impl<'p> StealHandle<'p> {
+impl<'p, A: Allocator> StealHandle<'p, A> {
     ghost use Rattle.steal_workers.specs.StealHandles.{deque_of, view_of};
 
     /// A reach into the deque of this owner, which gives a pass for it and keeps what it knows.
-    pub(crate) fn new(owner: &mut Owner<'p>) -> Result<StealHandle<'p>, AllocError>
+    pub(crate) fn new(owner: &mut Owner<'p, A>) -> Result<StealHandle<'p, A>, AllocError>
         ensures owner { (worker_deque owner.new ≡ worker_deque owner.old) × (worker_view owner.new ≡ worker_view owner.old) }
         ensures reach { IfOk result (λ reach. (deque_of reach ≡ worker_deque owner.old) × (view_of reach ≡ pass_log [] [])) }
     {
@@ -36,7 +36,7 @@ impl<'p> StealHandle<'p> {
     }
 
     /// Takes the first task of the deque. None says nothing of what it holds.
-    pub(crate) fn steal(&mut self) -> Option<Task<'p>>
+    pub(crate) fn steal(&mut self) -> Option<Task<'p, A>>
         ensures deque { deque_of self.new ≡ deque_of self.old }
         ensures view { MatchOption result
             (view_of self.new ≡ view_of self.old)
@@ -50,7 +50,7 @@ impl<'p> StealHandle<'p> {
     }
 
     /// The pass goes back to the deque's owner, which then knows what it did too.
-    pub(crate) fn give_back(self, owner: &mut Owner<'p>)
+    pub(crate) fn give_back(self, owner: &mut Owner<'p, A>)
         requires { deque_of self ≡ worker_deque owner.old }
         ensures deque { worker_deque owner.new ≡ worker_deque owner.old }
         ensures view { worker_view owner.new ≡ joined (worker_view owner.old) (view_of self.entry) }

@@ -18,14 +18,14 @@ use locked_replay::{Ask, RunFault, Seat, WorkerLog};
 use packed_history::Receipts;
 use program_text::Program;
 use race_gate::Answer;
-use std::alloc::{AllocError, Global};
+use std::alloc::{AllocError, Allocator, Global};
 use std::sync::Wait;
 use std::sync::ledger::Ledger;
 use text_words::{Act, Request};
 
 /// The function that a frame spawns, which wants this act. The frame is not asked where it can be none.
-pub(crate) fn spawn_target(
-    frame: &Frame<Global>,
+pub(crate) fn spawn_target<A: Allocator>(
+    frame: &Frame<A>,
     program: &Program<Global>,
     act: Act,
 ) -> Option<Target>
@@ -61,13 +61,13 @@ enum NextStep {
 }
 
 /// Hands out a task that does not go ahead. What comes out goes on in its place, and the frame of a task that has ended is kept in reserve.
-fn hand_out<'p, R: Wait>(
+fn hand_out<'p, A: Allocator, R: Wait>(
     rt: &R,
-    lot: &Lot<'p>,
+    lot: &Lot<'p, A>,
     going: NextStep,
-    task: Task<'p>,
-    spare: &mut Spare,
-) -> Result<Option<Task<'p>>, RunFault>
+    task: Task<'p, A>,
+    spare: &mut Spare<A>,
+) -> Result<Option<Task<'p, A>>, RunFault>
     ensures handed { HandsOut going task.entry result }
     ensures torn { result ≡ Err RunFault.Torn → IsAtJoin going }
 {
@@ -99,18 +99,18 @@ fn is_same_request(one: Request, other: Request) -> bool
 }
 
 /// A worker: what was asked on its seat before it began, what it was told since, its ends of the deques, and frames to be used again.
-pub struct Worker<'p, L: Ledger> {
+pub struct Worker<'p, L: Ledger, A: Allocator = Global> {
     pub(crate) before: u64,
     seat: Seat<L>,
-    pub(crate) receipts: Receipts,
-    pub(crate) ends: WorkerDeques<'p>,
-    spare: Spare,
+    pub(crate) receipts: Receipts<A>,
+    pub(crate) ends: WorkerDeques<'p, A>,
+    spare: Spare<A>,
     /// The fault that it met, once it has run.
     pub fault: Option<RunFault>,
     ghost counted: { seat.asked ≡ before + length receipts.items },
 }
 
-impl<'p, L: Ledger> Drop for Worker<'p, L> {
+impl<'p, L: Ledger, A: Allocator> Drop for Worker<'p, L, A> {
     fn drop(self) {
         let Worker {
             before: _,
@@ -123,12 +123,12 @@ impl<'p, L: Ledger> Drop for Worker<'p, L> {
     }
 }
 
-impl<'p, L: Ledger> Worker<'p, L> {
+impl<'p, L: Ledger, A: Allocator + Copy> Worker<'p, L, A> {
     ghost use Rattle.steal_workers.specs.StealHandles.{own_view};
     ghost use Rattle.steal_workers.specs.Workers.{station_of, AsksFor, KeepsReceipt, MeetsJoin, EndsAtJoin, TornAtJoin, child_of};
 
     /// A worker on this seat, with these ends, which has done nothing yet.
-    pub fn new(alloc: Global, seat: Seat<L>, ends: WorkerDeques<'p>) -> Worker<'p, L>
+    pub fn new(alloc: A, seat: Seat<L>, ends: WorkerDeques<'p, A>) -> Worker<'p, L, A>
         ensures before { result.before ≡ seat.asked }
         ensures ends { result.ends ≡ ends.entry }
     {
@@ -143,7 +143,7 @@ impl<'p, L: Ledger> Worker<'p, L> {
     }
 
     /// The task of the program's begin becomes one of this worker's deque.
-    pub fn begin(&mut self, alloc: Global, program: &'p Program<Global>) -> Result<(), AllocError>
+    pub fn begin(&mut self, alloc: A, program: &'p Program<Global>) -> Result<(), AllocError>
         ensures station { station_of self.new ≡ station_of self.old }
         ensures ok { OnOk result (own_view self.new.ends ≡ pushing 0 (own_view self.old.ends)) }
     {
@@ -177,10 +177,10 @@ impl<'p, L: Ledger> Worker<'p, L> {
     fn step<G: Ask<L>, R: Wait>(
         &mut self,
         rt: &R,
-        alloc: Global,
+        alloc: A,
         gate: &G,
-        lot: &Lot<'p>,
-        task: &mut Task<'p>,
+        lot: &Lot<'p, A>,
+        task: &mut Task<'p, A>,
     ) -> Result<NextStep, RunFault>
         ensures station { station_of self.new ≡ station_of self.old }
         ensures asks { OnOk result (AsksFor task.old self.old.receipts.items self.new.receipts.items) }
@@ -215,8 +215,8 @@ impl<'p, L: Ledger> Worker<'p, L> {
     fn follow<R: Wait>(
         &mut self,
         rt: &R,
-        alloc: Global,
-        lot: &Lot<'p>,
+        alloc: A,
+        lot: &Lot<'p, A>,
         program: &'p Program<Global>,
         strand: &mut u32,
         answer: Answer,
@@ -262,7 +262,7 @@ impl<'p, L: Ledger> Worker<'p, L> {
     /// The child's frame becomes a task of this worker's deque.
     fn spawn(
         &mut self,
-        alloc: Global,
+        alloc: A,
         program: &'p Program<Global>,
         child: u32,
         target: Option<Target>,
@@ -287,10 +287,10 @@ impl<'p, L: Ledger> Worker<'p, L> {
     fn walk<G: Ask<L>, R: Wait>(
         &mut self,
         rt: &R,
-        alloc: Global,
+        alloc: A,
         gate: &G,
-        lot: &Lot<'p>,
-        mut task: Task<'p>,
+        lot: &Lot<'p, A>,
+        mut task: Task<'p, A>,
     ) -> Result<(), RunFault>
         ensures station { station_of self.new ≡ station_of self.old }
         ensures torn { result ≡ Err RunFault.Torn → EndsAtJoin self.new.receipts.items }
@@ -310,9 +310,9 @@ impl<'p, L: Ledger> Worker<'p, L> {
     fn work<G: Ask<L>, R: Wait>(
         &mut self,
         rt: &R,
-        alloc: Global,
+        alloc: A,
         gate: &G,
-        lot: &Lot<'p>,
+        lot: &Lot<'p, A>,
     ) -> Result<(), RunFault>
         ensures station { station_of self.new ≡ station_of self.old }
         ensures torn { result ≡ Err RunFault.Torn → EndsAtJoin self.new.receipts.items }
@@ -345,10 +345,10 @@ impl<'p, L: Ledger> Worker<'p, L> {
     pub fn run<G: Ask<L>, R: Wait>(
         mut self,
         rt: &R,
-        alloc: Global,
+        alloc: A,
         gate: &G,
-        lot: &Lot<'p>,
-    ) -> Worker<'p, L>
+        lot: &Lot<'p, A>,
+    ) -> Worker<'p, L, A>
         ensures station { station_of result ≡ station_of self.entry }
         ensures torn { TornAtJoin result }
     {
@@ -364,7 +364,7 @@ impl<'p, L: Ledger> Worker<'p, L> {
     }
 
     /// What the worker brings back, and its ends of the deques.
-    pub(crate) fn into_parts(self) -> (WorkerLog<L>, WorkerDeques<'p>)
+    pub(crate) fn into_parts(self) -> (WorkerLog<L, A>, WorkerDeques<'p, A>)
         ensures log { (result.0.seat.asked ≡ self.entry.before + length result.0.receipts.items)
             × (result.0.receipts ≡ self.entry.receipts) }
         ensures ends { result.1 ≡ self.entry.ends }

@@ -9,22 +9,22 @@ ghost use Rattle.steal_workers.specs.StealHandles.{hands_of, places_of, AllLeadT
 use crate::pass_log::{Owner, Pushed, Taken};
 use crate::steal_handle::StealHandle;
 use crate::task::Task;
-use std::alloc::{AllocError, Global};
+use std::alloc::{AllocError, Allocator, Global};
 
 /// How many tasks a deque holds before it grows.
 const ROOM: usize = 64;
 
 /// What a worker has of the deques.
-pub struct WorkerDeques<'p> {
+pub struct WorkerDeques<'p, A: Allocator = Global> {
     /// Its place among the workers.
     pub(crate) place: usize,
     /// Its own deque.
-    pub(crate) owner: Owner<'p>,
+    pub(crate) owner: Owner<'p, A>,
     /// A reach into each worker's deque, by their places.
-    pub(crate) reaches: Vec<StealHandle<'p>>,
+    pub(crate) reaches: Vec<StealHandle<'p, A>, A>,
 }
 
-impl<'p> Drop for WorkerDeques<'p> {
+impl<'p, A: Allocator> Drop for WorkerDeques<'p, A> {
     fn drop(self) {
         let WorkerDeques {
             place: _,
@@ -34,9 +34,9 @@ impl<'p> Drop for WorkerDeques<'p> {
     }
 }
 
-impl<'p> WorkerDeques<'p> {
+impl<'p, A: Allocator> WorkerDeques<'p, A> {
     /// The task becomes the newest of its own deque.
-    pub(crate) fn push(&mut self, task: Task<'p>) -> Result<(), AllocError>
+    pub(crate) fn push(&mut self, task: Task<'p, A>) -> Result<(), AllocError>
         ensures same { SameEnds self.old self.new }
         ensures ok { OnOk result (own_view self.new ≡ pushing task.entry.strand (own_view self.old)) }
         ensures err { OnErr result (own_view self.new ≡ own_view self.old) }
@@ -48,7 +48,7 @@ impl<'p> WorkerDeques<'p> {
     }
 
     /// The newest task of its own deque, or the oldest of another's.
-    pub(crate) fn find(&mut self) -> Option<Task<'p>>
+    pub(crate) fn find(&mut self) -> Option<Task<'p, A>>
         ensures same { SameEnds self.old self.new }
         ensures pushed { (own_view self.new).pushed ≡ (own_view self.old).pushed }
         ensures takes { TakesFrom (hands_of self.old) (hands_of self.new) result }
@@ -60,7 +60,7 @@ impl<'p> WorkerDeques<'p> {
     }
 
     /// Its own deque, and the reaches into all of them.
-    pub(crate) fn into_parts(self) -> (Owner<'p>, Vec<StealHandle<'p>>)
+    pub(crate) fn into_parts(self) -> (Owner<'p, A>, Vec<StealHandle<'p, A>, A>)
         ensures { (result.0 ≡ self.entry.owner) × (result.1 ≡ self.entry.reaches) }
     {
         let WorkerDeques {
@@ -73,7 +73,10 @@ impl<'p> WorkerDeques<'p> {
 }
 
 /// The oldest task of another's deque. A worker looks first at the deque behind its own and goes round, so that not all look at one.
-fn steal_round<'p>(reaches: &mut Vec<StealHandle<'p>>, place: usize) -> Option<Task<'p>>
+fn steal_round<'p, A: Allocator>(
+    reaches: &mut Vec<StealHandle<'p, A>, A>,
+    place: usize,
+) -> Option<Task<'p, A>>
     ensures deques { map deque_of reaches.new.items ≡ map deque_of reaches.old.items }
     ensures takes { TakesFrom (views_of reaches.old) (views_of reaches.new) result }
 {
@@ -89,7 +92,10 @@ fn steal_round<'p>(reaches: &mut Vec<StealHandle<'p>>, place: usize) -> Option<T
 }
 
 /// A deque for each worker.
-fn make_own_deques<'p>(alloc: Global, workers: usize) -> Result<Vec<WorkerDeques<'p>>, AllocError>
+fn make_own_deques<'p, A: Allocator + Copy>(
+    alloc: A,
+    workers: usize,
+) -> Result<Vec<WorkerDeques<'p, A>, A>, AllocError>
     ensures workers { IfOk result (λ ends. vec_len ends ≡ workers) }
     ensures places { IfOk result (λ ends. places_of ends.items ≡ map (λ place. place) (range_with_len 0 workers)) }
     ensures views { IfOk result (λ ends. All (λ v. v ≡ pass_log [] []) (map own_view ends.items)) }
@@ -106,10 +112,10 @@ fn make_own_deques<'p>(alloc: Global, workers: usize) -> Result<Vec<WorkerDeques
 }
 
 /// A reach into each deque.
-fn make_steal_handles<'p>(
-    alloc: Global,
-    ends: &mut Vec<WorkerDeques<'p>>,
-) -> Result<Vec<StealHandle<'p>>, AllocError>
+fn make_steal_handles<'p, A: Allocator>(
+    alloc: A,
+    ends: &mut Vec<WorkerDeques<'p, A>, A>,
+) -> Result<Vec<StealHandle<'p, A>, A>, AllocError>
     ensures workers { vec_len ends.new ≡ vec_len ends.old }
     ensures places { OnOk result (places_of ends.new.items ≡ places_of ends.old.items) }
     ensures deques { OnOk result (map own_deque ends.new.items ≡ map own_deque ends.old.items) }
@@ -125,10 +131,10 @@ fn make_steal_handles<'p>(
 }
 
 /// A deque for each worker, and for each a reach into all of them.
-pub fn make_worker_deques<'p>(
-    alloc: Global,
+pub fn make_worker_deques<'p, A: Allocator + Copy>(
+    alloc: A,
     workers: usize,
-) -> Result<Vec<WorkerDeques<'p>>, AllocError>
+) -> Result<Vec<WorkerDeques<'p, A>, A>, AllocError>
     ensures workers { IfOk result (λ ends. vec_len ends ≡ workers) }
     ensures places { IfOk result (λ ends. places_of ends.items ≡ map (λ place. place) (range_with_len 0 workers)) }
     ensures lead { IfOk result (λ ends. AllLeadTo (map own_deque ends.items) (map deques_of ends.items)) }

@@ -6,13 +6,13 @@ use Rattle.steal_workers.specs.StealHandles.{deque_of, views_of, joined_all, All
 use Rattle.steal_workers.proofs.joining.join_all.Goals as goal
 
 pub join_each-requires : goal.join_each-requires
-join_each-requires c =
+join_each-requires g c =
     let was = c.loop-reaches.invariant in
     let all = All-same (λ deques. deques ≡ map worker_deque c.loop-reaches.owners.items) _ _ (sym (ap (map (λ reaches. map deque_of reaches.items)) c.in-Some.ensures.steps.0)) was.lead in
     All-head (λ deques. deques ≡ map worker_deque c.loop-reaches.owners.items) _ _ all
 
 pub loop-reaches-preserved : goal.loop-reaches-preserved
-loop-reaches-preserved c =
+loop-reaches-preserved g c =
     let was = c.loop-reaches.invariant in
     let all = All-same (λ deques. deques ≡ map worker_deque c.loop-reaches.owners.items) _ _ (sym (ap (map (λ reaches. map deque_of reaches.items)) c.in-Some.ensures.steps.0)) was.lead in
     let rest = All-tail (λ deques. deques ≡ map worker_deque c.loop-reaches.owners.items) _ _ all in record {

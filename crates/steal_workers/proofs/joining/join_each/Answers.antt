@@ -7,7 +7,7 @@ use Rattle.steal_workers.proofs.Joins.{drop_head, joined_each-nil, joined_more}
 use Rattle.steal_workers.proofs.joining.join_each.Goals as goal
 
 pub loop-reach-init : goal.loop-reach-init
-loop-reach-init c = record {
+loop-reach-init g c = record {
   place = refl;
   rest = ap (map deque_of) (search rules) ∙ c.requires;
   deques = refl;
@@ -15,17 +15,17 @@ loop-reach-init c = record {
 }
 
 pub give_back-requires : goal.give_back-requires
-give_back-requires c =
+give_back-requires g c =
     let owners = c.loop-reach.owners.items in
     let at = c.loop-reach.place in
     let here = c.index_mut.result.now in
     let deque = deque_of c.in-Some.reach in
     let left = sym (ap (map deque_of) c.in-Some.ensures.steps.0) ∙ c.loop-reach.invariant.rest in
     let head = drop_head deque deque _ (map worker_deque owners) at left in
-    sym head.1 ∙ get_or-map worker_deque owners at here deque (omega (arith, length-map owners (λ (o : Owner). worker_deque o), head.0)) ∙ sym (ap worker_deque c.index_mut.ensures.value)
+    sym head.1 ∙ get_or-map worker_deque owners at here deque (omega (arith, length-map owners (λ (o : Owner _). worker_deque o), head.0)) ∙ sym (ap worker_deque c.index_mut.ensures.value)
 
 pub loop-reach-preserved : goal.loop-reach-preserved
-loop-reach-preserved c =
+loop-reach-preserved g c =
     let was = c.loop-reach.invariant in
     let owners = c.loop-reach.owners.items in
     let at = c.loop-reach.place in
@@ -34,14 +34,14 @@ loop-reach-preserved c =
     let deque = deque_of c.in-Some.reach in
     let left = sym (ap (map deque_of) c.in-Some.ensures.steps.0) ∙ was.rest in
     let head = drop_head deque deque _ (map worker_deque owners) at left in
-    let within : at < length owners = omega (arith, length-map owners (λ (o : Owner). worker_deque o), head.0) in
+    let within : at < length owners = omega (arith, length-map owners (λ (o : Owner _). worker_deque o), head.0) in
     let same = map-set_same worker_deque owners at c.give_back.new.owner here (c.give_back.ensures.deque ∙ ap worker_deque value) in
     let next : suc at ≡ at + 1 = omega arith in record {
       place = omega (arith, was.place, length_push c.loop-reach.yielded c.in-Some.reach);
       rest = sym head.2 ∙ ap (λ n. drop n (map worker_deque owners)) next ∙ ap (drop (at + 1)) (sym same);
       deques = same ∙ was.deques;
       views = map-set worker_view owners at c.give_back.new.owner ∙ ap (set (map worker_view owners) at) c.give_back.ensures.view
-          ∙ joined_more _ (map view_of c.loop-reach.yielded) _ _ _ (worker_view here) at (omega (arith, was.place, length-map c.loop-reach.yielded view_of)) was.views (omega (arith, length-map owners (λ (o : Owner). worker_view o), within))
+          ∙ joined_more _ (map view_of c.loop-reach.yielded) _ _ _ (worker_view here) at (omega (arith, was.place, length-map c.loop-reach.yielded view_of)) was.views (omega (arith, length-map owners (λ (o : Owner _). worker_view o), within))
           (get_or-map worker_view owners at here (worker_view here) within ∙ sym (ap worker_view value))
           ∙ ap (joined_each _) (sym (map-append view_of c.loop-reach.yielded _));
     }

@@ -5,7 +5,7 @@ use Rattle.steal_workers.specs.StealHandles.{deque_of, view_of, joined_each}
 use Rattle.steal_workers.proofs.joining.join_each.Given as goal
 
 abbrev pub invariant-loop-reach : goal.invariant-loop-reach
-invariant-loop-reach l = record {
+invariant-loop-reach g l = record {
   place : l.place ≡ length l.yielded;
   rest : map deque_of (into_iter_items l.reach-iterator) ≡ drop l.place (map worker_deque l.owners.items);
   deques : map worker_deque l.owners.items ≡ map worker_deque l.initial.owners.items;

@@ -36,11 +36,11 @@ returns-then-is_some_log_finished-clause-told g c =
     let workers = c.args.workers.items in
     let first = first_known c.args.all workers _ _ _ None c.as_slice.ensures.value c.thread_fault_of.ensures c.in_default.is c.first_fault.ensures in
     let seen : saw_end workers ≡ true = sym (same_end workers c.settle-logs.result.items c.settle-logs.ensures.receipts) ∙ sym (ap some_finished c.as_slice-2.ensures.value) ∙ sym c.is_some_log_finished.ensures ∙ c.if-is_some_log_finished.true in
-    (None, first, subst (λ ended. Tells {L = g.row.L.Denot} None ended workers (Ok c.settle-logs.result)) (sym seen) c.settle-logs.ensures.receipts)
+    (None, first, subst (λ ended. Tells {L = g.row.L.Denot} {A = g.row.A.Denot} None ended workers (Ok c.settle-logs.result)) (sym seen) c.settle-logs.ensures.receipts)
 
 pub returns-else-is_some_log_finished-clause-told : goal.returns-else-is_some_log_finished-clause-told
 returns-else-is_some_log_finished-clause-told g c =
     let workers = c.args.workers.items in
     let first = first_known c.args.all workers _ _ _ None c.as_slice.ensures.value c.thread_fault_of.ensures c.in_default.is c.first_fault.ensures in
     let seen : saw_end workers ≡ false = sym (same_end workers c.settle-logs.result.items c.settle-logs.ensures.receipts) ∙ sym (ap some_finished c.as_slice-2.ensures.value) ∙ sym c.is_some_log_finished.ensures ∙ c.if-is_some_log_finished.false in
-    (None, first, subst (λ ended. Tells {L = g.row.L.Denot} None ended workers (Err Strange)) (sym seen) refl)
+    (None, first, subst (λ ended. Tells {L = g.row.L.Denot} {A = g.row.A.Denot} None ended workers (Err Strange)) (sym seen) refl)

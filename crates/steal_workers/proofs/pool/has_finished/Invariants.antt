@@ -4,4 +4,4 @@ use Rattle.steal_workers.specs.Finishing.{finishes}
 use Rattle.steal_workers.proofs.pool.has_finished.Given as goal
 
 abbrev pub invariant-loop-at : goal.invariant-loop-at
-invariant-loop-at l = list_any (λ receipt. finishes receipt.answer) (take l.at l.receipts.items) ≡ false
+invariant-loop-at g l = list_any (λ receipt. finishes receipt.answer) (take l.at l.receipts.items) ≡ false

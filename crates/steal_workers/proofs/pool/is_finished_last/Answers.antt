@@ -6,7 +6,7 @@ use Rattle.steal_workers.proofs.Finished.{some_here}
 use Rattle.steal_workers.proofs.pool.is_finished_last.Goals as goal
 
 pub returns : goal.returns
-returns c ends =
+returns g c ends =
     let list : Listed = c.args.receipts.now in
     let receipt : Receipt = c.get.result in
     some_here list.items _ receipt (slice_get_within list.items _ receipt c.get.ensures) c.get.ensures (sym c.is_finishing.ensures ∙ ends)

@@ -12,7 +12,7 @@ use Rattle.steal_workers.proofs.pool.join_workers.Goals as goal
 
 pub loop-thread-preserved : goal.loop-thread-preserved
 loop-thread-preserved g c =
-    let began = λ (h : PromisedHandle (Worker g.row.L.Denot) (IdleWorker g.row.L.Denot)). h.promise.0.value in
+    let began = λ (h : PromisedHandle (Worker g.row.L.Denot g.row.A.Denot) (IdleWorker g.row.L.Denot g.row.A.Denot)). h.promise.0.value in
     let was = c.loop-thread.invariant in
     let yielded = c.loop-thread.yielded in
     let thread = c.in-Some.thread in record {

@@ -1,4 +1,4 @@
-use Rattle.std.proofs.Common.{rules, ◌≡◌, inr, map, set, sym, subst, ap, arith, ◌∙◌}
+use Rattle.std.proofs.Common.{rules, ◌≡◌, inl, inr, map, set, sym, subst, ap, arith, ◌∙◌}
 use Rattle.std.specs.Prelude.{vec_len}
 use Rattle.std.proofs.Math.Seq.{map-set_same}
 use Rattle.std.proofs.lemmas.List.{length-map, length-set}
@@ -20,7 +20,7 @@ collect_logs-requires g c = record {
       let began : stations_of (set hired 0 c.begin.new.self) ≡ stations_of hired = map-set_same station_of hired 0 c.begin.new.self here (c.begin.ensures.station ∙ ap station_of c.index_mut.ensures.value) in
       let same : stations_of c.join_workers.result.items ≡ stations_of hired = c.join_workers.ensures.stations ∙ ap stations_of (c.in_ok-running.ensures.hired all) ∙ began in
       let many : vec_len c.join_workers.result ≡ vec_len c.args.hired = omega (arith, same_many hired c.join_workers.result.items same, c.join_workers.result.ok.0, c.args.hired.ok.0) in (
-        subst (λ n. HasRoom n c.in_ok-room.room) (sym many) (search rules),
+        subst (λ n. HasRoom n c.in_ok-room.room) (c.len-2.ensures ∙ sym many) c.in_ok-room.ensures,
         subst (λ stations. AllLeadTo (owns_of stations) (others_of stations)) (sym same) c.requires.1,
       );
 }
@@ -65,3 +65,6 @@ returns-clause-ended g c =
       torn = c.join_workers.ensures.torn;
       told = c.collect_logs.ensures.told;
     })
+
+pub returns-in_err-running-clause-ended : goal.returns-in_err-running-clause-ended
+returns-in_err-running-clause-ended g c = inl (search rules)

@@ -11,7 +11,7 @@ use Rattle.steal_workers.proofs.pool.start.Goals as goal
 
 pub loop-worker-preserved-in-Ok : goal.loop-worker-preserved-in-Ok
 loop-worker-preserved-in-Ok g c =
-    let began = λ (h : PromisedHandle (Worker g.row.L.Denot) (IdleWorker g.row.L.Denot)). h.promise.0.value in
+    let began = λ (h : PromisedHandle (Worker g.row.L.Denot g.row.A.Denot) (IdleWorker g.row.L.Denot g.row.A.Denot)). h.promise.0.value in
     let was = c.loop-worker.invariant in
     let running = c.loop-worker.running.items in
     let worker = c.in-Some.worker in

@@ -7,7 +7,7 @@ use Rattle.steal_workers.specs.StealHandles.{own_view, places_of}
 use Rattle.steal_workers.proofs.worker_deques.make_own_deques.Goals as goal
 
 pub loop-place-preserved : goal.loop-place-preserved
-loop-place-preserved c =
+loop-place-preserved g c =
     let was = c.loop-place.invariant in
     let ends = c.loop-place.ends.items in
     let grown = c.in_ok-push.ensures.items in record {

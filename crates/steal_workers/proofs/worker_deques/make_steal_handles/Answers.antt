@@ -6,7 +6,7 @@ use Rattle.steal_workers.proofs.Joins.{one_more}
 use Rattle.steal_workers.proofs.worker_deques.make_steal_handles.Goals as goal
 
 pub loop-place-preserved : goal.loop-place-preserved
-loop-place-preserved c =
+loop-place-preserved g c =
     let was = c.loop-place.invariant in
     let at = c.loop-place.place in
     let ends = c.loop-place.ends.items in

@@ -3,7 +3,7 @@ use Rattle.steal_workers.specs.StealHandles.{own_deque, own_view, deque_of, dequ
 use Rattle.steal_workers.proofs.worker_deques.make_steal_handles.Given as goal
 
 abbrev pub invariant-loop-place : goal.invariant-loop-place
-invariant-loop-place l = record {
+invariant-loop-place g l = record {
   workers : vec_len l.ends ≡ vec_len l.fn.ends;
   places : places_of l.ends.items ≡ places_of l.fn.ends.items;
   deques : map own_deque l.ends.items ≡ map own_deque l.fn.ends.items;

@@ -7,7 +7,7 @@ use Rattle.steal_workers.proofs.Joins.{lead_more}
 use Rattle.steal_workers.proofs.worker_deques.make_worker_deques.Goals as goal
 
 pub loop-place-preserved : goal.loop-place-preserved
-loop-place-preserved c =
+loop-place-preserved g c =
     let was = c.loop-place.invariant in
     let more = c.in_ok-reaches.ensures in
     let at = c.loop-place.place in
@@ -23,7 +23,7 @@ loop-place-preserved c =
     }
 
 pub returns-clause-lead : goal.returns-clause-lead
-returns-clause-lead c =
+returns-clause-lead g c =
     let was = c.loop-place.invariant in
     let others = map deques_of c.loop-place.ends.items in
     All-same (λ deques. deques ≡ map own_deque c.loop-place.ends.items) _ _ (sym (take_all c.loop-place.place others (omega (arith, length-map c.loop-place.ends.items (deques_of), c.loop-place.ends.ok.0, was.workers, c.loop-place-test.false)))) was.lead

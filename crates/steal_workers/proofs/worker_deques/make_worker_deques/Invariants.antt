@@ -3,7 +3,7 @@ use Rattle.steal_workers.specs.StealHandles.{own_deque, own_view, deques_of, pla
 use Rattle.steal_workers.proofs.worker_deques.make_worker_deques.Given as goal
 
 abbrev pub invariant-loop-place : goal.invariant-loop-place
-invariant-loop-place l = record {
+invariant-loop-place g l = record {
   workers : vec_len l.ends ≡ l.workers;
   places : places_of l.ends.items ≡ places_of l.initial.ends.items;
   views : map own_view l.ends.items ≡ map own_view l.initial.ends.items;

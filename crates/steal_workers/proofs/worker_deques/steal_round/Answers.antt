@@ -7,10 +7,10 @@ use Rattle.steal_workers.proofs.Thefts.{taken_once}
 use Rattle.steal_workers.proofs.worker_deques.steal_round.Goals as goal
 
 pub returns-in-Some-clause-deques : goal.returns-in-Some-clause-deques
-returns-in-Some-clause-deques c = map-set_same deque_of c.loop.reaches.items c.if-at-all.at c.steal.new.self c.index_mut.result.now (c.steal.ensures.deque ∙ ap deque_of c.index_mut.ensures.value) ∙ c.loop.invariant.1
+returns-in-Some-clause-deques g c = map-set_same deque_of c.loop.reaches.items c.if-at-all.at c.steal.new.self c.index_mut.result.now (c.steal.ensures.deque ∙ ap deque_of c.index_mut.ensures.value) ∙ c.loop.invariant.1
 
 pub returns-in-Some-clause-takes : goal.returns-in-Some-clause-takes
-returns-in-Some-clause-takes c = λ x.
+returns-in-Some-clause-takes g c = λ x.
     let at = c.if-at-all.at in
     let reaches = c.loop.reaches.items in
     let strand = c.in-Some.task.strand in
@@ -22,7 +22,7 @@ returns-in-Some-clause-takes c = λ x.
     ap (taken_in x) after ∙ taken_once x (map view_of reaches) at strand (view_of here) (omega (arith, length-map reaches (view_of), within)) ∙ ap (λ views. taken_in x views + times x (strand ∷ [])) c.loop.invariant.2
 
 pub loop-preserved : goal.loop-preserved
-loop-preserved c =
+loop-preserved g c =
     let here = c.index_mut.result.now in
     let value = c.index_mut.ensures.value in (
       c.loop.invariant.0,

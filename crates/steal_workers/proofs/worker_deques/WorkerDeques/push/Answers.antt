@@ -2,4 +2,4 @@ use Rattle.steal_workers.proofs.Balances.{pushes}
 use Rattle.steal_workers.proofs.worker_deques.WorkerDeques.push.Goals as goal
 
 pub push_as-requires-clause-pushes : goal.push_as-requires-clause-pushes
-push_as-requires-clause-pushes c = pushes _ _ _
+push_as-requires-clause-pushes g c = pushes _ _ _

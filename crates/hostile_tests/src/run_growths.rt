@@ -1,0 +1,390 @@
+//! Growths refused of the lot, of runs by workers and of the command, over a heap of the test: each in turn where one worker runs, whose
+//! growths have an order, and some where more workers run, whose growths have none.
+
+ghost use Rattle.std.specs.Prelude.{◌≡◌, ◌<◌, ◌≤◌};
+
+use crate::checks::equal;
+use crate::locked_growths::{ENDLESS, Found, Heap};
+use crate::refusing::Refusing;
+use crate::rounds::gate_for;
+use crate::worked::SMALL_FIB;
+use frame_steps::Frame;
+use locked_replay::{LockedGate, RunFault, Whole, gather};
+use program_text::Program;
+use std::alloc::{AllocError, Allocator, Global};
+use std::marker::Brand;
+use std::process::Abort;
+use std::sync::Wait;
+use std::sync::ledger::{Blank, Ledger};
+use std::thread::Threads;
+use steal_workers::{Lot, LotFault, Task, run, run_serially};
+use tool_commands::{CliFault, OpenDoor, Watched, run_text};
+
+/// The parts of a seat, one for each worker that there may be.
+const PARTS: u64 = 64;
+
+/// A call of which a growth is refused.
+#[derive(Clone, Copy, Debug)]
+enum Call {
+    Park,
+    Wake,
+    Run,
+    RunSerially,
+    RunText,
+}
+
+impl Call {
+    /// Whether each refused growth is told. A run keeps ended frames in reserve, and releases memory before it is gathered, for which a
+    /// list may be moved, and does without what is refused then.
+    fn tells_each(self) -> bool {
+        matches!(self, Call::Park | Call::Wake)
+    }
+}
+
+/// The task of `main`.
+fn make_root<'h, 'p>(
+    heap: &'h Heap,
+    program: &'p Program<Global>,
+) -> Result<Task<'p, &'h Heap>, AllocError> {
+    let frame = Frame::new(heap, program, program.main(), 0);
+    Ok(Task {
+        strand: 0,
+        program,
+        frame: Box::new(heap, frame)?,
+    })
+}
+
+/// The join for which a task waits.
+const JOIN: u32 = 5;
+
+/// Who comes for the join first.
+#[derive(Clone, Copy)]
+enum Comes {
+    Task,
+    Child,
+}
+
+/// Whether nobody waits for who comes for the join.
+fn come_first<'h, 'p, R: Wait>(
+    rt: &R,
+    lot: &Lot<'p, &'h Heap>,
+    comes: Comes,
+    task: Task<'p, &'h Heap>,
+) -> Result<bool, LotFault> {
+    let met = match comes {
+        Comes::Task => lot.park(rt, JOIN, task)?,
+        Comes::Child => lot.wake(rt, JOIN)?,
+    };
+    Ok(met.is_none())
+}
+
+/// Whether the other one gets the task, which goes on behind the join.
+fn come_second<'h, 'p, R: Wait>(
+    rt: &R,
+    lot: &Lot<'p, &'h Heap>,
+    first: Comes,
+    task: Task<'p, &'h Heap>,
+) -> bool {
+    let met = match first {
+        Comes::Task => lot.wake(rt, JOIN),
+        Comes::Child => lot.park(rt, JOIN, task),
+    };
+    match met {
+        Ok(Some(task)) => task.strand == JOIN,
+        _ => false,
+    }
+}
+
+/// A task or the last child comes for a join, once more where there was no memory, and then the other one.
+fn meet_in<'h, 'p, R: Wait>(
+    rt: &R,
+    heap: &'h Heap,
+    program: &'p Program<Global>,
+    number: u64,
+    comes: Comes,
+) -> Option<Found> {
+    let lot = Lot::new(heap);
+    let task = make_root(heap, program).ok()?;
+    let again = make_root(heap, program).ok()?;
+    let other = make_root(heap, program).ok()?;
+    heap.refuse(number);
+    let first = come_first(rt, &lot, comes, task);
+    let was_refused = heap.has_refused();
+    heap.refuse(0);
+    let is_told = first == Err(LotFault::Memory);
+    let is_first = match is_told {
+        true => come_first(rt, &lot, comes, again),
+        false => first,
+    };
+    let is_right = is_first == Ok(true) && come_second(rt, &lot, comes, other);
+    is_right.then_some(Found {
+        was_refused,
+        is_told,
+    })
+}
+
+/// As [`meet_in`], of a small program.
+fn meet<R: Wait>(rt: &R, alloc: Global, heap: &Heap, number: u64, comes: Comes) -> Option<Found> {
+    let program = Program::parse(alloc, SMALL_FIB).ok()?;
+    meet_in(rt, heap, &program, number, comes)
+}
+
+/// Whether there was no memory for a run of the program, of which every schedule is clean, has as many entries, and leaves the same memory.
+fn lacks_memory(run: &Result<Whole<&Heap>, RunFault>) -> Option<bool> {
+    match run {
+        Ok(whole) => {
+            let is_right = whole.clean
+                && whole.entries.len() == 65
+                && whole.memory.as_slice() == [5].as_slice();
+            is_right.then_some(false)
+        }
+        Err(RunFault::Memory) => Some(true),
+        Err(_) => None,
+    }
+}
+
+/// A run of the program that is gathered.
+fn run_and_gather<
+    L: Ledger + Send + Sync,
+    A: Allocator + Copy + Send + Sync,
+    R: Threads + Wait + Sync,
+>(
+    rt: &R,
+    alloc: A,
+    program: &Program<Global>,
+    workers: usize,
+    blank: Blank,
+) -> Result<Whole<A>, RunFault>
+    requires workers { (0 < workers) × (workers ≤ 64) }
+    requires name { blank.name ≡ L.name }
+    requires all { blank.parts ≡ L.parts }
+    requires parts { blank.parts ≡ 64 }
+{
+    let gate = gate_for(alloc, program)?;
+    let (locked, seat) = LockedGate::<L, A>::new(gate, blank, PARTS);
+    let logs = run(rt, alloc, program, workers, &locked, seat)?;
+    gather(alloc, program, locked, logs)
+}
+
+/// Runs by so many workers, and once more with all memory.
+fn run_twice<R: Threads + Wait + Sync>(
+    rt: &R,
+    alloc: Global,
+    heap: &Heap,
+    number: u64,
+    workers: usize,
+) -> Option<Found>
+    requires { (0 < workers) × (workers ≤ 64) }
+{
+    let program = Program::parse(alloc, SMALL_FIB).ok()?;
+    heap.refuse(number);
+    let first = run_and_gather::<Brand, &Heap, R>(rt, heap, &program, workers, Blank::new(PARTS));
+    let was_refused = heap.has_refused();
+    heap.refuse(0);
+    let again = run_and_gather::<Brand, &Heap, R>(rt, heap, &program, workers, Blank::new(PARTS));
+    let is_told = lacks_memory(&first)?;
+    (lacks_memory(&again) == Some(false)).then_some(Found {
+        was_refused,
+        is_told,
+    })
+}
+
+/// Whether there is no memory for a run in the serial order, which asks a gate of its own.
+fn lacks_serially(heap: &Heap, program: &Program<Global>) -> Option<bool> {
+    let mut gate = match gate_for(heap, program) {
+        Ok(gate) => gate,
+        Err(AllocError) => return Some(true),
+    };
+    match run_serially(heap, program, &mut gate) {
+        Ok(()) => (gate.memory() == [5].as_slice()).then_some(false),
+        Err(RunFault::Memory) => Some(true),
+        Err(_) => None,
+    }
+}
+
+/// Runs in the serial order, and once more with all memory.
+fn run_serially_twice(alloc: Global, heap: &Heap, number: u64) -> Option<Found> {
+    let program = Program::parse(alloc, SMALL_FIB).ok()?;
+    heap.refuse(number);
+    let is_told = lacks_serially(heap, &program)?;
+    let was_refused = heap.has_refused();
+    heap.refuse(0);
+    (lacks_serially(heap, &program) == Some(false)).then_some(Found {
+        was_refused,
+        is_told,
+    })
+}
+
+/// What the command writes of it.
+const REPORT: &[u8] =
+    b"{\"clean\":true,\"entries\":65,\"memory\":{\"x\":5},\"refusals\":[],\"schedules\":\"clean for every schedule\"}\n";
+
+/// Whether there is no memory for the command, which writes nothing then.
+fn lacks_command<R: Threads + Wait + Sync>(
+    rt: &R,
+    alloc: Global,
+    heap: &Heap,
+    workers: usize,
+) -> Option<bool>
+    requires { (0 < workers) × (workers ≤ 64) }
+{
+    let mut program = Watched::new(SMALL_FIB);
+    let mut output = Watched::new(Vec::new(alloc));
+    let answer = run_text(
+        rt,
+        heap,
+        alloc,
+        &mut program,
+        workers,
+        &OpenDoor,
+        &mut output,
+        1_000_000,
+    );
+    let told = output.into_inner();
+    match answer {
+        Ok(status) => (status == 0 && told.as_slice() == REPORT).then_some(false),
+        Err(CliFault::Memory) => told.is_empty().then_some(true),
+        Err(_) => None,
+    }
+}
+
+/// Does the command by so many workers, and once more with all memory.
+fn command_twice<R: Threads + Wait + Sync>(
+    rt: &R,
+    alloc: Global,
+    heap: &Heap,
+    number: u64,
+    workers: usize,
+) -> Option<Found>
+    requires { (0 < workers) × (workers ≤ 64) }
+{
+    heap.refuse(number);
+    let is_told = lacks_command(rt, alloc, heap, workers)?;
+    let was_refused = heap.has_refused();
+    heap.refuse(0);
+    (lacks_command(rt, alloc, heap, workers) == Some(false)).then_some(Found {
+        was_refused,
+        is_told,
+    })
+}
+
+/// Makes the call where its growth of this number is refused. None where what it answered or left is not as it is to be.
+fn find<R: Threads + Wait + Sync>(
+    rt: &R,
+    alloc: Global,
+    heap: &Heap,
+    number: u64,
+    call: Call,
+) -> Option<Found> {
+    match call {
+        Call::Park => meet(rt, alloc, heap, number, Comes::Task),
+        Call::Wake => meet(rt, alloc, heap, number, Comes::Child),
+        Call::Run => run_twice(rt, alloc, heap, number, 1),
+        Call::RunSerially => run_serially_twice(alloc, heap, number),
+        Call::RunText => command_twice(rt, alloc, heap, number, 1),
+    }
+}
+
+/// Refuses the call's first growth, its second, and so on until none is refused. How many refusals it told, or behind how many growths
+/// something was not as it is to be.
+fn tell_in_turn<R: Threads + Wait + Sync>(rt: &R, alloc: Global, call: Call) -> Result<u64, u64> {
+    let mut told = 0u64;
+    for growths in 0..ENDLESS {
+        let heap = Refusing::new(alloc);
+        match find(rt, alloc, &heap, growths.saturating_add(1), call) {
+            Some(found) if !found.was_refused && !found.is_told => return Ok(told),
+            Some(found) if found.was_refused && found.is_told => told = told.saturating_add(1),
+            Some(found) if found.was_refused && !call.tells_each() => {}
+            _ => return Err(growths),
+        }
+    }
+    Err(ENDLESS)
+}
+
+/// Does so with this call, which tells at least so many.
+fn check_in_turn<R: Abort + Threads + Wait + Sync>(rt: &R, alloc: Global, call: Call, least: u64) {
+    let told = tell_in_turn(rt, alloc, call);
+    let is_right = matches!(told, Ok(count) if least <= count);
+    equal(rt, &(call, told), &is_right, &true);
+}
+
+#[test]
+fn a_task_that_waits_for_its_join(rt: HostRuntime) {
+    check_in_turn(&rt, rt.alloc(), Call::Park, 2);
+}
+
+#[test]
+fn a_join_that_wakes(rt: HostRuntime) {
+    check_in_turn(&rt, rt.alloc(), Call::Wake, 1);
+}
+
+#[test]
+fn a_run_by_one_worker(rt: HostRuntime) {
+    check_in_turn(&rt, rt.alloc(), Call::Run, 20);
+}
+
+#[test]
+fn a_run_in_the_serial_order(rt: HostRuntime) {
+    check_in_turn(&rt, rt.alloc(), Call::RunSerially, 10);
+}
+
+#[test]
+fn the_command_by_one_worker(rt: HostRuntime) {
+    check_in_turn(&rt, rt.alloc(), Call::RunText, 20);
+}
+
+/// How many runs by each number of workers have a growth refused.
+const RUNS: u64 = 30;
+
+/// Most numbers of growths that are refused are below this one.
+const NUMBERS: u64 = 100;
+
+/// The number of the growth that is refused in this run: others from run to run, in no order.
+fn draw_number(run: u64) -> u64 {
+    let mixed = run.wrapping_mul(0x9E37_79B9_7F4A_7C15) >> 32;
+    (mixed % NUMBERS).saturating_add(1)
+}
+
+/// Whether the call went well, or told want of memory where a growth was refused.
+fn is_borne_out(found: Option<Found>) -> bool {
+    match found {
+        Some(found) => found.was_refused || !found.is_told,
+        None => false,
+    }
+}
+
+/// Runs by so many workers, each with a growth refused, go well or tell it.
+fn check_runs<R: Abort + Threads + Wait + Sync>(rt: &R, alloc: Global, workers: usize)
+    requires { (0 < workers) × (workers ≤ 64) }
+{
+    for run in 0..RUNS {
+        let number = draw_number(run);
+        let heap = Refusing::new(alloc);
+        let found = run_twice(rt, alloc, &heap, number, workers);
+        equal(rt, &(workers, number), &is_borne_out(found), &true);
+    }
+}
+
+#[test]
+fn runs_by_more_workers(rt: HostRuntime) {
+    check_runs(&rt, rt.alloc(), 2);
+    check_runs(&rt, rt.alloc(), 8);
+}
+
+/// The command by so many workers, each time with a growth refused, goes well or tells it.
+fn check_commands<R: Abort + Threads + Wait + Sync>(rt: &R, alloc: Global, workers: usize)
+    requires { (0 < workers) × (workers ≤ 64) }
+{
+    for run in 0..RUNS {
+        let number = draw_number(run);
+        let heap = Refusing::new(alloc);
+        let found = command_twice(rt, alloc, &heap, number, workers);
+        equal(rt, &(workers, number), &is_borne_out(found), &true);
+    }
+}
+
+#[test]
+fn the_command_by_more_workers(rt: HostRuntime) {
+    check_commands(&rt, rt.alloc(), 2);
+    check_commands(&rt, rt.alloc(), 8);
+}
