@@ -19,9 +19,7 @@ use Rattle.frame_steps.specs.declared.frame.FrameFault.{FrameFault}
 use Rattle.frame_steps.specs.declared.phase.Phase.TheVariants.{Running, Wanting}
 use Rattle.frame_steps.specs.Joins.{join_after}
 use Rattle.frame_steps.specs.States.{FrameState}
-use Rattle.model_accesses.specs.declared.request.Act.{Act}
-use Rattle.model_programs.specs.Exchanges.{Exchange}
-use Rattle.frame_steps.specs.Frames.{Stands, Wants, MayAnswer, IsAnswered, IsCalled, IsLeft, began_by}
+use Rattle.frame_steps.specs.Frames.{Stands, MayAnswer, IsAnswered, IsCalled, IsLeft, began_by}
 use Rattle.frame_steps.proofs.Standings.{called_there}
 use Rattle.frame_steps.proofs.Histories.{leave_stands, leave_belongs, leave_after, leave_returned, call_stands, call_belongs, wants_call, call_after, answer_stands, answer_belongs, answer_after}
 

@@ -1,16 +1,16 @@
 -- Dialogues statement by statement.
 use Rattle.std.proofs.Common.{◌≡◌, ℕ, List, [], ◌∷◌, ◌++◌, ◌⊎◌, inl, inr, Option, Some, None, refl, sym, ap, ◌∙◌, subst, append_assoc}
-use Rattle.std.specs.Prelude.{slice_get}
+use Rattle.std.specs.Prelude.{◌↔◌, slice_get}
 use Rattle.model_bodies.specs.declared.statement.Operand.{Operand}
 use Rattle.model_bodies.specs.declared.statement.Statement.{Statement}
-use Rattle.model_bodies.specs.declared.statement.Statement.TheVariants.{Let, Read, Write, Bump, Update, Put, Get, Spawn, Call, Sync, ParallelFor, If, Else, End}
+use Rattle.model_bodies.specs.declared.statement.Statement.TheVariants.{Read, Write, Bump, Update, Put, Get, Spawn, Call, Sync}
 use Rattle.model_bodies.specs.Codes.{Code}
 use Rattle.model_bodies.specs.Trees.{Tree, Done, Step}
 use Rattle.model_accesses.specs.declared.request.Act.{Act}
 use Rattle.model_histories.specs.declared.answer.Answer.{Answer}
 use Rattle.model_histories.specs.declared.answer.Answer.TheVariants.{Same, Resumed}
 use Rattle.model_programs.specs.Values.{Registers, first_registers, value_of}
-use Rattle.model_programs.specs.Scripts.{script, Passes, assigned, first_part, second_part, counted}
+use Rattle.model_programs.specs.Scripts.{script, Passes}
 use Rattle.function_steps.specs.Scripts.{PassesAll, none_passed, one_more}
 use Rattle.model_programs.specs.Answers.{Origin, FromCall, FromSpawn, IsReturned}
 use Rattle.model_programs.specs.Exchanges.{Exchange, exchange}
@@ -18,7 +18,8 @@ use Rattle.model_programs.specs.Dialogue.{Extent, Whole, Part, Dialogue, stopped
 use Rattle.function_steps.specs.Requests.{act_of, answered}
 use Rattle.function_steps.specs.Activations.{asked_act}
 use Rattle.frame_steps.specs.Requests.{Belongs, Follows, asked, tree_at}
-use Rattle.frame_steps.specs.Stacks.{Standing, StackDialogue, SameStack, NextStack, origin_of}
+use Rattle.frame_steps.specs.Stacks.{Standing, StackDialogue, StackComes, SameStack, NextStack, origin_of, goes_onward, goes_inward, goes_outward}
+use Rattle.frame_steps.proofs.Comings.{passes_once, passes_silent, answered_silent, past_all, onward, inward, outward, ends_there}
 use Rattle.frame_steps.proofs.Replies.{was_read, was_got, was_written, was_updated, was_split, was_synced, act_is, is_same, belongs_answered}
 
 pub follows_is : (origin : Origin) (statement : Statement) (end_line : ℕ) (registers : Registers) (x : Exchange) → Follows origin (Some statement) end_line registers x → asked x.act statement registers x.answer ≡ x
@@ -26,29 +27,6 @@ follows_is origin statement end_line registers x f = λ i. record { act = x.act;
 
 pub returns_is : (origin : Origin) (end_line : ℕ) (registers : Registers) (x : Exchange) → Follows origin None end_line registers x → exchange Act.Return end_line x.answer ≡ x
 returns_is origin end_line registers x f = let e = act_is _ x.act f.act in λ i. record { act = e i; line = f.line i; target = f.target i; answer = x.answer }
-
--- a statement passes in one way
-passes_once : (rest first second : Tree) (registers one two : Registers) → Passes rest registers first one → Passes rest registers second two → (first ≡ second) × (one ≡ two)
-passes_once rest first second registers one two assigned assigned = (refl, refl)
-passes_once rest first second registers one two (first_part h) (first_part k) = (refl, refl)
-passes_once rest first second registers one two (first_part h) (second_part k) = absurd (h k)
-passes_once rest first second registers one two (second_part h) (first_part k) = absurd (k h)
-passes_once rest first second registers one two (second_part h) (second_part k) = (refl, refl)
-passes_once rest first second registers one two counted counted = (refl, refl)
-
--- it asks nothing
-passes_silent : (statement : Statement) (rest later : Tree) (registers changed : Registers) → Passes (Step statement rest) registers later changed → act_of statement registers ≡ None
-passes_silent statement rest later registers changed assigned = refl
-passes_silent statement rest later registers changed counted = refl
-
--- a statement that asks nothing is not answered
-answered_silent : (statement : Statement) (registers : Registers) (answer : Answer) (after : Registers) → act_of statement registers ≡ None → answered statement answer registers ≡ Some after → ⊥
-answered_silent (Let line register value) registers answer after k e = cc
-answered_silent (ParallelFor line register count function) registers answer after k e = cc
-answered_silent (If line register otherwise) registers answer after k e = cc
-answered_silent (Else line to) registers answer after k e = cc
-answered_silent (End line) registers answer after k e = cc
-answered_silent _ registers answer after k e = cc
 
 module _ (functions : List Code) where
   pass_on : (origin : Origin) (extent : Extent) (end_line : ℕ) (rest later : Tree) (registers changed : Registers) (said : List Exchange) → Passes rest registers later changed → Dialogue functions origin extent end_line rest registers said → Dialogue functions origin extent end_line later changed said
@@ -132,12 +110,15 @@ module _ (functions : List Code) where
     on : (origin : Origin) (extent : Extent) (said : List Exchange) → Dialogue functions origin extent end_line rest registers said → Dialogue functions origin extent end_line rest' registers' said
     back : (origin : Origin) (extent : Extent) (said : List Exchange) → Dialogue functions origin extent end_line rest' registers' said → Dialogue functions origin extent end_line rest registers said
 
-  alike_stack : (end_line : ℕ) (rest rest' : Tree) (registers registers' : Registers) (callers : List Standing) → Alike end_line rest rest' registers registers' → SameStack functions (record { rest = rest; end_line = end_line; registers = registers } ∷ callers) (record { rest = rest'; end_line = end_line; registers = registers' } ∷ callers)
-  alike_stack end_line rest rest' registers registers' [] a = record { on = a.on FromSpawn; back = a.back FromSpawn }
-  alike_stack end_line rest rest' registers registers' (caller ∷ callers) a =
+  alike_stack : (end_line : ℕ) (rest rest' : Tree) (registers registers' : Registers) (callers : List Standing) →
+      ((statement : Statement) (asking : Registers) (said : List Exchange) → StackComes functions statement asking (record { rest = rest; end_line = end_line; registers = registers } ∷ callers) said ↔ StackComes functions statement asking (record { rest = rest'; end_line = end_line; registers = registers' } ∷ callers) said) →
+      Alike end_line rest rest' registers registers' → SameStack functions (record { rest = rest; end_line = end_line; registers = registers } ∷ callers) (record { rest = rest'; end_line = end_line; registers = registers' } ∷ callers)
+  alike_stack end_line rest rest' registers registers' [] c a = record { on = a.on FromSpawn; back = a.back FromSpawn; comes = c }
+  alike_stack end_line rest rest' registers registers' (caller ∷ callers) c a =
       record {
         on = λ extent said. elim [ inl d ↦ inl (d.0, a.on FromCall Part said d.1) | inr s ↦ inr (s.0, s.1, a.on FromCall Whole s.0 s.2, s.3, s.4) ];
         back = λ extent said. elim [ inl d ↦ inl (d.0, a.back FromCall Part said d.1) | inr s ↦ inr (s.0, s.1, a.back FromCall Whole s.0 s.2, s.3, s.4) ];
+        comes = c;
       }
 
   alike_all : (end_line : ℕ) (rest later : Tree) (registers changed : Registers) → PassesAll rest registers later changed → Alike end_line rest later registers changed
@@ -148,7 +129,7 @@ module _ (functions : List Code) where
 
   -- statements that ask nothing change no dialogue
   pub passed_stack : (end_line : ℕ) (rest later : Tree) (registers changed : Registers) (callers : List Standing) → PassesAll rest registers later changed → SameStack functions (record { rest = rest; end_line = end_line; registers = registers } ∷ callers) (record { rest = later; end_line = end_line; registers = changed } ∷ callers)
-  passed_stack end_line rest later registers changed callers p = alike_stack end_line rest later registers changed callers (alike_all end_line rest later registers changed p)
+  passed_stack end_line rest later registers changed callers p = alike_stack end_line rest later registers changed callers (λ statement asking said. past_all functions statement asking end_line rest later registers changed callers said p) (alike_all end_line rest later registers changed p)
 
   -- an answer after which the function goes on
   pub answer_stack : (end_line : ℕ) (statement : Statement) (rest : Tree) (registers after : Registers) (callers : List Standing) (act : Act) (answer : Answer) → act_of statement registers ≡ Some act → answered statement answer registers ≡ Some after → NextStack functions (asked act statement registers answer) (record { rest = Step statement rest; end_line = end_line; registers = registers } ∷ callers) (record { rest = rest; end_line = end_line; registers = after } ∷ callers)
@@ -156,6 +137,7 @@ module _ (functions : List Code) where
       record {
         on = λ extent said d. on FromSpawn extent end_line statement rest registers after (asked act statement registers answer) said e d;
         back = λ extent said d. back FromSpawn extent end_line statement rest registers after act answer said a e d;
+        comes = λ t r said. ((λ d. onward functions t r end_line statement rest registers after [] (asked act statement registers answer) said e d), (λ d. goes_onward e d));
       }
   answer_stack end_line statement rest registers after (caller ∷ callers) act answer a e =
       let x = asked act statement registers answer in
@@ -170,6 +152,7 @@ module _ (functions : List Code) where
       record {
         on = λ extent said. elim [ inl d ↦ inl (d.0, on FromCall Part end_line statement rest registers after x said e d.1) | inr s ↦ inside extent said s.0 s.1 s.2 s.3 s.4 ];
         back = λ extent said. elim [ inl d ↦ inl (d.0, back FromCall Part end_line statement rest registers after act answer said a e d.1) | inr s ↦ inr (x ∷ s.0, s.1, back FromCall Whole end_line statement rest registers after act answer s.0 a e s.2, s.3, ap (λ l. x ∷ l) s.4) ];
+        comes = λ t r said. ((λ d. onward functions t r end_line statement rest registers after (caller ∷ callers) x said e d), (λ d. goes_onward e d));
       }
 
   call_inner : (end_line : ℕ) (rest : Tree) (registers : Registers) (origin : Origin) (line function : ℕ) (argument : Operand) (callee : Code) (x : Exchange) (said : List Exchange) → slice_get functions function ≡ Some callee → Dialogue functions origin Whole end_line (Step (Call line function argument) rest) registers (x ∷ said) → (inner : List Exchange) × (outer : List Exchange) × Dialogue functions FromCall Whole callee.end_line (script callee) (first_registers (value_of argument registers)) inner × Dialogue functions origin Whole end_line rest registers outer × (said ≡ inner ++ outer)
@@ -193,6 +176,7 @@ module _ (functions : List Code) where
       record {
         on = λ extent said d. call_part end_line rest registers FromSpawn extent line function argument callee (exchange Act.Call line Same) said h d;
         back = λ extent said. elim [ inl d ↦ subst (λ e. Dialogue functions FromSpawn e end_line (Step (Call line function argument) rest) registers (exchange Act.Call line Same ∷ said)) (sym d.0) (in_call h d.1) | inr s ↦ called h s.2 s.3 s.4 ];
+        comes = λ t r said. ((λ d. inward functions t r end_line rest registers [] line function argument callee (exchange Act.Call line Same) said h d), (λ d. goes_inward h d));
       }
   call_stack end_line rest registers (caller ∷ callers) line function argument callee h =
       let x = exchange Act.Call line Same in
@@ -217,6 +201,7 @@ module _ (functions : List Code) where
             | inr t ↦ inr (x ∷ (s.0 ++ t.0), t.1, called h s.2 t.2 refl, t.3, ap (λ l. x ∷ l) (s.4 ∙ ap (λ l. s.0 ++ l) t.4 ∙ sym (append_assoc s.0 t.0 t.1)))
           ])
         ];
+        comes = λ t r said. ((λ d. inward functions t r end_line rest registers (caller ∷ callers) line function argument callee x said h d), (λ d. goes_inward h d));
       }
 
   -- a stack may stop anywhere
@@ -247,6 +232,7 @@ module _ (functions : List Code) where
           | inr s ↦ inside extent said s.0 s.1 s.2 s.3 s.4
         ];
         back = λ extent said s. inr (x ∷ [], said, returned Resumed tt, s, refl);
+        comes = λ t r said. ((λ d. outward functions t r end_line registers caller callers x said d), (λ d. goes_outward d));
       }
 
   -- the last return
@@ -255,6 +241,7 @@ module _ (functions : List Code) where
       record {
         on = λ extent said d. return_says end_line registers FromSpawn extent (exchange Act.Return end_line answer) said d;
         back = λ extent said e. subst (λ l. Dialogue functions FromSpawn extent end_line Done registers (exchange Act.Return end_line answer ∷ l)) (sym e) (returned answer a);
+        comes = λ t r said. ((λ d. ends_there functions t r end_line registers (exchange Act.Return end_line answer) said d), (λ d. absurd d));
       }
 
   -- what can follow a stack

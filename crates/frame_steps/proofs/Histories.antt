@@ -27,11 +27,12 @@ use Rattle.function_steps.proofs.Turns.{asks_plain}
 use Rattle.frame_steps.specs.declared.phase.Phase.{Phase}
 use Rattle.frame_steps.specs.declared.phase.Phase.TheVariants.{Running, Wanting, Over}
 use Rattle.frame_steps.specs.Requests.{Belongs, Follows, asked_line, asked_target}
-use Rattle.frame_steps.specs.Stacks.{StackDialogue, SameStack, NextStack, origin_of}
+use Rattle.frame_steps.specs.Stacks.{StackDialogue, StackComes, ComesBefore, SameStack, NextStack, origin_of}
 use Rattle.frame_steps.specs.Joins.{join_after, joins_step, joins_after}
 use Rattle.frame_steps.specs.States.{FrameState}
 use Rattle.frame_steps.specs.Frames.{standing, callers_of, stack_in, stack_of, joins_in, joins_of, Stands, Wants, IsAfter, CanFollow, MayAnswer, IsCalled, IsLeft, began_by}
 use Rattle.frame_steps.proofs.Replies.{act_is, is_same, answered_belongs, belongs_answered}
+use Rattle.frame_steps.proofs.Comings.{comes_with}
 use Rattle.frame_steps.proofs.Dialogues.{stack_only, stack_may, stack_stopped}
 use Rattle.frame_steps.proofs.Standings.{begun_standing, begun_place, return_left, asking_tree, called_there, callers_pushed, goes_to, goes_on, calls, returned_by, resumes, ends, origins, line_at, item_of_pushed, item_kept, item_pushed, no_item}
 
@@ -55,7 +56,7 @@ joins_open Wanting top callers h = refl
 joins_open Over top callers h = absurd (h refl)
 
 module _ (functions : List Code) where
-  open_stack : (phase : Phase) (top : Activation) (callers : List Activation) → phase ≢ Over → stack_in functions phase top callers ≡ standing functions top ∷ callers_of functions callers
+  pub open_stack : (phase : Phase) (top : Activation) (callers : List Activation) → phase ≢ Over → stack_in functions phase top callers ≡ standing functions top ∷ callers_of functions callers
   open_stack Running top callers h = refl
   open_stack Wanting top callers h = refl
   open_stack Over top callers h = absurd (h refl)
@@ -66,7 +67,7 @@ module _ (functions : List Code) where
   running_stack : (frame : FrameState) → frame.phase ≡ Running → stack_of functions frame ≡ standing functions frame.top ∷ callers_of functions frame.callers
   running_stack frame e = ap (λ p. stack_in functions p frame.top frame.callers) e
 
-  over_stack : (frame : FrameState) → frame.phase ≡ Over → stack_of functions frame ≡ []
+  pub over_stack : (frame : FrameState) → frame.phase ≡ Over → stack_of functions frame ≡ []
   over_stack frame e = ap (λ p. stack_in functions p frame.top frame.callers) e
 
   -- a frame at its function's begin
@@ -89,12 +90,23 @@ module _ (functions : List Code) where
           (λ d. subst (λ k. StackDialogue functions extent k said) (sym e) (dialogue_with functions function argument extent said d o.0 o.1)),
         );
         joins = ap (λ q. joins_in q frame.top frame.callers) running ∙ ap (λ l. frame.top.join ∷ map (λ a. a.join) (reverse l)) callers ∙ ap (λ k. k ∷ []) j;
+        comes = λ statement registers said. (
+          (λ d. record { code = o.0; there = o.1; comes = subst (λ k. StackComes functions statement registers k said) e d }),
+          (λ d. subst (λ k. StackComes functions statement registers k said) (sym e) (comes_with functions function argument said statement registers d o.0 o.1)),
+        );
       }
 
   -- statements that ask nothing leave what was said
   same_after : (before after : FrameState) → SameStack functions (stack_of functions before) (stack_of functions after) → joins_of after ≡ joins_of before → (function argument : ℕ) (history : List Exchange) → IsAfter functions function argument history before → IsAfter functions function argument history after
   same_after before after s j function argument history a =
-      record { goes_on = λ extent said. ((λ d. (a.goes_on extent said).0 (s.back extent said d)), (λ d. s.on extent said ((a.goes_on extent said).1 d))); joins = j ∙ a.joins }
+      record {
+        goes_on = λ extent said. ((λ d. (a.goes_on extent said).0 (s.back extent said d)), (λ d. s.on extent said ((a.goes_on extent said).1 d)));
+        joins = j ∙ a.joins;
+        comes = λ statement registers said. (
+          (λ d. (a.comes statement registers said).0 ((s.comes statement registers said).1 d)),
+          (λ d. (s.comes statement registers said).0 ((a.comes statement registers said).1 d)),
+        );
+      }
 
   -- an exchange adds to what was said
   next_after : (before after : FrameState) (x : Exchange) → NextStack functions x (stack_of functions before) (stack_of functions after) → joins_of after ≡ joins_step x.act x.answer (joins_of before) → (function argument : ℕ) (history : List Exchange) → IsAfter functions function argument history before → IsAfter functions function argument (history ++ x ∷ []) after
@@ -106,6 +118,12 @@ module _ (functions : List Code) where
           (λ d. n.on extent said ((a.goes_on extent (x ∷ said)).1 (subst (shape extent) (append_assoc history (x ∷ []) said) d))),
         );
         joins = j ∙ ap (λ l. joins_step x.act x.answer l) a.joins ∙ sym (joins_more (None ∷ []) history x);
+        comes = λ statement registers said.
+            let same = append_assoc history (x ∷ []) said in
+            let place : List Exchange → Type 0 = λ l. ComesBefore functions function argument l statement registers in (
+              (λ d. subst place (sym same) ((a.comes statement registers (x ∷ said)).0 ((n.comes statement registers said).1 d))),
+              (λ d. (n.comes statement registers said).0 ((a.comes statement registers (x ∷ said)).1 (subst place same d))),
+            );
       }
 
   -- what was said to a frame that is over is a whole dialogue

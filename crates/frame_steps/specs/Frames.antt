@@ -10,15 +10,16 @@ use Rattle.model_histories.specs.declared.answer.Answer.{Answer}
 use Rattle.model_histories.specs.declared.answer.Answer.TheVariants.{Resumed, Ended, EndedJoined, Finished}
 use Rattle.function_steps.specs.declared.activation.Turn.{Turn}
 use Rattle.function_steps.specs.declared.activation.Activation.{Activation}
-use Rattle.model_programs.specs.Values.{first_registers}
+use Rattle.model_programs.specs.Values.{Registers, first_registers}
 use Rattle.model_programs.specs.Answers.{Origin, FromCall, FromSpawn}
 use Rattle.model_programs.specs.Exchanges.{Exchange}
 use Rattle.function_steps.specs.Activations.{left, end_line_of, statement_of, asked_act, is_plain, IsInPlace}
+use Rattle.function_steps.specs.Wraps.{wrap_of}
 use Rattle.frame_steps.specs.declared.frame.FrameFault.{FrameFault}
 use Rattle.frame_steps.specs.declared.phase.Phase.{Phase}
 use Rattle.frame_steps.specs.declared.phase.Phase.TheVariants.{Running, Wanting, Over}
 use Rattle.frame_steps.specs.Requests.{Follows}
-use Rattle.frame_steps.specs.Stacks.{Standing, StackDialogue, origin_of}
+use Rattle.frame_steps.specs.Stacks.{Standing, StackDialogue, StackComes, ComesBefore, origin_of}
 use Rattle.frame_steps.specs.Joins.{joins_after}
 use Rattle.frame_steps.specs.States.{FrameState}
 
@@ -64,11 +65,21 @@ pub record Wants (functions : List Code) (frame : FrameState) (x : Exchange) : T
   pub follows : Follows (origin_of (callers_of functions frame.callers))
       (statement_of functions frame.top) (end_line_of functions frame.top.function) frame.top.registers x
 
--- What was said so far is a dialogue of the function with this argument, and it goes on as the frame does.
+-- What was said so far is a dialogue of the function with this argument, and it goes on as the frame does, with the same registers.
 pub record IsAfter (functions : List Code) (function argument : ℕ) (history : List Exchange) (frame : FrameState) : Type 0 where
   pub goes_on : (extent : Extent) (said : List Exchange) →
       StackDialogue functions extent (stack_of functions frame) said ↔ DialogueOf functions function argument extent (history ++ said)
   pub joins : joins_of frame ≡ joins_after (None ∷ []) history
+  pub comes : (statement : Statement) (registers : Registers) (said : List Exchange) →
+      StackComes functions statement registers (stack_of functions frame) said
+      ↔ ComesBefore functions function argument (history ++ said) statement registers
+
+-- After these exchanges the function with this argument stands before a statement whose index wraps, and the index is this.
+pub record Wraps (functions : List Code) (function argument : ℕ) (history : List Exchange) (index : ℕ) : Type 0 where
+  pub statement : Statement
+  pub registers : Registers
+  pub comes : ComesBefore functions function argument history statement registers
+  pub wraps : wrap_of statement registers ≡ Some index
 
 -- What was said so far can go on with this exchange.
 abbrev pub CanFollow : List Code → (function argument : ℕ) → List Exchange → Exchange → Type 0

@@ -13,10 +13,10 @@ ghost use Rattle.model_programs.specs.Dialogue.{Whole, Part, DialogueOf};
 ghost use Rattle.function_steps.specs.Activations.{left, statement_of, is_plain, IsInPlace};
 ghost use Rattle.frame_steps.specs.Joins.{join_after, open_join};
 ghost use Rattle.frame_steps.specs.States.{FrameState};
-ghost use Rattle.frame_steps.specs.Frames.{Stands, Wants, IsAfter, CanFollow, MayAnswer, IsAnswered, IsCalled, IsLeft, began_by};
+ghost use Rattle.frame_steps.specs.Frames.{Stands, Wants, IsAfter, CanFollow, MayAnswer, IsAnswered, IsCalled, IsLeft, Wraps, began_by};
 
 use crate::phase::Phase;
-use function_steps::{Activation, Target, Want, apply_answer, value_of};
+use function_steps::{Activation, Target, Want, apply_answer, value_of, wrap_of};
 use model_histories::Answer;
 use program_text::{Program, Statement};
 use std::alloc::{AllocError, Allocator};
@@ -133,6 +133,24 @@ impl<A: Allocator> Frame<A> {
                 argument: value_of(&self.top.registers, argument),
             }),
             _ => None,
+        }
+    }
+
+    /// The index of the element that the next request reads or writes, where it is not below the length of the array. The frame stays where
+    /// it stands.
+    pub fn next_wrap<B: Allocator>(&self, program: &Program<B>) -> Option<u64>
+        requires stands { Stands program.now.functions self.now }
+        ensures { (function argument : ℕ) (history : List Exchange) → IsAfter program.now.functions function argument history self.now →
+            (index : ℕ) → (result ≡ Some index) ↔ Wraps program.now.functions function argument history index }
+    {
+        if matches!(self.phase, Phase::Over) {
+            return None;
+        }
+        let mut top = self.top;
+        let _want = top.seek(program);
+        match top.statement(program) {
+            Some(statement) => wrap_of(&top.registers, statement),
+            None => None,
         }
     }
 

@@ -11,9 +11,11 @@ mod activation;
 mod answer;
 mod request;
 mod value;
+mod wrap;
 
 pub use activation::{Activation, Turn};
 pub use answer::apply_answer;
 pub use model_programs::Target;
 pub use request::{Want, act_of, line_of};
 pub use value::{cell_of, result_of, value_of};
+pub use wrap::{wrap_of, wrapped_index};

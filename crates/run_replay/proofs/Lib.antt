@@ -8,3 +8,4 @@ pub mod Played
 pub mod Told
 pub mod Slots
 pub mod Followed
+pub mod Wrapped

@@ -55,23 +55,23 @@ module _ {A : Type 0} (functions : List Code) (shape : Shape) (gate : GateState)
   housed = let there = place_there functions shape gate plays.0 places plays.2 entry place its_place in omega (arith, there, plays.1.counted)
 
   module _ (home : ℕ) (home_is : slice_get homes place ≡ Some home) where
-    frame : (frame : FrameState) × (slice_get plays.0 place ≡ Some frame)
+    pub frame : (frame : FrameState) × (slice_get plays.0 place ≡ Some frame)
     frame = item_below plays.0 place (place_there functions shape gate plays.0 places plays.2 entry place its_place)
 
-    house : IsHome slots home place frame.0
+    pub house : IsHome slots home place frame.0
     house = plays.1.each place home frame.0 home_is frame.1
 
     pub slot_there : home < length slots
     slot_there = slice_get_within slots home house.held house.there
 
     module _ (slot : Slot A) (slot_is : slice_get slots home ≡ Some slot) where
-      same_slot : house.held ≡ slot
+      pub same_slot : house.held ≡ slot
       same_slot = same_item house.held slot (sym house.there ∙ slot_is)
 
       own : slot.number ≡ place → slot.frame ≡ frame.0
       own e = ap (λ (s : Slot A). s.frame) (sym same_slot) ∙ house.own (ap (λ (s : Slot A). s.number) same_slot ∙ e)
 
-      got : slot.number ≡ place → slice_get plays.0 place ≡ Some slot.frame
+      pub got : slot.number ≡ place → slice_get plays.0 place ≡ Some slot.frame
       got e = frame.1 ∙ ap Some (sym (own e))
 
       pub slot_stands : slot.number ≡ place → Stands functions slot.frame

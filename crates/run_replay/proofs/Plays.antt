@@ -43,7 +43,7 @@ item_below xs place below =
       | inr k ↦ (let past = k.0 in absurd (omega arith))
     ]
 
-same_some : {A : Type 0} (x y : A) → Some x ≡ Some y → x ≡ y
+pub same_some : {A : Type 0} (x y : A) → Some x ≡ Some y → x ≡ y
 same_some x y e = cc
 
 module _ (functions : List Code) (shape : Shape) (main : ℕ) (is_main : IsMain functions main) (targets : Targets) (entries : Entries) (frames : List FrameState) (places : List ℕ)

@@ -1,16 +1,18 @@
 //! The frames of a history, and in which of them each strand stands.
 
-ghost use Rattle.std.specs.Prelude.{◌≡◌, ◌≢◌, ◌⊎◌, ◌<◌, ◌++◌, [], ◌∷◌, List, length, slice_get, Some, IfOk, IfErr, IfSome, OnOk, Err};
+ghost use Rattle.std.specs.Prelude.{◌≡◌, ◌≢◌, ◌⊎◌, ◌↔◌, ◌<◌, ◌++◌, [], ◌∷◌, ℕ, List, length, slice_get, Some, None, IfOk, IfErr, IfSome, OnOk, Err};
 ghost use Rattle.model_histories.specs.Shapes.{most_entries};
 ghost use Rattle.model_histories.specs.States.{GateState, opening};
 ghost use Rattle.frame_steps.specs.States.{FrameState};
-ghost use Rattle.frame_steps.specs.Frames.{Stands};
+ghost use Rattle.model_programs.specs.Exchanges.{Exchange};
+ghost use Rattle.frame_steps.specs.Frames.{Stands, IsAfter, Wraps};
 ghost use Rattle.frame_steps.specs.declared.phase.Phase.{Phase};
 ghost use Rattle.run_replay.specs.declared.frame_table.Slot.{Slot};
 ghost use Rattle.program_text.specs.Shapes.{shape_in};
 ghost use Rattle.run_replay.specs.FrameTables.{new_places, IsBegun, Opens, IsMisfit};
 ghost use Rattle.run_replay.specs.Slots.{AreHeld, OpensIn, PlaysIn};
 ghost use Rattle.run_replay.specs.Turns.{IsTurn, HasNoTurn, IsEntered};
+ghost use Rattle.run_replay.specs.Wraps.{EntryWraps};
 ghost use Rattle.run_replay.specs.declared.turn.Misfit.{Misfit};
 
 use crate::turn::{Misfit, advance_frame};
@@ -93,6 +95,25 @@ fn advance_slot<A: Allocator, B: Allocator>(
         return Err(Misfit::Strange);
     }
     advance_frame(&mut slot.frame, program, entry)
+}
+
+/// The index of the element that the frame of this number reads or writes next, where it is not below the length of the array. The slot is
+/// another's where the frame has ended.
+fn slot_wrap<A: Allocator, B: Allocator>(
+    slot: &Slot<A>,
+    number: usize,
+    program: &Program<B>,
+) -> Option<u64>
+    requires stands { slot.now.number ≡ number → Stands program.now.functions slot.now.frame }
+    ensures own { slot.now.number ≡ number → (function argument : ℕ) (history : List Exchange) →
+        IsAfter program.now.functions function argument history slot.now.frame → (index : ℕ) →
+        (result ≡ Some index) ↔ Wraps program.now.functions function argument history index }
+    ensures lost { slot.now.number ≢ number → result ≡ None }
+{
+    if number != slot.number {
+        return None;
+    }
+    slot.frame.next_wrap(program)
 }
 
 impl<A: Allocator + Copy> FrameTable<A> {
@@ -211,6 +232,22 @@ impl<A: Allocator + Copy> FrameTable<A> {
             },
             _ => Ok(()),
         }
+    }
+
+    /// The index of the element that an entry reads or writes, where it is not below the length of the array, by the frame that asks it.
+    pub fn next_wrap<B: Allocator>(&self, program: &Program<B>, entry: Entry) -> Option<u64>
+        requires plays { (state : GateState) × PlaysIn program.now.functions (shape_in program.now) state
+            self.now.slots.items self.now.homes.items self.now.places.items }
+        ensures { (state next : GateState) → PlaysIn program.now.functions (shape_in program.now) state
+            self.now.slots.items self.now.homes.items self.now.places.items → IsEntered entry state next → (index : ℕ) →
+            (result ≡ Some index) ↔ EntryWraps program.now.functions (shape_in program.now) state.history entry index }
+    {
+        let place = match self.places.get(entry.request.strand as usize) {
+            Some(place) => *place,
+            None => return None,
+        };
+        let home = self.homes[place as usize];
+        slot_wrap(&self.slots[home as usize], place as usize, program)
     }
 
     /// Plays an entry, which some gate has entered: its frame asks, and is answered.

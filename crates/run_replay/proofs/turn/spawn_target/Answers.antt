@@ -1,5 +1,4 @@
 use Rattle.std.proofs.Common.{◌≡◌, true, ◌∙◌, sym}
-use Rattle.model_accesses.specs.declared.request.Act.{Act}
 use Rattle.run_replay.proofs.Turns.{none_spawned}
 use Rattle.run_replay.proofs.turn.spawn_target.Goals as goal
 
