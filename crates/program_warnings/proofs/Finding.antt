@@ -16,7 +16,7 @@ use Rattle.program_warnings.specs.declared.declarations.Declared.{Declared}
 use Rattle.program_warnings.specs.declared.warning.Warning.{Warning}
 use Rattle.program_warnings.specs.Warnings.{binding_line, register_warning, register_warnings, reach_warnings, body_warnings, warnings_from}
 
-module _ (one other : List ℕ → Option Declared) (same : (name : List ℕ) → one name ≡ other name) where
+module _ (wraps : ℕ → Option ℕ) (one other : List ℕ → Option Declared) (same : (name : List ℕ) → one name ≡ other name) where
   registers_same : (function : ℕ) (code : Code) (register : ℕ) (names : List (List ℕ)) →
       register_warnings one function code register names ≡ register_warnings other function code register names
   registers_same function code register [] = refl
@@ -26,23 +26,25 @@ module _ (one other : List ℕ → Option Declared) (same : (name : List ℕ) �
 
   -- the same is declared, so the warnings are the same
   pub warnings_same : (is_reached is_put : ℕ → Bool) (function : ℕ) (functions : List Code) →
-      warnings_from one is_reached is_put function functions ≡ warnings_from other is_reached is_put function functions
+      warnings_from one is_reached is_put wraps function functions ≡ warnings_from other is_reached is_put wraps function functions
   warnings_same is_reached is_put function [] = refl
   warnings_same is_reached is_put function (code ∷ codes) =
-      ap (λ (here : List Warning). reach_warnings (is_reached function) function code ++ here ++ body_warnings (is_reached function) is_put code ++ warnings_from one is_reached is_put (function + 1) codes)
+      ap (λ (here : List Warning). reach_warnings (is_reached function) function code ++ here ++ body_warnings (is_reached function) is_put wraps function code ++
+      warnings_from one is_reached is_put wraps (function + 1) codes)
       (registers_same function code 1 code.registers) ∙
-      ap (λ (more : List Warning). reach_warnings (is_reached function) function code ++ register_warnings other function code 1 code.registers ++ body_warnings (is_reached function) is_put code ++ more)
+      ap (λ (more : List Warning). reach_warnings (is_reached function) function code ++ register_warnings other function code 1 code.registers ++
+      body_warnings (is_reached function) is_put wraps function code ++ more)
       (warnings_same is_reached is_put (function + 1) codes)
 
 -- the warnings of a program, by what its parts are
-pub all_found : (program : Contents) (main : ℕ) (functions : List Code) (mems : List Mem) (reducers : List Reducer)
+pub all_found : (program : Contents) (wraps : ℕ → Option ℕ) (main : ℕ) (functions : List Code) (mems : List Mem) (reducers : List Reducer)
     (names : BTreeMap (Bor (List ℕ)) Declared) (marks seen judged put written : List Bool) (warnings : List Warning) →
     functions ≡ program.functions → mems ≡ program.known.mems → reducers ≡ program.known.reducers → IsMain program.functions main →
     AreReached functions main (is_marked marks) → seen ≡ marks →
     ((reducer : ℕ) → reducer < length reducers → is_marked put reducer ≡ puts_from (is_marked seen) reducer 0 functions) → judged ≡ marks → written ≡ put →
     ((name : List ℕ) → stored_at names name ≡ declared_in mems reducers name) →
-    warnings ≡ warnings_from (stored_at names) (is_marked judged) (is_marked written) 0 functions → AreWarnings program warnings
-all_found program main functions mems reducers names marks seen judged put written warnings same_functions same_mems same_reducers first reach same_seen puts same_judged same_written declares are =
+    warnings ≡ warnings_from (stored_at names) (is_marked judged) (is_marked written) wraps 0 functions → AreWarnings program wraps warnings
+all_found program wraps main functions mems reducers names marks seen judged put written warnings same_functions same_mems same_reducers first reach same_seen puts same_judged same_written declares are =
     let reached : AreReached program.functions main (is_marked marks) = subst (λ (some : List Code). AreReached some main (is_marked marks)) same_functions reach in
     let put_marks : (reducer : ℕ) → reducer < length program.known.reducers → is_marked put reducer ≡ puts_from (is_marked marks) reducer 0 program.functions =
     λ reducer within. puts reducer (subst (λ (some : List Reducer). reducer < length some) (sym same_reducers) within) ∙
@@ -58,8 +60,8 @@ all_found program main functions mems reducers names marks seen judged put writt
       are_reached = reached;
       is_put = is_marked put;
       are_put = all_put program.functions main (length program.known.reducers) marks put reached put_marks;
-      warnings_are = are ∙ ap (λ (some : List Bool). warnings_from (stored_at names) (is_marked some) (is_marked written) 0 functions) same_judged ∙
-          ap (λ (some : List Bool). warnings_from (stored_at names) (is_marked marks) (is_marked some) 0 functions) same_written ∙
-          ap (λ (some : List Code). warnings_from (stored_at names) (is_marked marks) (is_marked put) 0 some) same_functions ∙
-          warnings_same (stored_at names) (declared_in program.known.mems program.known.reducers) declared (is_marked marks) (is_marked put) 0 program.functions;
+      warnings_are = are ∙ ap (λ (some : List Bool). warnings_from (stored_at names) (is_marked some) (is_marked written) wraps 0 functions) same_judged ∙
+          ap (λ (some : List Bool). warnings_from (stored_at names) (is_marked marks) (is_marked some) wraps 0 functions) same_written ∙
+          ap (λ (some : List Code). warnings_from (stored_at names) (is_marked marks) (is_marked put) wraps 0 some) same_functions ∙
+          warnings_same wraps (stored_at names) (declared_in program.known.mems program.known.reducers) declared (is_marked marks) (is_marked put) 0 program.functions;
     }

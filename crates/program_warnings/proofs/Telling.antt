@@ -17,6 +17,12 @@ pub register_pushed : (old named sort before digits one two three : List ℕ) �
 register_pushed old named sort before digits one two three first second third =
     third ∙ ap (λ text. text ++ before ++ digits) (second ∙ ap (λ text. text ++ sort) first) ∙ simp append_assoc
 
+-- a name and two numbers
+pub run_pushed : (old named before first_digits between digits one two three : List ℕ) → one ≡ old ++ named → two ≡ one ++ before ++ first_digits →
+    three ≡ two ++ between ++ digits → three ≡ old ++ (named ++ (before ++ first_digits) ++ (between ++ digits))
+run_pushed old named before first_digits between digits one two three first second third =
+    third ∙ ap (λ text. text ++ between ++ digits) (second ∙ ap (λ text. text ++ before ++ first_digits) first) ∙ simp append_assoc
+
 -- two numbers
 pub numbers_pushed : (old before first_digits between digits one two : List ℕ) → one ≡ old ++ before ++ first_digits → two ≡ one ++ between ++ digits →
     two ≡ old ++ ((before ++ first_digits) ++ (between ++ digits))

@@ -13,7 +13,7 @@ use Rattle.source_quotes.specs.Parts.{IsWithin, sign_below}
 use Rattle.program_warnings.specs.declared.declarations.Sort.{Sort}
 use Rattle.program_warnings.specs.declared.declarations.Sort.TheVariants.{Memory, Reducer}
 use Rattle.program_warnings.specs.declared.warning.Warning.{Warning}
-use Rattle.program_warnings.specs.declared.warning.Warning.TheVariants.{Register, Unreached, Unput, Wrapped}
+use Rattle.program_warnings.specs.declared.warning.Warning.TheVariants.{Register, Unreached, Unput, Wrapped, WrappedInRun}
 use Rattle.program_warnings.specs.Reach.{AreReached, ArePut}
 use Rattle.program_warnings.specs.Warnings.{warnings_of}
 
@@ -46,6 +46,7 @@ line_of_warning (Register line function register declared) = line
 line_of_warning (Unreached line function) = line
 line_of_warning (Unput line reducer) = line
 line_of_warning (Wrapped line index length) = line
+line_of_warning (WrappedInRun line function index length) = line
 
 abbrev pub title : Contents → Warning → List ℕ
 title program (Register line function register declared) =
@@ -58,6 +59,9 @@ title program (Unput line reducer) =
     codes "` is read here, and no function that `main` reaches has a `put` of it"
 title program (Wrapped line index length) =
     (codes "the index " ++ decimal index) ++ (codes " wraps at the length of the array, " ++ decimal length)
+title program (WrappedInRun line function index length) =
+    codes "in this run, the index in `" ++ name_in (slice_get program.functions function) ++ codes "`" ++ (codes " is " ++ decimal index) ++
+    (codes " and wraps at the length of the array, " ++ decimal length)
 
 -- the warning, its place, and its line with a sign below a part of it
 abbrev pub warning_text : Look → (file : List ℕ) → (source : List (List ℕ)) → Contents → Warning → Span → List ℕ
@@ -90,18 +94,18 @@ pub record TellsFirst (look : Look) (file : List ℕ) (source : List (List ℕ))
   pub tells_each : TellsEach look file source program (take most_told warnings) each
   pub told_is : told ≡ each ++ more_text (length warnings)
 
--- These are the warnings of the program.
-pub record AreWarnings (program : Contents) (warnings : List Warning) : Type 0 where
+-- These are the warnings of the program, where a run wraps these indexes.
+pub record AreWarnings (program : Contents) (wraps : ℕ → Option ℕ) (warnings : List Warning) : Type 0 where
   pub main : ℕ
   pub is_main : IsMain program.functions main
   pub is_reached : ℕ → Bool
   pub are_reached : AreReached program.functions main is_reached
   pub is_put : ℕ → Bool
   pub are_put : ArePut program.functions main (length program.known.reducers) is_put
-  pub warnings_are : warnings ≡ warnings_of program is_reached is_put
+  pub warnings_are : warnings ≡ warnings_of program is_reached is_put wraps
 
--- The warnings of the program are told, whose text has these lines.
-pub record TellsWarnings (is_painted : Bool) (file : List ℕ) (source : List (List ℕ)) (program : Contents) (told : List ℕ) : Type 0 where
+-- The warnings of the program are told, whose text has these lines, where a run wraps these indexes.
+pub record TellsWarnings (is_painted : Bool) (file : List ℕ) (source : List (List ℕ)) (program : Contents) (wraps : ℕ → Option ℕ) (told : List ℕ) : Type 0 where
   pub warnings : List Warning
-  pub are_warnings : AreWarnings program warnings
+  pub are_warnings : AreWarnings program wraps warnings
   pub tells : TellsFirst (look_of is_painted source) file source program warnings told

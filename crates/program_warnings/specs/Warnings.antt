@@ -1,7 +1,7 @@
 -- The warnings of a program, in the order of its functions.
-use Rattle.std.specs.Prelude.{ℕ, ◌+◌, ◌==◌, nat_lt, Bool, false, if◌then◌else◌, Option, Some, option_map, List, [], ◌∷◌, ◌++◌}
+use Rattle.std.specs.Prelude.{ℕ, ◌+◌, ◌==◌, nat_lt, Bool, false, if◌then◌else◌, Option, Some, None, option_map, List, [], ◌∷◌, ◌++◌}
 use Rattle.std.specs.List.{find, flat_map}
-use Rattle.model_bodies.specs.declared.statement.Operand.TheVariants.{Number}
+use Rattle.model_bodies.specs.declared.statement.Operand.TheVariants.{Number, Held}
 use Rattle.model_bodies.specs.declared.statement.Location.{Location}
 use Rattle.model_bodies.specs.declared.statement.Location.TheVariants.{Element}
 use Rattle.model_bodies.specs.declared.statement.Statement.{Statement}
@@ -11,7 +11,7 @@ use Rattle.model_bodies.specs.Lines.{line_of}
 use Rattle.program_text.specs.Drafts.{Contents}
 use Rattle.program_warnings.specs.declared.declarations.Declared.{Declared}
 use Rattle.program_warnings.specs.declared.warning.Warning.{Warning}
-use Rattle.program_warnings.specs.declared.warning.Warning.TheVariants.{Register, Unreached, Unput, Wrapped}
+use Rattle.program_warnings.specs.declared.warning.Warning.TheVariants.{Register, Unreached, Unput, Wrapped, WrappedInRun}
 use Rattle.program_warnings.specs.Declarations.{declared_in}
 
 -- ---- registers
@@ -42,18 +42,24 @@ register_warnings declares function code register (name ∷ names) =
 
 -- ---- statements
 
--- An index that is written as a number is told where it is not below the length of the array.
-abbrev pub index_warnings : ℕ → Location → List Warning
-index_warnings line (Element first length (Number index)) = if nat_lt index length then [] else Wrapped line index length ∷ []
-index_warnings line location = []
+-- The index that a run wraps first on a line is told.
+abbrev pub run_warnings : (line function length : ℕ) → Option ℕ → List Warning
+run_warnings line function length (Some index) = WrappedInRun line function index length ∷ []
+run_warnings line function length None = []
 
--- those of a statement, by which reducers are put
-abbrev pub statement_warnings : (is_put : ℕ → Bool) → Statement → List Warning
-statement_warnings is_put (Read line register location) = index_warnings line location
-statement_warnings is_put (Write line location value) = index_warnings line location
-statement_warnings is_put (Bump line location value) = index_warnings line location
-statement_warnings is_put (Get line register reducer) = if is_put reducer then [] else Unput line reducer ∷ []
-statement_warnings is_put statement = []
+-- An index that is written as a number is told where it is not below the length of the array, and one that is a register where a run wraps it.
+abbrev pub index_warnings : (wraps : ℕ → Option ℕ) → (function line : ℕ) → Location → List Warning
+index_warnings wraps function line (Element first length (Number index)) = if nat_lt index length then [] else Wrapped line index length ∷ []
+index_warnings wraps function line (Element first length (Held register)) = run_warnings line function length (wraps line)
+index_warnings wraps function line location = []
+
+-- those of a statement of a function, by which reducers are put, and which index a run wraps first on each line
+abbrev pub statement_warnings : (is_put : ℕ → Bool) → (wraps : ℕ → Option ℕ) → (function : ℕ) → Statement → List Warning
+statement_warnings is_put wraps function (Read line register location) = index_warnings wraps function line location
+statement_warnings is_put wraps function (Write line location value) = index_warnings wraps function line location
+statement_warnings is_put wraps function (Bump line location value) = index_warnings wraps function line location
+statement_warnings is_put wraps function (Get line register reducer) = if is_put reducer then [] else Unput line reducer ∷ []
+statement_warnings is_put wraps function statement = []
 
 -- ---- functions
 
@@ -62,21 +68,21 @@ abbrev pub reach_warnings : Bool → (function : ℕ) → Code → List Warning
 reach_warnings is_reached function code = if is_reached then [] else Unreached code.line function ∷ []
 
 -- The statements of a function are told that is reached.
-abbrev pub body_warnings : Bool → (is_put : ℕ → Bool) → Code → List Warning
-body_warnings is_reached is_put code = if is_reached then flat_map (statement_warnings is_put) code.body else []
+abbrev pub body_warnings : Bool → (is_put : ℕ → Bool) → (wraps : ℕ → Option ℕ) → (function : ℕ) → Code → List Warning
+body_warnings is_reached is_put wraps function code = if is_reached then flat_map (statement_warnings is_put wraps function) code.body else []
 
-abbrev pub function_warnings : (declares : List ℕ → Option Declared) → (is_reached is_put : ℕ → Bool) → (function : ℕ) → Code → List Warning
-function_warnings declares is_reached is_put function code =
+abbrev pub function_warnings : (declares : List ℕ → Option Declared) → (is_reached is_put : ℕ → Bool) → (wraps : ℕ → Option ℕ) → (function : ℕ) → Code → List Warning
+function_warnings declares is_reached is_put wraps function code =
     reach_warnings (is_reached function) function code ++ register_warnings declares function code 1 code.registers ++
-    body_warnings (is_reached function) is_put code
+    body_warnings (is_reached function) is_put wraps function code
 
 -- those of functions that are numbered from this number on
-abbrev pub warnings_from : (declares : List ℕ → Option Declared) → (is_reached is_put : ℕ → Bool) → (function : ℕ) → List Code → List Warning
-warnings_from declares is_reached is_put function [] = []
-warnings_from declares is_reached is_put function (code ∷ codes) =
-    function_warnings declares is_reached is_put function code ++ warnings_from declares is_reached is_put (function + 1) codes
+abbrev pub warnings_from : (declares : List ℕ → Option Declared) → (is_reached is_put : ℕ → Bool) → (wraps : ℕ → Option ℕ) → (function : ℕ) → List Code → List Warning
+warnings_from declares is_reached is_put wraps function [] = []
+warnings_from declares is_reached is_put wraps function (code ∷ codes) =
+    function_warnings declares is_reached is_put wraps function code ++ warnings_from declares is_reached is_put wraps (function + 1) codes
 
--- the warnings of a program, where these functions are reached and these reducers put
-abbrev pub warnings_of : Contents → (is_reached is_put : ℕ → Bool) → List Warning
-warnings_of program is_reached is_put =
-    warnings_from (declared_in program.known.mems program.known.reducers) is_reached is_put 0 program.functions
+-- the warnings of a program, where these functions are reached and these reducers put, and a run wraps these indexes
+abbrev pub warnings_of : Contents → (is_reached is_put : ℕ → Bool) → (wraps : ℕ → Option ℕ) → List Warning
+warnings_of program is_reached is_put wraps =
+    warnings_from (declared_in program.known.mems program.known.reducers) is_reached is_put wraps 0 program.functions

@@ -1,6 +1,8 @@
 //! What is told of the warnings of a program.
 
 ghost use Rattle.std.specs.Prelude.{◌≡◌, ◌++◌, ℕ, List, IfOk, OnOk, codes, decimal, slice_get};
+ghost use Rattle.std.specs.Ordering.{nat_cmp};
+ghost use Rattle.std.specs.BTreeMap.{get};
 ghost use Rattle.text_words.specs.Text.{lines};
 ghost use Rattle.program_text.specs.Programs.{contents};
 ghost use Rattle.source_quotes.specs.Lines.{line_in};
@@ -13,7 +15,7 @@ ghost use Rattle.program_warnings.specs.Messages.{TellsWarning, TellsEach, more_
 use crate::declarations::{Declared, Sort, declarations};
 use crate::puts::reducers_put;
 use crate::reach::reached;
-use crate::warning::{Warning, warnings_of};
+use crate::warning::{Warning, Wraps, warnings_of};
 use program_text::{Function, Program};
 use source_quotes::{
     Look, Paint, Part, Source, Span, push_count, push_painted, push_place, push_quote,
@@ -107,6 +109,26 @@ fn push_wrapped(text: &mut Vec<u8>, index: u64, length: u32) -> Result<(), Alloc
     Ok(())
 }
 
+/// Adds that an index wraps in a run.
+fn push_wrapped_in_run(
+    text: &mut Vec<u8>,
+    function: &str,
+    index: u64,
+    length: u32,
+) -> Result<(), AllocError>
+    ensures { OnOk result (text.new.items ≡ text.old.items ++ (codes "in this run, the index in `" ++ function.now ++ codes "`" ++
+        (codes " is " ++ decimal index) ++ (codes " and wraps at the length of the array, " ++ decimal length))) }
+{
+    push_three(text, "in this run, the index in `", function, "`")?;
+    push_number(text, " is ", index)?;
+    push_number(
+        text,
+        " and wraps at the length of the array, ",
+        u64::from(length),
+    )?;
+    Ok(())
+}
+
 /// Adds what a warning is of.
 fn push_title(
     text: &mut Vec<u8>,
@@ -136,6 +158,12 @@ fn push_title(
             "` is read here, and no function that `main` reaches has a `put` of it",
         ),
         Warning::Wrapped { index, length, .. } => push_wrapped(text, index, length),
+        Warning::WrappedInRun {
+            function,
+            index,
+            length,
+            ..
+        } => push_wrapped_in_run(text, function_name(functions, function), index, length),
     }
 }
 
@@ -160,7 +188,17 @@ pub fn line_of_warning(warning: Warning) -> u32
         Warning::Register { line, .. }
         | Warning::Unreached { line, .. }
         | Warning::Unput { line, .. }
-        | Warning::Wrapped { line, .. } => line,
+        | Warning::Wrapped { line, .. }
+        | Warning::WrappedInRun { line, .. } => line,
+    }
+}
+
+/// The index of an access on its line.
+fn index_part(line: &[u8]) -> Part {
+    if statement_of(line).starts_with(b"read") {
+        Part::Index(2)
+    } else {
+        Part::Index(1)
     }
 }
 
@@ -169,8 +207,7 @@ fn part_of(warning: Warning, line: &[u8]) -> Part {
     match warning {
         Warning::Register { register: 1, .. } | Warning::Unput { .. } => Part::Word(2),
         Warning::Register { .. } | Warning::Unreached { .. } => Part::Word(1),
-        Warning::Wrapped { .. } if statement_of(line).starts_with(b"read") => Part::Index(2),
-        Warning::Wrapped { .. } => Part::Index(1),
+        Warning::Wrapped { .. } | Warning::WrappedInRun { .. } => index_part(line),
     }
 }
 
@@ -263,21 +300,32 @@ fn first_told(
     Ok(told)
 }
 
-/// The warnings of a program, in the order of its functions. Errors where there is no memory.
-pub fn find_warnings(alloc: Global, program: &Program<Global>) -> Result<Vec<Warning>, AllocError>
-    ensures { IfOk result (λ warnings. AreWarnings (contents program.now) warnings.items) }
+/// The warnings of a program, in the order of its functions, where a run of it wraps these indexes. Errors where there is no memory.
+pub fn find_warnings(
+    alloc: Global,
+    program: &Program<Global>,
+    wraps: &Wraps,
+) -> Result<Vec<Warning>, AllocError>
+    ensures { IfOk result (λ warnings. AreWarnings (contents program.now) (get nat_cmp wraps.now) warnings.items) }
 {
     let functions = program.functions.as_slice();
     let reducers = program.reducers.as_slice();
     let names = declarations(alloc, program.mems.as_slice(), reducers)?;
     let marks = reached(alloc, functions, program.main())?;
     let put = reducers_put(alloc, functions, marks.as_slice(), reducers.len())?;
-    let warnings = warnings_of(alloc, &names, marks.as_slice(), put.as_slice(), functions)?;
+    let warnings = warnings_of(
+        alloc,
+        &names,
+        marks.as_slice(),
+        put.as_slice(),
+        wraps,
+        functions,
+    )?;
     Ok(warnings)
 }
 
-/// What is told of the warnings of a program that the text of a file means: each of the first twenty with its line, and how many more
-/// there are. Nothing where there are none.
+/// What is told of the warnings of a program that the text of a file means, where a run of it wraps these indexes: each of the first twenty
+/// with its line, and how many more there are. Nothing where there are none.
 ///
 /// Errors where there is no memory.
 pub fn program_warnings(
@@ -286,11 +334,12 @@ pub fn program_warnings(
     file: &str,
     text: &[u8],
     program: &Program<Global>,
+    wraps: &Wraps,
 ) -> Result<Vec<u8>, AllocError>
-    ensures { IfOk result (λ told. TellsWarnings is_painted file.now (lines text.now) (contents program.now) told.items) }
+    ensures { IfOk result (λ told. TellsWarnings is_painted file.now (lines text.now) (contents program.now) (get nat_cmp wraps.now) told.items) }
 {
     let source = Source::new(alloc, text)?;
     let look = Look::of(is_painted, &source);
-    let warnings = find_warnings(alloc, program)?;
+    let warnings = find_warnings(alloc, program, wraps)?;
     first_told(alloc, look, file, &source, program, warnings.as_slice())
 }

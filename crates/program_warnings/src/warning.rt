@@ -2,16 +2,19 @@
 
 ghost use Rattle.std.specs.Prelude.{◌≡◌, ◌++◌, ◌∷◌, [], IfOk, OnOk, option_map, if◌then◌else◌};
 ghost use Rattle.std.specs.List.{find, flat_map};
+ghost use Rattle.std.specs.Ordering.{nat_cmp};
+ghost use Rattle.std.specs.BTreeMap.{get};
 ghost use Rattle.model_bodies.specs.Lines.{line_of};
 ghost use Rattle.program_warnings.specs.Reach.{is_marked};
 ghost use Rattle.program_warnings.specs.Declarations.{stored_at};
-ghost use Rattle.program_warnings.specs.Warnings.{binds, binding_line, register_warning, register_warnings, index_warnings};
+ghost use Rattle.program_warnings.specs.Warnings.{binds, binding_line, register_warning, register_warnings, run_warnings, index_warnings};
 ghost use Rattle.program_warnings.specs.Warnings.{statement_warnings, reach_warnings, body_warnings, function_warnings, warnings_from};
 
 use crate::declarations::{Declarations, Declared, declared_at};
 use crate::reach::is_marked;
 use program_text::{Function, Location, Operand, Statement};
 use std::alloc::{AllocError, Global};
+use std::collections::BTreeMap;
 use text_words::Name;
 
 /// What a text allows, and is rarely meant.
@@ -42,7 +45,7 @@ pub enum Warning {
         /// The reducer's number.
         reducer: u32,
     },
-    /// An index is not below the length of its array.
+    /// An index that is written as a number is not below the length of its array.
     Wrapped {
         /// The line of the access.
         line: u32,
@@ -51,7 +54,21 @@ pub enum Warning {
         /// The length.
         length: u32,
     },
+    /// An index that a register holds is not below the length of its array in a run.
+    WrappedInRun {
+        /// The line of the access.
+        line: u32,
+        /// The number of its function.
+        function: usize,
+        /// The first such index.
+        index: u64,
+        /// The length.
+        length: u32,
+    },
 }
+
+/// The first index that a run wraps at each line.
+pub type Wraps = BTreeMap<u32, u64, Global>;
 
 fn binds(register: usize, statement: Statement) -> bool
     ensures { result ≡ binds register statement }
@@ -172,11 +189,46 @@ fn add_registers(
     Ok(())
 }
 
+/// Adds the index that a run wraps first on a line.
+fn add_wrap(
+    warnings: &mut Vec<Warning>,
+    wraps: &Wraps,
+    function: usize,
+    line: u32,
+    length: u32,
+) -> Result<(), AllocError>
+    ensures { OnOk result (warnings.new.items ≡ warnings.old.items ++ run_warnings line function length (get nat_cmp wraps.now line)) }
+{
+    match wraps.get(&line).copied() {
+        Some(index) => add(
+            warnings,
+            Warning::WrappedInRun {
+                line,
+                function,
+                index,
+                length,
+            },
+        ),
+        None => Ok(()),
+    }
+}
+
 /// Adds an index that wraps.
-fn add_index(warnings: &mut Vec<Warning>, line: u32, location: Location) -> Result<(), AllocError>
-    ensures { OnOk result (warnings.new.items ≡ warnings.old.items ++ index_warnings line location) }
+fn add_index(
+    warnings: &mut Vec<Warning>,
+    wraps: &Wraps,
+    function: usize,
+    line: u32,
+    location: Location,
+) -> Result<(), AllocError>
+    ensures { OnOk result (warnings.new.items ≡ warnings.old.items ++ index_warnings (get nat_cmp wraps.now) function line location) }
 {
     match location {
+        Location::Element {
+            length,
+            index: Operand::Held(_),
+            ..
+        } => add_wrap(warnings, wraps, function, line, length),
         Location::Element {
             length,
             index: Operand::Number(index),
@@ -212,14 +264,18 @@ fn add_get(
 fn add_statement(
     warnings: &mut Vec<Warning>,
     put: &[bool],
+    wraps: &Wraps,
+    function: usize,
     statement: Statement,
 ) -> Result<(), AllocError>
-    ensures { OnOk result (warnings.new.items ≡ warnings.old.items ++ statement_warnings (is_marked put.now) statement) }
+    ensures { OnOk result (warnings.new.items ≡ warnings.old.items ++ statement_warnings (is_marked put.now) (get nat_cmp wraps.now) function statement) }
 {
     match statement {
         Statement::Read { line, location, .. }
         | Statement::Write { line, location, .. }
-        | Statement::Bump { line, location, .. } => add_index(warnings, line, location),
+        | Statement::Bump { line, location, .. } => {
+            add_index(warnings, wraps, function, line, location)
+        }
         Statement::Get { line, reducer, .. } => add_get(warnings, put, line, reducer),
         _ => Ok(()),
     }
@@ -229,12 +285,15 @@ fn add_statement(
 fn add_statements(
     warnings: &mut Vec<Warning>,
     put: &[bool],
+    wraps: &Wraps,
+    function: usize,
     body: &[Statement],
 ) -> Result<(), AllocError>
-    ensures { OnOk result (warnings.new.items ≡ warnings.old.items ++ flat_map (statement_warnings (is_marked put.now)) body.now) }
+    ensures { OnOk result (warnings.new.items ≡ warnings.old.items ++
+        flat_map (statement_warnings (is_marked put.now) (get nat_cmp wraps.now) function) body.now) }
 {
     for statement in body {
-        add_statement(warnings, put, *statement)?;
+        add_statement(warnings, put, wraps, function, *statement)?;
     }
     Ok(())
 }
@@ -265,14 +324,17 @@ fn add_body(
     warnings: &mut Vec<Warning>,
     is_reached: bool,
     put: &[bool],
+    wraps: &Wraps,
+    number: usize,
     function: &Function<Global>,
 ) -> Result<(), AllocError>
-    ensures { OnOk result (warnings.new.items ≡ warnings.old.items ++ body_warnings is_reached (is_marked put.now) function.now) }
+    ensures { OnOk result (warnings.new.items ≡ warnings.old.items ++
+        body_warnings is_reached (is_marked put.now) (get nat_cmp wraps.now) number function.now) }
 {
     if !is_reached {
         return Ok(());
     }
-    add_statements(warnings, put, function.body.as_slice())
+    add_statements(warnings, put, wraps, number, function.body.as_slice())
 }
 
 /// Adds the warnings of a function.
@@ -281,11 +343,12 @@ fn add_function(
     names: &Declarations<'_>,
     reached: &[bool],
     put: &[bool],
+    wraps: &Wraps,
     number: usize,
     function: &Function<Global>,
 ) -> Result<(), AllocError>
     ensures { OnOk result (warnings.new.items ≡ warnings.old.items ++
-        function_warnings (stored_at names.now) (is_marked reached.now) (is_marked put.now) number function.now) }
+        function_warnings (stored_at names.now) (is_marked reached.now) (is_marked put.now) (get nat_cmp wraps.now) number function.now) }
 {
     let is_reached = is_marked(reached, number);
     add_reach(warnings, is_reached, number, function)?;
@@ -296,23 +359,25 @@ fn add_function(
         function,
         function.registers.as_slice(),
     )?;
-    add_body(warnings, is_reached, put, function)
+    add_body(warnings, is_reached, put, wraps, number, function)
 }
 
-/// The warnings of these functions, by what is declared, which functions are reached and which reducers are put.
+/// The warnings of these functions, by what is declared, which functions are reached, which reducers are put, and which indexes a run
+/// wraps.
 pub(crate) fn warnings_of(
     alloc: Global,
     names: &Declarations<'_>,
     reached: &[bool],
     put: &[bool],
+    wraps: &Wraps,
     functions: &[Function<Global>],
 ) -> Result<Vec<Warning>, AllocError>
     ensures { IfOk result (λ warnings. warnings.items ≡
-        warnings_from (stored_at names.now) (is_marked reached.now) (is_marked put.now) 0 functions.now) }
+        warnings_from (stored_at names.now) (is_marked reached.now) (is_marked put.now) (get nat_cmp wraps.now) 0 functions.now) }
 {
     let mut warnings = Vec::new(alloc);
     for (number, function) in functions.iter().enumerate() {
-        add_function(&mut warnings, names, reached, put, number, function)?;
+        add_function(&mut warnings, names, reached, put, wraps, number, function)?;
     }
     Ok(warnings)
 }

@@ -1,4 +1,6 @@
 use Rattle.std.proofs.Common.{List, length, sym, subst}
+use Rattle.std.specs.Ordering.{nat_cmp}
+use Rattle.std.specs.BTreeMap.{get}
 use Rattle.text_words.specs.Declarations.{cells_of}
 use Rattle.model_bodies.specs.Codes.{Code}
 use Rattle.model_bodies.specs.Sound.{IsSound}
@@ -16,7 +18,7 @@ reached-requires-clause-sound c = (
 
 pub returns : goal.returns
 returns c =
-    all_found (contents c.args.program.now) c.main.result c.as_slice-functions.result.now c.as_slice.result.now c.as_slice-reducers.result.now
+    all_found (contents c.args.program.now) (get nat_cmp c.args.wraps.now) c.main.result c.as_slice-functions.result.now c.as_slice.result.now c.as_slice-reducers.result.now
     c.in_ok-names.names c.in_ok-marks.marks.items c.as_slice-2.result.now c.as_slice-3.result.now c.in_ok-put.put.items c.as_slice-4.result.now
     c.in_ok-warnings.warnings.items c.as_slice-functions.ensures c.as_slice.ensures c.as_slice-reducers.ensures c.main.ensures.named
     c.in_ok-marks.ensures c.as_slice-2.ensures.value c.in_ok-put.ensures c.as_slice-3.ensures.value c.as_slice-4.ensures.value
